@@ -1,0 +1,225 @@
+-- Laws of addresses digit by digit: the formula as digits appended, and the index vector read back. Assumes nothing.
+use Prim.Native.Nat.{ℕ, zero, suc, _+_, _*_, _-_, _/_, _%_, _^_, _≤_, _<_, min}
+use mathlib.Core.Path.{_≡_, refl, sym, ap, _∙_, subst}
+use mathlib.Core.Bool.{Bool, true, false, cond}
+use mathlib.Core.List.{List, [], _∷_}
+use native.Mathlib.Omega.{arith}
+use native.Mathlib.Numerals.{add-one}
+use native.Mathlib.Nat.{le-trans, mul-le-mul-left, mod-eq-of-lt, mod-lt, div-add-mod'}
+use lib.Bits.{bitAnd, and-mask}
+use lib.Dec.{eqb}
+use lib.ListN.{getD, length}
+use lib.Pow.{pow-mono, pow-pos}
+use borrow.Author.Tests.{eq-eqb, ne-eqb}
+use Rattle.lists.proofs.Shifts.{one-shifted}
+use Rattle.shape.specs.Shape.{Fit}
+use Rattle.split.specs.Steps.{stepsBelow, steps, stepNumber, depth}
+use Rattle.split.proofs.StepLaws.{depthBefore, depth-stepNumber}
+use Rattle.address.specs.Doubling.{sides}
+use Rattle.address.specs.Address.{formula, address}
+use Rattle.address.specs.Private.{latestPair, InBox, IndexAt, AppendedBy, appendDigit, dropDigit, digitOf}
+use Rattle.address.proofs.DoublingLaws.{address-place, solved}
+use Rattle.address.proofs.PairLaws.{length-steps-le, in-box, sidesBefore, sides-stepNumber, depthBefore-le, address-latestPair}
+
+abbrev four : ℕ → ℕ → ℕ → ℕ → List ℕ
+four a b c d = a ∷ b ∷ c ∷ d ∷ []
+
+-- ---- one digit
+
+pub appendDigit-same : (a J i j z : ℕ) → j ≡ z → a ≡ appendDigit a J i j z
+unfolding appendDigit
+appendDigit-same a J i j z e = rw (eq-eqb j z e)
+
+pub appendDigit-other : (a J i j z : ℕ) → (j ≡ z → ⊥) → appendDigit a J i j z < 2 ^ 64
+    → (a * J) % 2 ^ 64 + i ≡ appendDigit a J i j z
+unfolding appendDigit
+appendDigit-other a J i j z e = rw (ne-eqb j z e) (λ h. ap (λ x. x + i) (mod-eq-of-lt (omega arith)))
+
+appendDigit-le : (a h i j z : ℕ) → a ≤ appendDigit a (2 ^ h) i j z
+unfolding appendDigit
+appendDigit-le a h i j z = go (eqb j z)
+  where
+    go : (t : Bool) → a ≤ cond t a (a * 2 ^ h + i)
+    go true = omega arith
+    go false = omega (arith, mul-le-mul-left a (pow-pos h))
+
+pub dropDigit-same : (a J j z : ℕ) → j ≡ z → a ≡ dropDigit a J j z
+unfolding dropDigit
+dropDigit-same a J j z e = rw (eq-eqb j z e)
+
+pub dropDigit-other : (a J j z : ℕ) → (j ≡ z → ⊥) → a / J ≡ dropDigit a J j z
+unfolding dropDigit
+dropDigit-other a J j z e = rw (ne-eqb j z e)
+
+pub digitOf-same : (x a J j z : ℕ) → j ≡ z → x ≡ digitOf x a J j z
+unfolding digitOf
+digitOf-same x a J j z e = rw (eq-eqb j z e)
+
+pub digitOf-other : (x a h j z : ℕ) → (j ≡ z → ⊥) → h ≤ 16 → bitAnd a ((1 * 2 ^ h) % 2 ^ 64 - 1) ≡ digitOf x a (2 ^ h) j z
+unfolding digitOf
+digitOf-other x a h j z e l = rw (ne-eqb j z e, one-shifted h (omega arith)) (and-mask a h)
+
+digitOf-lt : (x a J j z : ℕ) → (j ≡ z → ⊥) → 0 < J → digitOf x a J j z < J
+unfolding digitOf
+digitOf-lt x a J j z ne h = rw (ne-eqb j z ne) (mod-lt a h)
+
+-- a digit that is taken off can be appended again
+appendDigit-dropDigit : (a J x j z : ℕ) → appendDigit (dropDigit a J j z) J (digitOf x a J j z) j z ≡ a
+unfolding appendDigit dropDigit digitOf
+appendDigit-dropDigit a J x j z = go (eqb j z)
+  where
+    go : (t : Bool) → cond t (cond t a (a / J)) (cond t a (a / J) * J + cond t x (a % J)) ≡ a
+    go true = refl
+    go false = div-add-mod' a J
+
+pub depth-le : (d w m : ℕ) → d ≡ min w m → w ≤ 16 → d ≤ 16
+depth-le d w m e h = omega arith
+
+-- ---- all four
+
+appendDigits : (z a J0 J1 J2 J3 i0 i1 i2 i3 : ℕ) → ℕ
+appendDigits z a J0 J1 J2 J3 i0 i1 i2 i3 =
+    appendDigit (appendDigit (appendDigit (appendDigit a J0 i0 0 z) J1 i1 1 z) J2 i2 2 z) J3 i3 3 z
+
+-- the formula, digit by digit
+appendDigits-formula : (z J0 J1 J2 J3 i0 i1 i2 i3 : ℕ) → z < 4
+    → appendDigits z (getD (four i0 i1 i2 i3) z 0) J0 J1 J2 J3 i0 i1 i2 i3 ≡ formula z (four J0 J1 J2 J3) (four i0 i1 i2 i3)
+unfolding appendDigit appendDigits formula
+appendDigits-formula zero J0 J1 J2 J3 i0 i1 i2 i3 h = omega arith
+appendDigits-formula (suc zero) J0 J1 J2 J3 i0 i1 i2 i3 h = omega arith
+appendDigits-formula (suc (suc zero)) J0 J1 J2 J3 i0 i1 i2 i3 h = omega arith
+appendDigits-formula (suc (suc (suc zero))) J0 J1 J2 J3 i0 i1 i2 i3 h = omega arith
+appendDigits-formula (suc (suc (suc (suc z)))) J0 J1 J2 J3 i0 i1 i2 i3 h = absurd (omega arith)
+
+-- that each digit fits 64 bits, and that the last gives the address
+pub record Appended (ws : List ℕ) (z h0 h1 h2 h3 i0 i1 i2 i3 a0 a1 a2 a3 : ℕ) : Type 0 where
+  pub deep : (h0 ≤ 16) × (h1 ≤ 16) × (h2 ≤ 16) × (h3 ≤ 16)
+  pub fits0 : appendDigit a0 (2 ^ h0) i0 0 z < 2 ^ 64
+  pub fits1 : appendDigit a1 (2 ^ h1) i1 1 z < 2 ^ 64
+  pub fits2 : appendDigit a2 (2 ^ h2) i2 2 z < 2 ^ 64
+  pub fits3 : appendDigit a3 (2 ^ h3) i3 3 z < 2 ^ 64
+  pub result : appendDigit a3 (2 ^ h3) i3 3 z ≡ address ws (four i0 i1 i2 i3)
+
+pub appended-digits : (ws : List ℕ) (i0 i1 i2 i3 g h0 h1 h2 h3 a0 a1 a2 a3 : ℕ) → InBox ws (four i0 i1 i2 i3)
+    → latestPair (four i0 i1 i2 i3) ≡ g + 1
+    → h0 ≡ depthBefore ws g 0 → h1 ≡ depthBefore ws g 1 → h2 ≡ depthBefore ws g 2 → h3 ≡ depthBefore ws g 3
+    → a0 ≡ getD (four i0 i1 i2 i3) (g % 4) 0 → a1 ≡ appendDigit a0 (2 ^ h0) i0 0 (g % 4)
+    → a2 ≡ appendDigit a1 (2 ^ h1) i1 1 (g % 4) → a3 ≡ appendDigit a2 (2 ^ h2) i2 2 (g % 4)
+    → Appended ws (g % 4) h0 h1 h2 h3 i0 i1 i2 i3 a0 a1 a2 a3
+unfolding appendDigits
+appended-digits ws i0 i1 i2 i3 g h0 h1 h2 h3 a0 a1 a2 a3 r m d0 d1 d2 d3 e0 e1 e2 e3 =
+    let all = address-place ws (r .fit) (length (steps ws)) (omega arith) is (in-box ws is refl r) in
+    let top : address ws is < 2 ^ 64 = le-trans (all .0) (pow-mono (length-steps-le ws)) in
+    let l1 = appendDigit-le a1 h1 i1 1 (g % 4) in
+    let l2 = appendDigit-le a2 h2 i2 2 (g % 4) in
+    let l3 = appendDigit-le a3 h3 i3 3 (g % 4) in
+    record {
+      deep = (deep 0 d0, deep 1 d1, deep 2 d2, deep 3 d3);
+      fits0 = omega (arith, e1, e2, e3, l1, l2, l3, end, top);
+      fits1 = omega (arith, e2, e3, l2, l3, end, top);
+      fits2 = omega (arith, e3, l3, end, top);
+      fits3 = omega (arith, end, top);
+      result = end;
+    }
+  where
+    is : List ℕ
+    is = four i0 i1 i2 i3
+
+    deep : (j : ℕ) {h : ℕ} → h ≡ depthBefore ws g j → h ≤ 16
+    deep j e = omega (arith, depthBefore-le ws g j (r .fit j))
+
+    same : formula (g % 4) (four (2 ^ h0) (2 ^ h1) (2 ^ h2) (2 ^ h3)) (four i0 i1 i2 i3)
+        ≡ formula (g % 4) (sidesBefore ws g) (four i0 i1 i2 i3)
+    same = rw (d0, d1, d2, d3)
+
+    first : a1 ≡ appendDigit (getD (four i0 i1 i2 i3) (g % 4) 0) (2 ^ h0) i0 0 (g % 4)
+    first = e1 ∙ ap (λ a. appendDigit a (2 ^ h0) i0 0 (g % 4)) e0
+
+    end : appendDigit a3 (2 ^ h3) i3 3 (g % 4) ≡ address ws (four i0 i1 i2 i3)
+    end =
+        ap (λ a. appendDigit a (2 ^ h3) i3 3 (g % 4))
+        (e3 ∙ ap (λ a. appendDigit a (2 ^ h2) i2 2 (g % 4)) (e2 ∙ ap (λ a. appendDigit a (2 ^ h1) i1 1 (g % 4)) first))
+        ∙ appendDigits-formula (g % 4) (2 ^ h0) (2 ^ h1) (2 ^ h2) (2 ^ h3) i0 i1 i2 i3 (omega arith)
+        ∙ same
+        ∙ sym (address-latestPair ws (four i0 i1 i2 i3) r g (m ∙ omega arith))
+
+-- ---- read back
+
+digitOf-front : (x d0 d1 d2 d3 J0 J1 J2 J3 z : ℕ) → z < 4
+    → getD (four (digitOf x d0 J0 0 z) (digitOf x d1 J1 1 z) (digitOf x d2 J2 2 z) (digitOf x d3 J3 3 z)) z 0 ≡ x
+unfolding digitOf
+digitOf-front x d0 d1 d2 d3 J0 J1 J2 J3 zero h = refl
+digitOf-front x d0 d1 d2 d3 J0 J1 J2 J3 (suc zero) h = refl
+digitOf-front x d0 d1 d2 d3 J0 J1 J2 J3 (suc (suc zero)) h = refl
+digitOf-front x d0 d1 d2 d3 J0 J1 J2 J3 (suc (suc (suc zero))) h = refl
+digitOf-front x d0 d1 d2 d3 J0 J1 J2 J3 (suc (suc (suc (suc z)))) h = absurd (omega arith)
+
+module _ (ws : List ℕ) (a t g h0 h1 h2 h3 : ℕ) (by : AppendedBy ws a t g)
+    (d0 : h0 ≡ depthBefore ws g 0) (d1 : h1 ≡ depthBefore ws g 1) (d2 : h2 ≡ depthBefore ws g 2) (d3 : h3 ≡ depthBefore ws g 3)
+    (a3 a2 a1 a0 : ℕ) (e3 : a3 ≡ dropDigit a (2 ^ h3) 3 (g % 4)) (e2 : a2 ≡ dropDigit a3 (2 ^ h2) 2 (g % 4))
+    (e1 : a1 ≡ dropDigit a2 (2 ^ h1) 1 (g % 4)) (e0 : a0 ≡ dropDigit a1 (2 ^ h0) 0 (g % 4))
+    (i0 i1 i2 i3 : ℕ) (f0 : i0 ≡ digitOf a0 a1 (2 ^ h0) 0 (g % 4)) (f1 : i1 ≡ digitOf a0 a2 (2 ^ h1) 1 (g % 4))
+    (f2 : i2 ≡ digitOf a0 a3 (2 ^ h2) 2 (g % 4)) (f3 : i3 ≡ digitOf a0 a (2 ^ h3) 3 (g % 4)) where
+  pub indexAt-digits : IndexAt ws a (i0 ∷ i1 ∷ i2 ∷ i3 ∷ [])
+  unfolding appendDigits stepNumber
+  indexAt-digits =
+      let s = solved ws (by .fit) (g / 4) (g % 4) hz live (four i0 i1 i2 i3) a refl others
+      (ap (λ S. formula (g % 4) S (four i0 i1 i2 i3)) sides-same ∙ formula-same) from past in
+      record { below = s .0; back = s .1 }
+    where
+      hz : g % 4 < 4
+      hz = omega arith
+
+      live : g / 4 < getD ws (g % 4) 0
+      live = by .pair .live
+
+      place : 4 * (g / 4) + g % 4 ≡ g
+      place = omega arith
+
+      number : t ≡ stepNumber ws (g / 4) (g % 4)
+      number = sym (by .pair .before) ∙ ap (λ x. length (stepsBelow ws x)) (sym place)
+
+      from : 2 ^ stepNumber ws (g / 4) (g % 4) ≤ a
+      from = subst (λ x. 2 ^ x ≤ a) number (by .from)
+
+      past : a < 2 ^ suc (stepNumber ws (g / 4) (g % 4))
+      past = subst (λ x. a < 2 ^ x) (add-one t ∙ ap suc number) (by .past)
+
+      sides-same : sides ws (stepNumber ws (g / 4) (g % 4)) ≡ four (2 ^ h0) (2 ^ h1) (2 ^ h2) (2 ^ h3)
+      sides-same = sides-stepNumber ws (g / 4) (g % 4) hz live (by .fit (g % 4)) ∙ ap (sidesBefore ws) place ∙ rw (d0, d1, d2, d3)
+
+      front : getD (four i0 i1 i2 i3) (g % 4) 0 ≡ a0
+      front = rw (f0, f1, f2, f3) (digitOf-front a0 a1 a2 a3 a (2 ^ h0) (2 ^ h1) (2 ^ h2) (2 ^ h3) (g % 4) hz)
+
+      put : (x y h i j : ℕ) → x ≡ dropDigit y (2 ^ h) j (g % 4) → i ≡ digitOf a0 y (2 ^ h) j (g % 4)
+          → appendDigit x (2 ^ h) i j (g % 4) ≡ y
+      put x y h i j p q =
+          ap (λ u. appendDigit u (2 ^ h) i j (g % 4)) p
+          ∙ ap (λ u. appendDigit (dropDigit y (2 ^ h) j (g % 4)) (2 ^ h) u j (g % 4)) q
+          ∙ appendDigit-dropDigit y (2 ^ h) a0 j (g % 4)
+
+      formula-same : formula (g % 4) (four (2 ^ h0) (2 ^ h1) (2 ^ h2) (2 ^ h3)) (four i0 i1 i2 i3) ≡ a
+      formula-same =
+          sym (appendDigits-formula (g % 4) (2 ^ h0) (2 ^ h1) (2 ^ h2) (2 ^ h3) i0 i1 i2 i3 hz)
+          ∙ ap (λ x. appendDigit x (2 ^ h3) i3 3 (g % 4))
+          (ap (λ x. appendDigit x (2 ^ h2) i2 2 (g % 4))
+          (ap (λ x. appendDigit x (2 ^ h1) i1 1 (g % 4))
+          (ap (λ x. appendDigit x (2 ^ h0) i0 0 (g % 4)) front ∙ put a0 a1 h0 i0 0 e0 f0)
+          ∙ put a1 a2 h1 i1 1 e1 f1)
+          ∙ put a2 a3 h2 i2 2 e2 f2)
+          ∙ put a3 a h3 i3 3 e3 f3
+
+      low : (r y h i : ℕ) → r < 4 → (r ≡ g % 4 → ⊥) → h ≡ depthBefore ws g r → i ≡ digitOf a0 y (2 ^ h) r (g % 4)
+          → i < 2 ^ depth ws (stepNumber ws (g / 4) (g % 4)) r
+      low r y h i l ne d q =
+          let e : h ≡ depth ws (stepNumber ws (g / 4) (g % 4)) r =
+          d ∙ ap (λ u. depthBefore ws u r) (sym place) ∙ sym (depth-stepNumber ws (g / 4) (g % 4) hz live (by .fit (g % 4)) r l) in
+          subst (λ u. i < 2 ^ u) e (subst (λ u. u < 2 ^ h) (sym q) (digitOf-lt a0 y (2 ^ h) r (g % 4) ne (pow-pos h)))
+
+      others : (r : ℕ) → r < 4 → (r ≡ g % 4 → ⊥)
+          → getD (four i0 i1 i2 i3) r 0 < 2 ^ depth ws (stepNumber ws (g / 4) (g % 4)) r
+      others zero l ne = low 0 a1 h0 i0 l ne d0 f0
+      others (suc zero) l ne = low 1 a2 h1 i1 l ne d1 f1
+      others (suc (suc zero)) l ne = low 2 a3 h2 i2 l ne d2 f2
+      others (suc (suc (suc zero))) l ne = low 3 a h3 i3 l ne d3 f3
+      others (suc (suc (suc (suc r)))) l ne = absurd (omega arith)

@@ -1,0 +1,5 @@
+pub mod Address
+pub mod Answers
+pub mod Doubling
+pub mod Map
+pub mod Private

@@ -1,0 +1,72 @@
+-- Laws of bounds: a test on each number below n; ranges; when a shape is within its bounds. Assumes nothing.
+use Prim.Native.Nat.{ℕ, zero, suc, _≤_, _<_}
+use mathlib.Core.Path.{_≡_, sym, ap, subst, _∙_}
+use mathlib.Core.Logic.{_⊎_, inl, inr}
+use mathlib.Core.Bool.{Bool, true, false, _&&_, and-false}
+use native.Mathlib.Omega.{arith}
+use lib.Dec.{leb}
+use lib.ListN.{getD}
+use borrow.Author.Tests.{leb-true}
+use Rattle.lists.proofs.Bools.{and-split}
+use Rattle.lists.proofs.Numbers.{eq-or-ne}
+use Rattle.shape.specs.Shape.{within, allBelow, inBounds}
+use Rattle.shape.specs.declared.Shape.{Shape}
+
+-- ---- a test on each number below n
+
+module _ (test : ℕ → Bool) where
+  pub allBelow-suc : (n : ℕ) → allBelow n test ≡ true → test n ≡ true → allBelow (suc n) test ≡ true
+  allBelow-suc n e t = rw e t
+
+  pub allBelow-fails : (n j : ℕ) → j < n → test j ≡ false → allBelow n test ≡ false
+  allBelow-fails zero j l t = absurd (omega arith)
+  allBelow-fails (suc n) j l t = go (eq-or-ne j n) (λ k. allBelow-fails n j k t)
+    where
+      go : (j ≡ n) ⊎ (j ≡ n → ⊥) → (j < n → allBelow n test ≡ false) → allBelow (suc n) test ≡ false
+      go (inl e) below = ap (λ b. allBelow n test && b) (subst (λ i. test i ≡ false) e t) ∙ and-false (allBelow n test)
+      go (inr e) below = ap (λ b. b && test n) (below (omega arith))
+
+  pub test-of-allBelow : (n j : ℕ) → allBelow n test ≡ true → j < n → test j ≡ true
+  test-of-allBelow zero j e l = absurd (omega arith)
+  test-of-allBelow (suc n) j e l = go (eq-or-ne j n) (λ k. test-of-allBelow n j (parts .0) k)
+    where
+      parts : (allBelow n test ≡ true) × (test n ≡ true)
+      parts = and-split (allBelow n test) (test n) e
+
+      go : (j ≡ n) ⊎ (j ≡ n → ⊥) → (j < n → test j ≡ true) → test j ≡ true
+      go (inl q) below = subst (λ i. test i ≡ true) (sym q) (parts .1)
+      go (inr q) below = below (omega arith)
+
+-- ---- ranges
+
+pub within-le : (lo hi x : ℕ) → within lo hi x ≡ true → x ≤ hi
+within-le lo hi x e = leb-true x hi (and-split (leb lo x) (leb x hi) e .1)
+
+-- ---- shapes, by case
+
+module _ (s : Shape) where
+  pub inBounds-attributes-out : within 1 4 (s .attributes) ≡ false → inBounds s ≡ false
+  unfolding inBounds
+  inBounds-attributes-out e = rw e
+
+  pub inBounds-width-out : (j : ℕ) → j < s .attributes → within 1 16 (getD (s .widths) j 0) ≡ false → inBounds s ≡ false
+  unfolding inBounds
+  inBounds-width-out j l e =
+      ap (λ b. within 1 4 (s .attributes) && (b && within 1 16 (s .capacity)))
+      (allBelow-fails (λ i. within 1 16 (getD (s .widths) i 0)) (s .attributes) j l e)
+      ∙ and-false (within 1 4 (s .attributes))
+
+  -- where the attribute count and the widths are in range, the capacity decides
+  pub inBounds-capacity : within 1 4 (s .attributes) ≡ true
+      → allBelow (s .attributes) (λ j. within 1 16 (getD (s .widths) j 0)) ≡ true
+      → inBounds s ≡ within 1 16 (s .capacity)
+  unfolding inBounds
+  inBounds-capacity e h = rw (e, h)
+
+  pub width-of-inBounds : (j : ℕ) → inBounds s ≡ true → j < s .attributes → within 1 16 (getD (s .widths) j 0) ≡ true
+  unfolding inBounds
+  width-of-inBounds j e l =
+      let test : ℕ → Bool = λ i. within 1 16 (getD (s .widths) i 0) in
+      let all = allBelow (s .attributes) test in
+      let rest = and-split (within 1 4 (s .attributes)) (all && within 1 16 (s .capacity)) e .1 in
+      test-of-allBelow test (s .attributes) j (and-split all (within 1 16 (s .capacity)) rest .0) l

@@ -1,0 +1,3 @@
+pub mod BoundsLaws
+pub mod RefusalLaws
+pub mod ShapeLaws

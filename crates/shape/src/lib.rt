@@ -1,0 +1,82 @@
+// Shapes of a store (document 01, "Shape and split steps"): their bounds, and the widths that count.
+ghost use mathlib.Core.Path.{_≡_};
+ghost use Prim.Native.Nat.{_<_, _≤_};
+ghost use Rattle.shape.specs.Shape.{within, inBounds, shapeNumber, widthOf, widthsOf, widthList};
+
+// The attribute count d, a width in bits for each attribute, and the page capacity b in records.
+// Widths past d are ignored.
+#[repr(C)]
+pub struct Shape {
+    pub attributes: u32,
+    pub widths: [u32; 4],
+    pub capacity: u32,
+}
+
+// The widths that count: those of a shape, 0 past d.
+pub struct Widths {
+    pub w0: u64,
+    pub w1: u64,
+    pub w2: u64,
+    pub w3: u64,
+}
+
+// The number of the first refusal that a shape meets: 1 outside its bounds, 0 for none.
+pub fn shape_number(shape: Shape) -> u32
+    ensures { λ r. ⌜ r ≡ shapeNumber shape ⌝ }
+{
+    if in_bounds(shape) { 0 } else { 1 }
+}
+
+// The widths that count, of any shape.
+pub fn widths_of(shape: Shape) -> Widths
+    ensures { λ r. ⌜ widthList r ≡ widthsOf shape ⌝ }
+{
+    let w0 = width_of(shape, 0);
+    let w1 = width_of(shape, 1);
+    let w2 = width_of(shape, 2);
+    let w3 = width_of(shape, 3);
+    Widths { w0, w1, w2, w3 }
+}
+
+// Whether d is 1 to 4, each width in use 1 to 16, and the capacity 1 to 16.
+fn in_bounds(shape: Shape) -> bool
+    ensures { λ r. ⌜ r ≡ inBounds shape ⌝ }
+{
+    let attributes = shape.attributes;
+    let widths = shape.widths;
+    if !in_range(1, 4, attributes) {
+        return false;
+    }
+    let count = attributes as usize;
+    let mut j: usize = 0;
+    while j < count {
+        let width = widths[j];
+        if !in_range(1, 16, width) {
+            return false;
+        }
+        j += 1;
+    }
+    in_range(1, 16, shape.capacity)
+}
+
+// Whether x is from lo to hi, both included.
+fn in_range(lo: u32, hi: u32, x: u32) -> bool
+    ensures { λ r. ⌜ r ≡ within lo hi x ⌝ }
+{
+    if x < lo {
+        return false;
+    }
+    x <= hi
+}
+
+// The width of attribute j, 0 from d on.
+fn width_of(shape: Shape, j: usize) -> u64
+    requires { ⌜ j < 4 ⌝ }
+    ensures { λ r. ⌜ r ≡ widthOf shape j ⌝ }
+{
+    let widths = shape.widths;
+    if j < (shape.attributes as usize) {
+        return widths[j] as u64;
+    }
+    0
+}

@@ -1,0 +1,339 @@
+//! The address map and its inverse, compared with the doubling array and with the formula of document 01.
+use mdeh_tests::compare::Comparisons;
+use mdeh_tests::host::{self, AddressResult, Index, IndexResult, Shape};
+use mdeh_tests::random::Random;
+use mdeh_tests::reference::{formula, steps, DoublingArray};
+
+const SEED: u64 = 0x6d64_6568_2d30_3031;
+
+/// Widths outside 1–16; the low bits of 257 and of 65,538 are within.
+const BAD_WIDTHS: [u32; 5] = [0, 17, 257, 65_536 + 2, u32::MAX];
+
+/// Indices of no attribute. The low 32 bits of some are small numbers.
+const HUGE: [u64; 5] = [1 << 16, 1 << 32, (1 << 32) + 1, 1 << 63, u64::MAX];
+
+// ---- every entry
+
+/// All widths of `count` attributes with a sum of at most `total`.
+fn all_widths(count: usize, total: u32) -> Vec<Vec<u32>> {
+    if count == 0 {
+        return vec![vec![]];
+    }
+    let mut all = Vec::new();
+    for widths in all_widths(count - 1, total) {
+        let used: u32 = widths.iter().sum();
+        for width in 1..=(total - used).min(16) {
+            all.push([widths.clone(), vec![width]].concat());
+        }
+    }
+    all
+}
+
+/// The library agrees with the first entries of the doubling array, in both directions.
+fn compare_with_array(count: &mut Comparisons, shape: Shape, array: &DoublingArray) {
+    for (a, &vector) in array.vectors.iter().enumerate() {
+        let a = a as u64;
+        count.same(host::address(shape, vector), Ok(a), format_args!("{shape:?}, address of {vector:?}"));
+        count.same(host::index(shape, a), Ok(vector), format_args!("{shape:?}, index at {a}"));
+    }
+}
+
+#[test]
+fn every_entry_of_every_shape_of_up_to_ten_bits() {
+    let mut count = Comparisons::default();
+    let mut shapes = 0;
+    for d in 1..=4 {
+        for widths in all_widths(d, 10) {
+            shapes += 1;
+            let shape = Shape::new(&widths);
+            let total = widths.iter().sum::<u32>();
+            let array = DoublingArray::new(&widths, total as usize);
+            assert_eq!(array.vectors.len(), 1 << total);
+            compare_with_array(&mut count, shape, &array);
+            index_refused(&mut count, shape, 1 << total, 3);
+            for j in 0..4 {
+                let mut index = [0; 4];
+                index[j] = 1 << shape.widths[j];
+                address_refused(&mut count, shape, index, 3);
+            }
+        }
+    }
+    assert_eq!(shapes, 10 + 45 + 120 + 210);
+    // 204,810 entries, both ways; five refusals a shape
+    count.end(2 * 204_810 + 5 * 385);
+}
+
+// ---- shapes of 11 to 64 bits
+
+/// Random widths with this sum, each from 1 to 16.
+fn random_widths(random: &mut Random, total: u32) -> Vec<u32> {
+    let d = random.between(total.div_ceil(16) as u64, total.min(4) as u64) as usize;
+    let mut widths = vec![1; d];
+    while widths.iter().sum::<u32>() < total {
+        let j = random.between(0, d as u64 - 1) as usize;
+        widths[j] = (widths[j] + 1).min(16);
+    }
+    widths
+}
+
+#[test]
+fn first_entries_of_shapes_of_11_to_64_bits() {
+    let mut count = Comparisons::default();
+    let mut random = Random::new(SEED);
+    for total in 11..=64 {
+        for _ in 0..4 {
+            let widths = random_widths(&mut random, total);
+            compare_with_array(&mut count, Shape::new(&widths), &DoublingArray::new(&widths, 11));
+        }
+    }
+    count.end(54 * 4 * 2048 * 2);
+}
+
+#[test]
+fn random_vectors_of_shapes_of_11_to_64_bits() {
+    let mut count = Comparisons::default();
+    let mut random = Random::new(SEED);
+    for total in 11..=64 {
+        for _ in 0..40 {
+            let widths = random_widths(&mut random, total);
+            let shape = Shape::new(&widths);
+            let steps = steps(&widths);
+            for _ in 0..500 {
+                let mut index = [0; 4];
+                for (j, &width) in widths.iter().enumerate() {
+                    index[j] = random.short(width);
+                }
+                let about = format_args!("{shape:?}, {index:?}");
+                let a = u64::try_from(formula(&steps, index)).expect("addresses have 64 bits");
+                count.same(host::address(shape, index), Ok(a), about);
+                count.same(host::index(shape, a), Ok(index), about);
+            }
+        }
+    }
+    count.end(54 * 40 * 500 * 2);
+}
+
+#[test]
+fn random_addresses_of_shapes_of_11_to_64_bits() {
+    let mut count = Comparisons::default();
+    let mut random = Random::new(SEED);
+    for total in 11..=64 {
+        for _ in 0..40 {
+            let widths = random_widths(&mut random, total);
+            let shape = Shape::new(&widths);
+            let steps = steps(&widths);
+            for _ in 0..500 {
+                let a = random.short(total);
+                let about = format_args!("{shape:?}, address {a}");
+                let index =
+                    host::index(shape, a).unwrap_or_else(|number| panic!("{about}: refused with {number}"));
+                count.same(formula(&steps, index), a as u128, about);
+                count.same(host::address(shape, index), Ok(a), about);
+            }
+        }
+    }
+    count.end(54 * 40 * 500 * 2);
+}
+
+#[test]
+fn last_vector_and_first_address_past_it() {
+    let mut count = Comparisons::default();
+    let mut random = Random::new(SEED);
+    for total in 1..=64 {
+        for _ in 0..40 {
+            let widths = random_widths(&mut random, total);
+            let shape = Shape::new(&widths);
+            let about = format_args!("{shape:?}");
+            let ones = shape.widths.map(|width| (1 << width) - 1);
+            let last = u64::MAX >> (64 - total);
+            count.same(formula(&steps(&widths), ones), last as u128, about);
+            count.same(host::address(shape, ones), Ok(last), about);
+            count.same(host::index(shape, last), Ok(ones), about);
+            if total < 64 {
+                for past in [last + 1, last + 2, last + (1 << 32), u64::MAX] {
+                    index_refused(&mut count, shape, past, 3);
+                }
+            }
+        }
+    }
+    let widest = Shape::new(&[16; 4]);
+    count.same(host::index(widest, u64::MAX), Ok([65_535; 4]), format_args!("{widest:?}"));
+    count.same(host::address(widest, [65_535; 4]), Ok(u64::MAX), format_args!("{widest:?}"));
+    count.end(64 * 40 * 3 + 63 * 40 * 4 + 2);
+}
+
+// ---- refused calls
+
+/// Both calls are refused with this number, and return zeros beside it.
+fn both_refused(count: &mut Comparisons, shape: Shape, index: [u64; 4], address: u64, number: u32) {
+    address_refused(count, shape, index, number);
+    index_refused(count, shape, address, number);
+}
+
+fn address_refused(count: &mut Comparisons, shape: Shape, index: [u64; 4], number: u32) {
+    let expected = AddressResult { number, address: 0 };
+    count.same(host::address_result(shape, index), expected, format_args!("{shape:?}, {index:?}"));
+}
+
+fn index_refused(count: &mut Comparisons, shape: Shape, address: u64, number: u32) {
+    let expected = IndexResult { number, index: Index { i0: 0, i1: 0, i2: 0, i3: 0 } };
+    count.same(host::index_result(shape, address), expected, format_args!("{shape:?}, address {address}"));
+}
+
+/// Shapes with one number outside its bounds.
+fn bad_shapes() -> Vec<Shape> {
+    let mut shapes = Vec::new();
+    for attributes in [0, 5, 6, 257, 65_536 + 2, 1 << 31, u32::MAX] {
+        shapes.push(Shape { attributes, widths: [2; 4], capacity: 2 });
+    }
+    for attributes in 1..=4 {
+        for j in 0..attributes as usize {
+            for width in BAD_WIDTHS {
+                let mut widths = [2; 4];
+                widths[j] = width;
+                shapes.push(Shape { attributes, widths, capacity: 2 });
+            }
+        }
+        for capacity in [0, 17, 257, 65_536 + 1, u32::MAX] {
+            shapes.push(Shape { attributes, widths: [2; 4], capacity });
+        }
+    }
+    assert_eq!(shapes.len(), 7 + 10 * 5 + 4 * 5);
+    shapes
+}
+
+#[test]
+fn shape_outside_its_bounds_is_refused_with_1() {
+    let mut count = Comparisons::default();
+    for shape in bad_shapes() {
+        both_refused(&mut count, shape, [0; 4], 0, 1);
+        both_refused(&mut count, shape, [1; 4], 1, 1);
+    }
+    count.end(77 * 4);
+}
+
+#[test]
+fn refusal_1_comes_before_3() {
+    let mut count = Comparisons::default();
+    for shape in bad_shapes() {
+        for huge in HUGE {
+            both_refused(&mut count, shape, [huge; 4], huge, 1);
+        }
+    }
+    count.end(77 * 5 * 2);
+}
+
+#[test]
+fn shape_within_its_bounds_is_accepted() {
+    let mut count = Comparisons::default();
+    for attributes in 1..=4 {
+        for width in 1..=16 {
+            for capacity in 1..=16 {
+                let shape = Shape { attributes, widths: [width; 4], capacity };
+                count.same(host::address(shape, [1, 0, 0, 0]), Ok(1), format_args!("{shape:?}"));
+                count.same(host::index(shape, 1), Ok([1, 0, 0, 0]), format_args!("{shape:?}"));
+            }
+        }
+    }
+    count.end(4 * 16 * 16 * 2);
+}
+
+#[test]
+fn widths_past_d_are_ignored() {
+    let mut count = Comparisons::default();
+    for d in 1..4 {
+        let used = vec![3; d];
+        let array = DoublingArray::new(&used, 3 * d);
+        for unused in BAD_WIDTHS.into_iter().chain(1..=16) {
+            for places in 1..1 << (4 - d) {
+                let mut shape = Shape::new(&used);
+                for j in d..4 {
+                    if places & (1 << (j - d)) != 0 {
+                        shape.widths[j] = unused;
+                    }
+                }
+                compare_with_array(&mut count, shape, &array);
+                index_refused(&mut count, shape, 1 << (3 * d), 3);
+                for j in d..4 {
+                    let mut index = [0; 4];
+                    index[j] = 1;
+                    address_refused(&mut count, shape, index, 3);
+                }
+            }
+        }
+    }
+    count.end(21 * (7 * (16 + 1 + 3) + 3 * (128 + 1 + 2) + (1024 + 1 + 1)));
+}
+
+#[test]
+fn index_out_of_range_is_refused_with_3() {
+    let mut count = Comparisons::default();
+    for d in 1..=4 {
+        for j in 0..d {
+            for width in 1..=16 {
+                let mut widths = vec![3; d];
+                widths[j] = width;
+                let shape = Shape::new(&widths);
+                let steps = steps(&widths);
+                let ones = shape.widths.map(|width| (1 << width) - 1);
+                for mut index in [[0; 4], ones] {
+                    index[j] = (1 << width) - 1;
+                    let a = formula(&steps, index) as u64;
+                    count.same(host::address(shape, index), Ok(a), format_args!("{shape:?}, {index:?}"));
+                    for past in
+                        [1 << width, (1 << width) + 1, (1 << width) + (1 << 32)].into_iter().chain(HUGE)
+                    {
+                        index[j] = past;
+                        address_refused(&mut count, shape, index, 3);
+                    }
+                }
+            }
+        }
+    }
+    count.end(10 * 16 * 2 * 9);
+}
+
+#[test]
+fn unused_index_other_than_0_is_refused_with_3() {
+    let mut count = Comparisons::default();
+    for d in 1..4 {
+        let shape = Shape::new(&vec![3; d]);
+        let ones = shape.widths.map(|width| (1 << width) - 1);
+        for j in d..4 {
+            for mut index in [[0; 4], ones] {
+                for value in [1, 2, 65_535].into_iter().chain(HUGE) {
+                    index[j] = value;
+                    address_refused(&mut count, shape, index, 3);
+                }
+            }
+        }
+    }
+    count.end(6 * 2 * 8);
+}
+
+// ---- the proof table
+
+#[test]
+fn entries_of_the_proof_table() {
+    let mut count = Comparisons::default();
+    let entries: [(&[u32], [u64; 4], u64); 8] = [
+        (&[2, 2], [0, 0, 0, 0], 0),
+        (&[2, 2], [1, 0, 0, 0], 1),
+        (&[2, 2], [0, 1, 0, 0], 2),
+        (&[2, 2], [3, 1, 0, 0], 7),
+        (&[2, 2], [0, 2, 0, 0], 8),
+        (&[2, 2], [3, 3, 0, 0], 15),
+        (&[1, 3, 2], [1, 2, 1, 0], 11),
+        (&[1, 3, 2], [0, 7, 3, 0], 59),
+    ];
+    for (widths, index, a) in entries {
+        let shape = Shape::new(widths);
+        let array = DoublingArray::new(widths, widths.iter().sum::<u32>() as usize);
+        let about = format_args!("{shape:?}, {index:?}");
+        count.same(host::address(shape, index), Ok(a), about);
+        count.same(host::index(shape, a), Ok(index), about);
+        count.same(array.vectors[a as usize], index, about);
+        count.same(formula(&steps(widths), index), a as u128, about);
+    }
+    count.end(8 * 4);
+}
