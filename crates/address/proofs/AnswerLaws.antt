@@ -1,10 +1,10 @@
 -- Laws of the two calls' answers, one for each way that a call ends. Assumes nothing.
-use Prim.Native.Nat.{ℕ, _^_, _≤_}
+use Prim.Native.Nat.{ℕ, _^_}
 use mathlib.Core.Path.{_≡_, sym, ap, _∙_}
 use mathlib.Core.Bool.{true, false, not}
 use mathlib.Core.List.{List, [], _∷_}
 use lib.Dec.{ltb}
-use lib.ListN.{getD, length}
+use lib.ListN.{getD}
 use Rattle.shape.specs.Refusal.{accepted, refused, answered, refusal}
 use Rattle.shape.specs.Shape.{shapeNumber, widthsOf, total, Fit, indexFits}
 use Rattle.shape.specs.declared.Shape.{Shape}
@@ -27,7 +27,8 @@ module _ (s : Shape) where
       (refusal 3 (not (ltb a (2 ^ total (widthsOf s)))) ∷ []) n
 
   -- the number of a refusal, with any value beside it
-  pub addressAnswer-refused : (is : List ℕ) (n a : ℕ) → refused n ≡ addressAnswer s is → answered n a ≡ addressAnswer s is
+  pub addressAnswer-refused : (is : List ℕ) (n a : ℕ) → refused n ≡ addressAnswer s is
+      → answered n a ≡ addressAnswer s is
   unfolding addressAnswer
   addressAnswer-refused is n a e = answered-refused (addressNumber s is) n (address (widthsOf s) is) a e
 
@@ -58,7 +59,8 @@ module _ (s : Shape) where
     pub indexAnswer-address-out : (a : ℕ) → ltb a (2 ^ total ws) ≡ false → refused 3 ≡ indexAnswer s a
     unfolding indexAnswer indexNumber
     indexAnswer-address-out a e =
-        let out : not (ltb a (2 ^ total (widthsOf s))) ≡ true = ap (λ v. not (ltb a (2 ^ total v))) (sym same) ∙ ap not e in
+        let out : not (ltb a (2 ^ total (widthsOf s))) ≡ true =
+        ap (λ v. not (ltb a (2 ^ total v))) (sym same) ∙ ap not e in
         answered-first s (getD (doublingArray (widthsOf s) (total (widthsOf s))) a []) 2
         (not (ltb a (2 ^ total (widthsOf s)))) [] n out
 
@@ -66,7 +68,8 @@ module _ (s : Shape) where
         → getD (doublingArray ws (total ws)) a [] ≡ is → accepted is ≡ indexAnswer s a
     unfolding indexAnswer indexNumber
     indexAnswer-index a is e h =
-        let within : not (ltb a (2 ^ total (widthsOf s))) ≡ false = ap (λ v. not (ltb a (2 ^ total v))) (sym same) ∙ ap not e in
+        let within : not (ltb a (2 ^ total (widthsOf s))) ≡ false =
+        ap (λ v. not (ltb a (2 ^ total v))) (sym same) ∙ ap not e in
         ap accepted (sym h ∙ ap (λ v. getD (doublingArray v (total v)) a []) same)
         ∙ answered-none s (getD (doublingArray (widthsOf s) (total (widthsOf s))) a []) 2
         (not (ltb a (2 ^ total (widthsOf s)))) n within

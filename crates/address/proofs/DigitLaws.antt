@@ -1,5 +1,5 @@
 -- Laws of addresses digit by digit: the formula as digits appended, and the index vector read back. Assumes nothing.
-use Prim.Native.Nat.{ℕ, zero, suc, _+_, _*_, _-_, _/_, _%_, _^_, _≤_, _<_, min}
+use Prim.Native.Nat.{ℕ, zero, suc, _+_, _*_, _-_, _/_, _%_, _^_, _≤_, _<_}
 use mathlib.Core.Path.{_≡_, refl, sym, ap, _∙_, subst}
 use mathlib.Core.Bool.{Bool, true, false, cond}
 use mathlib.Core.List.{List, [], _∷_}
@@ -12,14 +12,16 @@ use lib.ListN.{getD, length}
 use lib.Pow.{pow-mono, pow-pos}
 use borrow.Author.Tests.{eq-eqb, ne-eqb}
 use Rattle.lists.proofs.Shifts.{one-shifted}
-use Rattle.shape.specs.Shape.{Fit}
 use Rattle.split.specs.Steps.{stepsBelow, steps, stepNumber, depth}
-use Rattle.split.proofs.StepLaws.{depthBefore, depth-stepNumber}
+use Rattle.split.proofs.StepLaws.{depthBefore}
+use Rattle.split.proofs.DepthLaws.{depthBefore-le, length-steps-le, depth-here}
 use Rattle.address.specs.Doubling.{sides}
 use Rattle.address.specs.Address.{formula, address}
 use Rattle.address.specs.Private.{latestPair, InBox, IndexAt, AppendedBy, appendDigit, dropDigit, digitOf}
-use Rattle.address.proofs.DoublingLaws.{address-place, solved}
-use Rattle.address.proofs.PairLaws.{length-steps-le, in-box, sidesBefore, sides-stepNumber, depthBefore-le, address-latestPair}
+use Rattle.address.proofs.SideLaws.{In-sides-all, sidesBefore, sides-stepNumber}
+use Rattle.address.proofs.AppendLaws.{address-of-formula}
+use Rattle.address.proofs.DoublingLaws.{address-place}
+use Rattle.address.proofs.PairLaws.{address-latestPair}
 
 abbrev four : ℕ → ℕ → ℕ → ℕ → List ℕ
 four a b c d = a ∷ b ∷ c ∷ d ∷ []
@@ -55,7 +57,8 @@ pub digitOf-same : (x a J j z : ℕ) → j ≡ z → x ≡ digitOf x a J j z
 unfolding digitOf
 digitOf-same x a J j z e = rw (eq-eqb j z e)
 
-pub digitOf-other : (x a h j z : ℕ) → (j ≡ z → ⊥) → h ≤ 16 → bitAnd a ((1 * 2 ^ h) % 2 ^ 64 - 1) ≡ digitOf x a (2 ^ h) j z
+pub digitOf-other : (x a h j z : ℕ) → (j ≡ z → ⊥) → h ≤ 16
+    → bitAnd a ((1 * 2 ^ h) % 2 ^ 64 - 1) ≡ digitOf x a (2 ^ h) j z
 unfolding digitOf
 digitOf-other x a h j z e l = rw (ne-eqb j z e, one-shifted h (omega arith)) (and-mask a h)
 
@@ -72,9 +75,6 @@ appendDigit-dropDigit a J x j z = go (eqb j z)
     go true = refl
     go false = div-add-mod' a J
 
-pub depth-le : (d w m : ℕ) → d ≡ min w m → w ≤ 16 → d ≤ 16
-depth-le d w m e h = omega arith
-
 -- ---- all four
 
 appendDigits : (z a J0 J1 J2 J3 i0 i1 i2 i3 : ℕ) → ℕ
@@ -83,7 +83,8 @@ appendDigits z a J0 J1 J2 J3 i0 i1 i2 i3 =
 
 -- the formula, digit by digit
 appendDigits-formula : (z J0 J1 J2 J3 i0 i1 i2 i3 : ℕ) → z < 4
-    → appendDigits z (getD (four i0 i1 i2 i3) z 0) J0 J1 J2 J3 i0 i1 i2 i3 ≡ formula z (four J0 J1 J2 J3) (four i0 i1 i2 i3)
+    → appendDigits z (getD (four i0 i1 i2 i3) z 0) J0 J1 J2 J3 i0 i1 i2 i3
+    ≡ formula z (four J0 J1 J2 J3) (four i0 i1 i2 i3)
 unfolding appendDigit appendDigits formula
 appendDigits-formula zero J0 J1 J2 J3 i0 i1 i2 i3 h = omega arith
 appendDigits-formula (suc zero) J0 J1 J2 J3 i0 i1 i2 i3 h = omega arith
@@ -108,7 +109,7 @@ pub appended-digits : (ws : List ℕ) (i0 i1 i2 i3 g h0 h1 h2 h3 a0 a1 a2 a3 : �
     → Appended ws (g % 4) h0 h1 h2 h3 i0 i1 i2 i3 a0 a1 a2 a3
 unfolding appendDigits
 appended-digits ws i0 i1 i2 i3 g h0 h1 h2 h3 a0 a1 a2 a3 r m d0 d1 d2 d3 e0 e1 e2 e3 =
-    let all = address-place ws (r .fit) (length (steps ws)) (omega arith) is (in-box ws is refl r) in
+    let all = address-place ws (r .fit) (length (steps ws)) (omega arith) is (In-sides-all ws is refl r) in
     let top : address ws is < 2 ^ 64 = le-trans (all .0) (pow-mono (length-steps-le ws)) in
     let l1 = appendDigit-le a1 h1 i1 1 (g % 4) in
     let l2 = appendDigit-le a2 h2 i2 2 (g % 4) in
@@ -145,17 +146,18 @@ appended-digits ws i0 i1 i2 i3 g h0 h1 h2 h3 a0 a1 a2 a3 r m d0 d1 d2 d3 e0 e1 e
 
 -- ---- read back
 
-digitOf-front : (x d0 d1 d2 d3 J0 J1 J2 J3 z : ℕ) → z < 4
+getD-digitOf : (x d0 d1 d2 d3 J0 J1 J2 J3 z : ℕ) → z < 4
     → getD (four (digitOf x d0 J0 0 z) (digitOf x d1 J1 1 z) (digitOf x d2 J2 2 z) (digitOf x d3 J3 3 z)) z 0 ≡ x
 unfolding digitOf
-digitOf-front x d0 d1 d2 d3 J0 J1 J2 J3 zero h = refl
-digitOf-front x d0 d1 d2 d3 J0 J1 J2 J3 (suc zero) h = refl
-digitOf-front x d0 d1 d2 d3 J0 J1 J2 J3 (suc (suc zero)) h = refl
-digitOf-front x d0 d1 d2 d3 J0 J1 J2 J3 (suc (suc (suc zero))) h = refl
-digitOf-front x d0 d1 d2 d3 J0 J1 J2 J3 (suc (suc (suc (suc z)))) h = absurd (omega arith)
+getD-digitOf x d0 d1 d2 d3 J0 J1 J2 J3 zero h = refl
+getD-digitOf x d0 d1 d2 d3 J0 J1 J2 J3 (suc zero) h = refl
+getD-digitOf x d0 d1 d2 d3 J0 J1 J2 J3 (suc (suc zero)) h = refl
+getD-digitOf x d0 d1 d2 d3 J0 J1 J2 J3 (suc (suc (suc zero))) h = refl
+getD-digitOf x d0 d1 d2 d3 J0 J1 J2 J3 (suc (suc (suc (suc z)))) h = absurd (omega arith)
 
 module _ (ws : List ℕ) (a t g h0 h1 h2 h3 : ℕ) (by : AppendedBy ws a t g)
-    (d0 : h0 ≡ depthBefore ws g 0) (d1 : h1 ≡ depthBefore ws g 1) (d2 : h2 ≡ depthBefore ws g 2) (d3 : h3 ≡ depthBefore ws g 3)
+    (d0 : h0 ≡ depthBefore ws g 0) (d1 : h1 ≡ depthBefore ws g 1) (d2 : h2 ≡ depthBefore ws g 2)
+    (d3 : h3 ≡ depthBefore ws g 3)
     (a3 a2 a1 a0 : ℕ) (e3 : a3 ≡ dropDigit a (2 ^ h3) 3 (g % 4)) (e2 : a2 ≡ dropDigit a3 (2 ^ h2) 2 (g % 4))
     (e1 : a1 ≡ dropDigit a2 (2 ^ h1) 1 (g % 4)) (e0 : a0 ≡ dropDigit a1 (2 ^ h0) 0 (g % 4))
     (i0 i1 i2 i3 : ℕ) (f0 : i0 ≡ digitOf a0 a1 (2 ^ h0) 0 (g % 4)) (f1 : i1 ≡ digitOf a0 a2 (2 ^ h1) 1 (g % 4))
@@ -163,8 +165,8 @@ module _ (ws : List ℕ) (a t g h0 h1 h2 h3 : ℕ) (by : AppendedBy ws a t g)
   pub indexAt-digits : IndexAt ws a (i0 ∷ i1 ∷ i2 ∷ i3 ∷ [])
   unfolding appendDigits stepNumber
   indexAt-digits =
-      let s = solved ws (by .fit) (g / 4) (g % 4) hz live (four i0 i1 i2 i3) a refl others
-      (ap (λ S. formula (g % 4) S (four i0 i1 i2 i3)) sides-same ∙ formula-same) from past in
+      let s = address-of-formula ws (by .fit) (g / 4) (g % 4) hz live number (four i0 i1 i2 i3) a refl others
+      (ap (λ Js. formula (g % 4) Js (four i0 i1 i2 i3)) sides-same ∙ formula-same) (by .from) past in
       record { below = s .0; back = s .1 }
     where
       hz : g % 4 < 4
@@ -176,20 +178,21 @@ module _ (ws : List ℕ) (a t g h0 h1 h2 h3 : ℕ) (by : AppendedBy ws a t g)
       place : 4 * (g / 4) + g % 4 ≡ g
       place = omega arith
 
-      number : t ≡ stepNumber ws (g / 4) (g % 4)
-      number = sym (by .pair .before) ∙ ap (λ x. length (stepsBelow ws x)) (sym place)
+      number : stepNumber ws (g / 4) (g % 4) ≡ t
+      number = ap (λ x. length (stepsBelow ws x)) place ∙ by .pair .before
 
-      from : 2 ^ stepNumber ws (g / 4) (g % 4) ≤ a
-      from = subst (λ x. 2 ^ x ≤ a) number (by .from)
+      past : a < 2 ^ suc t
+      past = subst (λ u. a < 2 ^ u) (add-one t) (by .past)
 
-      past : a < 2 ^ suc (stepNumber ws (g / 4) (g % 4))
-      past = subst (λ x. a < 2 ^ x) (add-one t ∙ ap suc number) (by .past)
-
-      sides-same : sides ws (stepNumber ws (g / 4) (g % 4)) ≡ four (2 ^ h0) (2 ^ h1) (2 ^ h2) (2 ^ h3)
-      sides-same = sides-stepNumber ws (g / 4) (g % 4) hz live (by .fit (g % 4)) ∙ ap (sidesBefore ws) place ∙ rw (d0, d1, d2, d3)
+      sides-same : sides ws t ≡ four (2 ^ h0) (2 ^ h1) (2 ^ h2) (2 ^ h3)
+      sides-same =
+          ap (sides ws) (sym number)
+          ∙ sides-stepNumber ws (g / 4) (g % 4) hz live (by .fit (g % 4))
+          ∙ ap (sidesBefore ws) place
+          ∙ rw (d0, d1, d2, d3)
 
       front : getD (four i0 i1 i2 i3) (g % 4) 0 ≡ a0
-      front = rw (f0, f1, f2, f3) (digitOf-front a0 a1 a2 a3 a (2 ^ h0) (2 ^ h1) (2 ^ h2) (2 ^ h3) (g % 4) hz)
+      front = rw (f0, f1, f2, f3) (getD-digitOf a0 a1 a2 a3 a (2 ^ h0) (2 ^ h1) (2 ^ h2) (2 ^ h3) (g % 4) hz)
 
       put : (x y h i j : ℕ) → x ≡ dropDigit y (2 ^ h) j (g % 4) → i ≡ digitOf a0 y (2 ^ h) j (g % 4)
           → appendDigit x (2 ^ h) i j (g % 4) ≡ y
@@ -210,14 +213,14 @@ module _ (ws : List ℕ) (a t g h0 h1 h2 h3 : ℕ) (by : AppendedBy ws a t g)
           ∙ put a3 a h3 i3 3 e3 f3
 
       low : (r y h i : ℕ) → r < 4 → (r ≡ g % 4 → ⊥) → h ≡ depthBefore ws g r → i ≡ digitOf a0 y (2 ^ h) r (g % 4)
-          → i < 2 ^ depth ws (stepNumber ws (g / 4) (g % 4)) r
+          → i < 2 ^ depth ws t r
       low r y h i l ne d q =
-          let e : h ≡ depth ws (stepNumber ws (g / 4) (g % 4)) r =
-          d ∙ ap (λ u. depthBefore ws u r) (sym place) ∙ sym (depth-stepNumber ws (g / 4) (g % 4) hz live (by .fit (g % 4)) r l) in
-          subst (λ u. i < 2 ^ u) e (subst (λ u. u < 2 ^ h) (sym q) (digitOf-lt a0 y (2 ^ h) r (g % 4) ne (pow-pos h)))
+          let deep = depth-here ws (by .fit) (g / 4) (g % 4) hz live number r l in
+          let e : h ≡ depth ws t r = d ∙ ap (λ u. depthBefore ws u r) (sym place) ∙ sym deep in
+          subst (λ u. i < 2 ^ u) e
+          (subst (λ u. u < 2 ^ h) (sym q) (digitOf-lt a0 y (2 ^ h) r (g % 4) ne (pow-pos h)))
 
-      others : (r : ℕ) → r < 4 → (r ≡ g % 4 → ⊥)
-          → getD (four i0 i1 i2 i3) r 0 < 2 ^ depth ws (stepNumber ws (g / 4) (g % 4)) r
+      others : (r : ℕ) → r < 4 → (r ≡ g % 4 → ⊥) → getD (four i0 i1 i2 i3) r 0 < 2 ^ depth ws t r
       others zero l ne = low 0 a1 h0 i0 l ne d0 f0
       others (suc zero) l ne = low 1 a2 h1 i1 l ne d1 f1
       others (suc (suc zero)) l ne = low 2 a3 h2 i2 l ne d2 f2

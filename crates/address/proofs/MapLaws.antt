@@ -53,4 +53,4 @@ pub equals-doublingArray : (s : Shape) → shapeNumber s ≡ 0 → EqualsDoublin
 unfolding widthsOf
 equals-doublingArray s n =
     let fit = widthsOf-fit s n in
-    equals (widthsOf s) fit (length-steps _ _ _ _ (fit 0) (fit 1) (fit 2) (fit 3))
+    equals (widthsOf s) fit (length-steps _ _ _ _ fit)

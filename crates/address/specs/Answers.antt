@@ -1,4 +1,5 @@
--- What the two calls of the address map answer (document 01, "Address map" and "Refused calls" 1 and 3). Assumes nothing.
+-- What the two calls of the address map answer (document 01, "Address map" and "Refused calls" 1 and 3).
+-- Assumes nothing.
 use Prim.Native.Nat.{ℕ, _^_}
 use mathlib.Core.Bool.{not}
 use mathlib.Core.List.{List, [], _∷_, _++_}

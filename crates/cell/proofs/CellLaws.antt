@@ -13,14 +13,15 @@ use Rattle.lists.proofs.Numbers.{lt-or-le, eq-or-ne}
 use Rattle.shape.specs.Shape.{Fit, total}
 use Rattle.split.specs.Steps.{steps, step, stepNumber, bitValue, stepsOf, depth}
 use Rattle.split.proofs.StepLaws.{length-steps}
+use Rattle.split.proofs.DepthLaws.{step-of, step-here, depth-z, depth-next, depth-next-other}
+use Rattle.split.proofs.DepthLaws.{lt-depth, stepNumber-lt-depth}
+use Rattle.split.proofs.BitLaws.{splitBit-stepNumber}
 use Rattle.address.specs.Doubling.{In, done, also, sides}
 use Rattle.address.specs.Address.{address}
-use Rattle.address.proofs.DoublingLaws.{step-of, step-here, depth-z, next-z, next-other}
 use Rattle.address.proofs.DoublingLaws.{address-place, address-onto, address-one-to-one}
 use Rattle.cell.specs.Cell.{sumBits, attributeBit, cell, cellAddress, Agree}
 use Rattle.cell.specs.Laws.{CellLaws}
-use Rattle.cell.proofs.Strings.{sumBits-lt, sumBits-agree, sumBits-same, lt-depth, stepNumber-lt-depth}
-use Rattle.cell.proofs.Strings.{splitBit-stepNumber, stringOf, sumBits-stringOf}
+use Rattle.cell.proofs.Strings.{sumBits-lt, sumBits-agree, agree-of-sumBits, stringOf, sumBits-stringOf}
 
 -- ---- the four indices
 
@@ -42,9 +43,9 @@ pub cell-zero : (ws : List ℕ) (p : ℕ → Bool) → cell ws 0 p ≡ 0 ∷ 0 �
 unfolding cell sumBits depth stepsOf
 cell-zero ws p = refl
 
-pub cell-in : (ws : List ℕ) (t : ℕ) (p : ℕ → Bool) → In (sides ws t) (cell ws t p)
+pub In-cell : (ws : List ℕ) (t : ℕ) (p : ℕ → Bool) → In (sides ws t) (cell ws t p)
 unfolding cell sides
-cell-in ws t p = also (below 0) (also (below 1) (also (below 2) (also (below 3) done)))
+In-cell ws t p = also (below 0) (also (below 1) (also (below 2) (also (below 3) done)))
   where
     below : (j : ℕ) → sumBits (attributeBit ws p j) (depth ws t j) < 2 ^ depth ws t j
     below j = sumBits-lt (attributeBit ws p j) (depth ws t j)
@@ -56,24 +57,22 @@ abbrev pub plus : ℕ → ℕ → List ℕ → List ℕ
 plus z x v = set v z (getD v z 0 + x)
 
 module _ (ws : List ℕ) (fit : Fit ws) where
-  cell-suc-stepNumber : (p : ℕ → Bool) (k z : ℕ) → z < 4 → k < getD ws z 0
-      → cell ws (suc (stepNumber ws k z)) p
-      ≡ plus z (bitValue (p (stepNumber ws k z)) * 2 ^ k) (cell ws (stepNumber ws k z) p)
+  -- step t is (k, z)
+  cell-suc-pair : (t : ℕ) (p : ℕ → Bool) (k z : ℕ) → z < 4 → k < getD ws z 0 → stepNumber ws k z ≡ t
+      → cell ws (suc t) p ≡ plus z (bitValue (p t) * 2 ^ k) (cell ws t p)
   unfolding sumBits
-  cell-suc-stepNumber p k z hz hk = ext-getD 0 new (plus z x old) (length-cell ws (suc t) p ∙ sym len)
+  cell-suc-pair t p k z hz hk number =
+      ext-getD 0 new (plus z x old) (length-cell ws (suc t) p ∙ sym len)
       (λ r l. each r (subst (λ n. r < n) (length-cell ws (suc t) p) l) (eq-or-ne r z))
     where
-      t : ℕ
-      t = stepNumber ws k z
-
       x : ℕ
-      x = bitValue (p (stepNumber ws k z)) * 2 ^ k
+      x = bitValue (p t) * 2 ^ k
 
       old : List ℕ
-      old = cell ws (stepNumber ws k z) p
+      old = cell ws t p
 
       new : List ℕ
-      new = cell ws (suc (stepNumber ws k z)) p
+      new = cell ws (suc t) p
 
       len : length (plus z x old) ≡ 4
       len = length-set old z (getD old z 0 + x) ∙ length-cell ws t p
@@ -81,26 +80,25 @@ module _ (ws : List ℕ) (fit : Fit ws) where
       at-z : getD new z 0 ≡ getD old z 0 + x
       at-z =
           getD-cell ws (suc t) p z hz
-          ∙ ap (sumBits (attributeBit ws p z)) (next-z ws fit k z hz hk)
-          ∙ ap (λ h. sumBits (attributeBit ws p z) h + x) (sym (depth-z ws fit k z hz hk))
+          ∙ ap (sumBits (attributeBit ws p z)) (depth-next ws fit k z hz hk number)
+          ∙ ap (λ u. sumBits (attributeBit ws p z) k + bitValue (p u) * 2 ^ k) number
+          ∙ ap (λ h. sumBits (attributeBit ws p z) h + x) (sym (depth-z ws fit k z hz hk number))
           ∙ ap (λ i. i + x) (sym (getD-cell ws t p z hz))
 
       each : (r : ℕ) → r < 4 → (r ≡ z) ⊎ (r ≡ z → ⊥) → getD new r 0 ≡ getD (plus z x old) r 0
-      each r l (inl e) = subst (λ i. getD new i 0 ≡ getD (plus z x old) i 0) (sym e)
+      each r l (inl e) =
+          subst (λ i. getD new i 0 ≡ getD (plus z x old) i 0) (sym e)
           (at-z ∙ sym (getD-set-same old z (getD old z 0 + x) 0 (subst (λ n. z < n) (sym (length-cell ws t p)) hz)))
       each r l (inr ne) =
           getD-cell ws (suc t) p r l
-          ∙ ap (sumBits (attributeBit ws p r)) (next-other ws fit k z hz hk r l ne)
+          ∙ ap (sumBits (attributeBit ws p r)) (depth-next-other ws fit k z hz hk number r l ne)
           ∙ sym (getD-set-other old z r (getD old z 0 + x) 0 ne ∙ getD-cell ws t p r l)
 
   pub cell-suc : (t : ℕ) → t < length (steps ws) → (p : ℕ → Bool)
       → cell ws (suc t) p ≡ plus (step ws t .attribute) (bitValue (p t) * 2 ^ step ws t .bit) (cell ws t p)
   cell-suc t h p =
-      let s = step-of ws fit t h in
-      subst
-      (λ u. cell ws (suc u) p ≡ plus (step ws u .attribute) (bitValue (p u) * 2 ^ step ws u .bit) (cell ws u p))
-      (s .4)
-      (rw (step-here ws fit (s .0) (s .1) (s .2) (s .3)) (cell-suc-stepNumber p (s .0) (s .1) (s .2) (s .3)))
+      let s = step-of ws t h in
+      rw (step-here ws fit (s .0) (s .1) (s .2) (s .3) (s .4)) (cell-suc-pair t p (s .0) (s .1) (s .2) (s .3) (s .4))
 
   pub cell-zero-bit : (t : ℕ) → t < length (steps ws) → (p : ℕ → Bool) → p t ≡ false → cell ws (suc t) p ≡ cell ws t p
   cell-zero-bit t h p e =
@@ -147,11 +145,11 @@ module _ (ws : List ℕ) (fit : Fit ws) where
   -- and has each of them
   pub agree-of-cell : (t : ℕ) → t ≤ length (steps ws) → (p q : ℕ → Bool) → cell ws t p ≡ cell ws t q → Agree t p q
   agree-of-cell t h p q e s l =
-      let d = step-of ws fit s (le-trans l h) in
+      let d = step-of ws s (le-trans l h) in
       subst (λ u. p u ≡ q u) (d .4) (at (d .0) (d .1) (d .2) (d .3) (subst (λ u. u < t) (sym (d .4)) l))
     where
       at : (k j : ℕ) → j < 4 → k < getD ws j 0 → stepNumber ws k j < t → p (stepNumber ws k j) ≡ q (stepNumber ws k j)
-      at k j hj hk b = sumBits-same (depth ws t j) (attributeBit ws p j) (attributeBit ws q j)
+      at k j hj hk b = agree-of-sumBits (depth ws t j) (attributeBit ws p j) (attributeBit ws q j)
           (sym (getD-cell ws t p j hj) ∙ ap (λ v. getD v j 0) e ∙ getD-cell ws t q j hj)
           k (lt-depth ws fit t k j hj hk b)
 
@@ -162,7 +160,7 @@ module _ (ws : List ℕ) (fit : Fit ws) where
 
   pub cellAddress-lt : (t : ℕ) → t ≤ length (steps ws) → (p : ℕ → Bool) → cellAddress ws t p < 2 ^ t
   unfolding cellAddress
-  cellAddress-lt t h p = address-place ws fit t h (cell ws t p) (cell-in ws t p) .0
+  cellAddress-lt t h p = address-place ws fit t h (cell ws t p) (In-cell ws t p) .0
 
   pub cellAddress-onto : (t : ℕ) → t ≤ length (steps ws) → (a : ℕ) → a < 2 ^ t
       → (p : ℕ → Bool) × (cellAddress ws t p ≡ a)
@@ -176,7 +174,7 @@ module _ (ws : List ℕ) (fit : Fit ws) where
       → (cellAddress ws t p ≡ cellAddress ws t q) ↔ Agree t p q
   unfolding cellAddress
   cellAddress-same t h p q = (
-    λ e. agree-of-cell t h p q (address-one-to-one ws fit t h _ _ (cell-in ws t p) (cell-in ws t q) e),
+    λ e. agree-of-cell t h p q (address-one-to-one ws fit t h _ _ (In-cell ws t p) (In-cell ws t q) e),
     λ a. ap (address ws) (cell-agree t p q a),
   )
 
@@ -190,7 +188,7 @@ module _ (ws : List ℕ) (fit : Fit ws) where
 
 pub cell-laws : (w0 w1 w2 w3 : ℕ) → Fit (w0 ∷ w1 ∷ w2 ∷ w3 ∷ []) → CellLaws (w0 ∷ w1 ∷ w2 ∷ w3 ∷ [])
 cell-laws w0 w1 w2 w3 fit = record {
-  in-box = λ t h p. cell-in ws t p;
+  in-box = λ t h p. In-cell ws t p;
   onto = λ t h v i. cell-onto ws fit t v i;
   same = λ t h p q. cell-same ws fit t (below t h) p q;
   address-lt = λ t h p. cellAddress-lt ws fit t (below t h) p;
@@ -204,4 +202,4 @@ cell-laws w0 w1 w2 w3 fit = record {
     ws = w0 ∷ w1 ∷ w2 ∷ w3 ∷ []
 
     below : (t : ℕ) → t ≤ total (w0 ∷ w1 ∷ w2 ∷ w3 ∷ []) → t ≤ length (steps (w0 ∷ w1 ∷ w2 ∷ w3 ∷ []))
-    below t h = subst (λ n. t ≤ n) (sym (length-steps w0 w1 w2 w3 (fit 0) (fit 1) (fit 2) (fit 3))) h
+    below t h = subst (λ n. t ≤ n) (sym (length-steps w0 w1 w2 w3 fit)) h

@@ -4,8 +4,8 @@ use mathlib.Core.Path.{_≡_}
 use mathlib.Core.Logic.{_⊎_, inl, inr}
 use native.Mathlib.Omega.{arith}
 use native.Mathlib.Decide.{decLt}
-use native.Mathlib.Nat.{mul-le-mul-right, mod-eq-of-lt}
-use lib.Pow.{pow-mono, pow-lt}
+use native.Mathlib.Nat.{mul-le-mul-right}
+use lib.Pow.{pow-mono}
 
 -- ---- cases
 
@@ -25,9 +25,6 @@ eq-or-ne a b = go (decLt a b) (decLt b a)
     go (no h) (no k) = inl (omega arith)
 
 -- ---- powers of two
-
-pub pow-double : (k : ℕ) → 2 ^ suc k ≡ 2 ^ k + 2 ^ k
-pow-double k = omega arith
 
 -- a power at most i, below a power
 pub pow-below : (s d i : ℕ) → 2 ^ s ≤ i → i < 2 ^ d → s < d

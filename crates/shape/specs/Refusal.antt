@@ -1,6 +1,6 @@
 -- Refused calls (document 01): conditions with their numbers, and what a call answers. Assumes nothing.
 use Prim.Native.Nat.{ℕ, zero, suc}
-use mathlib.Core.Bool.{Bool, true, false, cond}
+use mathlib.Core.Bool.{Bool, cond}
 use mathlib.Core.List.{List, [], _∷_}
 
 -- a row of the table: its number, and whether its condition holds

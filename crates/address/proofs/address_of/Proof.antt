@@ -1,12 +1,12 @@
 -- `address::address_of` meets its contract: each way that it ends is a law of the answer. Assumes nothing.
-use mathlib.Core.Path.{_≡_, refl, sym, ap, subst, _∙_}
-use mathlib.Core.Bool.{true}
+use mathlib.Core.Path.{_≡_, sym, ap, _∙_}
 use Rattle.shape.specs.Refusal.{refused}
 use Rattle.shape.specs.Shape.{shapeNumber, widthList}
 use Rattle.shape.proofs.ShapeLaws.{indexFits-below}
 use borrow.Author.Tests.{not-true, not-false}
 use Rattle.address.specs.Answers.{indexList, addressAnswerOf}
-use Rattle.address.proofs.AnswerLaws.{addressAnswer-shape-out, widths-fit, addressAnswer-index-out, addressAnswer-address}
+use Rattle.address.proofs.AnswerLaws.{widths-fit, addressAnswer-shape-out}
+use Rattle.address.proofs.AnswerLaws.{addressAnswer-index-out, addressAnswer-address}
 use borrow.Author.Needs.{needs}
 use Rattle.address.proofs.address_of.Statement.{statement}
 use Rattle.address.proofs.address_of.Tie as tie
@@ -22,7 +22,8 @@ unfolding addressAnswerOf
 returns c =
     let s = c .before .before .args in
     let n = c .before .shape-number in
-    ap refused (n .ensures) ∙ addressAnswer-shape-out (s .shape) (indexList (s .index)) (λ e. c .if1 .taken (n .ensures ∙ e))
+    ap refused (n .ensures)
+    ∙ addressAnswer-shape-out (s .shape) (indexList (s .index)) (λ e. c .if1 .taken (n .ensures ∙ e))
 
 widths-of-requires : tie.Need-widths-of-requires
 widths-of-requires c κs = search needs
@@ -38,8 +39,8 @@ unfolding addressAnswerOf
 returns-2 c =
     let w = c .before .before in
     let s = w .before .before .before .args in
-    addressAnswer-index-out (s .shape) (widthList (w .widths-of .result)) (in-bounds (w .before)) (w .widths-of .ensures)
-    (indexList (s .index)) (sym (c .before .index-fits .ensures) ∙ not-true _ (c .if2 .taken))
+    addressAnswer-index-out (s .shape) (widthList (w .widths-of .result)) (in-bounds (w .before))
+    (w .widths-of .ensures) (indexList (s .index)) (sym (c .before .index-fits .ensures) ∙ not-true _ (c .if2 .taken))
 
 locate-requires : tie.Need-locate-requires
 locate-requires c κs =
@@ -48,7 +49,9 @@ locate-requires c κs =
     let ws = w .widths-of .result in
     record {
       fit = widths-fit (s .shape) (widthList ws) (in-bounds (w .before)) (w .widths-of .ensures);
-      below = indexFits-below (widthList ws) (indexList (s .index)) (sym (c .before .index-fits .ensures) ∙ not-false _ (c .if2 .left));
+      below =
+          indexFits-below (widthList ws) (indexList (s .index))
+          (sym (c .before .index-fits .ensures) ∙ not-false _ (c .if2 .left));
     }
 
 returns-3 : tie.Need-returns-3

@@ -1,12 +1,13 @@
 -- `address::index_at` meets its contract: each way that it ends is a law of the answer. Assumes nothing.
-use Prim.Native.Nat.{ℕ, _<_, _^_}
-use mathlib.Core.Path.{_≡_, sym, ap, subst, _∙_}
+use Prim.Native.Nat.{_^_}
+use mathlib.Core.Path.{_≡_, sym, ap, _∙_}
 use lib.Dec.{ltb}
 use borrow.Author.Tests.{ltb-true, not-true, not-false}
 use Rattle.shape.specs.Refusal.{refused}
 use Rattle.shape.specs.Shape.{shapeNumber, widthList, total}
 use Rattle.address.specs.Answers.{indexList, indexAnswerOf}
-use Rattle.address.proofs.AnswerLaws.{indexAnswer-shape-out, widths-fit, indexAnswer-address-out, indexAnswer-index}
+use Rattle.address.proofs.AnswerLaws.{widths-fit, indexAnswer-shape-out}
+use Rattle.address.proofs.AnswerLaws.{indexAnswer-address-out, indexAnswer-index}
 use Rattle.address.proofs.SearchLaws.{getD-indexAt}
 use borrow.Author.Needs.{needs}
 use Rattle.address.proofs.index_at.Statement.{statement}
@@ -16,12 +17,12 @@ in-bounds : (c : tie.Else1) → shapeNumber (c .before .before .args .shape) ≡
 in-bounds c = sym (c .before .shape-number .ensures) ∙ c .if1 .left
 
 -- the test of the address, by the sum of the widths
-test : (c : tie.After-address-fits)
-    → ltb (c .before .before .before .before .before .args .address) (2 ^ total (widthList (c .before .before .widths-of .result)))
+test : (c : tie.After-address-fits) → let w = c .before .before in
+    ltb (w .before .before .before .args .address) (2 ^ total (widthList (w .widths-of .result)))
     ≡ c .address-fits .result
 test c =
-    ap (λ t. ltb (c .before .before .before .before .before .args .address) (2 ^ t)) (sym (c .before .total-of .ensures .0))
-    ∙ sym (c .address-fits .ensures)
+    let a = c .before .before .before .before .before .args .address in
+    ap (λ t. ltb a (2 ^ t)) (sym (c .before .total-of .ensures .0)) ∙ sym (c .address-fits .ensures)
 
 shape-number-requires : tie.Need-shape-number-requires
 shape-number-requires c κs = search needs
@@ -49,8 +50,8 @@ unfolding indexAnswerOf
 returns-2 c =
     let w = c .before .before .before in
     let s = w .before .before .before .args in
-    indexAnswer-address-out (s .shape) (widthList (w .widths-of .result)) (in-bounds (w .before)) (w .widths-of .ensures)
-    (s .address) (test (c .before) ∙ not-true _ (c .if2 .taken))
+    indexAnswer-address-out (s .shape) (widthList (w .widths-of .result)) (in-bounds (w .before))
+    (w .widths-of .ensures) (s .address) (test (c .before) ∙ not-true _ (c .if2 .taken))
 
 vector-at-requires : tie.Need-vector-at-requires
 vector-at-requires c κs =
@@ -69,9 +70,11 @@ returns-3 c =
     let s = w .before .before .before .args in
     let v = c .vector-at .result in
     let fit = widths-fit (s .shape) (widthList ws) (in-bounds (w .before)) (w .widths-of .ensures) in
-    indexAnswer-index (s .shape) (widthList ws) (in-bounds (w .before)) (w .widths-of .ensures) (s .address) (indexList v)
+    indexAnswer-index (s .shape) (widthList ws) (in-bounds (w .before)) (w .widths-of .ensures) (s .address)
+    (indexList v)
     (test f ∙ not-false _ (c .before .if2 .left))
-    (getD-indexAt (ws .w0) (ws .w1) (ws .w2) (ws .w3) (s .address) (v .i0) (v .i1) (v .i2) (v .i3) fit (c .vector-at .ensures))
+    (getD-indexAt (ws .w0) (ws .w1) (ws .w2) (ws .w3) (s .address) (v .i0) (v .i1) (v .i2) (v .i3) fit
+    (c .vector-at .ensures))
 
 pub index-at-spec : {M : Type 1} → statement M
 index-at-spec =

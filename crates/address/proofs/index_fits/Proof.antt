@@ -1,5 +1,5 @@
 -- `address::index_fits` meets its contract, test by test. Assumes nothing.
-use mathlib.Core.Path.{_≡_, sym, _∙_}
+use mathlib.Core.Path.{sym, _∙_}
 use mathlib.Core.Bool.{and-true}
 use borrow.Author.Tests.{not-true, not-false}
 use Rattle.address.proofs.index_fits.Statement.{statement}

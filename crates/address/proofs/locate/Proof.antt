@@ -1,8 +1,8 @@
 -- `address::locate` meets its contract: no pair is the zero vector. Assumes nothing.
-use mathlib.Core.Path.{_≡_, sym, _∙_}
+use mathlib.Core.Path.{sym, _∙_}
 use Rattle.shape.specs.Shape.{widthList}
 use Rattle.address.specs.Answers.{indexList}
-use Rattle.address.proofs.PairLaws.{address-zeros}
+use Rattle.address.proofs.PairLaws.{address-latestPair-zero}
 use borrow.Author.Needs.{needs}
 use Rattle.address.proofs.locate.Statement.{statement}
 use Rattle.address.proofs.locate.Tie as tie
@@ -13,7 +13,9 @@ latest-pair-requires c κs = search needs
 returns : tie.Need-returns
 returns c =
     let s = c .before .before .args in
-    sym (address-zeros (widthList (s .widths)) (indexList (s .index)) (sym (c .before .latest-pair .ensures .0) ∙ c .if1 .taken))
+    sym
+    (address-latestPair-zero (widthList (s .widths)) (indexList (s .index))
+    (sym (c .before .latest-pair .ensures .0) ∙ c .if1 .taken))
 
 sub-address-before : tie.Need-sub-address-before
 sub-address-before c = search needs

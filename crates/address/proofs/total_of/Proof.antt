@@ -1,18 +1,15 @@
 -- `address::total_of` meets its contract: four widths of at most 16. Assumes nothing.
-use Prim.Native.Nat.{_≤_}
 use native.Mathlib.Omega.{arith}
 use Rattle.address.proofs.total_of.Statement.{statement}
 use Rattle.address.proofs.total_of.Tie as tie
-
--- `address::total_of` meets its contract: four widths of at most 16. Assumes nothing.
-
--- `address::total_of` meets its contract: four widths of at most 16. Assumes nothing.
 
 add-result : tie.Need-add-result
 add-result c = record { fits = omega (arith, c .before .pre 0, c .before .pre 1) }
 
 add-result-2 : tie.Need-add-result-2
-add-result-2 c = record { fits = omega (arith, c .before .before .pre 0, c .before .before .pre 1, c .before .before .pre 2) }
+add-result-2 c =
+    let p = c .before .before .pre in
+    record { fits = omega (arith, p 0, p 1, p 2) }
 
 add-result-3 : tie.Need-add-result-3
 add-result-3 c =

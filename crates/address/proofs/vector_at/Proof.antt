@@ -1,6 +1,6 @@
 -- `address::vector_at` meets its contract: the leading zeros give the step that appended the address. Assumes nothing.
-use Prim.Native.Nat.{ℕ, _+_, _-_, _≤_, _<_, _^_}
-use mathlib.Core.Path.{_≡_, sym, subst}
+use Prim.Native.Nat.{_+_, _-_, _≤_, _<_, _^_}
+use mathlib.Core.Path.{sym, subst}
 use native.Mathlib.Omega.{arith}
 use lib.Count.{leadingZeros}
 use Rattle.lists.proofs.Numbers.{pow-below}
@@ -13,9 +13,8 @@ use borrow.Author.Needs.{needs}
 use Rattle.address.proofs.vector_at.Statement.{statement}
 use Rattle.address.proofs.vector_at.Tie as tie
 
-bounds : (c : tie.Else1) → (leadingZeros 64 (c .before .args .a) ≤ 63)
-    × (2 ^ (63 - leadingZeros 64 (c .before .args .a)) ≤ c .before .args .a)
-    × (c .before .args .a < 2 ^ (63 - leadingZeros 64 (c .before .args .a) + 1))
+bounds : (c : tie.Else1) → let a = c .before .args .a in
+    (leadingZeros 64 a ≤ 63) × (2 ^ (63 - leadingZeros 64 a) ≤ a) × (a < 2 ^ (63 - leadingZeros 64 a + 1))
 bounds c = leading-bounds (c .before .args .a) (c .if1 .left) (c .before .fits .a .fits)
 
 returns : tie.Need-returns

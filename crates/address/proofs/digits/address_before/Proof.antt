@@ -1,4 +1,5 @@
--- `address::digits::address_before` meets its contract: each digit fits, and the last gives the address. Assumes nothing.
+-- `address::digits::address_before` meets its contract: each digit fits, and the last gives the address.
+-- Assumes nothing.
 use Prim.Native.Nat.{ℕ, _^_, _%_}
 use mathlib.Core.Path.{_≡_, refl, _∙_}
 use Rattle.shape.specs.Shape.{widthList}
@@ -11,19 +12,17 @@ use Rattle.address.proofs.digits.address_before.Tie as tie
 
 -- what the four digits need and give, once the index in front is known
 digits : (c : tie.After-index-of) (a1 a2 a3 : ℕ)
-    → a1 ≡ appendDigit (c .index-of .result) (2 ^ c .before .before .before .before .depth-before .result)
-    (c .before .before .before .before .before .args .index .i0) 0 (c .before .before .before .before .before .args .g % 4)
-    → a2 ≡ appendDigit a1 (2 ^ c .before .before .before .depth-before2 .result)
-    (c .before .before .before .before .before .args .index .i1) 1 (c .before .before .before .before .before .args .g % 4)
-    → a3 ≡ appendDigit a2 (2 ^ c .before .before .depth-before3 .result)
-    (c .before .before .before .before .before .args .index .i2) 2 (c .before .before .before .before .before .args .g % 4)
-    → Appended (widthList (c .before .before .before .before .before .args .widths))
-    (c .before .before .before .before .before .args .g % 4)
-    (c .before .before .before .before .depth-before .result) (c .before .before .before .depth-before2 .result)
-    (c .before .before .depth-before3 .result) (c .before .depth-before4 .result)
-    (c .before .before .before .before .before .args .index .i0) (c .before .before .before .before .before .args .index .i1)
-    (c .before .before .before .before .before .args .index .i2) (c .before .before .before .before .before .args .index .i3)
-    (c .index-of .result) a1 a2 a3
+    → let s = c .before .before .before .before .before .args in
+    let i = s .index in
+    let z = s .g % 4 in
+    let a0 = c .index-of .result in
+    let h0 = c .before .before .before .before .depth-before .result in
+    let h1 = c .before .before .before .depth-before2 .result in
+    let h2 = c .before .before .depth-before3 .result in
+    let h3 = c .before .depth-before4 .result in
+    (a1 ≡ appendDigit a0 (2 ^ h0) (i .i0) 0 z → a2 ≡ appendDigit a1 (2 ^ h1) (i .i1) 1 z
+    → a3 ≡ appendDigit a2 (2 ^ h2) (i .i2) 2 z
+    → Appended (widthList (s .widths)) z h0 h1 h2 h3 (i .i0) (i .i1) (i .i2) (i .i3) a0 a1 a2 a3)
 unfolding depthBefore
 digits c a1 a2 a3 e1 e2 e3 =
     let s = c .before .before .before .before .before in
@@ -73,7 +72,8 @@ append-digit-requires-4 c κs =
     let d1 = c .before .before .append-digit in
     let d2 = c .before .append-digit2 in
     let d3 = c .append-digit3 in
-    let p = digits (c .before .before .before) (d1 .result) (d2 .result) (d3 .result) (d1 .ensures) (d2 .ensures) (d3 .ensures) in
+    let p = digits (c .before .before .before) (d1 .result) (d2 .result) (d3 .result) (d1 .ensures) (d2 .ensures)
+    (d3 .ensures) in
     (p .deep .3, p .fits3)
 
 returns : tie.Need-returns
@@ -81,7 +81,8 @@ returns c =
     let d1 = c .before .before .before .append-digit in
     let d2 = c .before .before .append-digit2 in
     let d3 = c .before .append-digit3 in
-    let p = digits (c .before .before .before .before) (d1 .result) (d2 .result) (d3 .result) (d1 .ensures) (d2 .ensures) (d3 .ensures) in
+    let p = digits (c .before .before .before .before) (d1 .result) (d2 .result) (d3 .result) (d1 .ensures)
+    (d2 .ensures) (d3 .ensures) in
     c .append-digit4 .ensures ∙ p .result
 
 pub address-before-spec : {M : Type 1} → statement M

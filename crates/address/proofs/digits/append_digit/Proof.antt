@@ -8,8 +8,8 @@ use borrow.Author.Needs.{needs}
 use Rattle.address.proofs.digits.append_digit.Statement.{statement}
 use Rattle.address.proofs.digits.append_digit.Tie as tie
 
-other : (c : tie.Else1) → (c .before .args .a * 2 ^ c .before .args .h) % 2 ^ 64 + c .before .args .i
-    ≡ appendDigit (c .before .args .a) (2 ^ c .before .args .h) (c .before .args .i) (c .before .args .j) (c .before .args .z)
+other : (c : tie.Else1) → let s = c .before .args in
+    (s .a * 2 ^ s .h) % 2 ^ 64 + s .i ≡ appendDigit (s .a) (2 ^ s .h) (s .i) (s .j) (s .z)
 other c =
     let s = c .before .args in
     appendDigit-other (s .a) (2 ^ s .h) (s .i) (s .j) (s .z) (c .if1 .left) (c .before .pre .1)

@@ -1,12 +1,24 @@
 -- `address::digits::index_before` meets its contract: the digits taken off are the indices. Assumes nothing.
+use Prim.Native.Nat.{_≤_}
+use native.Mathlib.Omega.{arith}
 use Rattle.shape.specs.Shape.{widthList}
 use Rattle.split.proofs.StepLaws.{depthBefore}
-use Rattle.address.proofs.DigitLaws.{depth-le, indexAt-digits}
+use Rattle.address.proofs.DigitLaws.{indexAt-digits}
 use borrow.Author.Needs.{needs}
 use Rattle.address.proofs.digits.index_before.Statement.{statement}
 use Rattle.address.proofs.digits.index_before.Tie as tie
 
--- `address::digits::index_before` meets its contract: the digits taken off are the indices. Assumes nothing.
+-- no depth is above its width
+deep : (c : tie.After-depth-before4) → (c .before .before .before .depth-before .result ≤ 16)
+    × (c .before .before .depth-before2 .result ≤ 16) × (c .before .depth-before3 .result ≤ 16)
+    × (c .depth-before4 .result ≤ 16)
+deep c =
+    let fit = c .before .before .before .before .pre .fit in (
+      omega (arith, c .before .before .before .depth-before .ensures, fit 0),
+      omega (arith, c .before .before .depth-before2 .ensures, fit 1),
+      omega (arith, c .before .depth-before3 .ensures, fit 2),
+      omega (arith, c .depth-before4 .ensures, fit 3),
+    )
 
 depth-before-requires : tie.Need-depth-before-requires
 depth-before-requires c κs = search needs
@@ -21,28 +33,28 @@ depth-before-requires-4 : tie.Need-depth-before-requires-4
 depth-before-requires-4 c κs = search needs
 
 drop-digit-requires : tie.Need-drop-digit-requires
-drop-digit-requires c κs = depth-le _ _ _ (c .depth-before4 .ensures) (c .before .before .before .before .pre .fit 3)
+drop-digit-requires c κs = deep c .3
 
 drop-digit-requires-2 : tie.Need-drop-digit-requires-2
-drop-digit-requires-2 c κs = depth-le _ _ _ (c .before .before .depth-before3 .ensures) (c .before .before .before .before .before .pre .fit 2)
+drop-digit-requires-2 c κs = deep (c .before) .2
 
 drop-digit-requires-3 : tie.Need-drop-digit-requires-3
-drop-digit-requires-3 c κs = depth-le _ _ _ (c .before .before .before .before .depth-before2 .ensures) (c .before .before .before .before .before .before .pre .fit 1)
+drop-digit-requires-3 c κs = deep (c .before .before) .1
 
 drop-digit-requires-4 : tie.Need-drop-digit-requires-4
-drop-digit-requires-4 c κs = depth-le _ _ _ (c .before .before .before .before .before .before .depth-before .ensures) (c .before .before .before .before .before .before .before .pre .fit 0)
+drop-digit-requires-4 c κs = deep (c .before .before .before) .0
 
 digit-of-requires : tie.Need-digit-of-requires
-digit-of-requires c κs = depth-le _ _ _ (c .before .before .before .before .before .before .before .depth-before .ensures) (c .before .before .before .before .before .before .before .before .pre .fit 0)
+digit-of-requires c κs = deep (c .before .before .before .before) .0
 
 digit-of-requires-2 : tie.Need-digit-of-requires-2
-digit-of-requires-2 c κs = depth-le _ _ _ (c .before .before .before .before .before .before .before .depth-before2 .ensures) (c .before .before .before .before .before .before .before .before .before .pre .fit 1)
+digit-of-requires-2 c κs = deep (c .before .before .before .before .before) .1
 
 digit-of-requires-3 : tie.Need-digit-of-requires-3
-digit-of-requires-3 c κs = depth-le _ _ _ (c .before .before .before .before .before .before .before .depth-before3 .ensures) (c .before .before .before .before .before .before .before .before .before .before .pre .fit 2)
+digit-of-requires-3 c κs = deep (c .before .before .before .before .before .before) .2
 
 digit-of-requires-4 : tie.Need-digit-of-requires-4
-digit-of-requires-4 c κs = depth-le _ _ _ (c .before .before .before .before .before .before .before .depth-before4 .ensures) (c .before .before .before .before .before .before .before .before .before .before .before .pre .fit 3)
+digit-of-requires-4 c κs = deep (c .before .before .before .before .before .before .before) .3
 
 returns : tie.Need-returns
 unfolding depthBefore
@@ -57,7 +69,8 @@ returns c =
     let h0 = h1 .before in
     let s = h0 .before in
     indexAt-digits (widthList (s .args .widths)) (s .args .a) (s .args .t) (s .args .g)
-    (h0 .depth-before .result) (h1 .depth-before2 .result) (h2 .depth-before3 .result) (h3 .depth-before4 .result) (s .pre)
+    (h0 .depth-before .result) (h1 .depth-before2 .result) (h2 .depth-before3 .result) (h3 .depth-before4 .result)
+    (s .pre)
     (h0 .depth-before .ensures) (h1 .depth-before2 .ensures) (h2 .depth-before3 .ensures) (h3 .depth-before4 .ensures)
     (a3 .drop-digit .result) (a2 .drop-digit2 .result) (a1 .drop-digit3 .result) (a0 .drop-digit4 .result)
     (a3 .drop-digit .ensures) (a2 .drop-digit2 .ensures) (a1 .drop-digit3 .ensures) (a0 .drop-digit4 .ensures)

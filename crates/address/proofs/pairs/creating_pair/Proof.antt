@@ -1,20 +1,19 @@
 -- `address::pairs::creating_pair` meets its contract: the leading zeros give the highest bit. Assumes nothing.
-use Prim.Native.Nat.{ℕ, suc, _+_, _-_, _≤_, _<_, _^_}
+use Prim.Native.Nat.{_+_, _-_, _≤_, _<_, _^_}
 use mathlib.Core.Path.{_≡_, sym}
 use native.Mathlib.Omega.{arith}
 use native.Mathlib.Numerals.{add-one}
 use lib.Count.{leadingZeros}
 use Rattle.lists.proofs.Shifts.{leading-bounds}
 use Rattle.address.specs.Address.{highestBit}
-use Rattle.address.proofs.DoublingLaws.{highestBit-is}
+use Rattle.address.proofs.LatestLaws.{highestBit-is}
 use Rattle.address.proofs.PairLaws.{creatingPair-some, creatingPair-none}
 use borrow.Author.Needs.{needs}
 use Rattle.address.proofs.pairs.creating_pair.Statement.{statement}
 use Rattle.address.proofs.pairs.creating_pair.Tie as tie
 
-bounds : (c : tie.Else1) → (leadingZeros 64 (c .before .args .i) ≤ 63)
-    × (2 ^ (63 - leadingZeros 64 (c .before .args .i)) ≤ c .before .args .i)
-    × (c .before .args .i < 2 ^ (63 - leadingZeros 64 (c .before .args .i) + 1))
+bounds : (c : tie.Else1) → let i = c .before .args .i in
+    (leadingZeros 64 i ≤ 63) × (2 ^ (63 - leadingZeros 64 i) ≤ i) × (i < 2 ^ (63 - leadingZeros 64 i + 1))
 bounds c = leading-bounds (c .before .args .i) (c .if1 .left) (c .before .fits .i .fits)
 
 returns : tie.Need-returns

@@ -1,12 +1,11 @@
--- `address::pairs::pair_of_step` meets its contract: so many steps stand before place g, at most t; the places left fall.
--- Assumes nothing.
-use Prim.Native.Nat.{ℕ, _+_, _-_, _/_, _≤_, _<_}
-use mathlib.Core.Path.{_≡_, sym, ap, _∙_, subst}
+-- `address::pairs::pair_of_step` meets its contract: so many steps stand before place g, at most t; the places left
+-- fall. Assumes nothing.
+use Prim.Native.Nat.{_-_, _/_, _≤_, _<_}
+use mathlib.Core.Path.{sym, _∙_, subst}
 use mathlib.Core.Logic.{⊎-elim}
 use native.Mathlib.Omega.{arith}
 use Rattle.shape.specs.Shape.{widthList}
-use Rattle.address.specs.Private.{StepPair}
-use Rattle.address.proofs.SearchLaws.{Counted, counted-zero, counted-end, length-stepsBelow-step, length-stepsBelow-skip}
+use Rattle.address.proofs.SearchLaws.{Counted, counted-zero, counted-step, counted-skip, counted-end}
 use Rattle.address.proofs.pairs.pair_of_step.Statement.{statement}
 use Rattle.address.proofs.pairs.pair_of_step.Tie as tie
 
@@ -33,8 +32,8 @@ returns c =
 
 add-before : tie.Need-add-before Inv-loop μ-loop
 add-before c =
-    let l = c .before .before .before .before .loop in
-    record { fits = omega (arith, l .inv .short, c .if2 .left, c .before .before .before .before .before .fits .t .fits) }
+    let l = c .before .before .before .before in
+    record { fits = omega (arith, l .loop .inv .short, c .if2 .left, l .before .fits .t .fits) }
 
 add-g : tie.Need-add-g Inv-loop μ-loop
 add-g c = record { fits = omega (arith, c .before .before .loop-test .taken) }
@@ -45,20 +44,15 @@ loop-less c = omega (arith, c .before .before .loop-test .taken)
 loop-again : tie.Need-loop-again Inv-loop μ-loop
 loop-again c =
     let l = c .before .before .before .loop in
-    let ws = widthList (c .before .before .before .before .args .widths) in
+    let s = c .before .before .before .before .args in
+    let ws = widthList (s .widths) in
+    let width = c .before .width-at .ensures in
+    let next = c .before .before .loop-test .taken in
     ⊎-elim
-    (λ w. record {
-      counted = w .2 ∙ ap (λ x. x + 1) (l .inv .counted)
-          ∙ sym (length-stepsBelow-step ws (l .g) (subst (λ x. l .g / 4 < x) (c .before .width-at .ensures) (w .0 .taken)));
-      short = omega (arith, w .2, w .1 .left, l .inv .short);
-      low = omega (arith, c .before .before .loop-test .taken);
-    })
-    (λ w. record {
-      counted = w .1 ∙ l .inv .counted
-          ∙ sym (length-stepsBelow-skip ws (l .g) (subst (λ x. x ≤ l .g / 4) (c .before .width-at .ensures) (w .0 .left)));
-      short = omega (arith, w .1, l .inv .short);
-      low = omega (arith, c .before .before .loop-test .taken);
-    })
+    (λ w. rw (w .2) (counted-step ws (s .t) (l .g) (l .before) (l .inv) next
+    (subst (λ x. l .g / 4 < x) width (w .0 .taken)) (w .1 .left)))
+    (λ w. rw (w .1) (counted-skip ws (s .t) (l .g) (l .before) (l .inv) next
+    (subst (λ x. x ≤ l .g / 4) width (w .0 .left))))
     (c .if1 .came)
 
 returns-2 : tie.Need-returns-2 Inv-loop μ-loop
