@@ -1,4 +1,6 @@
 pub mod Bools
+pub mod FilterLaws
+pub mod MemberLaws
 pub mod Numbers
 pub mod Sequences
 pub mod Shifts

@@ -24,6 +24,13 @@ eq-or-ne a b = go (decLt a b) (decLt b a)
     go (no h) (yes k) = inr (λ e. omega arith)
     go (no h) (no k) = inl (omega arith)
 
+pub max-cases : (a b : ℕ) → (max a b ≡ a) ⊎ (max a b ≡ b)
+max-cases a b = go (lt-or-le a b)
+  where
+    go : (a < b) ⊎ (b ≤ a) → (max a b ≡ a) ⊎ (max a b ≡ b)
+    go (inl h) = inr (omega arith)
+    go (inr h) = inl (omega arith)
+
 -- ---- powers of two
 
 -- a power at most i, below a power

@@ -1,7 +1,7 @@
--- Laws of lists: the element of a mapped list. Assumes nothing.
+-- Laws of lists: the element of a mapped list, lists put together from those of each element. Assumes nothing.
 use Prim.Native.Nat.{ℕ, zero, suc, _<_}
-use mathlib.Core.Path.{_≡_, refl}
-use mathlib.Core.List.{List, [], _∷_, map}
+use mathlib.Core.Path.{_≡_, refl, sym, ap, _∙_}
+use mathlib.Core.List.{List, [], _∷_, _++_, map, flatMap, append-assoc}
 use native.Mathlib.Omega.{arith}
 use lib.ListN.{getD, length}
 
@@ -10,3 +10,21 @@ pub getD-map : {A B : Type 0} (f : A → B) (l : List A) (p : ℕ) (a : A) (b : 
 getD-map f [] p a b h = absurd (omega arith)
 getD-map f (x ∷ l) zero a b h = refl
 getD-map f (x ∷ l) (suc p) a b h = getD-map f l p a b (omega arith)
+
+module _ {A B : Type 0} where
+  pub flatMap-append : (f : A → List B) (xs ys : List A) → flatMap f (xs ++ ys) ≡ flatMap f xs ++ flatMap f ys
+  unfolding flatMap
+  flatMap-append f [] ys = refl
+  flatMap-append f (x ∷ xs) ys =
+      ap (λ l. f x ++ l) (flatMap-append f xs ys) ∙ sym (append-assoc (f x) (flatMap f xs) (flatMap f ys))
+
+  pub flatMap-ext : (f g : A → List B) → ((x : A) → f x ≡ g x) → (xs : List A) → flatMap f xs ≡ flatMap g xs
+  unfolding flatMap
+  flatMap-ext f g h [] = refl
+  flatMap-ext f g h (x ∷ xs) = cc (h x, flatMap-ext f g h xs)
+
+  pub flatMap-map : {C : Type 0} (f : B → List C) (g : A → B) (xs : List A)
+      → flatMap f (map g xs) ≡ flatMap (λ x. f (g x)) xs
+  unfolding flatMap
+  flatMap-map f g [] = refl
+  flatMap-map f g (x ∷ xs) = ap (λ l. f (g x) ++ l) (flatMap-map f g xs)

@@ -1,1 +1,1 @@
-// Laws of booleans, numbers and lists that several crates cite. No code.
+// Definitions and laws of booleans, numbers and lists that several crates cite. No code.

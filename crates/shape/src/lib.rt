@@ -1,4 +1,4 @@
-// Shapes of a store (document 01, "Shape and split steps"): their bounds, and the widths that count.
+// Shapes of a store, keys and queries (document 01, "Shape and split steps", "Calls").
 ghost use mathlib.Core.Path.{_≡_};
 ghost use Prim.Native.Nat.{_<_, _≤_};
 ghost use Rattle.shape.specs.Shape.{within, inBounds, shapeNumber, widthOf, widthsOf, widthList};
@@ -18,6 +18,27 @@ pub struct Widths {
     pub w1: u64,
     pub w2: u64,
     pub w3: u64,
+}
+
+// A key: a value for each attribute, 0 for an unused one.
+#[repr(C)]
+pub struct Key {
+    pub values: [u32; 4],
+}
+
+// What a query says of an attribute: nothing, or the value that it wants.
+pub enum Wanted {
+    Free,
+    Given(u32),
+}
+
+pub struct Attribute {
+    pub wanted: Wanted,
+}
+
+// A partial-match query, attribute by attribute.
+pub struct Query {
+    pub attributes: [Attribute; 4],
 }
 
 // The number of the first refusal that a shape meets: 1 outside its bounds, 0 for none.

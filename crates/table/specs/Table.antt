@@ -1,13 +1,29 @@
--- The proof table (document 01, "Proof table and the printed run"): its entries, and what each claims. Assumes nothing.
-use Prim.Native.Nat.{ℕ}
+-- The proof table (document 01, "Proof table and the printed run"): its twelve entries, and what each claims.
+-- Assumes nothing.
+use Prim.Native.Nat.{ℕ, zero, suc, _*_, _^_}
 use mathlib.Core.Path.{_≡_}
-use mathlib.Core.Bool.{Bool, true, false, _&&_}
-use mathlib.Core.List.{List, [], _∷_}
+use mathlib.Core.Bool.{Bool, true, false, cond, _&&_}
+use mathlib.Core.List.{List, [], _∷_, _++_, map}
+use mathlib.Core.Option.{Option, none, some}
 use lib.Dec.{eqb}
-use Rattle.lists.specs.Filter.{all}
+use lib.ListN.{length, replicate}
+use Rattle.lists.specs.Filter.{all, nonEmpty}
 use Rattle.shape.specs.Refusal.{Answer, accepted, refused}
+use Rattle.shape.specs.Shape.{widthsOf, total}
+use Rattle.shape.specs.Key.{encodings}
 use Rattle.shape.specs.declared.Shape.{Shape}
+use Rattle.split.specs.Steps.{bitValue}
+use Rattle.split.specs.Bits.{splitBit}
 use Rattle.address.specs.Answers.{addressAnswer, indexAnswer}
+use Rattle.cell.specs.Cell.{cellAddress}
+use Rattle.region.specs.Strings.{listBit}
+use Rattle.region.specs.Division.{Division, greatestDepth, nonEmptyLeaves, leafDepth, leafRecords}
+use Rattle.record.specs.Record.{Record}
+use Rattle.record.specs.Bytes.{recordSize}
+use Rattle.page.specs.Page.{pageSize}
+use Rattle.model.specs.Sets.{divisionOf, readsBound}
+use Rattle.model.specs.Limits.{fixedBy}
+use Rattle.model.specs.Model.{Fixed, Call, insertCall, deleteCall, queryCall, Reply, changed, found, listed, next, outcome, run, matching}
 
 -- ---- tests
 
@@ -21,16 +37,20 @@ abbrev pub answers : {A : Type 0} → (A → Bool) → Answer A → Bool
 answers test (accepted x) = test x
 answers test (refused n) = false
 
--- ---- entries
+abbrev pub numberIn : Answer Reply → ℕ
+numberIn (accepted x) = 0
+numberIn (refused n) = n
 
-pub data Entry : Type 0 where
-  -- "index (3,1) at 7": the call gives the address, and the inverse call the index
-  located : Shape → List ℕ → ℕ → Entry
+-- written, total and reads of an accepted query
+abbrev pub countsIn : Answer Reply → List ℕ
+countsIn (accepted (listed written total reads)) = written ∷ total ∷ reads ∷ []
+countsIn (accepted changed) = []
+countsIn (accepted (found content reads)) = []
+countsIn (refused n) = []
 
-abbrev pub holds : Entry → Bool
-holds (located s is a) = answers (eqb a) (addressAnswer s is) && answers (sameNumbers is) (indexAnswer s a)
+-- ---- the sets of the table
 
--- "Widths 2, 2", b = 2
+-- "Widths 2, 2, b = 2"
 abbrev pub twoTwo : Shape
 twoTwo = record { attributes = 2; widths = 2 ∷ 2 ∷ 0 ∷ 0 ∷ []; capacity = 2 }
 
@@ -38,8 +58,101 @@ twoTwo = record { attributes = 2; widths = 2 ∷ 2 ∷ 0 ∷ 0 ∷ []; capacity 
 abbrev pub oneThreeTwo : Shape
 oneThreeTwo = record { attributes = 3; widths = 1 ∷ 3 ∷ 2 ∷ 0 ∷ []; capacity = 2 }
 
--- "index (0,0) at 0, (1,0) at 1, (0,1) at 2, (3,1) at 7, (0,2) at 8, (3,3) at 15. Widths 1, 3, 2: (1,2,1) at 11,
--- (0,7,3) at 59."
+abbrev pub key : ℕ → ℕ → List ℕ
+key x y = x ∷ y ∷ 0 ∷ 0 ∷ []
+
+-- an insert with the payload of the printed run
+abbrev pub put : ℕ → ℕ → ℕ → Call
+put x y payload = insertCall (key x y) (record { payload = payload })
+
+-- "inserting keys (0,0), (2,0), (3,1)", and the fourth, "(2,1)"
+abbrev pub three : List Call
+three = put 0 0 10 ∷ put 2 0 11 ∷ put 3 1 12 ∷ []
+
+abbrev pub four : List Call
+four = three ++ put 2 1 13 ∷ []
+
+-- what Fresh fixes with so many words and pages
+abbrev pub lent : ℕ → ℕ → Fixed
+lent words pages = fixedBy twoTwo words (pages * pageSize 2)
+
+-- enough for every call of the table
+abbrev pub wide : Fixed
+wide = lent 4096 64
+
+-- the model's set after some calls
+abbrev pub setAfterAll : Fixed → List Record → List Call → List Record
+setAfterAll f S [] = S
+setAfterAll f S (c ∷ cs) = setAfterAll f (next f S c) cs
+
+abbrev pub divisionAfter : List Call → Division Record
+divisionAfter cs = divisionOf twoTwo (setAfterAll wide [] cs)
+
+-- ---- the directory by addresses
+
+-- the strings of n bits
+abbrev pub strings : ℕ → List (List Bool)
+strings zero = [] ∷ []
+strings (suc n) = map (λ bits. false ∷ bits) (strings n) ++ map (λ bits. true ∷ bits) (strings n)
+
+-- f of the string whose cell stands at address a, among those given
+abbrev pub atAddress : ℕ → (List Bool → ℕ) → ℕ → List (List Bool) → ℕ
+atAddress T f a [] = 0
+atAddress T f a (bits ∷ more) =
+    cond (eqb (cellAddress (widthsOf twoTwo) T (listBit bits)) a) (f bits) (atAddress T f a more)
+
+abbrev pub upTo : ℕ → List ℕ
+upTo zero = []
+upTo (suc n) = upTo n ++ n ∷ []
+
+-- f of each cell of a directory of depth T, by address
+abbrev pub byAddress : ℕ → (List Bool → ℕ) → List ℕ
+byAddress T f = map (λ a. atAddress T f a (strings T)) (upTo (2 ^ T))
+
+-- ---- entries
+
+pub data Entry : Type 0 where
+  -- "index (3,1) at 7": the call gives the address, and the inverse call the index
+  located : Shape → List ℕ → ℕ → Entry
+  -- "split bits 0000": of a key with widths 2, 2
+  bits : List ℕ → List ℕ → Entry
+  -- "after three T = 1 with 2 pages": calls, T, pages
+  leavesAfter : List Call → ℕ → ℕ → Entry
+  -- "words 0–7 have depths .., words .. without a page": calls, depths, and 1 for a word with a page
+  wordsAfter : List Call → List ℕ → List ℕ → Entry
+  -- "attribute 1 given as 1: (2,1), (3,1), reads 3, bound 4": calls, query, keys, reads, bound
+  lists : List Call → List (Option ℕ) → List (List ℕ) → ℕ → ℕ → Entry
+  -- "A directory of 4 .. words: the fourth insert gives 6": words, pages, the numbers of the four answers
+  numbers : ℕ → ℕ → List ℕ → Entry
+  -- an entry of two parts
+  both : Entry → Entry → Entry
+
+abbrev pub joined : List (List ℕ) → List ℕ
+joined [] = []
+joined (xs ∷ xss) = xs ++ joined xss
+
+abbrev pub holds : Entry → Bool
+holds (located s is a) = answers (eqb a) (addressAnswer s is) && answers (sameNumbers is) (indexAnswer s a)
+holds (bits values expected) =
+    sameNumbers (map (λ t. bitValue (splitBit (widthsOf twoTwo) (encodings twoTwo values) t)) (upTo 4)) expected
+holds (leavesAfter cs T pages) =
+    eqb (greatestDepth (divisionAfter cs)) T && eqb (nonEmptyLeaves (divisionAfter cs)) pages
+holds (wordsAfter cs depths paged) =
+    let D = divisionAfter cs in
+    let T = greatestDepth D in
+    sameNumbers (byAddress T (λ p. leafDepth (listBit p) 0 D)) depths
+    && sameNumbers (byAddress T (λ p. bitValue (nonEmpty (leafRecords (listBit p) 0 D)))) paged
+holds (lists cs q keys reads bound) =
+    let S = setAfterAll wide [] cs in
+    let n = length keys in
+    sameNumbers (joined (map (λ r. r .key) (matching wide S q))) (joined keys)
+    && (sameNumbers (countsIn (outcome wide S (queryCall q (replicate (recordSize * n) 0)) .answer)) (n ∷ n ∷ reads ∷ [])
+    && eqb (readsBound twoTwo q S) bound)
+holds (numbers words pages expected) =
+    sameNumbers (map (λ o. numberIn (o .answer)) (run (lent words pages) [] four)) expected
+holds (both e e′) = holds e && holds e′
+
+-- "Twelve entries make up the table"
 abbrev pub table : List Entry
 table =
     located twoTwo (0 ∷ 0 ∷ 0 ∷ 0 ∷ []) 0
@@ -50,8 +163,22 @@ table =
     ∷ located twoTwo (3 ∷ 3 ∷ 0 ∷ 0 ∷ []) 15
     ∷ located oneThreeTwo (1 ∷ 2 ∷ 1 ∷ 0 ∷ []) 11
     ∷ located oneThreeTwo (0 ∷ 7 ∷ 3 ∷ 0 ∷ []) 59
+    -- (a)
+    ∷ both
+    (both (both (bits (key 0 0) (0 ∷ 0 ∷ 0 ∷ 0 ∷ [])) (bits (key 2 0) (1 ∷ 0 ∷ 0 ∷ 0 ∷ [])))
+    (both (bits (key 3 1) (1 ∷ 0 ∷ 1 ∷ 1 ∷ [])) (bits (key 2 1) (1 ∷ 0 ∷ 0 ∷ 1 ∷ []))))
+    (both (both (leavesAfter three 1 2) (leavesAfter four 3 3))
+    (wordsAfter four (1 ∷ 3 ∷ 1 ∷ 2 ∷ 1 ∷ 1 ∷ 3 ∷ 2 ∷ []) (1 ∷ 1 ∷ 1 ∷ 0 ∷ 1 ∷ 1 ∷ 1 ∷ 0 ∷ [])))
+    -- (b)
+    ∷ lists four (none ∷ some 1 ∷ none ∷ none ∷ []) (key 2 1 ∷ key 3 1 ∷ []) 3 4
+    -- (c)
+    ∷ leavesAfter (four ++ deleteCall (key 2 1) ∷ []) 1 2
+    -- (d) and (e)
+    ∷ both
+    (both (numbers 4 64 (0 ∷ 0 ∷ 0 ∷ 6 ∷ [])) (both (numbers 7 64 (0 ∷ 0 ∷ 0 ∷ 6 ∷ [])) (numbers 8 64 (0 ∷ 0 ∷ 0 ∷ 0 ∷ []))))
+    (both (numbers 8 2 (0 ∷ 0 ∷ 0 ∷ 7 ∷ [])) (numbers 4 2 (0 ∷ 0 ∷ 0 ∷ 6 ∷ [])))
     ∷ []
 
 -- "the checker establishes them together, from the definitions, by a theorem over the whole table"
 abbrev pub TableHolds : Type 0
-TableHolds = all holds table ≡ true
+TableHolds = (all holds table ≡ true) × (length table ≡ 12)

@@ -1,0 +1,155 @@
+-- The plain model of demand 3 (document 01, "The plain model of demand 3"): calls, their refusals, answers and the set
+-- after them. It takes nothing from a state, words, pages or answers. Assumes nothing.
+use Prim.Native.Nat.{ℕ, zero, suc, _*_, _/_, min}
+use mathlib.Core.Bool.{not}
+use mathlib.Core.List.{List, [], _∷_, _++_}
+use mathlib.Core.Option.{Option}
+use lib.Dec.{leb, ltb}
+use lib.ListN.{length, take, drop}
+use Rattle.lists.specs.Filter.{filter, nonEmpty}
+use Rattle.shape.specs.Refusal.{Condition, Answer, answered, refusal, firstNumber}
+use Rattle.shape.specs.Key.{keyFits, encodings, namesUnused, queryFits}
+use Rattle.shape.specs.declared.Shape.{Shape}
+use Rattle.region.specs.Division.{nonEmptyLeaves}
+use Rattle.record.specs.declared.Content.{Content}
+use Rattle.record.specs.Record.{Record, matches}
+use Rattle.record.specs.Bytes.{recordSize, recordsBytes}
+use Rattle.model.specs.Sets.{stored, withRecord, withoutKey, sharing, divisionOf, readsOf}
+
+-- "The plain model is given that Fresh's shape and slice lengths, which set P and L": what stays fixed afterwards
+pub record Fixed : Type 0 where
+  pub shape : Shape
+  pub pageLimit : ℕ
+  pub depthLimit : ℕ
+
+-- ---- calls and answers
+
+-- "what the call is given besides the state and the store's slices"
+pub data Call : Type 0 where
+  insertCall : List ℕ → Content → Call
+  deleteCall : List ℕ → Call
+  lookupCall : List ℕ → Call
+  -- a query and its output as it came
+  queryCall : List (Option ℕ) → List ℕ → Call
+
+-- what an accepted call returns
+pub data Reply : Type 0 where
+  changed : Reply
+  -- content and pages read
+  found : Content → ℕ → Reply
+  -- written, total, reads
+  listed : ℕ → ℕ → ℕ → Reply
+
+-- the answer to a call, and its output as it is left ([] for a call that has none)
+pub record Outcome : Type 0 where
+  pub answer : Answer Reply
+  pub output : List ℕ
+
+-- the record of a key with its content
+abbrev pub recordFor : Shape → List ℕ → Content → Record
+recordFor s values content = record { key = encodings s values; content = content }
+
+-- ---- refusals, in the table's order; 1 and 2 are judged by what is lent, and 9 is left out
+
+-- 3 "value .. of 2^w_j or more .. unused key .. value not 0"
+abbrev pub keyConditions : Shape → List ℕ → List Condition
+keyConditions s values = refusal 3 (not (keyFits s values)) ∷ []
+
+-- 8 "query names attribute d or above", 3
+abbrev pub queryConditions : Shape → List (Option ℕ) → List Condition
+queryConditions s q = refusal 8 (namesUnused s q) ∷ refusal 3 (not (queryFits s q)) ∷ []
+
+module _ (f : Fixed) (S : List Record) where
+  -- 4 "key stored already", 6 "b stored keys share their first L split bits with it", 7 "the new set has more than P
+  -- non-empty leaves"
+  abbrev pub insertConditions : List ℕ → Content → List Condition
+  insertConditions values content =
+      let r = recordFor (f .shape) values content in
+      keyConditions (f .shape) values
+      ++ refusal 4 (nonEmpty (stored (r .key) S))
+      ∷ refusal 6 (leb (f .shape .capacity) (length (sharing (f .shape) (f .depthLimit) r S)))
+      ∷ refusal 7 (ltb (f .pageLimit) (nonEmptyLeaves (divisionOf (f .shape) (withRecord (f .shape) r S))))
+      ∷ []
+
+  -- 5 "key absent"
+  abbrev pub storedConditions : List ℕ → List Condition
+  storedConditions values =
+      keyConditions (f .shape) values ++ refusal 5 (not (nonEmpty (stored (encodings (f .shape) values) S))) ∷ []
+
+  -- "the first condition for refusal that holds .. gives the number"; 0 for an accepted call
+  unfoldable pub numberFor : Call → ℕ
+  numberFor (insertCall values content) = firstNumber (insertConditions values content)
+  numberFor (deleteCall values) = firstNumber (storedConditions values)
+  numberFor (lookupCall values) = firstNumber (storedConditions values)
+  numberFor (queryCall q out) = firstNumber (queryConditions (f .shape) q)
+
+-- ---- accepted calls
+
+-- the content of the first of some records: "the key's payload in S"
+abbrev pub contentOf : List Record → Content
+contentOf [] = record { payload = 0 }
+contentOf (r ∷ rs) = r .content
+
+module _ (f : Fixed) (S : List Record) where
+  -- "Total is the number of matching records of S"
+  abbrev pub matching : List (Option ℕ) → List Record
+  matching q = filter (matches (f .shape) q) S
+
+  -- "written is the smaller of total and the whole records that fit the output"
+  abbrev pub writtenOf : List (Option ℕ) → List ℕ → ℕ
+  writtenOf q out = min (length (matching q)) (length out / recordSize)
+
+  -- "The output begins with that many of them, the first in split order, and its other bytes are as they came."
+  unfoldable pub outputOf : List (Option ℕ) → List ℕ → List ℕ
+  outputOf q out =
+      recordsBytes (f .shape) (take (writtenOf q out) (matching q)) ++ drop (recordSize * writtenOf q out) out
+
+  -- "Lookup: the key's payload in S and 1 page read", "Query: .. written .. Total .. Reads"
+  unfoldable pub replyTo : Call → Reply
+  replyTo (insertCall values content) = changed
+  replyTo (deleteCall values) = changed
+  replyTo (lookupCall values) = found (contentOf (stored (encodings (f .shape) values) S)) 1
+  replyTo (queryCall q out) = listed (writtenOf q out) (length (matching q)) (readsOf (f .shape) q S)
+
+  -- "Insert: the record joins S. Delete: the key's record leaves S." "S stays."
+  unfoldable pub setAfter : Call → List Record
+  setAfter (insertCall values content) = withRecord (f .shape) (recordFor (f .shape) values content) S
+  setAfter (deleteCall values) = withoutKey (encodings (f .shape) values) S
+  setAfter (lookupCall values) = S
+  setAfter (queryCall q out) = S
+
+  unfoldable pub outputAfter : Call → List ℕ
+  outputAfter (insertCall values content) = []
+  outputAfter (deleteCall values) = []
+  outputAfter (lookupCall values) = []
+  outputAfter (queryCall q out) = outputOf q out
+
+-- a call's output as it came
+abbrev pub outputBefore : Call → List ℕ
+outputBefore (insertCall values content) = []
+outputBefore (deleteCall values) = []
+outputBefore (lookupCall values) = []
+outputBefore (queryCall q out) = out
+
+-- ---- one call
+
+-- "If none holds, the call is accepted."
+abbrev pub ifAccepted : {A : Type 0} → ℕ → A → A → A
+ifAccepted zero x y = x
+ifAccepted (suc n) x y = y
+
+unfoldable pub outcome : Fixed → List Record → Call → Outcome
+outcome f S c = record {
+  answer = answered (numberFor f S c) (replyTo f S c);
+  output = ifAccepted (numberFor f S c) (outputAfter f S c) (outputBefore c);
+}
+
+-- the set after a call; "S stays" where it is refused
+unfoldable pub next : Fixed → List Record → Call → List Record
+next f S c = ifAccepted (numberFor f S c) (setAfter f S c) S
+
+-- ---- a list of calls, "call by call"
+
+unfoldable pub run : Fixed → List Record → List Call → List Outcome
+run f S [] = []
+run f S (c ∷ cs) = outcome f S c ∷ run f (next f S c) cs

@@ -1,0 +1,159 @@
+-- What each call on a store promises (document 01, "Calls", "Refused calls", "Lent memory"). Each promise is one
+-- definition, which the call's `ensures` and demand 3 both cite. Assumes nothing.
+use Prim.Native.Nat.{ℕ, suc, _-_, _*_, _^_, _≤_}
+use mathlib.Core.Path.{_≡_}
+use mathlib.Core.Bool.{Bool, true, false}
+use mathlib.Core.List.{List, [], _∷_, _++_}
+use mathlib.Core.Logic.{_⊎_}
+use mathlib.Core.Option.{Option, some}
+use lib.ListN.{length, drop, getD}
+use Rattle.lists.specs.Filter.{nonEmpty}
+use Rattle.lists.specs.Members.{Member}
+use Rattle.shape.specs.Refusal.{Answer, accepted, refused, firstNumber}
+use Rattle.shape.specs.Key.{perAttribute}
+use Rattle.shape.specs.declared.Shape.{Shape}
+use Rattle.region.specs.Division.{Division, leafDepth, leafRecords}
+use Rattle.region.specs.Query.{QueryBit, agrees}
+use Rattle.record.specs.declared.Content.{Content}
+use Rattle.record.specs.Record.{Record}
+use Rattle.record.specs.Bytes.{recordSize}
+use Rattle.page.specs.Page.{countOf, pageAt}
+use Rattle.word.specs.Word.{wordOf}
+use Rattle.word.specs.declared.Leaf.the-variants.{Page}
+use Rattle.model.specs.Model.{Call, insertCall, deleteCall, lookupCall, queryCall, Reply, changed, found, listed, outcome, next, keyConditions, queryConditions}
+use Rattle.model.specs.Sets.{divisionOf, queryBits, givenDepths}
+use Rattle.store.specs.Store.{Store, fixedOf, pagesSize, wordAt, lentConditions}
+use Rattle.store.specs.Sound.{Sound}
+
+-- ---- refusals that need no look into words and pages: "after 1, 2, 8 and 3"
+
+unfoldable pub lentNumber : Store → ℕ
+lentNumber s = firstNumber (lentConditions s)
+
+-- 1, 2, 3
+unfoldable pub keyNumber : Store → List ℕ → ℕ
+keyNumber s values = firstNumber (lentConditions s ++ keyConditions (s .state .shape) values)
+
+-- 1, 2, 8, 3
+unfoldable pub queryNumber : Store → List (Option ℕ) → ℕ
+queryNumber s q = firstNumber (lentConditions s ++ queryConditions (s .state .shape) q)
+
+-- ---- pages of leaves
+
+module _ (before after : Store) (D D′ : Division Record) where
+  abbrev wordBefore : (ℕ → Bool) → ℕ
+  wordBefore p = wordAt (before .state .shape) (before .state .depth) (before .memory .words) p
+
+  abbrev wordAfter : (ℕ → Bool) → ℕ
+  wordAfter p = wordAt (after .state .shape) (after .state .depth) (after .memory .words) p
+
+  -- "Every other leaf keeps its page": a leaf of both divisions that has a page before and records after
+  abbrev pub KeepsPages : Type 0
+  KeepsPages = (p : ℕ → Bool) → leafDepth p 0 D ≡ leafDepth p 0 D′ → nonEmpty (leafRecords p 0 D′) ≡ true
+      → (g x : ℕ) → wordBefore p ≡ wordOf (Page g x) → wordAfter p ≡ wordOf (Page g x)
+
+  -- left free: "which page a leaf that newly gets one takes, of those free, divided or joined". A leaf's page is the one
+  -- that the leaf had, or one whose count was 0, or one of a leaf that is none any more
+  abbrev pub TakesPages : Type 0
+  TakesPages = (p : ℕ → Bool) (g x : ℕ) → wordAfter p ≡ wordOf (Page g x)
+      → (wordBefore p ≡ wordOf (Page g x))
+      ⊎ ((countOf (pageAt (before .state .shape .capacity) (before .memory .bytes) g) ≡ 0)
+      ⊎ ((q : ℕ → Bool) × (y : ℕ) × (wordBefore q ≡ wordOf (Page g y)) × (leafDepth q 0 D ≡ leafDepth q 0 D′ → ⊥)))
+
+-- ---- calls that change the store
+
+-- `early` is the number of the refusals above, `numbers` are the others that the call may give
+pub record ChangePromise (c : Call) (early : ℕ) (numbers : List ℕ) (before : Store) (answer : Answer Reply) (after : Store) : Type 0 where
+  pub early-refused : (n : ℕ) → early ≡ suc n → answer ≡ refused (suc n)
+  -- "All of them return the number and change nothing."
+  pub unchanged : (n : ℕ) → answer ≡ refused n → after ≡ before
+  -- on any store "9 or ordinary"
+  pub ordinary : early ≡ 0 → (answer ≡ accepted changed) ⊎ ((n : ℕ) × (answer ≡ refused n) × Member n numbers)
+  -- shape, P and L are kept whole
+  pub shape-kept : after .state .shape ≡ before .state .shape
+  pub limits-kept : after .state .limits ≡ before .state .limits
+  -- "Words past the first 2^L and bytes past the P pages are never changed."
+  pub words-length : length (after .memory .words) ≡ length (before .memory .words)
+  pub bytes-length : length (after .memory .bytes) ≡ length (before .memory .bytes)
+  pub words-past : drop (2 ^ before .state .limits .depth) (after .memory .words)
+      ≡ drop (2 ^ before .state .limits .depth) (before .memory .words)
+  pub bytes-past : drop (pagesSize (before .state)) (after .memory .bytes) ≡ drop (pagesSize (before .state)) (before .memory .bytes)
+  -- on a sound store the model's answer, and a store that shows the model's set
+  pub answered-as : (S : List Record) → Sound before S → answer ≡ outcome (fixedOf (before .state)) S c .answer
+  pub shown : (S : List Record) → Sound before S → Sound after (next (fixedOf (before .state)) S c)
+  pub pages-kept : (S : List Record) → Sound before S
+      → KeepsPages before after (divisionOf (before .state .shape) S) (divisionOf (before .state .shape) (next (fixedOf (before .state)) S c))
+  pub pages-taken : (S : List Record) → Sound before S
+      → TakesPages before after (divisionOf (before .state .shape) S) (divisionOf (before .state .shape) (next (fixedOf (before .state)) S c))
+
+-- Shut out: "no page" without looking, an insert that stores nothing (answered-as, shown)
+abbrev pub InsertPromise : Store → List ℕ → Content → Answer Reply → Store → Type 0
+InsertPromise before values content answer after =
+    ChangePromise (insertCall values content) (keyNumber before values) (4 ∷ 6 ∷ 7 ∷ 9 ∷ []) before answer after
+
+-- Shut out: a delete that joins one level only, one that joins with a divided sibling (shown)
+abbrev pub DeletePromise : Store → List ℕ → Answer Reply → Store → Type 0
+DeletePromise before values answer after =
+    ChangePromise (deleteCall values) (keyNumber before values) (5 ∷ 9 ∷ []) before answer after
+
+-- ---- calls that read
+
+-- "A sound store whose pages not so read are then overwritten in any way": the bytes are as those of a sound store in
+-- the pages of the leaves that agree with the query
+abbrev pub SameWhereRead : Store → List ℕ → (ℕ → QueryBit) → List Record → Type 0
+SameWhereRead sound bytes q S =
+    let s = sound .state .shape in
+    (p : ℕ → Bool) → agrees q p (leafDepth p 0 (divisionOf s S)) 0 ≡ true
+    → (g x : ℕ) → wordAt s (sound .state .depth) (sound .memory .words) p ≡ wordOf (Page g x)
+    → pageAt (s .capacity) bytes g ≡ pageAt (s .capacity) (sound .memory .bytes) g
+
+-- the store with other page bytes
+abbrev pub withBytes : Store → List ℕ → Store
+withBytes s bytes = record { state = s .state; memory = record { words = s .memory .words; bytes = bytes } }
+
+-- the store is a sound one, but for pages that the query does not read
+abbrev pub SoundWhereRead : Store → (ℕ → QueryBit) → List Record → Type 0
+SoundWhereRead s q S =
+    (bytes : List ℕ) × (Sound (withBytes s bytes) S) × (length bytes ≡ length (s .memory .bytes))
+    × SameWhereRead (withBytes s bytes) (s .memory .bytes) q S
+
+-- a key as a query that gives every attribute
+abbrev pub keyQuery : Shape → List ℕ → ℕ → QueryBit
+keyQuery s values = queryBits s (perAttribute (λ j. some (getD values j 0)))
+
+-- Shut out: "absent" without reading (answered-as)
+pub record LookupPromise (store : Store) (values : List ℕ) (answer : Answer Reply) : Type 0 where
+  pub early-refused : (n : ℕ) → keyNumber store values ≡ suc n → answer ≡ refused (suc n)
+  -- on any store a content with 1 read, 5 or 9
+  pub ordinary : keyNumber store values ≡ 0
+      → ((content : Content) × (answer ≡ accepted (found content 1))) ⊎ ((answer ≡ refused 5) ⊎ (answer ≡ refused 9))
+  -- on a sound store the model's answer, whatever the pages hold that other keys' leaves have
+  pub answered-as : (S : List Record) → SoundWhereRead store (keyQuery (store .state .shape) values) S
+      → answer ≡ outcome (fixedOf (store .state)) S (lookupCall values) .answer
+
+-- Shut out: an empty list, reads that are the bound or 1, a leaf listed once a cell (answered-as); a scan of every page
+-- (SoundWhereRead)
+pub record QueryPromise (store : Store) (q : List (Option ℕ)) (out : List ℕ) (answer : Answer Reply) (out′ : List ℕ) : Type 0 where
+  pub early-refused : (n : ℕ) → queryNumber store q ≡ suc n → answer ≡ refused (suc n)
+  pub unchanged : (n : ℕ) → answer ≡ refused n → out′ ≡ out
+  -- on any store 9, or counts with "written never exceeds total", in bounds, "other output bytes untouched"
+  pub ordinary : queryNumber store q ≡ 0
+      → ((written total reads : ℕ) × (answer ≡ accepted (listed written total reads)) × (written ≤ total)
+      × (recordSize * written ≤ length out) × (drop (recordSize * written) out′ ≡ drop (recordSize * written) out))
+      ⊎ (answer ≡ refused 9)
+  pub output-length : length out′ ≡ length out
+  -- on a sound store the model's answer and output, whatever the pages hold that it does not read
+  pub answered-as : (S : List Record) → SoundWhereRead store (queryBits (store .state .shape) q) S
+      → (answer ≡ outcome (fixedOf (store .state)) S (queryCall q out) .answer)
+      × (out′ ≡ outcome (fixedOf (store .state)) S (queryCall q out) .output)
+  -- and reads within the bound
+  pub bounded : (S : List Record) → SoundWhereRead store (queryBits (store .state .shape) q) S
+      → (written total reads : ℕ) → answer ≡ accepted (listed written total reads)
+      → reads ≤ 2 ^ (store .state .depth - givenDepths (store .state .shape) q (store .state .depth))
+
+-- "says yes exactly for a sound store and otherwise no; it never gives 9". Shut out: always yes, always no
+pub record CheckPromise (store : Store) (answer : Answer Bool) : Type 0 where
+  pub early-refused : (n : ℕ) → lentNumber store ≡ suc n → answer ≡ refused (suc n)
+  pub verdict : lentNumber store ≡ 0
+      → ((answer ≡ accepted true) × ((S : List Record) × Sound store S))
+      ⊎ ((answer ≡ accepted false) × ((S : List Record) → Sound store S → ⊥))
