@@ -1,6 +1,6 @@
 -- What each call on a store promises (document 01, "Calls", "Refused calls", "Lent memory"). Each promise is one
 -- definition, which the call's `ensures` and demand 3 both cite. Assumes nothing.
-use Prim.Native.Nat.{ℕ, suc, _-_, _*_, _^_, _≤_}
+use Prim.Native.Nat.{ℕ, suc, _-_, _*_, _^_, _≤_, _<_}
 use mathlib.Core.Path.{_≡_}
 use mathlib.Core.Bool.{Bool, true, false}
 use mathlib.Core.List.{List, [], _∷_, _++_}
@@ -50,12 +50,12 @@ module _ (before after : Store) (D D′ : Division Record) where
   -- "Every other leaf keeps its page": a leaf of both divisions that has a page before and records after
   abbrev pub KeepsPages : Type 0
   KeepsPages = (p : ℕ → Bool) → leafDepth p 0 D ≡ leafDepth p 0 D′ → nonEmpty (leafRecords p 0 D′) ≡ true
-      → (g x : ℕ) → wordBefore p ≡ wordOf (Page g x) → wordAfter p ≡ wordOf (Page g x)
+      → (g x : ℕ) → g < before .state .limits .pages → wordBefore p ≡ wordOf (Page g x) → wordAfter p ≡ wordOf (Page g x)
 
   -- left free: "which page a leaf that newly gets one takes, of those free, divided or joined". A leaf's page is the one
   -- that the leaf had, or one whose count was 0, or one of a leaf that is none any more
   abbrev pub TakesPages : Type 0
-  TakesPages = (p : ℕ → Bool) (g x : ℕ) → wordAfter p ≡ wordOf (Page g x)
+  TakesPages = (p : ℕ → Bool) (g x : ℕ) → g < before .state .limits .pages → wordAfter p ≡ wordOf (Page g x)
       → (wordBefore p ≡ wordOf (Page g x))
       ⊎ ((countOf (pageAt (before .state .shape .capacity) (before .memory .bytes) g) ≡ 0)
       ⊎ ((q : ℕ → Bool) × (y : ℕ) × (wordBefore q ≡ wordOf (Page g y)) × (leafDepth q 0 D ≡ leafDepth q 0 D′ → ⊥)))
@@ -104,7 +104,7 @@ abbrev pub SameWhereRead : Store → List ℕ → (ℕ → QueryBit) → List Re
 SameWhereRead sound bytes q S =
     let s = sound .state .shape in
     (p : ℕ → Bool) → agrees q p (leafDepth p 0 (divisionOf s S)) 0 ≡ true
-    → (g x : ℕ) → wordAt s (sound .state .depth) (sound .memory .words) p ≡ wordOf (Page g x)
+    → (g x : ℕ) → g < sound .state .limits .pages → wordAt s (sound .state .depth) (sound .memory .words) p ≡ wordOf (Page g x)
     → pageAt (s .capacity) bytes g ≡ pageAt (s .capacity) (sound .memory .bytes) g
 
 -- the store with other page bytes

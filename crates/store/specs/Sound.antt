@@ -33,8 +33,8 @@ pub record Shows (s : Shape) (P T : ℕ) (m : Memory) (D : Division Record) : Ty
   -- "Every cell whose split bits begin with a leaf holds that leaf's word."
   pub word : (p : ℕ → Bool) → LeafWord s P (m .bytes) (leafRecords p 0 D) (leafDepth p 0 D) (wordAt s T (m .words) p)
   pub same-word : (p q : ℕ → Bool) → Agree (leafDepth p 0 D) p q → wordAt s T (m .words) p ≡ wordAt s T (m .words) q
-  -- "no two leaves share a page"
-  pub own-page : (p q : ℕ → Bool) → (Agree (leafDepth p 0 D) p q → ⊥) → (g x y : ℕ)
+  -- "no two leaves share a page", of the P pages
+  pub own-page : (p q : ℕ → Bool) → (Agree (leafDepth p 0 D) p q → ⊥) → (g x y : ℕ) → g < P
       → wordAt s T (m .words) p ≡ wordOf (Page g x) → wordAt s T (m .words) q ≡ wordOf (Page g y) → ⊥
   -- "every page without a leaf is free"
   pub free : (g : ℕ) → g < P → ((p : ℕ → Bool) (x : ℕ) → wordAt s T (m .words) p ≡ wordOf (Page g x) → ⊥)
