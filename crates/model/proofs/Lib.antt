@@ -1,0 +1,4 @@
+pub mod InsertRefusalLaws
+pub mod MatchLaws
+pub mod ReadsLaws
+pub mod SetLaws

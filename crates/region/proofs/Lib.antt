@@ -2,8 +2,10 @@ pub mod CountLaws
 pub mod DepthLaws
 pub mod DivideLaws
 pub mod Example
+pub mod FullLeafLaws
 pub mod InsertLaws
 pub mod LeafCountLaws
+pub mod LeafInsertLaws
 pub mod LeafLaws
 pub mod LeafSetLaws
 pub mod LeafWalkLaws

@@ -1,0 +1,163 @@
+-- Laws of bytes: numbers and records written and read back, read and written back; lengths. Assumes nothing.
+use Prim.Native.Nat.{ℕ, zero, suc, _+_, _*_, _/_, _%_, _^_, _≤_, _<_}
+use mathlib.Core.Path.{_≡_, refl, sym, ap, _∙_}
+use mathlib.Core.List.{List, [], _∷_, _++_, append-assoc}
+use native.Mathlib.Omega.{arith}
+use native.Mathlib.Nat.{one-le-pow, pow-zero, pow-succ'}
+use lib.ListN.{length, getD, take, drop, length-append, length-drop}
+use lib.Seq.{length-take-le, take-all, take-add, drop-drop, getD-drop}
+use Rattle.shape.specs.Key.{perAttribute}
+use Rattle.shape.specs.declared.Shape.{Shape}
+use Rattle.record.specs.Record.{Record}
+use Rattle.record.specs.Bytes.{recordSize, littleEndian, numberOf, field, recordBytes, recordOf, recordsBytes}
+
+-- numbers of 8 bits
+abbrev pub Bytes : List ℕ → Type 0
+Bytes xs = (i : ℕ) → getD xs i 0 < 256
+
+bytes-take : (n : ℕ) (xs : List ℕ) → Bytes xs → Bytes (take n xs)
+bytes-take zero xs h i = omega arith
+bytes-take (suc n) [] h i = omega arith
+bytes-take (suc n) (x ∷ xs) h zero = h 0
+bytes-take (suc n) (x ∷ xs) h (suc i) = bytes-take n xs (λ m. h (suc m)) i
+
+bytes-drop : (n : ℕ) (xs : List ℕ) → Bytes xs → Bytes (drop n xs)
+bytes-drop n xs h i = rw (getD-drop n xs i 0) (h (n + i))
+
+pub bytes-field : (xs : List ℕ) (offset n : ℕ) → Bytes xs → Bytes (field xs offset n)
+bytes-field xs offset n h = bytes-take n (drop offset xs) (bytes-drop offset xs h)
+
+-- ---- numbers
+
+pub length-littleEndian : (n v : ℕ) → length (littleEndian n v) ≡ n
+length-littleEndian zero v = refl
+length-littleEndian (suc n) v = ap suc (length-littleEndian n (v / 256))
+
+pub numberOf-littleEndian : (n v : ℕ) → v < 256 ^ n → numberOf (littleEndian n v) ≡ v
+numberOf-littleEndian zero v h = omega (arith, pow-zero 256)
+numberOf-littleEndian (suc n) v h =
+    omega (arith, numberOf-littleEndian n (v / 256) (omega (arith, pow-succ' 256 n)))
+
+low : (x y : ℕ) → x < 256 → (x + 256 * y) % 256 ≡ x
+low x y h = omega arith
+
+high : (x y : ℕ) → x < 256 → (x + 256 * y) / 256 ≡ y
+high x y h = omega arith
+
+pub littleEndian-numberOf : (xs : List ℕ) → Bytes xs → littleEndian (length xs) (numberOf xs) ≡ xs
+littleEndian-numberOf [] h = refl
+littleEndian-numberOf (x ∷ xs) h =
+    rw (low x (numberOf xs) (h 0), high x (numberOf xs) (h 0))
+    (ap (λ ys. x ∷ ys) (littleEndian-numberOf xs (λ i. h (suc i))))
+
+numberOf-take-lt : (n : ℕ) (xs : List ℕ) → Bytes xs → numberOf (take n xs) < 256 ^ n
+numberOf-take-lt zero xs h = omega (arith, pow-zero 256)
+numberOf-take-lt (suc n) [] h = one-le-pow (suc n) 256 (omega arith)
+numberOf-take-lt (suc n) (x ∷ xs) h = omega (arith, h 0, numberOf-take-lt n xs (λ i. h (suc i)), pow-succ' 256 n)
+
+-- ---- fields
+
+module _ (xs : List ℕ) where
+  pub length-field : (offset n : ℕ) → offset + n ≤ length xs → length (field xs offset n) ≡ n
+  length-field offset n h = length-take-le n (drop offset xs) (omega (arith, length-drop offset xs))
+
+  pub littleEndian-numberOf-field : Bytes xs → (offset n : ℕ) → offset + n ≤ length xs
+      → littleEndian n (numberOf (field xs offset n)) ≡ field xs offset n
+  littleEndian-numberOf-field b offset n h =
+      ap (λ m. littleEndian m (numberOf (field xs offset n))) (sym (length-field offset n h))
+      ∙ littleEndian-numberOf (field xs offset n) (bytes-field xs offset n b)
+
+  pub numberOf-field-lt : Bytes xs → (offset n : ℕ) → numberOf (field xs offset n) < 256 ^ n
+  numberOf-field-lt b offset n = numberOf-take-lt n (drop offset xs) (bytes-drop offset xs b)
+
+  -- a field and the one behind it
+  pub field-append-field : (offset n m : ℕ) → field xs offset n ++ field xs (offset + n) m ≡ field xs offset (n + m)
+  field-append-field offset n m =
+      ap (λ ys. field xs offset n ++ take m ys) (sym (drop-drop n offset xs)) ∙ sym (take-add n m (drop offset xs))
+
+-- ---- one record
+
+module _ (s : Shape) where
+  pub length-recordBytes : (r : Record) → length (recordBytes s r) ≡ recordSize
+  unfolding recordBytes
+  length-recordBytes r = refl
+
+-- what its bytes can hold: four key numbers of 16 bits and a payload of 32
+pub record FitsBytes (r : Record) : Type 0 where
+  pub numbers : length (r .key) ≡ 4
+  pub below : (j : ℕ) → getD (r .key) j 0 < 2 ^ 16
+  pub payload-below : r .content .payload < 2 ^ 32
+
+-- the four numbers of a key
+pub perAttribute-getD : (key : List ℕ) → length key ≡ 4 → perAttribute (λ j. getD key j 0) ≡ key
+perAttribute-getD (a ∷ b ∷ c ∷ d ∷ []) e = refl
+perAttribute-getD [] e = absurd (omega arith)
+perAttribute-getD (a ∷ []) e = absurd (omega arith)
+perAttribute-getD (a ∷ b ∷ []) e = absurd (omega arith)
+perAttribute-getD (a ∷ b ∷ c ∷ []) e = absurd (omega arith)
+perAttribute-getD (a ∷ b ∷ c ∷ d ∷ f ∷ key) e = absurd (omega arith)
+
+module _ (s : Shape) where
+  pub recordOf-recordBytes : (r : Record) → FitsBytes r → recordOf s (recordBytes s r) ≡ r
+  unfolding recordOf recordBytes
+  recordOf-recordBytes r f =
+      (λ i. record {
+        key =
+            numberOf-littleEndian 2 (getD (r .key) 0 0) (f .below 0) i
+            ∷ numberOf-littleEndian 2 (getD (r .key) 1 0) (f .below 1) i
+            ∷ numberOf-littleEndian 2 (getD (r .key) 2 0) (f .below 2) i
+            ∷ numberOf-littleEndian 2 (getD (r .key) 3 0) (f .below 3) i
+            ∷ [];
+        content = record { payload = numberOf-littleEndian 4 (r .content .payload) (f .payload-below) i };
+      })
+      ∙ ap (λ key. record { key = key; content = r .content }) (perAttribute-getD (r .key) (f .numbers))
+
+  pub recordBytes-recordOf : (bytes : List ℕ) → Bytes bytes → length bytes ≡ recordSize
+      → recordBytes s (recordOf s bytes) ≡ bytes
+  unfolding recordOf recordBytes
+  recordBytes-recordOf bytes b e =
+      let back : (offset n : ℕ) → offset + n ≤ 12
+      → littleEndian n (numberOf (field bytes offset n)) ≡ field bytes offset n =
+      λ offset n h. littleEndian-numberOf-field bytes b offset n (omega arith) in
+      let last : field bytes 6 2 ++ field bytes 8 4 ≡ field bytes 6 6 = field-append-field bytes 6 2 4 in
+      let from-4 : field bytes 4 2 ++ field bytes 6 6 ≡ field bytes 4 8 = field-append-field bytes 4 2 6 in
+      let from-2 : field bytes 2 2 ++ field bytes 4 8 ≡ field bytes 2 10 = field-append-field bytes 2 2 8 in
+      (λ i.
+      back 0 2 (omega arith) i
+      ++ (back 2 2 (omega arith) i
+      ++ (back 4 2 (omega arith) i ++ (back 6 2 (omega arith) i ++ back 8 4 (omega arith) i))))
+      ∙ ap (λ ys. field bytes 0 2 ++ (field bytes 2 2 ++ (field bytes 4 2 ++ ys))) last
+      ∙ ap (λ ys. field bytes 0 2 ++ (field bytes 2 2 ++ ys)) from-4
+      ∙ ap (λ ys. field bytes 0 2 ++ ys) from-2
+      ∙ field-append-field bytes 0 2 10
+      ∙ take-all 12 bytes (omega arith)
+
+  -- what is read fits again
+  pub fitsBytes-recordOf : (bytes : List ℕ) → Bytes bytes → FitsBytes (recordOf s bytes)
+  unfolding recordOf
+  fitsBytes-recordOf bytes b = record {
+    numbers = refl;
+    below = below;
+    payload-below = numberOf-field-lt bytes b 8 4;
+  }
+    where
+      below : (j : ℕ) → getD (recordOf s bytes .key) j 0 < 2 ^ 16
+      below zero = numberOf-field-lt bytes b 0 2
+      below (suc zero) = numberOf-field-lt bytes b 2 2
+      below (suc (suc zero)) = numberOf-field-lt bytes b 4 2
+      below (suc (suc (suc zero))) = numberOf-field-lt bytes b 6 2
+      below (suc (suc (suc (suc j)))) = omega arith
+
+-- ---- records one after the other
+
+pub length-recordsBytes : (s : Shape) (rs : List Record) → length (recordsBytes s rs) ≡ recordSize * length rs
+length-recordsBytes s [] = refl
+length-recordsBytes s (r ∷ rs) =
+    omega (arith, length-append (recordBytes s r) (recordsBytes s rs), length-recordBytes s r, length-recordsBytes s rs)
+
+pub recordsBytes-append : (s : Shape) (rs qs : List Record)
+    → recordsBytes s (rs ++ qs) ≡ recordsBytes s rs ++ recordsBytes s qs
+recordsBytes-append s [] qs = refl
+recordsBytes-append s (r ∷ rs) qs =
+    ap (λ bytes. recordBytes s r ++ bytes) (recordsBytes-append s rs qs)
+    ∙ sym (append-assoc (recordBytes s r) (recordsBytes s rs) (recordsBytes s qs))
