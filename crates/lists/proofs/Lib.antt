@@ -1,5 +1,6 @@
 pub mod Bools
 pub mod FilterLaws
+pub mod FindLaws
 pub mod MemberLaws
 pub mod Numbers
 pub mod Sequences

@@ -1,6 +1,7 @@
 pub mod CountLaws
 pub mod DepthLaws
 pub mod DivideLaws
+pub mod DivisionLaws
 pub mod Example
 pub mod FullLeafLaws
 pub mod InsertLaws

@@ -1,0 +1,9 @@
+pub mod AgreeLaws
+pub mod ClearedLaws
+pub mod DividedLaws
+pub mod FreshLaws
+pub mod KeyLaws
+pub mod OneSetLaws
+pub mod RoomLaws
+pub mod SetLaws
+pub mod ShownLaws
