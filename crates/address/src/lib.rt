@@ -1,6 +1,6 @@
 // The address map of the directory and its inverse (document 01, "Address map").
-mod digits;
-mod pairs;
+pub mod digits;
+pub mod pairs;
 
 use digits::address_before;
 use digits::index_before;
@@ -138,7 +138,7 @@ fn address_fits(a: u64, t: u64) -> bool
 }
 
 // The sum of the widths.
-fn total_of(widths: Widths) -> u64
+pub fn total_of(widths: Widths) -> u64
     requires { ⌜ Fit (widthList widths) ⌝ }
     ensures { λ r. ⌜ (r ≡ total (widthList widths)) × (r ≤ 64) ⌝ }
 {

@@ -67,7 +67,7 @@ fn larger(a: u64, b: u64) -> u64
 }
 
 // The width of attribute j.
-fn width_at(widths: Widths, j: u64) -> u64
+pub fn width_at(widths: Widths, j: u64) -> u64
     requires { ⌜ j < 4 ⌝ }
     ensures { λ r. ⌜ r ≡ getD (widthList widths) j 0 ⌝ }
 {

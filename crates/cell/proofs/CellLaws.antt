@@ -58,7 +58,7 @@ plus z x v = set v z (getD v z 0 + x)
 
 module _ (ws : List ℕ) (fit : Fit ws) where
   -- step t is (k, z)
-  cell-suc-pair : (t : ℕ) (p : ℕ → Bool) (k z : ℕ) → z < 4 → k < getD ws z 0 → stepNumber ws k z ≡ t
+  pub cell-suc-pair : (t : ℕ) (p : ℕ → Bool) (k z : ℕ) → z < 4 → k < getD ws z 0 → stepNumber ws k z ≡ t
       → cell ws (suc t) p ≡ plus z (bitValue (p t) * 2 ^ k) (cell ws t p)
   unfolding sumBits
   cell-suc-pair t p k z hz hk number =

@@ -55,7 +55,7 @@ agree-of-sumBits (suc h) β γ e k l = go (lt-or-le k h) (agree-of-sumBits h β 
 abbrev pub binaryBit : ℕ → ℕ → Bool
 binaryBit x k = eqb (x / 2 ^ k % 2) 1
 
-bitValue-digit : (y : ℕ) → y < 2 → bitValue (eqb y 1) ≡ y
+pub bitValue-digit : (y : ℕ) → y < 2 → bitValue (eqb y 1) ≡ y
 bitValue-digit zero h = refl
 bitValue-digit (suc zero) h = refl
 bitValue-digit (suc (suc y)) h = absurd (omega arith)

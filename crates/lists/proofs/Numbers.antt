@@ -33,6 +33,9 @@ max-cases a b = go (lt-or-le a b)
 
 -- ---- powers of two
 
+pub pow-double : (k : ℕ) → 2 ^ suc k ≡ 2 ^ k + 2 ^ k
+pow-double k = omega arith
+
 -- a power at most i, below a power
 pub pow-below : (s d i : ℕ) → 2 ^ s ≤ i → i < 2 ^ d → s < d
 pow-below s d i l h = go (lt-or-le s d)

@@ -21,6 +21,13 @@ pub record Store : Type 0 where
   pub state : State
   pub memory : Memory
 
+-- both from their parts, as contracts have them
+abbrev pub memory : List ℕ → List ℕ → Memory
+memory words bytes = record { words = words; bytes = bytes }
+
+abbrev pub store : State → List ℕ → List ℕ → Store
+store state words bytes = record { state = state; memory = memory words bytes }
+
 -- shape, P and L, as the state holds them
 abbrev pub fixedOf : State → Fixed
 fixedOf st = record { shape = st .shape; pageLimit = st .limits .pages; depthLimit = st .limits .depth }

@@ -1,0 +1,10 @@
+pub mod AnswerLaws
+pub mod CodeLaws
+pub mod Example
+pub mod InUseLaws
+pub mod PassLaws
+pub mod ReadLaws
+pub mod ShowsLaws
+pub mod SoundLaws
+pub mod ViewLaws
+pub mod WalkLaws

@@ -1,0 +1,129 @@
+-- Laws of the cell of a key: an index from the first bits of an encoding, taken from the last; the four indices.
+-- Assumes nothing.
+use Prim.Native.Nat.{ℕ, zero, suc, _+_, _*_, _-_, _/_, _%_, _^_, _≤_, _<_, min}
+use mathlib.Core.Path.{_≡_, refl, sym, ap, _∙_, subst}
+use mathlib.Core.Bool.{Bool}
+use mathlib.Core.List.{List, [], _∷_}
+use native.Mathlib.Omega.{arith}
+use native.Mathlib.Nat.{le-trans, mod-eq-of-lt}
+use lib.Bits.{bitAnd, bitOr, and-mask, or-shifted}
+use lib.ListN.{getD, length}
+use lib.Pow.{pow-mono, shr-shr}
+use Rattle.lists.proofs.Numbers.{pow-double}
+use Rattle.shape.specs.Shape.{Fit}
+use Rattle.split.specs.Steps.{bitValue, stepsBelow, depth}
+use Rattle.split.specs.Bits.{bitOf, splitBit}
+use Rattle.split.proofs.StepLaws.{depthBefore}
+use Rattle.split.proofs.DepthLaws.{depth-width}
+use Rattle.split.proofs.BitLaws.{splitBit-stepNumber}
+use Rattle.cell.specs.Cell.{sumBits, attributeBit, cell}
+use Rattle.cell.proofs.Strings.{sumBits-lt, sumBits-agree, bitValue-digit}
+use Rattle.directory.proofs.PlaceLaws.{depth-place}
+
+-- ---- an index from an encoding's bits
+
+-- the first bit apart
+pub sumBits-first : (β : ℕ → Bool) (h : ℕ) → sumBits β (suc h) ≡ bitValue (β 0) + 2 * sumBits (λ k. β (suc k)) h
+unfolding sumBits
+sumBits-first β zero = omega arith
+sumBits-first β (suc h) =
+    omega (arith, sumBits-first β h, ap (λ x. bitValue (β (suc h)) * x) (pow-double h))
+
+-- the loop's invariant: the last k of the first h bits are taken, the others are the low bits of the rest
+pub record Taken (w encoding h rest index k : ℕ) : Type 0 where
+  pub within : k ≤ h
+  pub taken : index ≡ sumBits (λ m. bitOf w encoding (h - k + m)) k
+  pub left : rest ≡ encoding / 2 ^ (w - h + k)
+
+module _ (w encoding h : ℕ) where
+  pub taken-zero : Taken w encoding h (encoding / 2 ^ (w - h)) 0 0
+  unfolding sumBits
+  taken-zero =
+      let e : w - h ≡ w - h + 0 = omega arith in
+      record { within = omega arith; taken = refl; left = ap (λ n. encoding / 2 ^ n) e }
+
+  module _ (rest index k : ℕ) (inv : Taken w encoding h rest index k) where
+    pub taken-lt : h ≤ 16 → index < 2 ^ 16
+    taken-lt l =
+        let m : 2 ^ k ≤ 2 ^ 16 = pow-mono (le-trans (inv .within) l) in
+        omega (arith, inv .taken, sumBits-lt (λ m. bitOf w encoding (h - k + m)) k)
+
+    pub taken-suc : h ≤ w → w ≤ 16 → k < h
+        → Taken w encoding h (rest / 2) (bitOr (index * 2 % 2 ^ 64) (bitAnd rest 1)) (k + 1)
+    taken-suc hw hs l = record { within = omega arith; taken = step ∙ sym next; left = half }
+      where
+        bit : bitAnd rest 1 ≡ rest % 2
+        bit = and-mask rest 1
+
+        step : bitOr (index * 2 % 2 ^ 64) (bitAnd rest 1) ≡ index * 2 + rest % 2
+        step =
+            let low : bitAnd rest 1 < 2 = omega (arith, bit) in
+            let small : index * 2 < 2 ^ 64 = omega (arith, taken-lt (omega arith)) in
+            ap (λ x. bitOr x (bitAnd rest 1)) (mod-eq-of-lt small)
+            ∙ or-shifted index 1 (bitAnd rest 1) low
+            ∙ omega (arith, bit)
+
+        half : rest / 2 ≡ encoding / 2 ^ (w - h + (k + 1))
+        half =
+            let e : w - h + k + 1 ≡ w - h + (k + 1) = omega arith in
+            ap (λ x. x / 2) (inv .left) ∙ shr-shr encoding (w - h + k) 1 ∙ ap (λ n. encoding / 2 ^ n) e
+
+        first : bitValue (bitOf w encoding (h - suc k + 0)) ≡ rest % 2
+        first =
+            let e : w - suc (h - suc k + 0) ≡ w - h + k = omega arith in
+            bitValue-digit (encoding / 2 ^ (w - suc (h - suc k + 0)) % 2) (omega arith)
+            ∙ ap (λ n. encoding / 2 ^ n % 2) e
+            ∙ ap (λ x. x % 2) (sym (inv .left))
+
+        later : sumBits (λ m. bitOf w encoding (h - suc k + suc m)) k ≡ index
+        later = sumBits-agree k _ _ same ∙ sym (inv .taken)
+          where
+            same : (m : ℕ) → m < k → bitOf w encoding (h - suc k + suc m) ≡ bitOf w encoding (h - k + m)
+            same m lm = let e : h - suc k + suc m ≡ h - k + m = omega arith in ap (bitOf w encoding) e
+
+        next : sumBits (λ m. bitOf w encoding (h - (k + 1) + m)) (k + 1) ≡ index * 2 + rest % 2
+        next =
+            let e : k + 1 ≡ suc k = omega arith in
+            ap (λ n. sumBits (λ m. bitOf w encoding (h - n + m)) n) e
+            ∙ sumBits-first (λ m. bitOf w encoding (h - suc k + m)) k
+            ∙ omega (arith, first, later)
+
+    pub taken-end : h ≤ k → index ≡ sumBits (bitOf w encoding) h
+    taken-end l =
+        let e : k ≡ h = omega (arith, inv .within) in
+        inv .taken
+        ∙ ap (λ n. sumBits (λ m. bitOf w encoding (h - n + m)) n) e
+        ∙ sumBits-agree h _ _ (λ m lm. let z : h - h + m ≡ m = omega arith in ap (bitOf w encoding) z)
+
+-- ---- the four indices
+
+-- a key's bits of attribute j are those of its encoding
+sumBits-splitBit : (ws : List ℕ) → Fit ws → (t : ℕ) (key : List ℕ) (j : ℕ) → j < 4
+    → sumBits (attributeBit ws (splitBit ws key) j) (depth ws t j)
+    ≡ sumBits (bitOf (getD ws j 0) (getD key j 0)) (depth ws t j)
+sumBits-splitBit ws fit t key j hj =
+    sumBits-agree (depth ws t j) _ _
+    (λ k l. splitBit-stepNumber ws fit key k j hj (le-trans l (depth-width ws j t hj)))
+
+pub cell-splitBit : (ws : List ℕ) → Fit ws → (g : ℕ) (key : List ℕ) (h0 h1 h2 h3 i0 i1 i2 i3 : ℕ) → g ≤ 64
+    → h0 ≡ depthBefore ws g 0 → h1 ≡ depthBefore ws g 1 → h2 ≡ depthBefore ws g 2 → h3 ≡ depthBefore ws g 3
+    → i0 ≡ sumBits (bitOf (getD ws 0 0) (getD key 0 0)) h0 → i1 ≡ sumBits (bitOf (getD ws 1 0) (getD key 1 0)) h1
+    → i2 ≡ sumBits (bitOf (getD ws 2 0) (getD key 2 0)) h2 → i3 ≡ sumBits (bitOf (getD ws 3 0) (getD key 3 0)) h3
+    → i0 ∷ i1 ∷ i2 ∷ i3 ∷ [] ≡ cell ws (length (stepsBelow ws g)) (splitBit ws key)
+unfolding cell
+cell-splitBit ws fit g key h0 h1 h2 h3 i0 i1 i2 i3 low d0 d1 d2 d3 e0 e1 e2 e3 = cc (
+  at 0 h0 i0 (omega arith) d0 e0,
+  at 1 h1 i1 (omega arith) d1 e1,
+  at 2 h2 i2 (omega arith) d2 e2,
+  at 3 h3 i3 (omega arith) d3 e3,
+)
+  where
+    t : ℕ
+    t = length (stepsBelow ws g)
+
+    at : (j h i : ℕ) → j < 4 → h ≡ depthBefore ws g j → i ≡ sumBits (bitOf (getD ws j 0) (getD key j 0)) h
+        → i ≡ sumBits (attributeBit ws (splitBit ws key) j) (depth ws (length (stepsBelow ws g)) j)
+    at j h i hj d e =
+        e
+        ∙ ap (sumBits (bitOf (getD ws j 0) (getD key j 0))) (d ∙ sym (depth-place ws g j hj low))
+        ∙ sym (sumBits-splitBit ws fit (length (stepsBelow ws g)) key j hj)

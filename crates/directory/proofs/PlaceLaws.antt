@@ -1,0 +1,92 @@
+-- Laws of places: how many steps stand before a place, the search for a step, the depths there. Assumes nothing.
+use Prim.Native.Nat.{ℕ, suc, _+_, _*_, _-_, _/_, _%_, _≤_, _<_, min}
+use mathlib.Core.Path.{_≡_, refl, ap, _∙_, subst}
+use mathlib.Core.List.{List, [], _∷_}
+use mathlib.Core.Logic.{_⊎_, inl, inr}
+use native.Mathlib.Omega.{arith}
+use native.Mathlib.Numerals.{add-one}
+use lib.ListN.{getD, take, length}
+use lib.Seq.{take-append-seam}
+use Rattle.lists.proofs.Numbers.{lt-or-le}
+use Rattle.shape.specs.Shape.{Fit, total}
+use Rattle.split.specs.Steps.{stepsBelow, steps, stepNumber, stepsOf, depth}
+use Rattle.split.proofs.StepLaws.{depthBefore, stepsOf-stepsBelow, length-stepsBelow, length-steps}
+use Rattle.split.proofs.StepLaws.{length-stepsBelow-step, length-stepsBelow-skip, stepsBelow-prefix}
+use Rattle.split.proofs.DepthLaws.{stepNumber-below}
+use Rattle.address.specs.Private.{StepPair}
+use Rattle.directory.specs.Private.{StepsBefore}
+
+-- ---- the search
+
+pub stepsBefore-zero : (ws : List ℕ) → StepsBefore ws 0 0
+unfolding stepsBelow
+stepsBefore-zero ws = record { low = omega arith; before = refl }
+
+module _ (ws : List ℕ) (t g : ℕ) (b : StepsBefore ws t g) (next : g < 64) where
+  -- a step
+  pub stepsBefore-step : g / 4 < getD ws (g % 4) 0 → StepsBefore ws (t + 1) (g + 1)
+  stepsBefore-step l = record {
+    low = omega arith;
+    before = omega (arith, b .before, length-stepsBelow-step ws g l, ap (λ x. length (stepsBelow ws x)) (add-one g));
+  }
+
+  -- no step
+  pub stepsBefore-skip : getD ws (g % 4) 0 ≤ g / 4 → StepsBefore ws t (g + 1)
+  stepsBefore-skip l = record {
+    low = omega arith;
+    before = omega (arith, b .before, length-stepsBelow-skip ws g l, ap (λ x. length (stepsBelow ws x)) (add-one g));
+  }
+
+-- a step is left: the search ends before the pairs do
+pub stepsBefore-lt : (w0 w1 w2 w3 t g : ℕ) → Fit (w0 ∷ w1 ∷ w2 ∷ w3 ∷ []) → t < total (w0 ∷ w1 ∷ w2 ∷ w3 ∷ [])
+    → StepsBefore (w0 ∷ w1 ∷ w2 ∷ w3 ∷ []) t g → g < 64
+unfolding steps
+stepsBefore-lt w0 w1 w2 w3 t g fit l b = go (lt-or-le g 64)
+  where
+    go : (g < 64) ⊎ (64 ≤ g) → g < 64
+    go (inl h) = h
+    go (inr h) =
+        let e : g ≡ 64 = omega (arith, b .low) in
+        let ws = w0 ∷ w1 ∷ w2 ∷ w3 ∷ [] in
+        absurd (omega (arith, b .before, ap (λ x. length (stepsBelow ws x)) e, length-steps w0 w1 w2 w3 fit))
+
+-- the steps of the first k bits are those before place 4k
+pub stepsBefore-rounds : (w0 w1 w2 w3 k m0 m1 m2 m3 : ℕ) → k ≤ 16
+    → m0 ≡ min w0 k → m1 ≡ min w1 k → m2 ≡ min w2 k → m3 ≡ min w3 k
+    → StepsBefore (w0 ∷ w1 ∷ w2 ∷ w3 ∷ []) (m0 + m1 + m2 + m3) (4 * k)
+unfolding depthBefore
+stepsBefore-rounds w0 w1 w2 w3 k m0 m1 m2 m3 h e0 e1 e2 e3 = record {
+  low = omega arith;
+  before = length-stepsBelow (w0 ∷ w1 ∷ w2 ∷ w3 ∷ []) (4 * k)
+      ∙ rw (place 0 (omega arith), place 1 (omega arith), place 2 (omega arith), place 3 (omega arith), e0, e1, e2, e3);
+}
+  where
+    place : (j : ℕ) → j < 4 → (4 * k + 3 - j) / 4 ≡ k
+    place j l = omega arith
+
+-- ---- the pair of a step
+
+module _ (ws : List ℕ) (t g : ℕ) (s : StepPair ws t g) where
+  pub stepNumber-pair : stepNumber ws (g / 4) (g % 4) ≡ t
+  unfolding stepNumber
+  stepNumber-pair =
+      let e : 4 * (g / 4) + g % 4 ≡ g = omega arith in
+      ap (λ x. length (stepsBelow ws x)) e ∙ s .before
+
+  pub stepPair-lt : Fit ws → t < length (steps ws)
+  stepPair-lt fit =
+      subst (λ x. x < length (steps ws)) stepNumber-pair (stepNumber-below ws fit (g / 4) (g % 4) (omega arith) (s .live))
+
+  pub stepsBefore-pair : StepsBefore ws (t + 1) (g + 1)
+  stepsBefore-pair = let b = s .low in stepsBefore-step ws t g (record { low = omega arith; before = s .before }) (s .low) (s .live)
+
+-- ---- the depths at a place
+
+pub depth-place : (ws : List ℕ) (g j : ℕ) → j < 4 → g ≤ 64
+    → depth ws (length (stepsBelow ws g)) j ≡ depthBefore ws g j
+unfolding depth steps
+depth-place ws g j hj h =
+    let p = stepsBelow-prefix ws g 64 h in
+    ap (λ s. stepsOf j (take (length (stepsBelow ws g)) s)) (p .1)
+    ∙ ap (stepsOf j) (take-append-seam (stepsBelow ws g) (p .0))
+    ∙ stepsOf-stepsBelow ws j hj g

@@ -1,0 +1,57 @@
+// The cell of a key: the index vector of its first t split bits, and its address. A key is given by
+// its four encodings.
+use super::places::place_of;
+use address::Index;
+use address::locate;
+use address::pairs::depth_before;
+use shape::Widths;
+ghost use mathlib.Core.Path.{_≡_};
+ghost use Prim.Native.Nat.{_≤_};
+ghost use lib.ListN.{length};
+ghost use Rattle.shape.specs.Shape.{Fit, widthList, total};
+ghost use Rattle.split.specs.Steps.{stepsBelow};
+ghost use Rattle.split.specs.Bits.{bitOf, splitBit};
+ghost use Rattle.address.specs.Answers.{indexList};
+ghost use Rattle.cell.specs.Cell.{sumBits, cell, cellAddress};
+
+// The address of a key's cell in a directory of depth t.
+pub fn find_cell(widths: Widths, key: [u32; 4], t: u64) -> u64
+    requires { ⌜ Fit (widthList widths) × (t ≤ total (widthList widths)) ⌝ }
+    ensures { λ r. ⌜ r ≡ cellAddress (widthList widths) t (splitBit (widthList widths) key) ⌝ }
+{
+    let g = place_of(widths, t);
+    let index = cell_before(widths, key, g);
+    locate(widths, index)
+}
+
+// The index vector of a key's split bits before the pair at place g.
+pub fn cell_before(widths: Widths, key: [u32; 4], g: u64) -> Index
+    requires { ⌜ Fit (widthList widths) × (g ≤ 64) ⌝ }
+    ensures { λ r. ⌜ indexList r ≡ cell (widthList widths) (length (stepsBelow (widthList widths) g)) (splitBit (widthList widths) key) ⌝ }
+{
+    let h0 = depth_before(widths.w0, g, 0);
+    let h1 = depth_before(widths.w1, g, 1);
+    let h2 = depth_before(widths.w2, g, 2);
+    let h3 = depth_before(widths.w3, g, 3);
+    let i0 = index_of_bits(widths.w0, key[0] as u64, h0);
+    let i1 = index_of_bits(widths.w1, key[1] as u64, h1);
+    let i2 = index_of_bits(widths.w2, key[2] as u64, h2);
+    let i3 = index_of_bits(widths.w3, key[3] as u64, h3);
+    Index { i0, i1, i2, i3 }
+}
+
+// The first h of an encoding's w bits as an index: the first of them with weight 1.
+fn index_of_bits(w: u64, encoding: u64, h: u64) -> u64
+    requires { ⌜ (h ≤ w) × (w ≤ 16) ⌝ }
+    ensures { λ r. ⌜ r ≡ sumBits (bitOf w encoding) h ⌝ }
+{
+    let mut rest = encoding >> (w - h);
+    let mut index: u64 = 0;
+    let mut k: u64 = 0;
+    while k < h {
+        index = (index << 1) | (rest & 1);
+        rest = rest >> 1;
+        k += 1;
+    }
+    index
+}

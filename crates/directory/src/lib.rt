@@ -1,0 +1,7 @@
+// The steps on the directory's words (document 01, "Lent memory"): the cell of a key, doubling, and
+// setting every cell of a region. Halving writes nothing.
+pub mod cells;
+pub mod doubling;
+mod places;
+pub mod regions;
+mod vectors;

@@ -1,0 +1,84 @@
+// Places 4k + j of the pairs (bit k, attribute j), and how many split steps stand before a place.
+use address::pairs::width_at;
+use shape::Widths;
+ghost use mathlib.Core.Path.{_≡_};
+ghost use Prim.Native.Nat.{_*_, _<_, _≤_, min};
+ghost use Rattle.shape.specs.Shape.{Fit, widthList, total};
+ghost use Rattle.address.specs.Private.{StepPair};
+ghost use Rattle.directory.specs.Private.{StepsBefore};
+
+// A place with t steps before it. The search starts from a guess, or from place 0 if that is too far.
+pub fn place_of(widths: Widths, t: u64) -> u64
+    requires { ⌜ Fit (widthList widths) × (t ≤ total (widthList widths)) ⌝ }
+    ensures { λ r. ⌜ StepsBefore (widthList widths) t r ⌝ }
+{
+    let k = rounds(widths, t);
+    let n = steps_of_rounds(widths, k);
+    if n <= t {
+        return place_from(widths, t, 4 * k, n);
+    }
+    place_from(widths, t, 0, 0)
+}
+
+// The place of step t, sought from a place with t steps before it.
+pub fn step_from(widths: Widths, t: u64, start: u64) -> u64
+    requires { ⌜ Fit (widthList widths) × (t < total (widthList widths)) × StepsBefore (widthList widths) t start ⌝ }
+    ensures { λ r. ⌜ StepPair (widthList widths) t r ⌝ }
+{
+    let mut g = start;
+    while g < 64 {
+        if g / 4 < width_at(widths, g % 4) {
+            return g;
+        }
+        g += 1;
+    }
+    0
+}
+
+// A place with t steps before it, sought from one with n.
+fn place_from(widths: Widths, t: u64, start: u64, n: u64) -> u64
+    requires { ⌜ Fit (widthList widths) × (t ≤ total (widthList widths)) × (n ≤ t) × StepsBefore (widthList widths) n start ⌝ }
+    ensures { λ r. ⌜ StepsBefore (widthList widths) t r ⌝ }
+{
+    let mut g = start;
+    let mut before = n;
+    while before < t {
+        if g / 4 < width_at(widths, g % 4) {
+            before += 1;
+        }
+        g += 1;
+    }
+    g
+}
+
+// How many steps are of the first k bits.
+fn steps_of_rounds(widths: Widths, k: u64) -> u64
+    requires { ⌜ Fit (widthList widths) × (k ≤ 16) ⌝ }
+    ensures { λ r. ⌜ StepsBefore (widthList widths) r (4 * k) ⌝ }
+{
+    lesser(widths.w0, k) + lesser(widths.w1, k) + lesser(widths.w2, k) + lesser(widths.w3, k)
+}
+
+// How many bits of each attribute t steps are likely to reach: t shared among the attributes in use.
+fn rounds(widths: Widths, t: u64) -> u64
+    ensures { λ r. ⌜ r ≤ 16 ⌝ }
+{
+    let d = lesser(widths.w0, 1)
+        + lesser(widths.w1, 1)
+        + lesser(widths.w2, 1)
+        + lesser(widths.w3, 1);
+    let k = match d {
+        1 => t,
+        2 => t / 2,
+        3 => t / 3,
+        _ => t / 4,
+    };
+    lesser(k, 16)
+}
+
+// The lesser of two numbers.
+fn lesser(a: u64, b: u64) -> u64
+    ensures { λ r. ⌜ r ≡ min a b ⌝ }
+{
+    if a < b { a } else { b }
+}

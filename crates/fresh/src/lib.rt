@@ -1,0 +1,186 @@
+// The call Fresh: a store without records in lent memory (document 01, "Lent memory", "Calls").
+use address::total_of;
+use shape::Shape;
+use shape::shape_number;
+use shape::widths_of;
+use store::Change;
+use store::Changed;
+use store::Limits;
+use store::State;
+use store::Tally;
+ghost use mathlib.Core.Path.{_≡_};
+ghost use mathlib.Core.List.{_∷_};
+ghost use Prim.Native.Nat.{_*_, _<_, _≤_, min};
+ghost use lib.ListN.{length, set, replicate};
+ghost use Rattle.shape.specs.Refusal.{refused};
+ghost use Rattle.shape.specs.Shape.{shapeNumber};
+ghost use Rattle.page.specs.Page.{pageSize};
+ghost use Rattle.model.specs.Limits.{logarithm, pageLimitOf, depthLimitOf, freshShape};
+ghost use Rattle.store.specs.Answers.{changedAnswer};
+ghost use Rattle.store.specs.Fresh.{FreshPromise, clearedCounts, noState};
+ghost use Rattle.store.specs.Store.{memory, store};
+ghost use Rattle.fresh.specs.Private.{lacksMemory};
+
+// Makes a store without records in lent memory: the state, word 0 and the counts of the P pages.
+// Refused with 1 for a shape outside its bounds, then with 2 for no directory word or no whole
+// page; a refused call changes nothing.
+pub fn fresh(shape: Shape, dir: &mut [u32], pages: &mut [u8]) -> Change
+    ensures { λ r. ⌜ FreshPromise shape (memory (now (dir .entry)) (now (pages .entry)))
+        (changedAnswer (r .answer))
+        (store (r .state) (now (dir .exit)) (now (pages .exit))) ⌝ }
+{
+    let number = shape_number(shape);
+    if number != 0 {
+        return refuse(number);
+    }
+    let words = dir.len();
+    let bytes = pages.len();
+    if lacks_memory(shape, words, bytes) {
+        return refuse(2);
+    }
+    let page_count = page_limit(shape, bytes);
+    let deepest = depth_limit(shape, words);
+    dir[0] = 0;
+    clear_counts(pages, shape.capacity, page_count);
+    let limits = Limits {
+        pages: page_count,
+        depth: deepest,
+    };
+    let state = State {
+        shape: fresh_shape(shape),
+        limits,
+        depth: 0,
+        tally: one_leaf(),
+    };
+    Change {
+        answer: Changed::Done,
+        state,
+    }
+}
+
+// The answer of a refused call, and no state to go on with.
+fn refuse(number: u32) -> Change
+    ensures { λ r. ⌜ (changedAnswer (r .answer) ≡ refused number) × (r .state ≡ noState) ⌝ }
+{
+    let widths = [0u32; 4];
+    let shape = Shape {
+        attributes: 0,
+        widths,
+        capacity: 0,
+    };
+    let limits = Limits { pages: 0, depth: 0 };
+    let leaves = [0u32; 13];
+    let tally = Tally { leaves };
+    let state = State {
+        shape,
+        limits,
+        depth: 0,
+        tally,
+    };
+    Change {
+        answer: Changed::Refused(number),
+        state,
+    }
+}
+
+// Whether there is no directory word or no whole page.
+fn lacks_memory(shape: Shape, words: usize, bytes: usize) -> bool
+    ensures { λ r. ⌜ r ≡ lacksMemory shape words bytes ⌝ }
+{
+    if words == 0 {
+        return true;
+    }
+    bytes < page_size(shape.capacity)
+}
+
+// The bytes of a page of b records.
+fn page_size(b: u32) -> usize
+    ensures { λ r. ⌜ r ≡ pageSize b ⌝ }
+{
+    2 + 12 * (b as usize)
+}
+
+// P: the smaller of 4,096 and the whole pages in the lent bytes.
+fn page_limit(shape: Shape, bytes: usize) -> u32
+    ensures { λ r. ⌜ r ≡ pageLimitOf shape bytes ⌝ }
+{
+    let whole = bytes / page_size(shape.capacity);
+    smaller(4096, whole as u64) as u32
+}
+
+// The smaller of two numbers.
+fn smaller(a: u64, b: u64) -> u64
+    ensures { λ r. ⌜ r ≡ min a b ⌝ }
+{
+    if a < b { a } else { b }
+}
+
+// L: the smallest of 12, W and the rounded-down base-2 logarithm of the directory's length.
+fn depth_limit(shape: Shape, words: usize) -> u32
+    requires { ⌜ (shapeNumber shape ≡ 0) × (0 < words) ⌝ }
+    ensures { λ r. ⌜ r ≡ depthLimitOf shape words ⌝ }
+{
+    let bits = total_of(widths_of(shape));
+    smaller(12, smaller(bits, log2(words as u64))) as u32
+}
+
+// The rounded-down base-2 logarithm, from the leading zeros.
+fn log2(m: u64) -> u64
+    requires { ⌜ 0 < m ⌝ }
+    ensures { λ r. ⌜ r ≡ logarithm 64 m ⌝ }
+{
+    63 - (u64::leading_zeros(m) as u64)
+}
+
+// Sets the counts of the first n pages of b records to 0.
+fn clear_counts(pages: &mut [u8], b: u32, n: u32)
+    requires { ⌜ n * pageSize b ≤ length (now pages) ⌝ }
+    ensures { λ _. ⌜ now (pages .exit) ≡ clearedCounts b n (now (pages .entry)) ⌝ }
+{
+    let size = page_size(b);
+    let mut page: u32 = 0;
+    let mut start: usize = 0;
+    while page < n {
+        let end = start + size;
+        clear_count(&mut pages[start..end]);
+        start = end;
+        page += 1;
+    }
+}
+
+// Sets the count of one page to 0.
+fn clear_count(page: &mut [u8])
+    requires { ⌜ 2 ≤ length (now page) ⌝ }
+    ensures { λ _. ⌜ now (page .exit) ≡ set (set (now (page .entry)) 0 0) 1 0 ⌝ }
+{
+    page[0] = 0;
+    page[1] = 0;
+}
+
+// The shape with its widths past d as 0.
+fn fresh_shape(shape: Shape) -> Shape
+    requires { ⌜ shapeNumber shape ≡ 0 ⌝ }
+    ensures { λ r. ⌜ r ≡ freshShape shape ⌝ }
+{
+    let used = widths_of(shape);
+    let widths = [
+        used.w0 as u32,
+        used.w1 as u32,
+        used.w2 as u32,
+        used.w3 as u32,
+    ];
+    Shape {
+        attributes: shape.attributes,
+        widths,
+        capacity: shape.capacity,
+    }
+}
+
+// The tally of one leaf, at depth 0.
+fn one_leaf() -> Tally
+    ensures { λ r. ⌜ r .leaves ≡ 1 ∷ replicate 12 0 ⌝ }
+{
+    let mut leaves = [0u32; 13];
+    leaves[0] = 1;
+    Tally { leaves }
+}
