@@ -1,0 +1,1 @@
+// Demand 3 over the promises of the calls: the statement and its proof. No code.

@@ -1,0 +1,72 @@
+-- Laws of unlike answers, and of the promise of a call that changes a sound store: T, words and pages after it, by the
+-- leaves of the model's set. Assumes nothing.
+use Prim.Native.Nat.{ℕ, _<_}
+use mathlib.Core.Path.{_≡_}
+use mathlib.Core.Bool.{Bool, true, false, false≢true}
+use mathlib.Core.List.{List}
+use mathlib.Core.Logic.{_⊎_}
+use Rattle.lists.specs.Filter.{nonEmpty}
+use Rattle.shape.specs.Refusal.{Answer, accepted, refused}
+use Rattle.region.specs.Division.{Division, greatestDepth, leafDepth, leafRecords}
+use Rattle.record.specs.declared.Content.{Content}
+use Rattle.record.specs.Record.{Record}
+use Rattle.page.specs.Page.{countOf, pageAt}
+use Rattle.word.specs.Word.{wordOf}
+use Rattle.word.specs.declared.Leaf.the-variants.{Page}
+use Rattle.model.specs.Model.{Call, Reply, found, listed, next}
+use Rattle.model.specs.Sets.{divisionOf}
+use Rattle.store.specs.Store.{Store, fixedOf, wordAt}
+use Rattle.store.specs.Sound.{Sound, Shows, tallies}
+use Rattle.store.specs.Promises.{ChangePromise}
+
+-- ---- answers
+
+pub refused-not-accepted : {A : Type 0} (x : A) (n : ℕ) → refused n ≡ accepted x → ⊥
+refused-not-accepted x n e = let z : false ≡ true = cc in false≢true z
+
+pub listed-total : {w w′ t t′ r r′ : ℕ}
+    → _≡_ {A = Answer Reply} (accepted (listed w t r)) (accepted (listed w′ t′ r′)) → t ≡ t′
+listed-total e = cc
+
+pub listed-reads : {w w′ t t′ r r′ : ℕ}
+    → _≡_ {A = Answer Reply} (accepted (listed w t r)) (accepted (listed w′ t′ r′)) → r ≡ r′
+listed-reads e = cc
+
+pub found-content : {k l : Content} {m n : ℕ}
+    → _≡_ {A = Answer Reply} (accepted (found k m)) (accepted (found l n)) → k ≡ l
+found-content e = cc
+
+pub found-reads : {k l : Content} {m n : ℕ}
+    → _≡_ {A = Answer Reply} (accepted (found k m)) (accepted (found l n)) → m ≡ n
+found-reads e = cc
+
+-- ---- the store after a call
+
+module _ {c : Call} {early : ℕ} {numbers : List ℕ} {before after : Store} {answer : Answer Reply} (S : List Record)
+    (p : ChangePromise c early numbers before answer after) (sound : Sound before S) (D : Division Record)
+    (leaves : divisionOf (before .state .shape) (next (fixedOf (before .state)) S c) ≡ D) where
+  pub depth-after : after .state .depth ≡ greatestDepth D
+  depth-after = rw (p .shape-kept, leaves) at (p .shown S sound .deepest)
+
+  pub tally-after : after .state .tally .leaves ≡ tallies D 0 13
+  tally-after = rw (p .shape-kept, leaves) at (p .shown S sound .tallied)
+
+  pub shows-after : Shows (before .state .shape) (before .state .limits .pages) (greatestDepth D) (after .memory) D
+  shows-after = rw (depth-after, p .shape-kept, p .limits-kept, leaves) at (p .shown S sound .shown)
+
+  module _ (D₀ : Division Record) (leaves-before : divisionOf (before .state .shape) S ≡ D₀) where
+    -- `KeepsPages` and `TakesPages`, by the leaves before and after
+    pub kept-after : (p : ℕ → Bool) → leafDepth p 0 D₀ ≡ leafDepth p 0 D → nonEmpty (leafRecords p 0 D) ≡ true
+        → (g x : ℕ) → g < before .state .limits .pages
+        → wordAt (before .state .shape) (before .state .depth) (before .memory .words) p ≡ wordOf (Page g x)
+        → wordAt (before .state .shape) (greatestDepth D) (after .memory .words) p ≡ wordOf (Page g x)
+    kept-after = rw (depth-after, p .shape-kept, leaves, leaves-before) at (p .pages-kept S sound)
+
+    pub taken-after : (p : ℕ → Bool) (g x : ℕ) → g < before .state .limits .pages
+        → wordAt (before .state .shape) (greatestDepth D) (after .memory .words) p ≡ wordOf (Page g x)
+        → (wordAt (before .state .shape) (before .state .depth) (before .memory .words) p ≡ wordOf (Page g x))
+        ⊎ ((countOf (pageAt (before .state .shape .capacity) (before .memory .bytes) g) ≡ 0)
+        ⊎ ((q : ℕ → Bool) × (y : ℕ)
+        × (wordAt (before .state .shape) (before .state .depth) (before .memory .words) q ≡ wordOf (Page g y))
+        × (leafDepth q 0 D₀ ≡ leafDepth q 0 D → ⊥)))
+    taken-after = rw (depth-after, p .shape-kept, leaves, leaves-before) at (p .pages-taken S sound)

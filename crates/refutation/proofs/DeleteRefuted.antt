@@ -1,0 +1,68 @@
+-- Wrong deletes of document 01: each contradicts `DeletePromise` on a small sound store, whatever else it does.
+-- Assumes nothing.
+use Prim.Native.Nat.{ℕ}
+use mathlib.Core.Path.{_≡_, sym, _∙_}
+use mathlib.Core.List.{[]}
+use native.Mathlib.Omega.{arith}
+use lib.ListN.{getD}
+use Rattle.shape.specs.Refusal.{Answer, accepted, refused}
+use Rattle.region.specs.Strings.{emptyString}
+use Rattle.page.specs.Page.{countOf, pageAt}
+use Rattle.word.specs.Word.{wordOf}
+use Rattle.word.specs.declared.Leaf.the-variants.{Empty, Page}
+use Rattle.model.specs.Model.{Reply, changed}
+use Rattle.store.specs.Store.{Store}
+use Rattle.store.specs.Promises.{DeletePromise}
+use Rattle.table.specs.Table.{key}
+use Rattle.refutation.specs.Stores.{noRecord, oneRecord, setOfOne, fourRecords, setOfFour}
+use Rattle.refutation.proofs.ChangeLaws.{refused-not-accepted, depth-after, shows-after}
+use Rattle.refutation.proofs.ComputedLaws.{deletes, cells}
+use Rattle.refutation.proofs.SoundLaws.{noRecord-sound, oneRecord-sound, fourRecords-sound}
+
+module _ (after : Store) where
+  -- 5 "delete on a fresh store"
+  pub accepts-absent : DeletePromise noRecord (key 0 0) (accepted changed) after → ⊥
+  accepts-absent p =
+      refused-not-accepted changed 5 (sym (p .answered-as [] noRecord-sound ∙ deletes .absent-answer))
+
+  -- 5, 9 or another number for a stored key
+  pub turned-down : (n : ℕ) → DeletePromise oneRecord (key 0 0) (refused n) after → ⊥
+  turned-down n p =
+      refused-not-accepted changed n (p .answered-as setOfOne oneRecord-sound ∙ deletes .only-answer)
+
+module _ (answer : Answer Reply) (after : Store) where
+  -- "an emptied page is free again": its count stays
+  pub keeps-count : DeletePromise oneRecord (key 0 0) answer after
+      → countOf (pageAt 2 (after .memory .bytes) 0) ≡ 1 → ⊥
+  keeps-count p e =
+      let shows = shows-after setOfOne p oneRecord-sound _ (deletes .only-leaves) in
+      let none : countOf (pageAt 2 (after .memory .bytes) 0) ≡ 0 =
+      shows .free 0 (omega arith) (λ q x w. let page = sym (shows .word q) ∙ w in omega (arith, page)) in
+      omega (arith, none, e)
+
+  -- "the directory halves with T": T stays
+  pub keeps-depth : DeletePromise fourRecords (key 2 1) answer after → after .state .depth ≡ 3 → ⊥
+  keeps-depth p e =
+      let T = depth-after setOfFour p fourRecords-sound _ (deletes .joined-leaves) in
+      omega (arith, T, e)
+
+  -- "Delete joins one level only" (faults): 100 with 101, but not 10 with 11
+  pub joins-one-level : DeletePromise fourRecords (key 2 1) answer after → after .state .depth ≡ 2 → ⊥
+  joins-one-level p e =
+      let T = depth-after setOfFour p fourRecords-sound _ (deletes .joined-leaves) in
+      omega (arith, T, e)
+
+  -- ".. or joins with a sibling that is divided" (faults): the emptied leaf 0 with 1, so that T is 0, or word 0 has the
+  -- page of 100
+  pub joins-divided : DeletePromise fourRecords (key 0 0) answer after → after .state .depth ≡ 0 → ⊥
+  joins-divided p e =
+      let T = depth-after setOfFour p fourRecords-sound _ (deletes .emptied-leaves) in
+      omega (arith, T, e)
+
+  pub takes-page-of-divided : DeletePromise fourRecords (key 0 0) answer after
+      → getD (after .memory .words) 0 0 ≡ wordOf (Page 1 0) → ⊥
+  takes-page-of-divided p e =
+      let shows = shows-after setOfFour p fourRecords-sound _ (deletes .emptied-leaves) in
+      let word : wordOf (Page 1 0) ≡ wordOf (Empty 1) =
+      sym e ∙ sym (cells (after .memory .words) .at-0) ∙ shows .word emptyString in
+      omega (arith, word)

@@ -1,0 +1,155 @@
+-- Wrong inserts of document 01: each contradicts `InsertPromise` on a small sound store, whatever else it does.
+-- Assumes nothing.
+use Prim.Native.Nat.{ℕ, suc}
+use mathlib.Core.Path.{_≡_, refl, sym, ap, _∙_}
+use mathlib.Core.Bool.{Bool, true, false, cond}
+use mathlib.Core.List.{List, [], _∷_}
+use mathlib.Core.Logic.{⊎-elim}
+use native.Mathlib.Omega.{arith}
+use lib.ListN.{getD}
+use lib.Seq.{getD-drop}
+use Rattle.shape.specs.Refusal.{Answer, refused}
+use Rattle.region.specs.Strings.{emptyString, listBit}
+use Rattle.record.specs.declared.Content.{Content}
+use Rattle.page.specs.Page.{countOf, pageAt}
+use Rattle.word.specs.Word.{wordOf}
+use Rattle.word.specs.declared.Leaf.the-variants.{Page}
+use Rattle.model.specs.Model.{Reply, changed}
+use Rattle.store.specs.Store.{Store, wordAt}
+use Rattle.store.specs.Promises.{InsertPromise}
+use Rattle.table.specs.Table.{twoTwo, key}
+use Rattle.refutation.specs.Stores.{noRecord, oneRecord, setOfOne, twoRecords, setOfTwo, threeRecords, setOfThree}
+use Rattle.refutation.proofs.ChangeLaws.{refused-not-accepted, depth-after, shows-after, kept-after, taken-after}
+use Rattle.refutation.proofs.ComputedLaws.{first-leaf, leaves-of-three, inserts, cells}
+use Rattle.refutation.proofs.SoundLaws.{wordOfThree, wordAt-three, noRecord-sound, oneRecord-sound, twoRecords-sound, threeRecords-sound-2, threeRecords-sound-3}
+
+-- ---- refused where it has to be accepted
+
+module _ (content : Content) (after : Store) where
+  -- "a store that turns down every insert" (review, 2)
+  pub turned-down : (n : ℕ) → InsertPromise noRecord (key 0 0) content (refused n) after → ⊥
+  turned-down n p = refused-not-accepted changed n (p .answered-as [] noRecord-sound ∙ inserts content .first-answer)
+
+  -- "an insert that replies "no page" without looking" (review, 2)
+  pub no-page : InsertPromise noRecord (key 0 0) content (refused 7) after → ⊥
+  no-page = turned-down 7
+
+  -- "On a sound store 9 is never given."
+  pub nine-when-sound : InsertPromise noRecord (key 0 0) content (refused 9) after → ⊥
+  nine-when-sound = turned-down 9
+
+module _ (content : Content) (answer : Answer Reply) (after : Store) where
+  -- ---- what it leaves
+
+  -- "an insert that accepts and stores nothing" (review, 3): words and pages stay, whatever the state is
+  pub stores-nothing : InsertPromise noRecord (key 0 0) content answer after → after .memory ≡ noRecord .memory → ⊥
+  stores-nothing p e =
+      let told = rw e at (shows-after [] p noRecord-sound _ (inserts content .first-leaves) .word emptyString) in
+      let page : 0 ≡ wordOf (Page (told .0) 0) = sym (cells (noRecord .memory .words) .root emptyString) ∙ told .2 in
+      omega (arith, page)
+
+  -- "One division is made when all b + 1 keys fall on one side" (faults)
+  pub one-division : InsertPromise twoRecords (key 2 1) content answer after → after .state .depth ≡ 1 → ⊥
+  one-division p e =
+      let T = depth-after setOfTwo p twoRecords-sound _ (inserts content .third-leaves) in
+      omega (arith, T, e)
+
+  -- "one that divides correctly the first time and later only sets T" (review, 3)
+  pub only-sets-depth : InsertPromise (threeRecords 3) (key 2 1) content answer after
+      → after .memory .words ≡ threeRecords 3 .memory .words → ⊥
+  only-sets-depth p e =
+      let shows = shows-after setOfThree p threeRecords-sound-3 _ (inserts content .fourth-leaves) in
+      let told = shows .word (listBit (false ∷ true ∷ false ∷ [])) in
+      let page : 0 ≡ wordOf (Page (told .0) 1) =
+      ap (λ words. getD words 2 0) (sym e) ∙ sym (cells (after .memory .words) .at-2) ∙ told .2 in
+      omega (arith, page)
+
+  -- "Index bits are taken with the last prefix bit as weight 1, so doubling moves cells" (faults): the leaf 100 is put
+  -- at the index vector (2,0) in place of (1,0)
+  pub last-bit-first : InsertPromise (threeRecords 3) (key 2 1) content answer after
+      → (g : ℕ) → getD (after .memory .words) 4 0 ≡ wordOf (Page g 3) → ⊥
+  last-bit-first p g e =
+      let shows = shows-after setOfThree p threeRecords-sound-3 _ (inserts content .fourth-leaves) in
+      let told = shows .word (listBit (false ∷ false ∷ true ∷ [])) in
+      let page : wordOf (Page g 3) ≡ wordOf (Page (told .0) 1) =
+      sym e ∙ sym (cells (after .memory .words) .at-4) ∙ told .2 in
+      omega (arith, page, told .1)
+
+  -- ---- refusals that change the store
+
+  unchanged-when-full : InsertPromise (threeRecords 2) (key 2 1) content answer after → after ≡ threeRecords 2
+  unchanged-when-full p =
+      p .unchanged 7 (p .answered-as setOfThree threeRecords-sound-2 ∙ inserts content .fourth-refused)
+
+  -- "The directory doubles before 7 is found" (faults): T is one more, or word 2 is the copy of word 0
+  pub doubles-before-refusal : InsertPromise (threeRecords 2) (key 2 1) content answer after
+      → after .state .depth ≡ 2 → ⊥
+  doubles-before-refusal p e = let T = ap (λ s. s .state .depth) (unchanged-when-full p) in omega (arith, T, e)
+
+  pub copies-before-refusal : InsertPromise (threeRecords 2) (key 2 1) content answer after
+      → getD (after .memory .words) 2 0 ≡ wordOf (Page 0 1) → ⊥
+  copies-before-refusal p e =
+      let word : getD (after .memory .words) 2 0 ≡ 0 = ap (λ s. getD (s .memory .words) 2 0) (unchanged-when-full p) in
+      omega (arith, word, e)
+
+  -- "All of them return the number and change nothing.": no byte, within a page's count or past it
+  pub writes-before-refusal : InsertPromise (threeRecords 2) (key 2 1) content answer after
+      → (k : ℕ) → (getD (after .memory .bytes) k 0 ≡ getD (threeRecords 2 .memory .bytes) k 0 → ⊥) → ⊥
+  writes-before-refusal p k apart = apart (ap (λ s. getD (s .memory .bytes) k 0) (unchanged-when-full p))
+
+  -- ---- what is never changed
+
+  -- "Words past the first 2^L .. are never changed."
+  pub writes-past-words : (values : List ℕ) → InsertPromise noRecord values content answer after
+      → getD (after .memory .words) 8 0 ≡ 1 → ⊥
+  writes-past-words values p e =
+      let word : getD (after .memory .words) 8 0 ≡ 0 =
+      sym (getD-drop 8 (after .memory .words) 0 0) ∙ ap (λ ws. getD ws 0 0) (p .words-past) in
+      omega (arith, word, e)
+
+  -- ".. and bytes past the P pages"
+  pub writes-past-pages : (values : List ℕ) → InsertPromise noRecord values content answer after
+      → getD (after .memory .bytes) 79 0 ≡ 1 → ⊥
+  writes-past-pages values p e =
+      let byte : getD (after .memory .bytes) 79 0 ≡ 0 =
+      sym (getD-drop 78 (after .memory .bytes) 1 0) ∙ ap (λ bs. getD bs 1 0) (p .bytes-past) in
+      omega (arith, byte, e)
+
+  -- a state with other widths past d
+  pub changes-shape : (values : List ℕ) → InsertPromise noRecord values content answer after
+      → after .state .shape .widths ≡ 2 ∷ 2 ∷ 7 ∷ 9 ∷ [] → ⊥
+  changes-shape values p e =
+      let width : _≡_ {A = ℕ} 7 0 = ap (λ ws. getD ws 2 0) (sym e ∙ ap (λ s. s .widths) (p .shape-kept)) in
+      omega (arith, width)
+
+  -- ---- pages
+
+  -- "Every other leaf keeps its page.": the leaf of (0,0) moves from page 0 to page 1
+  pub moves-page : InsertPromise oneRecord (key 0 1) content answer after
+      → getD (after .memory .words) 0 0 ≡ wordOf (Page 1 0) → ⊥
+  moves-page p e =
+      let kept = kept-after setOfOne p oneRecord-sound _ (inserts content .second-leaves) _ first-leaf in
+      let same = kept emptyString refl refl 0 0 (omega arith) (cells (oneRecord .memory .words) .root emptyString) in
+      let page : wordOf (Page 1 0) ≡ wordOf (Page 0 0) =
+      sym e ∙ sym (cells (after .memory .words) .root emptyString) ∙ same in
+      omega (arith, page)
+
+  -- "which page a leaf that newly gets one takes, of those free, divided or joined": the leaf 101 takes page 0, which
+  -- the leaf 0 has
+  pub takes-used-page : InsertPromise (threeRecords 3) (key 2 1) content answer after
+      → getD (after .memory .words) 6 0 ≡ wordOf (Page 0 3) → ⊥
+  takes-used-page p e =
+      let taken = taken-after setOfThree p threeRecords-sound-3 _ (inserts content .fourth-leaves) _ leaves-of-three in
+      ⊎-elim had (λ o. ⊎-elim not-free (λ o. of-leaf (o .0 0) _ (o .1) (sym (wordAt-three 3 (o .0)) ∙ o .2) (o .3)) o)
+      (taken (listBit (true ∷ false ∷ true ∷ [])) 0 3 (omega arith) (cells (after .memory .words) .at-6 ∙ e))
+    where
+      had : wordAt twoTwo 1 (threeRecords 3 .memory .words) (listBit (true ∷ false ∷ true ∷ [])) ≡ wordOf (Page 0 3) → ⊥
+      had w = let other = sym (wordAt-three 3 (listBit (true ∷ false ∷ true ∷ []))) ∙ w in omega (arith, other)
+
+      not-free : countOf (pageAt 2 (threeRecords 3 .memory .bytes) 0) ≡ 0 → ⊥
+      not-free n = let one : _≡_ {A = ℕ} 1 0 = n in omega (arith, one)
+
+      -- leaf 0 stays
+      of-leaf : (β : Bool) (n y : ℕ) → wordOfThree β ≡ wordOf (Page 0 y) → (suc (cond β 0 0) ≡ suc (cond β n 0) → ⊥) → ⊥
+      of-leaf false n y w apart = apart refl
+      of-leaf true n y w apart = omega arith

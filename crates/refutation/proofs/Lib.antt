@@ -1,0 +1,10 @@
+pub mod AddressRefuted
+pub mod ChangeLaws
+pub mod CheckRefuted
+pub mod ComputedLaws
+pub mod DeleteRefuted
+pub mod FreshRefuted
+pub mod InsertRefuted
+pub mod LookupRefuted
+pub mod QueryRefuted
+pub mod SoundLaws

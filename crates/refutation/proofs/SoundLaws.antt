@@ -1,0 +1,337 @@
+-- The small stores are sound: each part of `Sound` is computed; a string counts by its first T bits. Assumes nothing.
+use Prim.Native.Nat.{ℕ, zero, suc, _≤_, _<_, _*_}
+use mathlib.Core.Path.{_≡_, refl, sym, ap, _∙_}
+use mathlib.Core.Bool.{Bool, true, false, cond}
+use mathlib.Core.List.{List, [], _∷_, _++_}
+use native.Mathlib.Omega.{arith}
+use lib.ListN.{length, getD, replicate}
+use Rattle.shape.specs.Shape.{inBounds, widthsOf}
+use Rattle.split.specs.Steps.{stepsBelow, steps, step, stepNumber, stepsOf, depth}
+use Rattle.split.specs.Bits.{splitBit}
+use Rattle.address.specs.Address.{highestBit, createdBy, latestStep, formula, addressFrom, address}
+use Rattle.address.specs.Doubling.{sides}
+use Rattle.cell.specs.Cell.{sumBits, cell, cellAddress, Agree}
+use Rattle.record.specs.Record.{Record}
+use Rattle.record.specs.Bytes.{recordBytes, recordOf}
+use Rattle.model.specs.Sets.{isSet, divisionOf}
+use Rattle.store.specs.Store.{Memory, wordAt}
+use Rattle.store.specs.Sound.{Sound, Shows, LeafWord, tallies}
+use Rattle.region.specs.Division.{leaf, greatestDepth, leafDepth, leafRecords}
+use Rattle.region.specs.Strings.{emptyString, listBit}
+use Rattle.page.specs.Page.{countOf, pageAt}
+use Rattle.word.specs.Word.{wordOf}
+use Rattle.word.specs.declared.Leaf.the-variants.{Empty, Page}
+use Rattle.table.specs.Table.{twoTwo}
+use Rattle.refutation.specs.Stores.{stateWith, noRecord, oneRecord, setOfOne, twoRecords, setOfTwo, threeRecords, setOfThree, fourRecords, setOfFour}
+
+-- ---- numbers
+
+-- the numbers of a small store are in order: what is left is its set, T, the tally and what words and pages show
+module _ (P T : ℕ) (leaves : List ℕ) (m : Memory) (S : List Record) where
+  sound-of : 1 ≤ P → P ≤ 3 → T ≤ 3 → 8 ≤ length (m .words) → P * 26 ≤ length (m .bytes) → isSet twoTwo S ≡ true
+      → T ≡ greatestDepth (divisionOf twoTwo S) → leaves ++ replicate 9 0 ≡ tallies (divisionOf twoTwo S) 0 13
+      → Shows twoTwo P T m (divisionOf twoTwo S) → Sound (record { state = stateWith P T leaves; memory = m }) S
+  unfolding inBounds widthsOf
+  sound-of some-page few-pages within words pages set deepest tallied shown =
+      record {
+        shape = refl;
+        words-lent = words;
+        pages-lent = pages;
+        some-page = some-page;
+        most-pages = omega arith;
+        depth-limit = omega arith;
+        depth-bits = omega arith;
+        depth-within = within;
+        set = set;
+        deepest = deepest;
+        tallied = tallied;
+        shown = shown;
+      }
+
+-- ---- one leaf
+
+-- every string leads to word 0
+shows-leaf : (m : Memory) (rs : List Record) → LeafWord twoTwo 3 (m .bytes) rs 0 (getD (m .words) 0 0)
+    → ((g : ℕ) → g < 3 → ((x : ℕ) → getD (m .words) 0 0 ≡ wordOf (Page g x) → ⊥) → countOf (pageAt 2 (m .bytes) g) ≡ 0)
+    → Shows twoTwo 3 0 m (leaf rs)
+unfolding
+    widthsOf stepsBelow steps step stepNumber stepsOf depth
+    highestBit createdBy latestStep formula addressFrom address sides sumBits cell cellAddress
+shows-leaf m rs word free =
+    record {
+      word = λ p. word;
+      same-word = λ p q agree. refl;
+      own-page = λ p q apart g x y l e e′. apart (λ s h. absurd (omega arith));
+      free = λ g l unused. free g l (unused emptyString);
+    }
+
+pub noRecord-sound : Sound noRecord []
+unfolding widthsOf stepsBelow steps step splitBit recordBytes recordOf isSet divisionOf
+noRecord-sound =
+    sound-of 3 0 (1 ∷ 0 ∷ 0 ∷ 0 ∷ []) _ []
+    (omega arith) (omega arith) (omega arith) (omega arith) (omega arith) refl refl refl
+    (shows-leaf (noRecord .memory) [] refl free)
+  where
+    free : (g : ℕ) → g < 3 → ((x : ℕ) → 0 ≡ wordOf (Page g x) → ⊥) → countOf (pageAt 2 (noRecord .memory .bytes) g) ≡ 0
+    free zero l unused = refl
+    free (suc zero) l unused = refl
+    free (suc (suc zero)) l unused = refl
+    free (suc (suc (suc g))) l unused = absurd (omega arith)
+
+pub oneRecord-sound : Sound oneRecord setOfOne
+unfolding widthsOf stepsBelow steps step splitBit recordBytes recordOf isSet divisionOf
+oneRecord-sound =
+    sound-of 3 0 (1 ∷ 0 ∷ 0 ∷ 0 ∷ []) _ setOfOne
+    (omega arith) (omega arith) (omega arith) (omega arith) (omega arith) refl refl refl
+    (shows-leaf (oneRecord .memory) setOfOne (0, omega arith, refl, refl) free)
+  where
+    free : (g : ℕ) → g < 3 → ((x : ℕ) → 1 ≡ wordOf (Page g x) → ⊥)
+        → countOf (pageAt 2 (oneRecord .memory .bytes) g) ≡ 0
+    free zero l unused = absurd (unused 0 refl)
+    free (suc zero) l unused = refl
+    free (suc (suc zero)) l unused = refl
+    free (suc (suc (suc g))) l unused = absurd (omega arith)
+
+pub twoRecords-sound : Sound twoRecords setOfTwo
+unfolding widthsOf stepsBelow steps step splitBit recordBytes recordOf isSet divisionOf
+twoRecords-sound =
+    sound-of 3 0 (1 ∷ 0 ∷ 0 ∷ 0 ∷ []) _ setOfTwo
+    (omega arith) (omega arith) (omega arith) (omega arith) (omega arith) refl refl refl
+    (shows-leaf (twoRecords .memory) setOfTwo (0, omega arith, refl, refl) free)
+  where
+    free : (g : ℕ) → g < 3 → ((x : ℕ) → 1 ≡ wordOf (Page g x) → ⊥)
+        → countOf (pageAt 2 (twoRecords .memory .bytes) g) ≡ 0
+    free zero l unused = absurd (unused 0 refl)
+    free (suc zero) l unused = refl
+    free (suc (suc zero)) l unused = refl
+    free (suc (suc (suc g))) l unused = absurd (omega arith)
+
+-- ---- two leaves
+
+-- the word that a string leads to, by its first bit
+abbrev pub wordOfThree : Bool → ℕ
+wordOfThree false = wordOf (Page 0 1)
+wordOfThree true = wordOf (Page 1 1)
+
+pub wordAt-three : (P : ℕ) (p : ℕ → Bool) → wordAt twoTwo 1 (threeRecords P .memory .words) p ≡ wordOfThree (p 0)
+unfolding
+    widthsOf stepsBelow steps step stepNumber stepsOf depth
+    highestBit createdBy latestStep formula addressFrom address sides sumBits cell cellAddress
+wordAt-three P p = by-bit (p 0)
+  where
+    by-bit : (β : Bool) → wordAt twoTwo 1 (threeRecords P .memory .words) (listBit (β ∷ [])) ≡ wordOfThree β
+    by-bit true = refl
+    by-bit false = refl
+
+-- the page names the leaf
+wordOfThree-page : (α β : Bool) (g x y : ℕ) → wordOfThree α ≡ wordOf (Page g x) → wordOfThree β ≡ wordOf (Page g y)
+    → α ≡ β
+wordOfThree-page true true g x y e e′ = refl
+wordOfThree-page false false g x y e e′ = refl
+wordOfThree-page true false g x y e e′ = absurd (omega arith)
+wordOfThree-page false true g x y e e′ = absurd (omega arith)
+
+shows-three : (P : ℕ) → 2 ≤ P → ((g : ℕ) → 2 ≤ g → g < P → countOf (pageAt 2 (threeRecords P .memory .bytes) g) ≡ 0)
+    → Shows twoTwo P 1 (threeRecords P .memory) (divisionOf twoTwo setOfThree)
+unfolding
+    widthsOf stepsBelow steps step stepNumber stepsOf depth splitBit
+    highestBit createdBy latestStep formula addressFrom address sides sumBits cell cellAddress
+    recordBytes recordOf divisionOf
+shows-three P enough others =
+    record {
+      word = λ p. word (p 0);
+      same-word = λ p q agree. wordAt-three P p ∙ ap wordOfThree (agree 0 (omega arith)) ∙ sym (wordAt-three P q);
+      own-page = λ p q apart g x y l e e′.
+          apart
+          (one-bit p q (wordOfThree-page (p 0) (q 0) g x y (sym (wordAt-three P p) ∙ e) (sym (wordAt-three P q) ∙ e′)));
+      free = free;
+    }
+  where
+    word : (β : Bool)
+        → let p = listBit (β ∷ []) in
+        let D = divisionOf twoTwo setOfThree in
+        LeafWord twoTwo P (threeRecords P .memory .bytes) (leafRecords p 0 D) (leafDepth p 0 D)
+        (wordAt twoTwo 1 (threeRecords P .memory .words) p)
+    word false = (0, omega arith, refl, refl)
+    word true = (1, omega arith, refl, refl)
+
+    at-most-one : (β : Bool) → suc (cond β 0 0) ≤ 1
+    at-most-one true = omega arith
+    at-most-one false = omega arith
+
+    one-bit : (p q : ℕ → Bool) → p 0 ≡ q 0 → Agree (leafDepth p 0 (divisionOf twoTwo setOfThree)) p q
+    one-bit p q e zero h = e
+    one-bit p q e (suc s) h = absurd (omega (arith, at-most-one (p 0)))
+
+    free : (g : ℕ) → g < P
+        → ((p : ℕ → Bool) (x : ℕ) → wordAt twoTwo 1 (threeRecords P .memory .words) p ≡ wordOf (Page g x) → ⊥)
+        → countOf (pageAt 2 (threeRecords P .memory .bytes) g) ≡ 0
+    free zero l unused = absurd (unused emptyString 1 refl)
+    free (suc zero) l unused = absurd (unused (listBit (true ∷ [])) 1 refl)
+    free (suc (suc g)) l unused = others (suc (suc g)) (omega arith) l
+
+-- in two pages
+pub threeRecords-sound-2 : Sound (threeRecords 2) setOfThree
+unfolding widthsOf stepsBelow steps step splitBit recordBytes recordOf isSet divisionOf
+threeRecords-sound-2 =
+    sound-of 2 1 (0 ∷ 2 ∷ 0 ∷ 0 ∷ []) _ setOfThree
+    (omega arith) (omega arith) (omega arith) (omega arith) (omega arith) refl refl refl
+    (shows-three 2 (omega arith) (λ g h l. absurd (omega arith)))
+
+-- in three
+pub threeRecords-sound-3 : Sound (threeRecords 3) setOfThree
+unfolding widthsOf stepsBelow steps step splitBit recordBytes recordOf isSet divisionOf
+threeRecords-sound-3 =
+    sound-of 3 1 (0 ∷ 2 ∷ 0 ∷ 0 ∷ []) _ setOfThree
+    (omega arith) (omega arith) (omega arith) (omega arith) (omega arith) refl refl refl
+    (shows-three 3 (omega arith) others)
+  where
+    others : (g : ℕ) → 2 ≤ g → g < 3 → countOf (pageAt 2 (threeRecords 3 .memory .bytes) g) ≡ 0
+    others g h l = let e : g ≡ 2 = omega arith in rw e
+
+-- ---- four leaves
+
+-- the word and the depth of the leaf that a string leads to, by its first three bits
+abbrev wordOfFour : Bool → Bool → Bool → ℕ
+wordOfFour false β γ = wordOf (Page 0 1)
+wordOfFour true true γ = wordOf (Empty 2)
+wordOfFour true false false = wordOf (Page 1 3)
+wordOfFour true false true = wordOf (Page 2 3)
+
+abbrev depthOfFour : Bool → Bool → Bool → ℕ
+depthOfFour false β γ = 1
+depthOfFour true true γ = 2
+depthOfFour true false γ = 3
+
+wordAt-four : (p : ℕ → Bool) → wordAt twoTwo 3 (fourRecords .memory .words) p ≡ wordOfFour (p 0) (p 1) (p 2)
+unfolding
+    widthsOf stepsBelow steps step stepNumber stepsOf depth
+    highestBit createdBy latestStep formula addressFrom address sides sumBits cell cellAddress
+wordAt-four p = by-bits (p 0) (p 1) (p 2)
+  where
+    by-bits : (α β γ : Bool)
+        → wordAt twoTwo 3 (fourRecords .memory .words) (listBit (α ∷ β ∷ γ ∷ [])) ≡ wordOfFour α β γ
+    by-bits false false false = refl
+    by-bits false false true = refl
+    by-bits false true false = refl
+    by-bits false true true = refl
+    by-bits true false false = refl
+    by-bits true false true = refl
+    by-bits true true false = refl
+    by-bits true true true = refl
+
+leafDepth-four : (p : ℕ → Bool) → leafDepth p 0 (divisionOf twoTwo setOfFour) ≡ depthOfFour (p 0) (p 1) (p 2)
+unfolding widthsOf stepsBelow steps step splitBit divisionOf
+leafDepth-four p = by-bits (p 0) (p 1) (p 2)
+  where
+    by-bits : (α β γ : Bool) → leafDepth (listBit (α ∷ β ∷ γ ∷ [])) 0 (divisionOf twoTwo setOfFour) ≡ depthOfFour α β γ
+    by-bits false β γ = refl
+    by-bits true true γ = refl
+    by-bits true false false = refl
+    by-bits true false true = refl
+
+-- strings of one leaf, by their first three bits
+record OneLeaf (α β γ α′ β′ γ′ : Bool) : Type 0 where
+  first : α ≡ α′
+  second : 1 < depthOfFour α β γ → β ≡ β′
+  third : 2 < depthOfFour α β γ → γ ≡ γ′
+
+oneLeaf-of-agree : (p q : ℕ → Bool) → Agree (leafDepth p 0 (divisionOf twoTwo setOfFour)) p q
+    → OneLeaf (p 0) (p 1) (p 2) (q 0) (q 1) (q 2)
+oneLeaf-of-agree p q a =
+    record {
+      first = a 0 (rw (leafDepth-four p) (some (p 0) (p 1) (p 2)));
+      second = λ h. a 1 (rw (leafDepth-four p) h);
+      third = λ h. a 2 (rw (leafDepth-four p) h);
+    }
+  where
+    some : (α β γ : Bool) → 0 < depthOfFour α β γ
+    some false β γ = omega arith
+    some true true γ = omega arith
+    some true false γ = omega arith
+
+agree-of-oneLeaf : (p q : ℕ → Bool) → OneLeaf (p 0) (p 1) (p 2) (q 0) (q 1) (q 2)
+    → Agree (leafDepth p 0 (divisionOf twoTwo setOfFour)) p q
+agree-of-oneLeaf p q o zero h = o .first
+agree-of-oneLeaf p q o (suc zero) h = o .second (rw (leafDepth-four p) at h)
+agree-of-oneLeaf p q o (suc (suc zero)) h = o .third (rw (leafDepth-four p) at h)
+agree-of-oneLeaf p q o (suc (suc (suc s))) h =
+    let most = at-most (p 0) (p 1) (p 2) in
+    let below = rw (leafDepth-four p) at h in
+    absurd (omega (arith, most, below))
+  where
+    at-most : (α β γ : Bool) → depthOfFour α β γ ≤ 3
+    at-most false β γ = omega arith
+    at-most true true γ = omega arith
+    at-most true false γ = omega arith
+
+wordOfFour-leaf : (α β γ α′ β′ γ′ : Bool) → OneLeaf α β γ α′ β′ γ′ → wordOfFour α β γ ≡ wordOfFour α′ β′ γ′
+wordOfFour-leaf false β γ α′ β′ γ′ o = rw (← o .first)
+wordOfFour-leaf true true γ α′ β′ γ′ o = rw (← o .first, ← o .second (omega arith))
+wordOfFour-leaf true false γ α′ β′ γ′ o = rw (← o .first, ← o .second (omega arith), ← o .third (omega arith))
+
+-- the page names the leaf
+wordOfFour-page : (α β γ α′ β′ γ′ : Bool) (g x y : ℕ) → g < 3
+    → wordOfFour α β γ ≡ wordOf (Page g x) → wordOfFour α′ β′ γ′ ≡ wordOf (Page g y) → OneLeaf α β γ α′ β′ γ′
+wordOfFour-page false β γ false β′ γ′ g x y l e e′ =
+    record { first = refl; second = λ h. absurd (omega arith); third = λ h. absurd (omega arith) }
+wordOfFour-page true false false true false false g x y l e e′ =
+    record { first = refl; second = λ h. refl; third = λ h. refl }
+wordOfFour-page true false true true false true g x y l e e′ =
+    record { first = refl; second = λ h. refl; third = λ h. refl }
+wordOfFour-page true true γ α′ β′ γ′ g x y l e e′ = absurd (omega arith)
+wordOfFour-page false β γ true true γ′ g x y l e e′ = absurd (omega arith)
+wordOfFour-page false β γ true false false g x y l e e′ = absurd (omega arith)
+wordOfFour-page false β γ true false true g x y l e e′ = absurd (omega arith)
+wordOfFour-page true false false false β′ γ′ g x y l e e′ = absurd (omega arith)
+wordOfFour-page true false false true true γ′ g x y l e e′ = absurd (omega arith)
+wordOfFour-page true false false true false true g x y l e e′ = absurd (omega arith)
+wordOfFour-page true false true false β′ γ′ g x y l e e′ = absurd (omega arith)
+wordOfFour-page true false true true true γ′ g x y l e e′ = absurd (omega arith)
+wordOfFour-page true false true true false false g x y l e e′ = absurd (omega arith)
+
+shows-four : Shows twoTwo 3 3 (fourRecords .memory) (divisionOf twoTwo setOfFour)
+unfolding
+    widthsOf stepsBelow steps step stepNumber stepsOf depth splitBit
+    highestBit createdBy latestStep formula addressFrom address sides sumBits cell cellAddress
+    recordBytes recordOf divisionOf
+shows-four =
+    record {
+      word = λ p. word (p 0) (p 1) (p 2);
+      same-word = λ p q agree.
+          wordAt-four p
+          ∙ wordOfFour-leaf (p 0) (p 1) (p 2) (q 0) (q 1) (q 2) (oneLeaf-of-agree p q agree)
+          ∙ sym (wordAt-four q);
+      own-page = λ p q apart g x y l e e′.
+          apart (agree-of-oneLeaf p q (wordOfFour-page (p 0) (p 1) (p 2) (q 0) (q 1) (q 2) g x y l
+          (sym (wordAt-four p) ∙ e) (sym (wordAt-four q) ∙ e′)));
+      free = free;
+    }
+  where
+    word : (α β γ : Bool)
+        → let p = listBit (α ∷ β ∷ γ ∷ []) in
+        let D = divisionOf twoTwo setOfFour in
+        LeafWord twoTwo 3 (fourRecords .memory .bytes) (leafRecords p 0 D) (leafDepth p 0 D)
+        (wordAt twoTwo 3 (fourRecords .memory .words) p)
+    word false false false = (0, omega arith, refl, refl)
+    word false false true = (0, omega arith, refl, refl)
+    word false true false = (0, omega arith, refl, refl)
+    word false true true = (0, omega arith, refl, refl)
+    word true false false = (1, omega arith, refl, refl)
+    word true false true = (2, omega arith, refl, refl)
+    word true true false = refl
+    word true true true = refl
+
+    free : (g : ℕ) → g < 3
+        → ((p : ℕ → Bool) (x : ℕ) → wordAt twoTwo 3 (fourRecords .memory .words) p ≡ wordOf (Page g x) → ⊥)
+        → countOf (pageAt 2 (fourRecords .memory .bytes) g) ≡ 0
+    free zero h unused = absurd (unused emptyString 1 refl)
+    free (suc zero) h unused = absurd (unused (listBit (true ∷ [])) 3 refl)
+    free (suc (suc zero)) h unused = absurd (unused (listBit (true ∷ false ∷ true ∷ [])) 3 refl)
+    free (suc (suc (suc g))) h unused = absurd (omega arith)
+
+pub fourRecords-sound : Sound fourRecords setOfFour
+unfolding widthsOf stepsBelow steps step splitBit recordBytes recordOf isSet divisionOf
+fourRecords-sound =
+    sound-of 3 3 (0 ∷ 1 ∷ 1 ∷ 2 ∷ []) _ setOfFour
+    (omega arith) (omega arith) (omega arith) (omega arith) (omega arith) refl refl refl shows-four

@@ -1,0 +1,150 @@
+-- Small stores with widths 2, 2 and b = 2, as the proof table has them. L is 3; P is 3 where no other number is told.
+-- Assumes nothing.
+use Prim.Native.Nat.{ℕ, _-_, _*_}
+use mathlib.Core.List.{List, [], _∷_, _++_}
+use mathlib.Core.Option.{Option, none, some}
+use lib.ListN.{length, replicate}
+use Rattle.region.specs.Division.{Division}
+use Rattle.record.specs.Record.{Record}
+use Rattle.record.specs.Bytes.{recordSize, littleEndian, recordsBytes}
+use Rattle.page.specs.Page.{pageSize}
+use Rattle.word.specs.Word.{wordOf}
+use Rattle.word.specs.declared.Leaf.the-variants.{Empty, Page}
+use Rattle.model.specs.Model.{Call, Outcome, outcome, next}
+use Rattle.model.specs.Sets.{divisionOf}
+use Rattle.store.specs.Store.{Store, Memory, fixedOf}
+use Rattle.store.specs.Promises.{withBytes}
+use Rattle.store.specs.declared.State.{State}
+use Rattle.table.specs.Table.{twoTwo, key}
+
+-- ---- parts
+
+abbrev pub recordAt : ℕ → ℕ → ℕ → Record
+recordAt x y payload = record { key = key x y; content = record { payload = payload } }
+
+-- the bytes of a page with some records, 0 past them
+abbrev pub pageWith : List Record → List ℕ
+pageWith rs = littleEndian 2 (length rs) ++ (recordsBytes twoTwo rs ++ replicate (recordSize * (2 - length rs)) 0)
+
+-- a state: P, T and the tally at depths 0 to 3
+abbrev pub stateWith : ℕ → ℕ → List ℕ → State
+stateWith P T leaves =
+    record {
+      shape = twoTwo;
+      limits = record { pages = P; depth = 3 };
+      depth = T;
+      tally = record { leaves = leaves ++ replicate 9 0 };
+    }
+
+-- ---- stores
+
+-- as Fresh leaves it, with a word past the first 2^L and two bytes past the pages
+abbrev pub noRecord : Store
+noRecord =
+    record {
+      state = stateWith 3 0 (1 ∷ 0 ∷ 0 ∷ 0 ∷ []);
+      memory = record { words = replicate 9 0; bytes = replicate 80 0 };
+    }
+
+-- one leaf of depth 0, whose page 0 has these records
+abbrev pub oneLeaf : List Record → Store
+oneLeaf rs =
+    record {
+      state = stateWith 3 0 (1 ∷ 0 ∷ 0 ∷ 0 ∷ []);
+      memory = record { words = wordOf (Page 0 0) ∷ replicate 7 0; bytes = pageWith rs ++ replicate 52 0 };
+    }
+
+-- (0,0)
+abbrev pub setOfOne : List Record
+setOfOne = recordAt 0 0 10 ∷ []
+
+abbrev pub oneRecord : Store
+oneRecord = oneLeaf setOfOne
+
+-- (2,0), (3,1)
+abbrev pub setOfTwo : List Record
+setOfTwo = recordAt 2 0 11 ∷ recordAt 3 1 12 ∷ []
+
+abbrev pub twoRecords : Store
+twoRecords = oneLeaf setOfTwo
+
+-- (0,0) in the leaf 0 with page 0, (2,0) and (3,1) in the leaf 1 with page 1; so many pages
+abbrev pub threeRecords : ℕ → Store
+threeRecords P =
+    record {
+      state = stateWith P 1 (0 ∷ 2 ∷ 0 ∷ 0 ∷ []);
+      memory = record {
+        words = wordOf (Page 0 1) ∷ wordOf (Page 1 1) ∷ replicate 6 0;
+        bytes = pageWith setOfOne ++ (pageWith setOfTwo ++ replicate ((P - 2) * pageSize 2) 0);
+      };
+    }
+
+abbrev pub setOfThree : List Record
+setOfThree = setOfOne ++ setOfTwo
+
+-- the store of the table's entries (a) and (b): leaves 0, 100, 101 with pages 0, 1, 2, and 11 without a page
+abbrev pub fourRecords : Store
+fourRecords =
+    record {
+      state = stateWith 3 3 (0 ∷ 1 ∷ 1 ∷ 2 ∷ []);
+      memory = record {
+        words =
+            wordOf (Page 0 1) ∷ wordOf (Page 1 3) ∷ wordOf (Page 0 1) ∷ wordOf (Empty 2)
+            ∷ wordOf (Page 0 1) ∷ wordOf (Page 0 1) ∷ wordOf (Page 2 3) ∷ wordOf (Empty 2) ∷ [];
+        bytes =
+            pageWith setOfOne
+            ++ (pageWith (recordAt 2 0 11 ∷ recordAt 2 1 13 ∷ []) ++ pageWith (recordAt 3 1 12 ∷ []));
+      };
+    }
+
+abbrev pub setOfFour : List Record
+setOfFour = recordAt 0 0 10 ∷ recordAt 2 0 11 ∷ recordAt 2 1 13 ∷ recordAt 3 1 12 ∷ []
+
+-- ---- spoiled stores
+
+-- three records, with another page 1
+abbrev pub otherPage : List ℕ → Store
+otherPage page = withBytes (threeRecords 2) (pageWith setOfOne ++ page)
+
+-- no record, but a tally of two leaves of depth 1
+abbrev pub wrongTally : Store
+wrongTally = record { state = stateWith 3 0 (0 ∷ 2 ∷ 0 ∷ 0 ∷ []); memory = noRecord .memory }
+
+-- "word with page number P"
+abbrev pub wordPastPages : Store
+wordPastPages =
+    record {
+      state = stateWith 3 0 (1 ∷ 0 ∷ 0 ∷ 0 ∷ []);
+      memory = record { words = wordOf (Page 3 0) ∷ replicate 7 0; bytes = pageWith setOfOne ++ replicate 52 0 };
+    }
+
+-- a record in a page that no leaf has
+abbrev pub pageNotFree : Store
+pageNotFree =
+    record {
+      state = stateWith 3 0 (1 ∷ 0 ∷ 0 ∷ 0 ∷ []);
+      memory = record { words = replicate 8 0; bytes = pageWith setOfOne ++ replicate 52 0 };
+    }
+
+-- ---- lent memory, queries, and what the model says
+
+-- 8 words and 3 pages, every byte 1
+abbrev pub ones : Memory
+ones = record { words = replicate 8 1; bytes = replicate 78 1 }
+
+-- queries that give nothing, attribute 0 alone, attribute 1 alone
+abbrev pub allFree : List (Option ℕ)
+allFree = none ∷ none ∷ none ∷ none ∷ []
+
+abbrev pub givenFirst : ℕ → List (Option ℕ)
+givenFirst v = some v ∷ none ∷ none ∷ none ∷ []
+
+abbrev pub givenSecond : ℕ → List (Option ℕ)
+givenSecond v = none ∷ some v ∷ none ∷ none ∷ []
+
+-- the outcome of a call on a store that shows the set S, and the leaves after it
+abbrev pub outcomeOn : Store → List Record → Call → Outcome
+outcomeOn store S c = outcome (fixedOf (store .state)) S c
+
+abbrev pub leavesAfter : Store → List Record → Call → Division Record
+leavesAfter store S c = divisionOf (store .state .shape) (next (fixedOf (store .state)) S c)
