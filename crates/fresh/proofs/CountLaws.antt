@@ -1,6 +1,6 @@
 -- Laws of cleared counts: where a page ends; the length; a count cleared in a part that was lent. Assumes nothing.
-use Prim.Native.Nat.{ℕ, zero, suc, _+_, _-_, _*_, _<_, _≤_}
-use mathlib.Core.Path.{_≡_, refl, sym, ap, _∙_}
+use Prim.Native.Nat.{ℕ, _+_, _-_, _*_, _<_, _≤_}
+use mathlib.Core.Path.{_≡_, sym, ap, _∙_}
 use mathlib.Core.List.{List}
 use native.Mathlib.Omega.{arith}
 use native.Mathlib.Nat.{mul-le-mul-right, suc-mul}
@@ -14,11 +14,6 @@ use Rattle.store.specs.Fresh.{clearedCounts}
 -- a page before the n-th ends within n pages
 pub page-end : (n page size : ℕ) → page < n → page * size + size ≤ n * size
 page-end n page size h = rw suc-mul at (mul-le-mul-right size h)
-
-pub length-clearedCounts : (b n : ℕ) (bytes : List ℕ) → length (clearedCounts b n bytes) ≡ length bytes
-unfolding clearedCounts
-length-clearedCounts b zero bytes = refl
-length-clearedCounts b (suc n) bytes = simp length-set (length-clearedCounts b n bytes)
 
 -- ---- a part with two elements set, put back
 

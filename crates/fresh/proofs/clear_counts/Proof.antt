@@ -7,7 +7,8 @@ use borrow.Rule.Slice.PartMut.{mid-len}
 use lib.ListN.{length}
 use Rattle.page.specs.Page.{pageSize}
 use Rattle.store.specs.Fresh.{clearedCounts}
-use Rattle.fresh.proofs.CountLaws.{page-end, length-clearedCounts, clearedCounts-suc}
+use Rattle.store.proofs.ClearedLaws.{length-clearedCounts}
+use Rattle.fresh.proofs.CountLaws.{page-end, clearedCounts-suc}
 use Rattle.fresh.proofs.clear_counts.Statement.{statement}
 use Rattle.fresh.proofs.clear_counts.Tie as tie
 
