@@ -1,8 +1,8 @@
 -- Laws of cells one step apart: a string cut off, the address of a half, its index vector; cells are of the whole box.
 -- Assumes nothing.
-use Prim.Native.Nat.{ℕ, zero, suc, _+_, _*_, _/_, _%_, _^_, _≤_, _<_}
+use Prim.Native.Nat.{ℕ, suc, _+_, _*_, _/_, _%_, _^_, _≤_, _<_}
 use mathlib.Core.Path.{_≡_, refl, sym, ap, _∙_, subst}
-use mathlib.Core.Bool.{Bool, true, false, cond}
+use mathlib.Core.Bool.{Bool, true, false, cond, false≢true}
 use mathlib.Core.List.{List}
 use mathlib.Core.Logic.{_⊎_, inl, inr}
 use native.Mathlib.Omega.{arith}
@@ -13,9 +13,8 @@ use lib.Pow.{pow-mono}
 use borrow.Author.Tests.{lt-ltb, le-ltb, eq-eqb, ne-eqb}
 use Rattle.lists.proofs.Numbers.{lt-or-le}
 use Rattle.shape.specs.Shape.{Fit}
-use Rattle.split.specs.Steps.{steps, bitValue, depth}
+use Rattle.split.specs.Steps.{steps, bitValue}
 use Rattle.split.proofs.DepthLaws.{depth-width}
-use Rattle.address.specs.Address.{address}
 use Rattle.address.specs.Private.{InBox, IndexAt, StepPair}
 use Rattle.address.proofs.SideLaws.{In-sides-get, In-sides-mono, In-sides-all}
 use Rattle.address.proofs.DoublingLaws.{address-one-to-one}
@@ -60,8 +59,11 @@ withBit p t β s = cond (eqb s t) β (p s)
 pub withBit-here : (p : ℕ → Bool) (t : ℕ) (β : Bool) → withBit p t β t ≡ β
 withBit-here p t β = rw (eq-eqb t t refl)
 
+pub withBit-other : (p : ℕ → Bool) (t : ℕ) (β : Bool) (s : ℕ) → (s ≡ t → ⊥) → withBit p t β s ≡ p s
+withBit-other p t β s n = rw (ne-eqb s t n)
+
 pub agree-withBit : (p : ℕ → Bool) (t : ℕ) (β : Bool) → Agree t (withBit p t β) p
-agree-withBit p t β s l = let n : s ≡ t → ⊥ = λ e. omega arith in rw (ne-eqb s t n)
+agree-withBit p t β s l = withBit-other p t β s (λ e. omega arith)
 
 -- ---- index vectors
 
@@ -100,9 +102,15 @@ module _ (ws : List ℕ) (fit : Fit ws) where
   -- ---- addresses
 
   module _ (t : ℕ) (h : t < length (steps ws)) where
+    -- bit 0 changes no address
+    pub cellAddress-zero-bit : (p : ℕ → Bool) → p t ≡ false → cellAddress ws (suc t) p ≡ cellAddress ws t p
+    cellAddress-zero-bit p e =
+        cellAddress-zero-bits ws fit t (suc t) (omega arith) h p
+        (λ s l u. let d : s ≡ t = omega arith in ap p d ∙ e)
+
     pub cellAddress-cut : (p : ℕ → Bool) → cellAddress ws (suc t) (cut t p) ≡ cellAddress ws t p
     cellAddress-cut p =
-        cellAddress-zero-bits ws fit t (suc t) (omega arith) h (cut t p) (λ s l u. cut-past t p s l)
+        cellAddress-zero-bit (cut t p) (cut-past t p t (omega arith))
         ∙ cellAddress-same ws fit t (omega arith) (cut t p) p .1 (agree-cut t p)
 
     -- an address below 2 ^ t is that of the first t bits
@@ -123,8 +131,15 @@ module _ (ws : List ℕ) (fit : Fit ws) where
         go : (β : Bool) → p t ≡ β → β ≡ true
         go true e = refl
         go false e =
-            let same = cellAddress-zero-bits ws fit t (suc t) (omega arith) h p zero-bit in
-            absurd (omega (arith, same, cellAddress-lt ws fit t (omega arith) p))
-          where
-            zero-bit : (s : ℕ) → t ≤ s → s < suc t → p s ≡ false
-            zero-bit s b u = let d : s ≡ t = omega arith in ap p d ∙ e
+            absurd (omega (arith, l, cellAddress-zero-bit p e, cellAddress-lt ws fit t (omega arith) p))
+
+    -- and the other way round
+    pub cellAddress-new : (p : ℕ → Bool) → p t ≡ true → 2 ^ t ≤ cellAddress ws (suc t) p
+    cellAddress-new p e = go (lt-or-le (cellAddress ws (suc t) p) (2 ^ t))
+      where
+        go : (cellAddress ws (suc t) p < 2 ^ t) ⊎ (2 ^ t ≤ cellAddress ws (suc t) p) → 2 ^ t ≤ cellAddress ws (suc t) p
+        go (inr l) = l
+        go (inl l) =
+            let same = cellAddress-same ws fit (suc t) h (cut t p) p .0
+            (cellAddress-cut p ∙ sym (cellAddress-below p l)) in
+            absurd (false≢true (sym (cut-past t p t (omega arith)) ∙ same t (omega arith) ∙ e))

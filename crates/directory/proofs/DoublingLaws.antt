@@ -1,14 +1,13 @@
 -- Laws of doubling: the cell whose upper half a new address is, and the turns of the loop. Assumes nothing.
-use Prim.Native.Nat.{ℕ, zero, suc, _+_, _*_, _/_, _%_, _^_, _≤_, _<_}
+use Prim.Native.Nat.{ℕ, suc, _+_, _/_, _%_, _^_, _≤_, _<_}
 use mathlib.Core.Path.{_≡_, refl, sym, ap, _∙_, subst}
-use mathlib.Core.Bool.{Bool, true}
+use mathlib.Core.Bool.{Bool}
 use mathlib.Core.List.{List}
 use mathlib.Core.Logic.{_⊎_, inl, inr}
 use native.Mathlib.Omega.{arith}
-use native.Mathlib.Nat.{le-trans, mul-le-mul-right, mod-eq-of-lt}
+use native.Mathlib.Nat.{le-trans}
 use native.Mathlib.Numerals.{add-one}
 use lib.ListN.{getD, length, set, length-set}
-use lib.Pow.{pow-lt}
 use lib.Seq.{getD-set-same, getD-set-other}
 use Rattle.lists.proofs.Numbers.{eq-or-ne}
 use Rattle.shape.specs.Shape.{Fit}
@@ -127,11 +126,3 @@ module _ (ws : List ℕ) (fit : Fit ws) (t : ℕ) (h : t < length (steps ws)) wh
       past = λ x lx. inv .past x (omega (arith, inv .high));
       size = inv .size;
     }
-
--- ---- the loop's bounds
-
--- 1 << t and 2 << t
-pub shifted : (n t : ℕ) → n ≤ 2 → t < 12 → (n * 2 ^ t) % 2 ^ 64 ≡ n * 2 ^ t
-shifted n t h l =
-    let m : 2 ^ t < 2 ^ 12 = pow-lt l in
-    mod-eq-of-lt (omega (arith, mul-le-mul-right (2 ^ t) h))

@@ -1,8 +1,11 @@
+pub mod BlockLaws
 pub mod CellLaws
 pub mod DoublingLaws
-pub mod FillLaws
 pub mod KeyLaws
+pub mod MaskLaws
 pub mod PlaceLaws
 pub mod RegionLaws
 pub mod ShownLaws
+pub mod SubsetLaws
 pub mod VectorLaws
+pub mod WeightLaws

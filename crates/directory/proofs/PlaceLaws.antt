@@ -1,5 +1,5 @@
 -- Laws of places: how many steps stand before a place, the search for a step, the depths there. Assumes nothing.
-use Prim.Native.Nat.{ℕ, suc, _+_, _*_, _-_, _/_, _%_, _≤_, _<_, min}
+use Prim.Native.Nat.{ℕ, _+_, _*_, _-_, _/_, _%_, _≤_, _<_, min}
 use mathlib.Core.Path.{_≡_, refl, ap, _∙_, subst}
 use mathlib.Core.List.{List, [], _∷_}
 use mathlib.Core.Logic.{_⊎_, inl, inr}
@@ -75,10 +75,13 @@ module _ (ws : List ℕ) (t g : ℕ) (s : StepPair ws t g) where
 
   pub stepPair-lt : Fit ws → t < length (steps ws)
   stepPair-lt fit =
-      subst (λ x. x < length (steps ws)) stepNumber-pair (stepNumber-below ws fit (g / 4) (g % 4) (omega arith) (s .live))
+      subst (λ x. x < length (steps ws)) stepNumber-pair
+      (stepNumber-below ws fit (g / 4) (g % 4) (omega arith) (s .live))
 
   pub stepsBefore-pair : StepsBefore ws (t + 1) (g + 1)
-  stepsBefore-pair = let b = s .low in stepsBefore-step ws t g (record { low = omega arith; before = s .before }) (s .low) (s .live)
+  stepsBefore-pair =
+      let low : g ≤ 64 = omega (arith, s .low) in
+      stepsBefore-step ws t g (record { low = low; before = s .before }) (s .low) (s .live)
 
 -- ---- the depths at a place
 

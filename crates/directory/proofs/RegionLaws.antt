@@ -1,128 +1,221 @@
--- Laws of the recursion that sets a region: the two halves of a region at its index vector and address. Assumes nothing.
-use Prim.Native.Nat.{ℕ, suc, _+_, _/_, _%_, _^_, _≤_, _<_}
+-- Laws of setting a region: its own cell, the index vectors of the blocks that follow, the turns of the loop.
+-- Assumes nothing.
+use Prim.Native.Nat.{ℕ, suc, _+_, _-_, _/_, _%_, _^_, _≤_, _<_}
 use mathlib.Core.Path.{_≡_, refl, sym, ap, _∙_, subst}
-use mathlib.Core.Bool.{Bool, true, false}
+use mathlib.Core.Bool.{Bool, true}
 use mathlib.Core.List.{List, [], _∷_}
 use native.Mathlib.Omega.{arith}
 use native.Mathlib.Nat.{le-trans}
 use native.Mathlib.Numerals.{add-one}
-use lib.ListN.{getD, length, set}
+use lib.ListN.{getD, length, set, length-set}
 use lib.Pow.{pow-mono}
-use Rattle.shape.specs.Shape.{Fit, total}
+use lib.Seq.{getD-set-same, getD-set-other}
+use Rattle.shape.specs.Shape.{Fit}
 use Rattle.split.specs.Steps.{steps}
 use Rattle.split.proofs.StepLaws.{length-steps}
 use Rattle.split.proofs.DepthLaws.{depth-z}
 use Rattle.address.specs.Address.{address}
 use Rattle.address.specs.Private.{InBox, StepPair}
 use Rattle.address.proofs.SideLaws.{In-sides-get}
-use Rattle.cell.specs.Cell.{cell, cellAddress}
-use Rattle.cell.proofs.CellLaws.{In-cell, cell-agree, cell-zero-bit, cellAddress-lt}
+use Rattle.cell.specs.Cell.{cell, cellAddress, Agree}
+use Rattle.cell.proofs.CellLaws.{In-cell, cell-agree, cell-zero-bits}
+use Rattle.cell.proofs.CellLaws.{cellAddress-lt, cellAddress-same, cellAddress-zero-bits}
 use Rattle.directory.specs.Directory.{DirectoryFits, Filled}
-use Rattle.directory.specs.Private.{StepsBefore, bitSet, RegionAt, Fills}
+use Rattle.directory.specs.Private.{StepsBefore, bitSet, RegionAt, BlocksFilled, BlockFits, BlockFilled}
 use Rattle.directory.proofs.PlaceLaws.{stepNumber-pair, stepPair-lt, stepsBefore-pair}
-use Rattle.directory.proofs.CellLaws.{withBit, withBit-here, agree-withBit, inBox-cell, cell-bitSet}
-use Rattle.directory.proofs.FillLaws.{filled-one, filled-halves}
+use Rattle.directory.proofs.CellLaws.{cut, agree-cut, cut-past, withBit, withBit-here, agree-withBit, agree-sym}
+use Rattle.directory.proofs.CellLaws.{agree-trans, agree-le, agree-suc, inBox-cell, cell-bitSet}
+use Rattle.directory.proofs.BlockLaws.{full, agree-full, full-past, blockFirst, blockLast}
+use Rattle.directory.proofs.BlockLaws.{first-le-last, block, filled-block}
 
--- ---- the index vectors of the halves
+pub fits-steps : (w0 w1 w2 w3 t size : ℕ) → DirectoryFits (w0 ∷ w1 ∷ w2 ∷ w3 ∷ []) t size
+    → t ≤ length (steps (w0 ∷ w1 ∷ w2 ∷ w3 ∷ []))
+fits-steps w0 w1 w2 w3 t size d = subst (λ n. t ≤ n) (sym (length-steps w0 w1 w2 w3 (d .fit))) (d .deep)
 
-module _ (ws : List ℕ) (fit : Fit ws) (x g : ℕ) (s : StepPair ws x g) (p : ℕ → Bool) where
-  pub cell-lower : cell ws (suc x) (withBit p x false) ≡ cell ws x p
-  cell-lower =
-      cell-zero-bit ws fit x (stepPair-lt ws x g s fit) (withBit p x false) (withBit-here p x false)
-      ∙ cell-agree ws fit x (withBit p x false) p (agree-withBit p x false)
+-- ---- the region's own cell
 
-  pub cell-upper : cell ws (suc x) (withBit p x true) ≡ bitSet g (cell ws x p)
-  cell-upper =
-      cell-bitSet ws fit x g s (withBit p x true) (withBit-here p x true)
-      ∙ ap (bitSet g) (cell-agree ws fit x (withBit p x true) p (agree-withBit p x true))
+module _ (ws : List ℕ) (fit : Fit ws) (x t : ℕ) (h : x ≤ t) (ht : t ≤ length (steps ws)) (p : ℕ → Bool) where
+  own-zero-bits : cellAddress ws t (cut x p) ≡ cellAddress ws x p
+  own-zero-bits =
+      cellAddress-zero-bits ws fit x t h ht (cut x p) (λ s l u. cut-past x p s l)
+      ∙ cellAddress-same ws fit x (le-trans h ht) (cut x p) p .1 (agree-cut x p)
+
+  pub own-lt : cellAddress ws x p < 2 ^ t
+  own-lt = subst (λ a. a < 2 ^ t) own-zero-bits (cellAddress-lt ws fit t ht (cut x p))
+
+  -- in a directory of depth x the region is one cell
+  filled-own : (word : ℕ) (words : List ℕ) → 2 ^ t ≤ length words
+      → let now = set words (cellAddress ws x p) word in Filled ws x x p word now now
+  filled-own word words room = record {
+    inside = λ q a.
+        ap (λ b. getD (set words (cellAddress ws x p) word) b 0)
+        (sym (cellAddress-same ws fit x (le-trans h ht) p q .1 a))
+        ∙ getD-set-same words (cellAddress ws x p) word 0 (omega (arith, own-lt));
+    outside = λ q a. refl;
+    past = λ a l. refl;
+    size = refl;
+  }
+
+  -- the rest set after that cell
+  filled-rest : (word : ℕ) (before after : List ℕ)
+      → Filled ws t x p word (set before (cellAddress ws x p) word) after → Filled ws t x p word before after
+  filled-rest word before after f = record {
+    inside = f .inside;
+    outside = λ q a.
+        f .outside q a
+        ∙ getD-set-other before (cellAddress ws x p) (cellAddress ws t q) word 0 (λ e. a (agrees q e));
+    past = λ a l. f .past a l ∙ getD-set-other before (cellAddress ws x p) a word 0 (λ e. omega (arith, own-lt));
+    size = f .size ∙ length-set before (cellAddress ws x p) word;
+  }
+    where
+      agrees : (q : ℕ → Bool) → cellAddress ws t q ≡ cellAddress ws x p → Agree x p q
+      agrees q e =
+          let same = cellAddress-same ws fit t ht (cut x p) q .0 (own-zero-bits ∙ sym e) in
+          agree-trans x p (cut x p) q (agree-sym x (cut x p) p (agree-cut x p)) (agree-le x t (cut x p) q h same)
+
+  -- that cell, then the rest
+  pub filled-region : (word : ℕ) (before after : List ℕ) (own : ℕ) → own ≡ cellAddress ws x p → 2 ^ t ≤ length before
+      → (let now = set before own word in Filled ws x x p word now now → Filled ws t x p word now after)
+      → Filled ws t x p word before after
+  filled-region word before after own e room rest =
+      let now : ℕ → List ℕ = λ a. set before a word in
+      filled-rest word before after
+      (subst (λ a. Filled ws t x p word (now a) after) e
+      (rest (subst (λ a. Filled ws x x p word (now a) (now a)) (sym e) (filled-own word before room))))
+
+-- ---- the index vectors of a block
+
+module _ (ws : List ℕ) (fit : Fit ws) (y g : ℕ) (pair : StepPair ws y g) where
+  -- the half with bit 1
+  cell-upper : (p : ℕ → Bool) → cell ws (suc y) (withBit p y true) ≡ bitSet g (cell ws y p)
+  cell-upper p =
+      cell-bitSet ws fit y g pair (withBit p y true) (withBit-here p y true)
+      ∙ ap (bitSet g) (cell-agree ws fit y (withBit p y true) p (agree-withBit p y true))
 
   -- the step's bit is above those that the index has
-  pub getD-cell-lt : getD (cell ws x p) (g % 4) 0 < 2 ^ (g / 4)
-  getD-cell-lt =
-      subst (λ h. getD (cell ws x p) (g % 4) 0 < 2 ^ h)
-      (depth-z ws fit (g / 4) (g % 4) (omega arith) (s .live) (stepNumber-pair ws x g s))
-      (In-sides-get ws x (In-cell ws x p) (g % 4) (omega arith))
+  pub getD-cell-lt : (p : ℕ → Bool) → getD (cell ws y p) (g % 4) 0 < 2 ^ (g / 4)
+  getD-cell-lt p =
+      subst (λ h. getD (cell ws y p) (g % 4) 0 < 2 ^ h)
+      (depth-z ws fit (g / 4) (g % 4) (omega arith) (pair .live) (stepNumber-pair ws y g pair))
+      (In-sides-get ws y (In-cell ws y p) (g % 4) (omega arith))
 
--- ---- a region at its vector and address
+  module _ (x : ℕ) (h : x ≤ y) (p : ℕ → Bool) where
+    pub cell-cut : cell ws y (cut x p) ≡ cell ws x p
+    cell-cut =
+        cell-zero-bits ws fit x y h (omega (arith, stepPair-lt ws y g pair fit)) (cut x p) (λ s l u. cut-past x p s l)
+        ∙ cell-agree ws fit x (cut x p) p (agree-cut x p)
 
-module _ (w0 w1 w2 w3 t size : ℕ) (d : DirectoryFits (w0 ∷ w1 ∷ w2 ∷ w3 ∷ []) t size) where
-  pub fits-steps : t ≤ length (steps (w0 ∷ w1 ∷ w2 ∷ w3 ∷ []))
-  fits-steps = subst (λ n. t ≤ n) (sym (length-steps w0 w1 w2 w3 (d .fit))) (d .deep)
+    pub cell-blockFirst : cell ws (suc y) (blockFirst x y p) ≡ bitSet g (cell ws x p)
+    cell-blockFirst = cell-upper (cut x p) ∙ ap (bitSet g) cell-cut
 
-module _ (ws is : List ℕ) (a g x t size : ℕ) (r : RegionAt ws is a g x t size) where
-  pub region-inBox : InBox ws is
-  region-inBox = subst (InBox ws) (r .string .1) (inBox-cell ws (r .fits .fit) x (r .string .0))
+    pub cell-blockLast : cell ws (suc y) (blockLast x y p) ≡ bitSet g (cell ws y (full x p))
+    cell-blockLast = cell-upper (full x p)
 
-  module _ (h : t ≤ length (steps ws)) where
-    pub region-lt : (a < size) × (a < 4096)
-    unfolding cellAddress
-    region-lt =
-        let low = cellAddress-lt ws (r .fits .fit) x (le-trans (r .within) h) (r .string .0) in
-        let e : address ws (cell ws x (r .string .0)) ≡ a = ap (address ws) (r .string .1) ∙ sym (r .at) in
-        let le : 2 ^ x ≤ 2 ^ t = pow-mono (r .within) in
-        let top : 2 ^ t ≤ 2 ^ 12 = pow-mono (r .fits .short) in
-        (omega (arith, low, e, r .fits .room), omega (arith, low, e))
+    -- the last vector of this block, for the next
+    pub cell-full-suc : cell ws (suc y) (full x p) ≡ bitSet g (cell ws y (full x p))
+    cell-full-suc =
+        cell-agree ws fit (suc y) (full x p) (blockLast x y p)
+        (agree-suc y (full x p) (blockLast x y p)
+        (agree-sym y (blockLast x y p) (full x p) (agree-withBit (full x p) y true))
+        (full-past x p y h ∙ sym (withBit-here (full x p) y true)))
+        ∙ cell-blockLast
 
-    pub fills-one : (word : ℕ) (words : List ℕ) → length words ≡ size → t ≤ x → Fills ws is x t word words (set words a word)
-    unfolding cellAddress
-    fills-one word words len l p e =
-        let d : x ≡ t = omega (arith, r .within) in
-        let at : address ws (cell ws t p) ≡ a = ap (λ n. address ws (cell ws n p)) (sym d) ∙ ap (address ws) e ∙ sym (r .at) in
-        subst (λ n. Filled ws t n p word words (set words a word)) (sym d)
-        (subst (λ b. Filled ws t t p word words (set words b word)) at
-        (filled-one ws (r .fits .fit) t h p words word (subst (λ n. 2 ^ t ≤ n) (sym len) (r .fits .room))))
+-- ---- the turns of the loop
 
-  -- step x, at place s, is below t
-  module _ (s : ℕ) (pair : StepPair ws x s) (l : x < t) where
-    pub region-small : getD is (s % 4) 0 < 2 ^ (s / 4)
-    region-small =
-        subst (λ v. getD v (s % 4) 0 < 2 ^ (s / 4)) (r .string .1)
-        (getD-cell-lt ws (r .fits .fit) x s pair (r .string .0))
+-- the region has its cells of y bits, if its own cell had the word at the start; `last` has all bits from x to y − 1
+pub record FilledTo (ws is : List ℕ) (x t word y g : ℕ) (last before now : List ℕ) : Type 0 where
+  pub from : x ≤ y
+  pub within : y ≤ t
+  pub place : StepsBefore ws y g
+  pub last-cell : (p : ℕ → Bool) → cell ws x p ≡ is → cell ws y (full x p) ≡ last
+  pub filled : (p : ℕ → Bool) → cell ws x p ≡ is → Filled ws x x p word before before → Filled ws y x p word before now
+  pub size : length now ≡ length before
 
-    -- the half with bit 0: the same vector and address
-    pub region-lower : RegionAt ws is a (s + 1) (x + 1) t size
-    region-lower = record {
-      string = (
-        withBit (r .string .0) x false,
-        ap (λ n. cell ws n (withBit (r .string .0) x false)) (add-one x)
-            ∙ cell-lower ws (r .fits .fit) x s pair (r .string .0)
-            ∙ r .string .1,
-      );
-      at = r .at;
-      place = stepsBefore-pair ws x s pair;
-      within = omega arith;
-      fits = r .fits;
-    }
+module _ (ws is : List ℕ) (x t word start : ℕ) (before : List ℕ) (r : RegionAt ws is start x t (length before)) where
+  pub filledTo-start : FilledTo ws is x t word x start is before before
+  filledTo-start = record {
+    from = omega arith;
+    within = r .within;
+    place = r .place;
+    last-cell = λ p e. cell-agree ws (r .fits .fit) x (full x p) p (agree-full x p) ∙ e;
+    filled = λ p e f. f;
+    size = refl;
+  }
 
-    module _ (upper : List ℕ) (e : upper ≡ bitSet s is) where
-      string-upper : (p : ℕ → Bool) → cell ws x p ≡ is → cell ws (x + 1) (withBit p x true) ≡ upper
-      string-upper p q =
-          ap (λ n. cell ws n (withBit p x true)) (add-one x)
-          ∙ cell-upper ws (r .fits .fit) x s pair p
-          ∙ ap (bitSet s) q
-          ∙ sym e
+  module _ (y g : ℕ) (last now : List ℕ) (inv : FilledTo ws is x t word y g last before now) where
+    pub filledTo-end : t ≤ y → BlocksFilled ws is x t word before now
+    filledTo-end l p e f =
+        let d : y ≡ t = omega (arith, inv .within) in
+        subst (λ n. Filled ws n x p word before now) d (inv .filled p e f)
 
-      pub upper-inBox : InBox ws upper
-      upper-inBox =
-          subst (InBox ws) (string-upper (r .string .0) (r .string .1))
-          (inBox-cell ws (r .fits .fit) (x + 1) (withBit (r .string .0) x true))
+    -- step y is the pair at place s
+    module _ (s : ℕ) (pair : StepPair ws y s) where
+      abbrev p : ℕ → Bool
+      p = r .string .0
 
-      -- the half with bit 1
-      pub region-upper : (b n : ℕ) → b ≡ address ws upper → n ≡ size → RegionAt ws upper b (s + 1) (x + 1) t n
-      region-upper b n at m = record {
-        string = (withBit (r .string .0) x true, string-upper (r .string .0) (r .string .1));
-        at = at;
-        place = stepsBefore-pair ws x s pair;
-        within = omega arith;
-        fits = subst (DirectoryFits ws t) (sym m) (r .fits);
-      }
+      pub first-small : getD is (s % 4) 0 < 2 ^ (s / 4)
+      first-small =
+          subst (λ v. getD v (s % 4) 0 < 2 ^ (s / 4))
+          (cell-cut ws (r .fits .fit) y s pair x (inv .from) p ∙ r .string .1)
+          (getD-cell-lt ws (r .fits .fit) y s pair (cut x p))
 
-      pub fills-halves : (word : ℕ) (before middle after : List ℕ) → Fills ws is (x + 1) t word before middle
-          → Fills ws upper (x + 1) t word middle after → Fills ws is x t word before after
-      fills-halves word before middle after f g p q =
-          filled-halves ws t x p word before middle after
-          (subst (λ n. Filled ws t n (withBit p x false) word before middle) (add-one x)
-          (f (withBit p x false)
-          (ap (λ n. cell ws n (withBit p x false)) (add-one x) ∙ cell-lower ws (r .fits .fit) x s pair p ∙ q)))
-          (subst (λ n. Filled ws t n (withBit p x true) word middle after) (add-one x)
-          (g (withBit p x true) (string-upper p q)))
+      pub last-small : getD last (s % 4) 0 < 2 ^ (s / 4)
+      last-small =
+          subst (λ v. getD v (s % 4) 0 < 2 ^ (s / 4)) (inv .last-cell p (r .string .1))
+          (getD-cell-lt ws (r .fits .fit) y s pair (full x p))
+
+      module _ (next : y < t) (first end : List ℕ) (e : first ≡ bitSet s is) (d : end ≡ bitSet s last) where
+        first-is : (q : ℕ → Bool) → cell ws x q ≡ is → cell ws (suc y) (blockFirst x y q) ≡ first
+        first-is q c = cell-blockFirst ws (r .fits .fit) y s pair x (inv .from) q ∙ ap (bitSet s) c ∙ sym e
+
+        last-is : (q : ℕ → Bool) → cell ws x q ≡ is → cell ws (suc y) (blockLast x y q) ≡ end
+        last-is q c =
+            cell-blockLast ws (r .fits .fit) y s pair x (inv .from) q ∙ ap (bitSet s) (inv .last-cell q c) ∙ sym d
+
+        pub block-fits : BlockFits ws first end (length now)
+        unfolding cellAddress
+        block-fits =
+            let f = first-is p (r .string .1) in
+            let l = last-is p (r .string .1) in
+            let deep = stepPair-lt ws y s pair (r .fits .fit) in
+            let low = cellAddress-lt ws (r .fits .fit) (suc y) deep (blockLast x y p) in
+            let le : 2 ^ suc y ≤ 2 ^ t = pow-mono next in
+            let top : 2 ^ t ≤ 2 ^ 12 = pow-mono (r .fits .short) in
+            record {
+              first-in = subst (InBox ws) f (inBox-cell ws (r .fits .fit) (suc y) (blockFirst x y p));
+              last-in = subst (InBox ws) l (inBox-cell ws (r .fits .fit) (suc y) (blockLast x y p));
+              order =
+                  subst (λ v. address ws v ≤ address ws end) f
+                  (subst (λ v. address ws (cell ws (suc y) (blockFirst x y p)) ≤ address ws v) l
+                  (first-le-last ws (r .fits .fit) x y s pair (inv .from) p));
+              room = omega (arith, ap (address ws) l, low, r .fits .room, inv .size);
+              short = omega (arith, ap (address ws) l, low);
+            }
+
+        pub filledTo-suc : (after : List ℕ)
+            → BlockFilled ws first end word now after
+            → FilledTo ws is x t word (y + 1) (s + 1) end before after
+        unfolding cellAddress
+        filledTo-suc after m = record {
+          from = omega (arith, inv .from);
+          within = omega arith;
+          place = stepsBefore-pair ws y s pair;
+          last-cell = λ q c.
+              ap (λ n. cell ws n (full x q)) (add-one y)
+              ∙ cell-full-suc ws (r .fits .fit) y s pair x (inv .from) q
+              ∙ ap (bitSet s) (inv .last-cell q c)
+              ∙ sym d;
+          filled = λ q c f.
+              subst (λ n. Filled ws n x q word before after) (sym (add-one y)) (filled q c (inv .filled q c f));
+          size = m .size ∙ inv .size;
+        }
+          where
+            filled : (q : ℕ → Bool) → cell ws x q ≡ is → Filled ws y x q word before now
+                → Filled ws (suc y) x q word before after
+            filled q c =
+                let a = ap (address ws) (first-is q c) in
+                let b = ap (address ws) (last-is q c) in
+                filled-block ws (r .fits .fit) x y (inv .from) (stepPair-lt ws y s pair (r .fits .fit)) q
+                (cellAddress ws (suc y) (blockFirst x y q))
+                (cellAddress ws (suc y) (blockLast x y q) - cellAddress ws (suc y) (blockFirst x y q))
+                word before now after (block ws (r .fits .fit) x y s pair (inv .from) q) (rw (a, b) m)

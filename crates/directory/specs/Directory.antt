@@ -1,5 +1,5 @@
--- The steps on the directory's words (document 01, "Lent memory"), over strings of split bits: the word of a cell is that
--- at the address of its string. Assumes nothing.
+-- The steps on the directory's words (document 01, "Lent memory"), over strings of split bits: the word of a cell is
+-- that at the address of its string. Assumes nothing.
 use Prim.Native.Nat.{ℕ, suc, _^_, _≤_, _<_}
 use mathlib.Core.Path.{_≡_}
 use mathlib.Core.Bool.{Bool}
@@ -25,13 +25,14 @@ pub record Doubled (ws : List ℕ) (t : ℕ) (before after : List ℕ) : Type 0 
   pub past : (a : ℕ) → 2 ^ suc t ≤ a → getD after a 0 ≡ getD before a 0
   pub size : length after ≡ length before
 
--- "Every cell whose split bits begin with a leaf holds that leaf's word": the region of the first x bits of p was set to a
--- word in a directory of depth t
+-- "Every cell whose split bits begin with a leaf holds that leaf's word": the region of the first x bits of p was set
+-- to a word, in a directory of depth t
 pub record Filled (ws : List ℕ) (t x : ℕ) (p : ℕ → Bool) (word : ℕ) (before after : List ℕ) : Type 0 where
   -- Shut out: a fill one cell short
   pub inside : (q : ℕ → Bool) → Agree x p q → getD after (cellAddress ws t q) 0 ≡ word
   -- Shut out: a fill of a shorter string's region
-  pub outside : (q : ℕ → Bool) → (Agree x p q → ⊥) → getD after (cellAddress ws t q) 0 ≡ getD before (cellAddress ws t q) 0
+  pub outside : (q : ℕ → Bool) → (Agree x p q → ⊥)
+      → getD after (cellAddress ws t q) 0 ≡ getD before (cellAddress ws t q) 0
   -- "Words past the first 2^L .. are never changed"
   pub past : (a : ℕ) → 2 ^ t ≤ a → getD after a 0 ≡ getD before a 0
   pub size : length after ≡ length before

@@ -1,13 +1,15 @@
 -- Definitions that only private functions' contracts cite: places and the steps before them, vectors with a bit set or
 -- cleared, halves of cells. Assumes nothing.
-use Prim.Native.Nat.{ℕ, suc, _+_, _-_, _/_, _%_, _^_, _≤_}
+use Prim.Native.Nat.{ℕ, suc, _+_, _-_, _/_, _%_, _^_, _≤_, _<_}
 use mathlib.Core.Path.{_≡_}
 use mathlib.Core.Bool.{Bool, cond}
 use mathlib.Core.List.{List}
+use lib.Bits.{bitAnd}
 use lib.Dec.{eqb}
 use lib.ListN.{getD, length, set}
 use Rattle.split.specs.Steps.{stepsBelow}
 use Rattle.address.specs.Address.{address}
+use Rattle.address.specs.Private.{InBox}
 use Rattle.cell.specs.Cell.{cell, cellAddress}
 use Rattle.directory.specs.Directory.{DirectoryFits, Filled}
 
@@ -39,14 +41,37 @@ UpperHalf ws t a w = (p : ℕ → Bool) × (cellAddress ws (suc t) p ≡ a) × (
 
 -- ---- regions
 
--- a region of x bits at the index vector is and the address a, with x steps before place g, in a directory of depth t
-pub record RegionAt (ws is : List ℕ) (a g x t size : ℕ) : Type 0 where
+-- a region of x bits at the index vector is, with x steps before place g, in a directory of depth t
+pub record RegionAt (ws is : List ℕ) (g x t size : ℕ) : Type 0 where
   pub string : (p : ℕ → Bool) × (cell ws x p ≡ is)
-  pub at : a ≡ address ws is
   pub place : StepsBefore ws x g
   pub within : x ≤ t
   pub fits : DirectoryFits ws t size
 
--- the region was set to the word
-abbrev pub Fills : List ℕ → List ℕ → ℕ → ℕ → ℕ → List ℕ → List ℕ → Type 0
-Fills ws is x t word before after = (p : ℕ → Bool) → cell ws x p ≡ is → Filled ws t x p word before after
+-- if the region's own cell had the word, then now every cell of the region has it
+abbrev pub BlocksFilled : List ℕ → List ℕ → ℕ → ℕ → ℕ → List ℕ → List ℕ → Type 0
+BlocksFilled ws is x t word before after =
+    (p : ℕ → Bool) → cell ws x p ≡ is → Filled ws x x p word before before → Filled ws t x p word before after
+
+-- the first and the last vector of a block have addresses of a directory in a slice of so many words
+pub record BlockFits (ws first last : List ℕ) (size : ℕ) : Type 0 where
+  pub first-in : InBox ws first
+  pub last-in : InBox ws last
+  pub order : address ws first ≤ address ws last
+  pub room : address ws last < size
+  pub short : address ws last < 4096
+
+-- the bits of v are among those of m
+abbrev pub Among : ℕ → ℕ → Type 0
+Among v m = bitAnd v m ≡ v
+
+-- the words at base + v were set for every v whose bits are among those of the mask, and no other
+pub record MaskFilled (base mask word : ℕ) (before after : List ℕ) : Type 0 where
+  pub inside : (v : ℕ) → Among v mask → getD after (base + v) 0 ≡ word
+  pub outside : (a : ℕ) → ((v : ℕ) → Among v mask → a ≡ base + v → ⊥) → getD after a 0 ≡ getD before a 0
+  pub size : length after ≡ length before
+
+-- the block from the first vector to the last was set: the mask is what lies between their addresses
+abbrev pub BlockFilled : List ℕ → List ℕ → List ℕ → ℕ → List ℕ → List ℕ → Type 0
+BlockFilled ws first last word before after =
+    MaskFilled (address ws first) (address ws last - address ws first) word before after

@@ -27,7 +27,8 @@ pub fn find_cell(widths: Widths, key: [u32; 4], t: u64) -> u64
 // The index vector of a key's split bits before the pair at place g.
 pub fn cell_before(widths: Widths, key: [u32; 4], g: u64) -> Index
     requires { ⌜ Fit (widthList widths) × (g ≤ 64) ⌝ }
-    ensures { λ r. ⌜ indexList r ≡ cell (widthList widths) (length (stepsBelow (widthList widths) g)) (splitBit (widthList widths) key) ⌝ }
+    ensures { λ r. ⌜ indexList r
+        ≡ cell (widthList widths) (length (stepsBelow (widthList widths) g)) (splitBit (widthList widths) key) ⌝ }
 {
     let h0 = depth_before(widths.w0, g, 0);
     let h1 = depth_before(widths.w1, g, 1);

@@ -17,13 +17,14 @@ pub fn double(widths: Widths, t: u64, dir: &mut [u32])
     ensures { λ _. ⌜ Doubled (widthList widths) t (now (dir .entry)) (now (dir .exit)) ⌝ }
 {
     let g = pair_of_step(widths, t);
-    let end = 2u64 << t;
-    let mut a = 1u64 << t;
-    while a < end {
+    let size = 1u64 << t;
+    let mut r: u64 = 0;
+    while r < size {
+        let a = size + r;
         let whole = whole_of(widths, t, g, a);
         let word = dir[whole as usize];
         dir[a as usize] = word;
-        a += 1;
+        r += 1;
     }
 }
 

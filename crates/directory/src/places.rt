@@ -22,7 +22,8 @@ pub fn place_of(widths: Widths, t: u64) -> u64
 
 // The place of step t, sought from a place with t steps before it.
 pub fn step_from(widths: Widths, t: u64, start: u64) -> u64
-    requires { ⌜ Fit (widthList widths) × (t < total (widthList widths)) × StepsBefore (widthList widths) t start ⌝ }
+    requires { ⌜ Fit (widthList widths) × (t < total (widthList widths))
+        × StepsBefore (widthList widths) t start ⌝ }
     ensures { λ r. ⌜ StepPair (widthList widths) t r ⌝ }
 {
     let mut g = start;
@@ -37,7 +38,8 @@ pub fn step_from(widths: Widths, t: u64, start: u64) -> u64
 
 // A place with t steps before it, sought from one with n.
 fn place_from(widths: Widths, t: u64, start: u64, n: u64) -> u64
-    requires { ⌜ Fit (widthList widths) × (t ≤ total (widthList widths)) × (n ≤ t) × StepsBefore (widthList widths) n start ⌝ }
+    requires { ⌜ Fit (widthList widths) × (t ≤ total (widthList widths))
+        × (n ≤ t) × StepsBefore (widthList widths) n start ⌝ }
     ensures { λ r. ⌜ StepsBefore (widthList widths) t r ⌝ }
 {
     let mut g = start;

@@ -1,4 +1,6 @@
-// Setting every cell of a region to a word.
+// Setting every cell of a region to a word. The cells of a region of x bits in a directory of depth t
+// are its own, at the region's address, and for each step y from x to t - 1 those whose last bit 1 is
+// bit y. These have the addresses first + v for every v whose bits are among those of a mask.
 use super::cells::cell_before;
 use super::places::place_of;
 use super::places::step_from;
@@ -6,47 +8,69 @@ use super::vectors::with_bit;
 use address::Index;
 use address::locate;
 use shape::Widths;
-ghost use Prim.Native.Nat.{_≤_};
+ghost use Prim.Native.Nat.{_+_, _<_, _≤_};
 ghost use lib.ListN.{length};
 ghost use Rattle.shape.specs.Shape.{widthList};
 ghost use Rattle.split.specs.Bits.{splitBit};
 ghost use Rattle.address.specs.Answers.{indexList};
 ghost use Rattle.directory.specs.Directory.{DirectoryFits, Filled};
-ghost use Rattle.directory.specs.Private.{RegionAt, Fills};
+ghost use Rattle.directory.specs.Private.{RegionAt, BlocksFilled, BlockFits, BlockFilled, MaskFilled};
 
 // Sets every cell of the region of a key's first x split bits, in a directory of depth t. No other
 // word changes.
 pub fn fill(widths: Widths, key: [u32; 4], x: u64, t: u64, word: u32, dir: &mut [u32])
     requires { ⌜ DirectoryFits (widthList widths) t (length (now dir)) × (x ≤ t) ⌝ }
-    ensures { λ _. ⌜ Filled (widthList widths) t x (splitBit (widthList widths) key) word (now (dir .entry)) (now (dir .exit)) ⌝ }
+    ensures { λ _. ⌜ Filled (widthList widths) t x (splitBit (widthList widths) key) word
+        (now (dir .entry)) (now (dir .exit)) ⌝ }
 {
-    let g = place_of(widths, x);
-    let index = cell_before(widths, key, g);
-    let a = locate(widths, index);
-    fill_from(widths, index, a, g, x, t, word, dir);
+    let start = place_of(widths, x);
+    let index = cell_before(widths, key, start);
+    let own = locate(widths, index);
+    dir[own as usize] = word;
+    fill_blocks(widths, index, start, x, t, word, dir);
 }
 
-// The same for the region of x bits at an index vector and its address a; place g has x steps before it.
-fn fill_from(
-    widths: Widths,
-    index: Index,
-    a: u64,
-    g: u64,
-    x: u64,
-    t: u64,
-    word: u32,
-    dir: &mut [u32],
-)
-    requires { ⌜ RegionAt (widthList widths) (indexList index) a g x t (length (now dir)) ⌝ }
-    ensures { λ _. ⌜ Fills (widthList widths) (indexList index) x t word (now (dir .entry)) (now (dir .exit)) ⌝ }
+// Sets the cells of the region of x bits at an index vector but its own; x steps are before the place
+// start.
+fn fill_blocks(widths: Widths, index: Index, start: u64, x: u64, t: u64, word: u32, dir: &mut [u32])
+    requires { ⌜ RegionAt (widthList widths) (indexList index) start x t (length (now dir)) ⌝ }
+    ensures { λ _. ⌜ BlocksFilled (widthList widths) (indexList index) x t word
+        (now (dir .entry)) (now (dir .exit)) ⌝ }
 {
-    if x < t {
-        let s = step_from(widths, x, g);
-        let upper = with_bit(index, s);
-        let b = locate(widths, upper);
-        fill_from(widths, index, a, s + 1, x + 1, t, word, dir);
-        fill_from(widths, upper, b, s + 1, x + 1, t, word, dir);
-    } else {
-        dir[a as usize] = word;
+    let mut g = start;
+    let mut last = index;
+    let mut y = x;
+    while y < t {
+        let step = step_from(widths, y, g);
+        let first = with_bit(index, step);
+        last = with_bit(last, step);
+        fill_block(widths, first, last, word, dir);
+        g = step + 1;
+        y += 1;
+    }
+}
+
+// Sets the cells of a block from its first to its last, where the bits that vary are 0 and 1.
+fn fill_block(widths: Widths, first: Index, last: Index, word: u32, dir: &mut [u32])
+    requires { ⌜ BlockFits (widthList widths) (indexList first) (indexList last) (length (now dir)) ⌝ }
+    ensures { λ _. ⌜ BlockFilled (widthList widths) (indexList first) (indexList last) word
+        (now (dir .entry)) (now (dir .exit)) ⌝ }
+{
+    let base = locate(widths, first);
+    let end = locate(widths, last);
+    fill_mask(base, end - base, word, dir);
+}
+
+// Sets the words at base + v for every v whose bits are among those of the mask, from the greatest v
+// down: the next one below v is (v - 1) & mask.
+fn fill_mask(base: u64, mask: u64, word: u32, dir: &mut [u32])
+    requires { ⌜ (base + mask < length (now dir)) × (base + mask < 4096) ⌝ }
+    ensures { λ _. ⌜ MaskFilled base mask word (now (dir .entry)) (now (dir .exit)) ⌝ }
+{
+    let mut v = mask;
+    dir[(base + v) as usize] = word;
+    while 0 < v {
+        v = (v - 1) & mask;
+        dir[(base + v) as usize] = word;
     }
 }

@@ -1,5 +1,5 @@
 -- `directory::cells::index_of_bits` meets its contract: the bits are taken from the last to the first. Assumes nothing.
-use Prim.Native.Nat.{_-_, _≤_, _<_}
+use Prim.Native.Nat.{_-_}
 use native.Mathlib.Omega.{arith}
 use Rattle.directory.proofs.KeyLaws.{Taken, taken-zero, taken-suc, taken-end}
 use Rattle.directory.proofs.cells.index_of_bits.Statement.{statement}

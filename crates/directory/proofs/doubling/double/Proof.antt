@@ -1,25 +1,26 @@
--- `directory::doubling::double` meets its contract: the new addresses below a have their words; those left fall.
+-- `directory::doubling::double` meets its contract: the new addresses below 2^t + r have their words; those left fall.
 -- Assumes nothing.
 use Prim.Native.Nat.{ℕ, suc, _+_, _-_, _*_, _%_, _≤_, _<_, _^_}
-use mathlib.Core.Path.{_≡_, sym, _∙_, subst}
+use mathlib.Core.Path.{_≡_, sym, subst}
 use mathlib.Core.List.{List}
 use native.Mathlib.Omega.{arith}
 use native.Mathlib.Nat.{le-trans}
 use native.Mathlib.Numerals.{add-one}
 use lib.Pow.{pow-mono}
 use lib.ListN.{length}
+use Rattle.lists.proofs.Shifts.{one-shifted}
 use Rattle.shape.specs.Shape.{widthList}
 use Rattle.split.specs.Steps.{steps}
 use Rattle.directory.proofs.PlaceLaws.{stepPair-lt}
-use Rattle.directory.proofs.DoublingLaws.{DoubledTo, doubledTo-none, doubledTo-suc, doubledTo-end, upperHalf-lt, shifted}
+use Rattle.directory.proofs.DoublingLaws.{DoubledTo, doubledTo-none, doubledTo-suc, doubledTo-end, upperHalf-lt}
 use Rattle.directory.proofs.doubling.double.Statement.{statement}
 use Rattle.directory.proofs.doubling.double.Tie as tie
 
 abbrev Inv-loop : tie.InvT-loop
-Inv-loop widths t dir₀ g end a₀ dir a = DoubledTo (widthList widths) t dir₀ dir a
+Inv-loop widths t dir₀ g size r₀ dir r = DoubledTo (widthList widths) t dir₀ dir (size + r)
 
 abbrev μ-loop : tie.MeasureT-loop
-μ-loop widths t dir₀ g end a₀ dir a = end - a
+μ-loop widths t dir₀ g size r₀ dir r = size - r
 
 abbrev Found : Type 0
 Found = tie.After-pair-of-step Inv-loop μ-loop
@@ -30,12 +31,9 @@ ws c = widthList (c .before .before .args .widths)
 abbrev t : Found → ℕ
 t c = c .before .before .args .t
 
--- the bounds of the loop: 2 ^ t and 2 ^ suc t, at most 4,096
-first : (c : Found) → (1 * 2 ^ t c) % 2 ^ 64 ≡ 2 ^ t c
-first c = shifted 1 (t c) (omega arith) (c .before .before .pre .short) ∙ omega arith
-
-last : (c : Found) → (2 * 2 ^ t c) % 2 ^ 64 ≡ 2 ^ suc (t c)
-last c = shifted 2 (t c) (omega arith) (c .before .before .pre .short) ∙ omega arith
+-- 1 << t
+size-is : (c : Found) → (1 * 2 ^ t c) % 2 ^ 64 ≡ 2 ^ t c
+size-is c = one-shifted (t c) (omega (arith, c .before .before .pre .short))
 
 small : (c : Found) → 2 ^ suc (t c) ≤ 4096
 small c = le-trans (pow-mono (c .before .before .pre .short)) (omega arith)
@@ -43,8 +41,9 @@ small c = le-trans (pow-mono (c .before .before .pre .short)) (omega arith)
 deep : (c : Found) → t c < length (steps (ws c))
 deep c = stepPair-lt (ws c) (t c) _ (c .pair-of-step .ensures) (c .before .before .pre .fit)
 
-below : (c : tie.In-loop Inv-loop μ-loop) → c .before .loop .a < 2 ^ suc (t (c .before .before))
-below c = subst (λ x. c .before .loop .a < x) (last (c .before .before)) (c .loop-test .taken)
+below : (c : tie.In-loop Inv-loop μ-loop) → let s = c .before .before in
+    (1 * 2 ^ t s) % 2 ^ 64 + c .before .loop .r < 2 ^ suc (t s)
+below c = omega (arith, size-is (c .before .before), c .loop-test .taken)
 
 -- the whole cell's address
 low : (c : tie.After-whole-of Inv-loop μ-loop) → c .whole-of .result < 2 ^ t (c .before .before .before)
@@ -55,17 +54,18 @@ low c =
 pair-of-step-requires : tie.Need-pair-of-step-requires Inv-loop μ-loop
 pair-of-step-requires c κs = (c .before .pre .fit, c .before .pre .deep)
 
-shl-end : tie.Need-shl-end Inv-loop μ-loop
-shl-end c = omega (arith, c .before .before .pre .short)
-
-shl-a : tie.Need-shl-a Inv-loop μ-loop
-shl-a c = omega (arith, c .before .before .pre .short)
+shl-size : tie.Need-shl-size Inv-loop μ-loop
+shl-size c = omega (arith, c .before .before .pre .short)
 
 loop-holds : tie.Need-loop-holds Inv-loop μ-loop
 loop-holds c =
     let words = c .before .before .args .dir .now in
-    subst (DoubledTo (ws c) (t c) words words) (sym (first c))
+    let start : 2 ^ t c ≡ (1 * 2 ^ t c) % 2 ^ 64 + 0 = omega (arith, size-is c) in
+    subst (DoubledTo (ws c) (t c) words words) start
     (doubledTo-none (ws c) (c .before .before .pre .fit) (t c) (deep c) words)
+
+add-a : tie.Need-add-a Inv-loop μ-loop
+add-a c = record { fits = omega (arith, below c, small (c .before .before)) }
 
 whole-of-requires : tie.Need-whole-of-requires Inv-loop μ-loop
 whole-of-requires c κs =
@@ -73,17 +73,25 @@ whole-of-requires c κs =
     record {
       fit = s .before .before .pre .fit;
       from = c .before .loop .inv .low;
-      past = subst (λ n. c .before .loop .a < 2 ^ n) (sym (add-one (t s))) (below c);
+      past = subst (λ n. (1 * 2 ^ t s) % 2 ^ 64 + c .before .loop .r < 2 ^ n) (sym (add-one (t s))) (below c);
       pair = s .pair-of-step .ensures;
     }
 
 mul-word : tie.Need-mul-word Inv-loop μ-loop
-mul-word c = record { fits = omega (arith, low c, small (c .before .before .before)) }
+mul-word c =
+    let s = c .before .before .before in
+    record { fits = omega (arith, low c, below (c .before), small s) }
 
 slice-read-word : tie.Need-slice-read-word Inv-loop μ-loop
 slice-read-word c =
     let s = c .before .before .before .before in
-    omega (arith, low (c .before), s .before .before .pre .room, c .before .before .before .loop .inv .size)
+    omega (
+      arith,
+      low (c .before),
+      below (c .before .before),
+      s .before .before .pre .room,
+      c .before .before .before .loop .inv .size,
+    )
 
 mul-dir : tie.Need-mul-dir Inv-loop μ-loop
 mul-dir c = record { fits = omega (arith, below (c .before .before), small (c .before .before .before .before)) }
@@ -93,8 +101,8 @@ slice-write-dir c =
     let s = c .before .before .before .before in
     omega (arith, below (c .before .before), s .before .before .pre .room, c .before .before .before .loop .inv .size)
 
-add-a : tie.Need-add-a Inv-loop μ-loop
-add-a c = record { fits = omega (arith, below (c .before .before), small (c .before .before .before .before)) }
+add-r : tie.Need-add-r Inv-loop μ-loop
+add-r c = record { fits = omega (arith, below (c .before .before), small (c .before .before .before .before)) }
 
 loop-less : tie.Need-loop-less Inv-loop μ-loop
 loop-less c = omega (arith, c .before .before .loop-test .taken)
@@ -103,8 +111,11 @@ loop-again : tie.Need-loop-again Inv-loop μ-loop
 loop-again c =
     let l = c .before .before .before .loop in
     let s = c .before .before .before .before in
-    doubledTo-suc (ws s) (s .before .before .pre .fit) (t s) (deep s) _ (l .dir) (l .a) (l .inv) _
-    (s .before .before .pre .room) (below (c .before .before)) (c .before .whole-of .ensures)
+    let a = (1 * 2 ^ t s) % 2 ^ 64 + l .r in
+    let next : a + 1 ≡ (1 * 2 ^ t s) % 2 ^ 64 + (l .r + 1) = omega arith in
+    subst (DoubledTo (ws s) (t s) _ _) next
+    (doubledTo-suc (ws s) (s .before .before .pre .fit) (t s) (deep s) _ (l .dir) a (l .inv) _
+    (s .before .before .pre .room) (below (c .before .before)) (c .before .whole-of .ensures))
 
 same-length : tie.Need-same-length Inv-loop μ-loop
 same-length c = c .before .loop .inv .size
@@ -113,8 +124,8 @@ returns : tie.Need-returns Inv-loop μ-loop
 returns c =
     let l = c .before .loop in
     let s = c .before .before in
-    doubledTo-end (ws s) (s .before .before .pre .fit) (t s) (deep s) _ (l .dir) (l .a) (l .inv)
-    (subst (λ x. x ≤ l .a) (last s) (c .loop-test .left))
+    doubledTo-end (ws s) (s .before .before .pre .fit) (t s) (deep s) _ (l .dir) _ (l .inv)
+    (omega (arith, size-is s, c .loop-test .left))
 
 pub double-spec : {M : Type 1} → statement M
 double-spec =
@@ -123,15 +134,15 @@ double-spec =
     Inv-loop
     μ-loop
     pair-of-step-requires
-    shl-end
-    shl-a
+    shl-size
     loop-holds
+    add-a
     whole-of-requires
     mul-word
     slice-read-word
     mul-dir
     slice-write-dir
-    add-a
+    add-r
     loop-less
     loop-again
     same-length

@@ -1,7 +1,6 @@
 -- `directory::doubling::whole_of` meets its contract: without the step's bit the vector is that of the whole cell.
 -- Assumes nothing.
 use mathlib.Core.Path.{refl, sym, ap, _∙_, subst}
-use mathlib.Core.List.{List}
 use Rattle.shape.specs.Shape.{widthList}
 use Rattle.address.specs.Answers.{indexList}
 use Rattle.address.specs.Address.{address}

@@ -1,6 +1,6 @@
--- `directory::places::place_from` meets its contract: so many steps stand before place g, at most t; the pairs left fall.
--- Assumes nothing.
-use Prim.Native.Nat.{_-_, _/_, _+_, _≤_, _<_}
+-- `directory::places::place_from` meets its contract: so many steps stand before place g, at most t; the pairs left
+-- fall. Assumes nothing.
+use Prim.Native.Nat.{_-_, _/_, _≤_, _<_}
 use mathlib.Core.Path.{_≡_, subst}
 use mathlib.Core.Logic.{⊎-elim}
 use native.Mathlib.Omega.{arith}

@@ -1,4 +1,5 @@
--- `directory::places::step_from` meets its contract: t steps stand before place g; the pairs left fall. Assumes nothing.
+-- `directory::places::step_from` meets its contract: t steps stand before place g; the pairs left fall.
+-- Assumes nothing.
 use Prim.Native.Nat.{_-_, _/_, _≤_, _<_}
 use mathlib.Core.Path.{subst}
 use native.Mathlib.Omega.{arith}

@@ -1,5 +1,5 @@
 -- `directory::vectors::with_bit` meets its contract, attribute by attribute. Assumes nothing.
-use Prim.Native.Nat.{ℕ, _+_, _*_, _/_, _%_, _^_, _≤_, _<_}
+use Prim.Native.Nat.{ℕ, _+_, _*_, _/_, _%_, _^_, _<_}
 use mathlib.Core.Path.{_≡_}
 use native.Mathlib.Omega.{arith}
 use lib.ListN.{getD}
@@ -26,8 +26,7 @@ less s j d e l =
     let k : s .args .g / 4 < 16 = omega (arith, s .pre .0) in
     let low : getD (indexList (s .args .index)) (s .args .g % 4) 0 + bit s < 2 ^ 64 =
     omega (arith, s .pre .1, bit-is s, pow-lt k) in
-    let bound = add-onlyAt-lt (indexList (s .args .index)) (bit s) (s .args .g % 4) (2 ^ 64)
-    low j l in
+    let bound = add-onlyAt-lt (indexList (s .args .index)) (bit s) (s .args .g % 4) (2 ^ 64) low j l in
     omega (arith, bound)
 
 shl-bit : tie.Need-shl-bit
@@ -47,23 +46,25 @@ only-at-requires-4 c κs = search needs
 
 add-t9 : tie.Need-add-t9
 add-t9 c =
-    let s = c .before .before .before .before .before in
-    record { fits = less s 0 _ (c .before .before .before .before .only-at .ensures) (c .struct-known .given .0 .fits) }
+    let d = c .before .before .before .before in
+    record { fits = less (d .before) 0 _ (d .only-at .ensures) (c .struct-known .given .0 .fits) }
 
 add-t10 : tie.Need-add-t10
 add-t10 c =
-    let s = c .before .before .before .before .before .before in
-    record { fits = less s 1 _ (c .before .before .before .before .only-at2 .ensures) (c .struct-known2 .given .1 .0 .fits) }
+    let d = c .before .before .before .before in
+    record { fits = less (d .before .before) 1 _ (d .only-at2 .ensures) (c .struct-known2 .given .1 .0 .fits) }
 
 add-t11 : tie.Need-add-t11
 add-t11 c =
-    let s = c .before .before .before .before .before .before .before in
-    record { fits = less s 2 _ (c .before .before .before .before .only-at3 .ensures) (c .struct-known3 .given .1 .1 .0 .fits) }
+    let d = c .before .before .before .before in
+    let i = c .struct-known3 .given .1 .1 .0 .fits in
+    record { fits = less (d .before .before .before) 2 _ (d .only-at3 .ensures) i }
 
 add-t12 : tie.Need-add-t12
 add-t12 c =
-    let s = c .before .before .before .before .before .before .before .before in
-    record { fits = less s 3 _ (c .before .before .before .before .only-at4 .ensures) (c .struct-known4 .given .1 .1 .1 .0 .fits) }
+    let d = c .before .before .before .before in
+    let i = c .struct-known4 .given .1 .1 .1 .0 .fits in
+    record { fits = less (d .before .before .before .before) 3 _ (d .only-at4 .ensures) i }
 
 returns : tie.Need-returns
 returns c =

@@ -1,5 +1,5 @@
 -- `directory::vectors::without_bit` meets its contract, attribute by attribute. Assumes nothing.
-use Prim.Native.Nat.{ℕ, _+_, _*_, _/_, _%_, _^_, _≤_, _<_}
+use Prim.Native.Nat.{ℕ, _*_, _/_, _%_, _^_, _≤_}
 use mathlib.Core.Path.{_≡_}
 use native.Mathlib.Omega.{arith}
 use lib.ListN.{getD}
@@ -22,7 +22,8 @@ bit-is s = one-shifted (s .args .g / 4) (omega (arith, s .pre .0))
 less : (s : tie.Start) (j d : ℕ) → d ≡ onlyAt (bit s) j (s .args .g % 4)
     → d ≤ getD (indexList (s .args .index)) j 0
 less s j d e =
-    let bound = onlyAt-le (indexList (s .args .index)) (bit s) (s .args .g % 4) (omega (arith, s .pre .1, bit-is s)) j in
+    let low : bit s ≤ getD (indexList (s .args .index)) (s .args .g % 4) 0 = omega (arith, s .pre .1, bit-is s) in
+    let bound = onlyAt-le (indexList (s .args .index)) (bit s) (s .args .g % 4) low j in
     omega (arith, bound)
 
 shl-bit : tie.Need-shl-bit
@@ -41,16 +42,24 @@ only-at-requires-4 : tie.Need-only-at-requires-4
 only-at-requires-4 c κs = search needs
 
 sub-t9 : tie.Need-sub-t9
-sub-t9 c = less (c .before .before .before .before .before) 0 _ (c .before .before .before .before .only-at .ensures)
+sub-t9 c =
+    let d = c .before .before .before .before in
+    less (d .before) 0 _ (d .only-at .ensures)
 
 sub-t10 : tie.Need-sub-t10
-sub-t10 c = less (c .before .before .before .before .before .before) 1 _ (c .before .before .before .before .only-at2 .ensures)
+sub-t10 c =
+    let d = c .before .before .before .before in
+    less (d .before .before) 1 _ (d .only-at2 .ensures)
 
 sub-t11 : tie.Need-sub-t11
-sub-t11 c = less (c .before .before .before .before .before .before .before) 2 _ (c .before .before .before .before .only-at3 .ensures)
+sub-t11 c =
+    let d = c .before .before .before .before in
+    less (d .before .before .before) 2 _ (d .only-at3 .ensures)
 
 sub-t12 : tie.Need-sub-t12
-sub-t12 c = less (c .before .before .before .before .before .before .before .before) 3 _ (c .before .before .before .before .only-at4 .ensures)
+sub-t12 c =
+    let d = c .before .before .before .before in
+    less (d .before .before .before .before) 3 _ (d .only-at4 .ensures)
 
 returns : tie.Need-returns
 returns c =
