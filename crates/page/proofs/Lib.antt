@@ -1,1 +1,4 @@
+pub mod ChangeLaws
+pub mod FieldLaws
 pub mod PageLaws
+pub mod PlaceLaws

@@ -1,2 +1,5 @@
 pub mod ByteLaws
+pub mod CodecLaws
 pub mod KeyLaws
+pub mod NumberLaws
+pub mod PackedLaws

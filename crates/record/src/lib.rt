@@ -1,7 +1,62 @@
-// Records: their key, what they hold besides it, and their bytes (document 01, "Lent memory").
+// Records: their key, what they hold besides it, and their bytes (document 01, "Lent memory"). The code hands a key on
+// as one number, whose 16-bit parts are the values: a packed key.
+pub mod numbers;
+
+use numbers::read32;
+use numbers::read64;
+use numbers::write32;
+use numbers::write64;
+use shape::Key;
+ghost use mathlib.Core.Path.{_≡_};
+ghost use Prim.Native.Nat.{_+_, _≤_};
+ghost use lib.ListN.{length};
+ghost use lib.Seq.{paste};
+ghost use Rattle.record.specs.Bytes.{numberOf, field};
+ghost use Rattle.record.specs.Packed.{SixteenBits, packedKey, contentIn, packedBytes};
+
+// The bytes of one record.
+pub const RECORD_SIZE: usize = 12;
 
 // What a record holds besides its key.
 #[repr(C)]
 pub struct Content {
     pub payload: u32,
+}
+
+// The packed key of four values.
+pub fn pack_key(key: Key) -> u64
+    requires { ⌜ SixteenBits (key .values) ⌝ }
+    ensures { λ r. ⌜ r ≡ packedKey (key .values) ⌝ }
+{
+    let values = key.values;
+    let low = (values[0] as u64) | ((values[1] as u64) << 16);
+    let high = (values[2] as u64) | ((values[3] as u64) << 16);
+    low | (high << 32)
+}
+
+// The packed key of the record at an offset.
+pub fn read_key(bytes: &[u8], at: usize) -> u64
+    requires { ⌜ at + 8 ≤ length (now bytes) ⌝ }
+    ensures { λ r. ⌜ r ≡ numberOf (field (now (bytes .entry)) at 8) ⌝ }
+{
+    read64(bytes, at)
+}
+
+// The content of the record at an offset.
+pub fn read_content(bytes: &[u8], at: usize) -> Content
+    requires { ⌜ at + 12 ≤ length (now bytes) ⌝ }
+    ensures { λ r. ⌜ r ≡ contentIn (field (now (bytes .entry)) at 12) ⌝ }
+{
+    Content {
+        payload: read32(bytes, at + 8) as u32,
+    }
+}
+
+// Writes a record at an offset.
+pub fn write_record(bytes: &mut [u8], at: usize, key: u64, content: Content)
+    requires { ⌜ at + 12 ≤ length (now bytes) ⌝ }
+    ensures { λ _. ⌜ now (bytes .exit) ≡ paste (now (bytes .entry)) at (packedBytes key content) 12 ⌝ }
+{
+    write64(bytes, at, key);
+    write32(bytes, at + 8, content.payload as u64);
 }

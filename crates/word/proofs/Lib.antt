@@ -1,1 +1,2 @@
+pub mod LeafLaws
 pub mod WordLaws

@@ -1,0 +1,59 @@
+// The lent pages, side by side: a part of them for each page, handed to the steps on one page (document 01, "Lent
+// memory"). Page g has the 2 + 12b bytes from g times that on.
+use record::RECORD_SIZE;
+ghost use mathlib.Core.Path.{_≡_};
+ghost use Prim.Native.Nat.{_+_, _-_, _*_, _<_, _≤_};
+ghost use lib.ListN.{length};
+ghost use Rattle.page.specs.Page.{countOf, pageSize, pageAt};
+ghost use Rattle.pages.specs.Pages.{PageLent, carriedPages, firstFree};
+
+// Carries records between two pages: those from m on of page p, which has n, go behind the j records of page q, and
+// page p keeps its first m. With j = 0 this divides a page; with m = 0 it joins two, and page p is free.
+pub fn carry(pages: &mut [u8], capacity: usize, p: usize, m: usize, n: usize, q: usize, j: usize)
+    requires { ⌜ PageLent capacity p (now pages) × PageLent capacity q (now pages) ⌝ }
+    requires { ⌜ (m ≤ n) × (n ≤ capacity) × (j + (n - m) ≤ capacity) ⌝ }
+    ensures { λ _. ⌜ now (pages .exit) ≡ carriedPages capacity p m n q j (now (pages .entry)) ⌝ }
+{
+    let mut carried = [0u8; 192];
+    let size = 2 + RECORD_SIZE * capacity;
+    let run = n - m;
+    let from = p * size;
+    let from_end = from + size;
+    moves::copy(
+        &pages[from..from_end],
+        2 + RECORD_SIZE * m,
+        &mut carried,
+        0,
+        RECORD_SIZE * run,
+    );
+    page::set_count(&mut pages[from..from_end], m);
+    let to = q * size;
+    let to_end = to + size;
+    page::append(&mut pages[to..to_end], j, &carried, run);
+}
+
+// How many records page p has, as its count says.
+pub fn count_at(pages: &[u8], capacity: usize, p: usize) -> usize
+    requires { ⌜ PageLent capacity p (now pages) ⌝ }
+    ensures { λ r. ⌜ (r ≡ countOf (pageAt capacity (now (pages .entry)) p)) × (r < 65536) ⌝ }
+{
+    let size = 2 + RECORD_SIZE * capacity;
+    let start = p * size;
+    let end = start + size;
+    page::count(&pages[start..end])
+}
+
+// The first of the first n pages that is free; n where none is.
+pub fn first_free(pages: &[u8], capacity: usize, n: usize) -> usize
+    requires { ⌜ (capacity ≤ 16) × (n ≤ 4096) × (n * pageSize capacity ≤ length (now pages)) ⌝ }
+    ensures { λ r. ⌜ r ≡ firstFree capacity (now (pages .entry)) n 0 ⌝ }
+{
+    let mut p = 0;
+    while p < n {
+        if count_at(pages, capacity, p) == 0 {
+            return p;
+        }
+        p += 1;
+    }
+    p
+}
