@@ -102,7 +102,7 @@ pub fn vector_at(widths: Widths, a: u64) -> Index
 }
 
 // Whether each index is below 2^w_j.
-fn index_fits(widths: Widths, index: Index) -> bool
+pub fn index_fits(widths: Widths, index: Index) -> bool
     requires { ⌜ Fit (widthList widths) ⌝ }
     ensures { λ r. ⌜ r ≡ indexFits (widthList widths) (indexList index) ⌝ }
 {

@@ -1,16 +1,16 @@
 -- Laws of shapes: their number; how many widths they have, and how large; values below them. Assumes nothing.
 use Prim.Native.Nat.{ℕ, zero, suc, _*_, _^_, _≤_, _<_}
 use mathlib.Core.Path.{_≡_, refl}
-use mathlib.Core.Bool.{Bool, true, false, cond}
+use mathlib.Core.Bool.{Bool, true, false, cond, _&&_}
 use mathlib.Core.List.{List, [], _∷_}
 use native.Mathlib.Omega.{arith}
-use lib.Dec.{ltb}
+use lib.Dec.{ltb, leb}
 use lib.ListN.{getD, length}
 use lib.Pow.{pow-pos}
-use borrow.Author.Tests.{ltb-true, lt-ltb, le-ltb}
+use borrow.Author.Tests.{ltb-true, lt-ltb, le-ltb, leb-true}
 use Rattle.lists.proofs.Bools.{and-split}
 use Rattle.shape.specs.Refusal.{firstNumber}
-use Rattle.shape.specs.Shape.{inBounds, shapeConditions, shapeNumber, widthOf, widthsOf, total, Fit, indexFits}
+use Rattle.shape.specs.Shape.{within, allBelow, inBounds, shapeConditions, shapeNumber, widthOf, widthsOf, total, Fit, indexFits}
 use Rattle.shape.specs.declared.Shape.{Shape}
 use Rattle.shape.proofs.BoundsLaws.{within-le, width-of-inBounds}
 
@@ -94,3 +94,14 @@ indexFits-below (w ∷ ws) [] e r l = pow-pos (getD (w ∷ ws) r 0)
 indexFits-below (w ∷ ws) (i ∷ is) e zero l = ltb-true i (2 ^ w) (and-split (ltb i (2 ^ w)) (indexFits ws is) e .0)
 indexFits-below (w ∷ ws) (i ∷ is) e (suc r) l =
     indexFits-below ws is (and-split (ltb i (2 ^ w)) (indexFits ws is) e .1) r (omega arith)
+
+-- ---- capacity
+
+pub capacity-bounds : (s : Shape) → shapeNumber s ≡ 0 → (1 ≤ s .capacity) × (s .capacity ≤ 16)
+unfolding inBounds
+capacity-bounds s n =
+    let widths-in : Bool = allBelow (s .attributes) (λ j. within 1 16 (getD (s .widths) j 0)) in
+    let rest = and-split (within 1 4 (s .attributes)) (widths-in && within 1 16 (s .capacity)) (inBounds-of s n) .1 in
+    let range = and-split widths-in (within 1 16 (s .capacity)) rest .1 in
+    let c = and-split (leb 1 (s .capacity)) (leb (s .capacity) 16) range in
+    (leb-true 1 (s .capacity) (c .0), leb-true (s .capacity) 16 (c .1))

@@ -1,0 +1,183 @@
+-- Laws of the promise of a call that changes a store: refused early, refused by what it meets, and accepted. For insert
+-- and delete alike. Assumes nothing.
+use Prim.Native.Nat.{ℕ, suc, _+_, _^_, _≤_}
+use mathlib.Core.Path.{_≡_, refl, sym, ap, _∙_}
+use mathlib.Core.Bool.{Bool, true, false, not, cond, _||_}
+use mathlib.Core.List.{List}
+use mathlib.Core.Logic.{inl, inr}
+use native.Mathlib.Omega.{arith}
+use lib.Dec.{ltb}
+use lib.ListN.{length, getD, drop, length-drop}
+use lib.Pow.{pow-mono}
+use lib.Seq.{getD-drop, ext-getD}
+use borrow.Author.Tests.{le-ltb}
+use Rattle.lists.specs.Members.{Member}
+use Rattle.shape.specs.Refusal.{Answer, accepted, refused, firstNumber}
+use Rattle.shape.specs.Shape.{inBounds, shapeConditions}
+use Rattle.shape.specs.Key.{keyFits}
+use Rattle.record.specs.Record.{Record}
+use Rattle.model.specs.Model.{Call, Reply, changed, replyTo, numberFor, setAfter, outcome, next}
+use Rattle.store.specs.Store.{Store, Memory, fixedOf, pagesSize, lentConditions}
+use Rattle.store.specs.Sound.{Sound}
+use Rattle.store.specs.Promises.{keyNumber, KeepsPages, TakesPages, ChangePromise}
+use Rattle.store.specs.declared.Tally.{Tally}
+use Rattle.store.proofs.ShownLaws.{divisionOn}
+use Rattle.change.proofs.RegionLaws.{changedStore, RegionChanged, keeps-of-region, takes-of-region}
+
+-- ---- early numbers of a call with a key
+
+module _ (before : Store) (values : List ℕ) where
+  -- 1, 2, 3 or none
+  abbrev number : Bool → Bool → Bool → Bool → ℕ
+  number a b c d = cond (not a) 1 (cond (b || c) 2 (cond (not d) 3 0))
+
+  -- on a sound store 3 or none
+  pub keyNumber-sound : (S : List Record) → Sound before S
+      → keyNumber before values ≡ cond (not (keyFits (before .state .shape) values)) 3 0
+  unfolding keyNumber lentConditions shapeConditions firstNumber
+  keyNumber-sound S sound =
+      rw (
+        sound .shape,
+        le-ltb (length (before .memory .words)) (2 ^ before .state .limits .depth) (sound .words-lent),
+        le-ltb (length (before .memory .bytes)) (pagesSize (before .state)) (sound .pages-lent),
+      )
+
+  pub keyFits-of-keyNumber : keyNumber before values ≡ 0 → keyFits (before .state .shape) values ≡ true
+  unfolding keyNumber lentConditions shapeConditions firstNumber
+  keyFits-of-keyNumber e =
+      go (inBounds (before .state .shape)) (ltb (length (before .memory .words)) (2 ^ before .state .limits .depth))
+      (ltb (length (before .memory .bytes)) (pagesSize (before .state))) (keyFits (before .state .shape) values) e
+    where
+      go : (a b c d : Bool) → number a b c d ≡ 0 → d ≡ true
+      go a b c true k = refl
+      go true true c false k = absurd (omega arith)
+      go true false true false k = absurd (omega arith)
+      go true false false false k = absurd (omega arith)
+      go false b c false k = absurd (omega arith)
+
+  -- the number 3, where there is one
+  pub keyNumber-suc : (S : List Record) → Sound before S → (n : ℕ) → keyNumber before values ≡ suc n
+      → (keyFits (before .state .shape) values ≡ false) × (suc n ≡ 3)
+  keyNumber-suc S sound n e = go (keyFits (before .state .shape) values) refl
+    where
+      go : (β : Bool) → keyFits (before .state .shape) values ≡ β
+          → (keyFits (before .state .shape) values ≡ false) × (suc n ≡ 3)
+      go true d =
+          let none : keyNumber before values ≡ 0 = keyNumber-sound S sound ∙ ap (λ γ. cond (not γ) 3 0) d in
+          absurd (omega arith)
+      go false d = (d, sym e ∙ keyNumber-sound S sound ∙ ap (λ γ. cond (not γ) 3 0) d)
+
+-- ---- words and bytes that are never changed
+
+pub drop-of-past : (t L : ℕ) (before after : List ℕ) → t ≤ L → length after ≡ length before
+    → ((a : ℕ) → 2 ^ t ≤ a → getD after a 0 ≡ getD before a 0) → drop (2 ^ L) after ≡ drop (2 ^ L) before
+drop-of-past t L before after h e past =
+    ext-getD 0 (drop (2 ^ L) after) (drop (2 ^ L) before)
+    (omega (arith, length-drop (2 ^ L) after, length-drop (2 ^ L) before))
+    (λ i l. getD-drop (2 ^ L) after i 0
+    ∙ past (2 ^ L + i) (omega (arith, pow-mono {i = t} {j = L} h))
+    ∙ sym (getD-drop (2 ^ L) before i 0))
+
+-- on any store
+pub record KeepsPast (before : Store) (m′ : Memory) : Type 0 where
+  pub words-length : length (m′ .words) ≡ length (before .memory .words)
+  pub bytes-length : length (m′ .bytes) ≡ length (before .memory .bytes)
+  pub words-past : drop (2 ^ before .state .limits .depth) (m′ .words)
+      ≡ drop (2 ^ before .state .limits .depth) (before .memory .words)
+  pub bytes-past : drop (pagesSize (before .state)) (m′ .bytes)
+      ≡ drop (pagesSize (before .state)) (before .memory .bytes)
+
+-- ---- a sound store after an accepted call
+
+pub record ShowsNext (before after : Store) (S S′ : List Record) : Type 0 where
+  pub sound : Sound after S′
+  pub keeps : KeepsPages before after (divisionOn before S) (divisionOn before S′)
+  pub takes : TakesPages before after (divisionOn before S) (divisionOn before S′)
+
+pub showsNext-of-region : (before : Store) (S S′ : List Record) (T′ : ℕ) (tally′ : Tally) (m′ : Memory) (p₀ : ℕ → Bool)
+    → (x : ℕ) → Sound before S → RegionChanged before S S′ T′ m′ p₀ x → Sound (changedStore before T′ tally′ m′) S′
+    → ShowsNext before (changedStore before T′ tally′ m′) S S′
+showsNext-of-region before S S′ T′ tally′ m′ p₀ x sound change after =
+    record {
+      sound = after;
+      keeps = keeps-of-region before S S′ T′ m′ p₀ x sound change tally′;
+      takes = takes-of-region before S S′ T′ m′ p₀ x sound change tally′;
+    }
+
+-- ---- the promise
+
+module _ (c : Call) (early : ℕ) (numbers : List ℕ) (before : Store) where
+  -- on a sound store it is the model's number
+  abbrev pub ModelNumber : ℕ → Type 0
+  ModelNumber n = (S : List Record) → Sound before S → numberFor (fixedOf (before .state)) S c ≡ n
+
+  module _ (n : ℕ) (same : ModelNumber (suc n)) where
+    answer-refused : (S : List Record) → Sound before S
+        → _≡_ {A = Answer Reply} (refused (suc n)) (outcome (fixedOf (before .state)) S c .answer)
+    unfolding outcome
+    answer-refused S sound = rw (same S sound)
+
+    next-refused : (S : List Record) → Sound before S → next (fixedOf (before .state)) S c ≡ S
+    unfolding next
+    next-refused S sound = rw (same S sound)
+
+    promise-unchanged : ((k : ℕ) → early ≡ suc k → _≡_ {A = Answer Reply} (refused (suc n)) (refused (suc k)))
+        → (early ≡ 0 → Member (suc n) numbers) → ChangePromise c early numbers before (refused (suc n)) before
+    promise-unchanged first later =
+        record {
+          early-refused = first;
+          unchanged = λ k e. refl;
+          ordinary = λ e. inr (suc n, refl, later e);
+          shape-kept = refl;
+          limits-kept = refl;
+          words-length = refl;
+          bytes-length = refl;
+          words-past = refl;
+          bytes-past = refl;
+          answered-as = answer-refused;
+          shown = λ S sound. rw (next-refused S sound) sound;
+          pages-kept = λ S sound. rw (next-refused S sound) (λ p e h g x l d. d);
+          pages-taken = λ S sound. rw (next-refused S sound) (λ p g x l d. inl d);
+        }
+
+    pub promise-early : early ≡ suc n → ChangePromise c early numbers before (refused (suc n)) before
+    promise-early e =
+        promise-unchanged (λ k d. ap refused (sym e ∙ d))
+        (λ d. let z : suc n ≡ 0 = sym e ∙ d in absurd (omega arith))
+
+    pub promise-refused : early ≡ 0 → Member (suc n) numbers
+        → ChangePromise c early numbers before (refused (suc n)) before
+    promise-refused e member =
+        promise-unchanged (λ k d. let z : suc k ≡ 0 = sym d ∙ e in absurd (omega arith)) (λ d. member)
+
+  -- on a sound store the call is accepted, and its set shown
+  pub promise-accepted : (T′ : ℕ) (tally′ : Tally) (m′ : Memory) → early ≡ 0 → KeepsPast before m′ → ModelNumber 0
+      → ((S : List Record) → replyTo (fixedOf (before .state)) S c ≡ changed)
+      → ((S : List Record) → Sound before S
+      → ShowsNext before (changedStore before T′ tally′ m′) S (setAfter (fixedOf (before .state)) S c))
+      → ChangePromise c early numbers before (accepted changed) (changedStore before T′ tally′ m′)
+  unfolding outcome next
+  promise-accepted T′ tally′ m′ e past same reply shows =
+      record {
+        early-refused = λ k d. let z : suc k ≡ 0 = sym d ∙ e in absurd (omega arith);
+        unchanged = λ k d. let z : _≡_ {A = ℕ} 0 1 = cc in absurd (omega arith);
+        ordinary = λ d. inl refl;
+        shape-kept = refl;
+        limits-kept = refl;
+        words-length = past .words-length;
+        bytes-length = past .bytes-length;
+        words-past = past .words-past;
+        bytes-past = past .bytes-past;
+        answered-as = answer;
+        shown = λ S sound. rw (set-after S sound) (shows S sound .sound);
+        pages-kept = λ S sound. rw (set-after S sound) (shows S sound .keeps);
+        pages-taken = λ S sound. rw (set-after S sound) (shows S sound .takes);
+      }
+    where
+      answer : (S : List Record) → Sound before S
+          → _≡_ {A = Answer Reply} (accepted changed) (outcome (fixedOf (before .state)) S c .answer)
+      answer S sound = rw (same S sound, reply S)
+
+      set-after : (S : List Record) → Sound before S
+          → next (fixedOf (before .state)) S c ≡ setAfter (fixedOf (before .state)) S c
+      set-after S sound = rw (same S sound)

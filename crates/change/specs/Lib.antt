@@ -1,0 +1,2 @@
+pub mod Delete
+pub mod Private

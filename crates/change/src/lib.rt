@@ -1,0 +1,1 @@
+// Stores that change in one region: definitions and laws of insert and delete; no code.
