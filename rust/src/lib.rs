@@ -1,5 +1,8 @@
-//! What the tests compare: the calls of the static library, and references built from document 01.
+//! What the tests compare: the functions of the static libraries, and references built from document 01.
+pub mod cells;
 pub mod compare;
 pub mod host;
+pub mod probe;
 pub mod random;
 pub mod reference;
+pub mod shapes;

@@ -29,7 +29,7 @@ impl DoublingArray {
             depths[z] += 1;
             let mut fresh = all_below(depths);
             fresh.retain(|vector| vector[z] & (1 << k) != 0);
-            fresh.sort_by_key(|vector| order(vector, z));
+            fresh.sort_by_cached_key(|vector| order(vector, z));
             assert_eq!(fresh.len(), 1 << t);
             vectors.extend(fresh);
         }

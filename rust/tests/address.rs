@@ -3,6 +3,7 @@ use mdeh_tests::compare::Comparisons;
 use mdeh_tests::host::{self, AddressResult, Index, IndexResult, Shape};
 use mdeh_tests::random::Random;
 use mdeh_tests::reference::{formula, steps, DoublingArray};
+use mdeh_tests::shapes::{all_widths, random_widths};
 
 const SEED: u64 = 0x6d64_6568_2d30_3031;
 
@@ -13,21 +14,6 @@ const BAD_WIDTHS: [u32; 5] = [0, 17, 257, 65_536 + 2, u32::MAX];
 const HUGE: [u64; 5] = [1 << 16, 1 << 32, (1 << 32) + 1, 1 << 63, u64::MAX];
 
 // ---- every entry
-
-/// All widths of `count` attributes with a sum of at most `total`.
-fn all_widths(count: usize, total: u32) -> Vec<Vec<u32>> {
-    if count == 0 {
-        return vec![vec![]];
-    }
-    let mut all = Vec::new();
-    for widths in all_widths(count - 1, total) {
-        let used: u32 = widths.iter().sum();
-        for width in 1..=(total - used).min(16) {
-            all.push([widths.clone(), vec![width]].concat());
-        }
-    }
-    all
-}
 
 /// The library agrees with the first entries of the doubling array, in both directions.
 fn compare_with_array(count: &mut Comparisons, shape: Shape, array: &DoublingArray) {
@@ -64,17 +50,6 @@ fn every_entry_of_every_shape_of_up_to_ten_bits() {
 }
 
 // ---- shapes of 11 to 64 bits
-
-/// Random widths with this sum, each from 1 to 16.
-fn random_widths(random: &mut Random, total: u32) -> Vec<u32> {
-    let d = random.between(total.div_ceil(16) as u64, total.min(4) as u64) as usize;
-    let mut widths = vec![1; d];
-    while widths.iter().sum::<u32>() < total {
-        let j = random.between(0, d as u64 - 1) as usize;
-        widths[j] = (widths[j] + 1).min(16);
-    }
-    widths
-}
 
 #[test]
 fn first_entries_of_shapes_of_11_to_64_bits() {

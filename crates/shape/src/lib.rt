@@ -13,6 +13,7 @@ pub struct Shape {
 }
 
 // The widths that count: those of a shape, 0 past d.
+#[repr(C)]
 pub struct Widths {
     pub w0: u64,
     pub w1: u64,

@@ -1,0 +1,27 @@
+//! What the steps are timed on. Inputs are kept as long as the program runs.
+use mdeh_tests::random::Random;
+
+/// The widths of the shapes: one, two and four attributes of 16 bits, and four of unlike widths.
+pub const SHAPES: [&[u32]; 4] = [&[16], &[16, 16], &[16, 16, 16, 16], &[4, 8, 12, 16]];
+
+/// Random numbers below 2^w_j for each attribute, 0 for an unused one: keys, or index vectors.
+pub fn vectors(random: &mut Random, widths: &[u32], count: usize) -> &'static [[u32; 4]] {
+    let mut all = vec![[0; 4]; count];
+    for vector in &mut all {
+        for (j, &width) in widths.iter().enumerate() {
+            vector[j] = random.between(0, (1 << width) - 1) as u32;
+        }
+    }
+    all.leak()
+}
+
+/// Widths as the table shows them.
+pub fn shown(widths: &[u32]) -> String {
+    let widths: Vec<String> = widths.iter().map(u32::to_string).collect();
+    format!("widths {}", widths.join(", "))
+}
+
+/// The sum of what a step answers, input by input.
+pub fn sum<T>(inputs: &[T], answer: impl FnMut(&T) -> u64) -> u64 {
+    inputs.iter().map(answer).fold(0, u64::wrapping_add)
+}

@@ -1,0 +1,43 @@
+// Inner steps, exported for tests and benchmarks: each export hands its arguments on to one step, with
+// that step's contract. A caller tests what the `requires` asks.
+use directory::cells::find_cell;
+use directory::doubling::double;
+use directory::regions::fill;
+use shape::Key;
+use shape::Widths;
+ghost use mathlib.Core.Path.{_≡_};
+ghost use Prim.Native.Nat.{suc, _≤_};
+ghost use lib.ListN.{length};
+ghost use Rattle.shape.specs.Shape.{Fit, widthList, total};
+ghost use Rattle.split.specs.Bits.{splitBit};
+ghost use Rattle.cell.specs.Cell.{cellAddress};
+ghost use Rattle.directory.specs.Directory.{DirectoryFits, Doubled, Filled};
+
+// The address of a key's cell in a directory of depth t.
+#[no_mangle]
+pub extern "C" fn probe_find_cell(widths: Widths, key: Key, t: u64) -> u64
+    requires { ⌜ Fit (widthList widths) × (t ≤ total (widthList widths)) ⌝ }
+    ensures { λ r. ⌜ r ≡ cellAddress (widthList widths) t (splitBit (widthList widths) (key .values)) ⌝ }
+{
+    let values = key.values;
+    find_cell(widths, values, t)
+}
+
+// Doubles the directory from depth t to t + 1.
+#[no_mangle]
+pub extern "C" fn probe_double(widths: Widths, t: u64, dir: &mut [u32])
+    requires { ⌜ DirectoryFits (widthList widths) (suc t) (length (now dir)) ⌝ }
+    ensures { λ _. ⌜ Doubled (widthList widths) t (now (dir .entry)) (now (dir .exit)) ⌝ }
+{
+    double(widths, t, dir);
+}
+
+// Sets every cell of the region of a key's first x split bits, in a directory of depth t.
+#[no_mangle]
+pub extern "C" fn probe_fill(widths: Widths, key: Key, x: u64, t: u64, word: u32, dir: &mut [u32])
+    requires { ⌜ DirectoryFits (widthList widths) t (length (now dir)) × (x ≤ t) ⌝ }
+    ensures { λ _. ⌜ Filled (widthList widths) t x (splitBit (widthList widths) (key .values)) word (now (dir .entry)) (now (dir .exit)) ⌝ }
+{
+    let values = key.values;
+    fill(widths, values, x, t, word, dir);
+}

@@ -1,0 +1,62 @@
+//! Split bits and cells from document 01's words, by strings of bits. Addresses are those of the doubling
+//! array. Nothing here is taken from the library.
+use crate::reference::{steps, DoublingArray};
+use std::collections::HashMap;
+
+/// The cells of some widths, in directories of every depth up to a greatest.
+pub struct Cells {
+    widths: Vec<u32>,
+    steps: Vec<(u32, usize)>,
+    addresses: HashMap<[u64; 4], usize>,
+}
+
+/// One cell: its string of split bits and its address.
+pub struct Cell {
+    pub bits: Vec<bool>,
+    pub address: usize,
+}
+
+impl Cells {
+    /// The cells of these widths in directories of depth 0 to `greatest`.
+    pub fn new(widths: &[u32], greatest: usize) -> Cells {
+        let array = DoublingArray::new(widths, greatest);
+        let addresses = array.vectors.into_iter().enumerate().map(|(a, vector)| (vector, a)).collect();
+        Cells { widths: widths.to_vec(), steps: steps(widths), addresses }
+    }
+
+    /// "The split bits of a key are its bits in this order", those of all steps; "Bit 0 of an encoding is its
+    /// most significant of w_j bits".
+    pub fn split_bits(&self, key: [u32; 4]) -> Vec<bool> {
+        self.steps.iter().map(|&(k, j)| (key[j] >> (self.widths[j] - 1 - k)) & 1 == 1).collect()
+    }
+
+    /// "A cell's index i_j sums β_k × 2^k over k < h_j, β_k being bit k of attribute j": the index vector of
+    /// a string of split bits.
+    pub fn index_vector(&self, bits: &[bool]) -> [u64; 4] {
+        let mut index = [0; 4];
+        for (&(k, j), &bit) in self.steps.iter().zip(bits) {
+            index[j] += u64::from(bit) << k;
+        }
+        index
+    }
+
+    /// The address of the cell of a string.
+    pub fn address(&self, bits: &[bool]) -> usize {
+        self.addresses[&self.index_vector(bits)]
+    }
+
+    /// Every cell of a directory of depth t.
+    pub fn all(&self, t: usize) -> Vec<Cell> {
+        let cell = |bits: Vec<bool>| Cell { address: self.address(&bits), bits };
+        strings(t).into_iter().map(cell).collect()
+    }
+}
+
+/// All strings of so many bits.
+fn strings(count: usize) -> Vec<Vec<bool>> {
+    let mut all = vec![vec![]];
+    for _ in 0..count {
+        all = all.iter().flat_map(|bits| [false, true].map(|bit| [&bits[..], &[bit]].concat())).collect();
+    }
+    all
+}

@@ -1,0 +1,28 @@
+//! Widths of shapes: all of a size, and random ones.
+use crate::random::Random;
+
+/// All widths of `count` attributes with a sum of at most `total`.
+pub fn all_widths(count: usize, total: u32) -> Vec<Vec<u32>> {
+    if count == 0 {
+        return vec![vec![]];
+    }
+    let mut all = Vec::new();
+    for widths in all_widths(count - 1, total) {
+        let used: u32 = widths.iter().sum();
+        for width in 1..=(total - used).min(16) {
+            all.push([widths.clone(), vec![width]].concat());
+        }
+    }
+    all
+}
+
+/// Random widths with this sum, each from 1 to 16.
+pub fn random_widths(random: &mut Random, total: u32) -> Vec<u32> {
+    let d = random.between(total.div_ceil(16) as u64, total.min(4) as u64) as usize;
+    let mut widths = vec![1; d];
+    while widths.iter().sum::<u32>() < total {
+        let j = random.between(0, d as u64 - 1) as usize;
+        widths[j] = (widths[j] + 1).min(16);
+    }
+    widths
+}
