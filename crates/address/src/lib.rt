@@ -119,7 +119,7 @@ pub fn index_fits(widths: Widths, index: Index) -> bool
 }
 
 // Whether i is below 2^w.
-fn below(i: u64, w: u64) -> bool
+pub fn below(i: u64, w: u64) -> bool
     requires { ⌜ w ≤ 16 ⌝ }
     ensures { λ r. ⌜ r ≡ ltb i (2 ^ w) ⌝ }
 {

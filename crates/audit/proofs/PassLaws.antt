@@ -98,9 +98,9 @@ module _ {R : Type 0} (v : View R) where
 
       passes : leafTest v n p t ≡ true
       passes =
-          and-both (eqb (depthField x) t) (pageTest v p t (pageField x) && sameWords v n p t x)
+          and-both (eqb (depthField x) t) (pageTest v p t (pageField x) && sameWords (v .word) n p t x)
           (eq-eqb (depthField x) t deep)
-          (and-both (pageTest v p t (pageField x)) (sameWords v n p t x) page
+          (and-both (pageTest v p t (pageField x)) (sameWords (v .word) n p t x) page
           (sameWords-true v n p t x (λ q a. s .same q p a (sameBits-refl p t 0) refl)))
 
       same : leaf (fieldRecords v (pageField x)) ≡ leaf S

@@ -103,8 +103,8 @@ module _ {R : Type 0} (v : View R) where
     read-leaf n p t e =
         let x = v .word p in
         let f = pageField x in
-        let k₁ = and-split (eqb (depthField x) t) (pageTest v p t f && sameWords v n p t x) e in
-        let k₂ = and-split (pageTest v p t f) (sameWords v n p t x) (k₁ .1) in
+        let k₁ = and-split (eqb (depthField x) t) (pageTest v p t f && sameWords (v .word) n p t x) e in
+        let k₂ = and-split (pageTest v p t f) (sameWords (v .word) n p t x) (k₁ .1) in
         let k = page-of-test v p t f (k₂ .0) in
         record {
           begins = k .begins;
@@ -115,7 +115,7 @@ module _ {R : Type 0} (v : View R) where
         }
       where
         shows-leaf : (n : ℕ) (p : ℕ → Bool) (t : ℕ) → t + n ≡ T → depthField (v .word p) ≡ t
-            → sameWords v n p t (v .word p) ≡ true
+            → sameWords (v .word) n p t (v .word p) ≡ true
             → Holds v (fieldRecords v (pageField (v .word p))) (pageField (v .word p))
             → Shown v p t (leaf (fieldRecords v (pageField (v .word p))))
         shows-leaf n p t h d e k =

@@ -81,7 +81,7 @@ module _ (store : Store) where
     pub depth-bits : L ≤ W
     pub depth-within : T ≤ L
 
-  bounds-of-test : boundsTest store ≡ true → Bounds
+  pub bounds-of-test : boundsTest store ≡ true → Bounds
   bounds-of-test e =
       let k₁ = and-split (leb 1 P) (leb P 4096 && (leb L 12 && (leb L W && leb T L))) e in
       let k₂ = and-split (leb P 4096) (leb L 12 && (leb L W && leb T L)) (k₁ .1) in

@@ -106,16 +106,16 @@ module _ {R : Type 0} (v : View R) where
 
   -- all words of a leaf are one
   pub sameWords-true : (n : ℕ) (p : ℕ → Bool) (t x : ℕ) → ((q : ℕ → Bool) → sameBits p q t 0 ≡ true → v .word q ≡ x)
-      → sameWords v n p t x ≡ true
+      → sameWords (v .word) n p t x ≡ true
   sameWords-true zero p t x h = eq-eqb (v .word p) x (h p (sameBits-refl p t 0))
   sameWords-true (suc n) p t x h =
-      and-both (sameWords v n (withBit p t false) (suc t) x) (sameWords v n (withBit p t true) (suc t) x)
+      and-both (sameWords (v .word) n (withBit p t false) (suc t) x) (sameWords (v .word) n (withBit p t true) (suc t) x)
       (sameWords-true n (withBit p t false) (suc t) x (λ q a. h q (of-side p q t false a .0)))
       (sameWords-true n (withBit p t true) (suc t) x (λ q a. h q (of-side p q t true a .0)))
 
   -- in a directory of depth T, whose words depend on the first T bits of a string
   pub word-of-sameWords : (T : ℕ) → ((p q : ℕ → Bool) → sameBits p q T 0 ≡ true → v .word p ≡ v .word q)
-      → (n : ℕ) (p : ℕ → Bool) (t x : ℕ) → t + n ≡ T → sameWords v n p t x ≡ true
+      → (n : ℕ) (p : ℕ → Bool) (t x : ℕ) → t + n ≡ T → sameWords (v .word) n p t x ≡ true
       → (q : ℕ → Bool) → sameBits p q t 0 ≡ true → v .word q ≡ x
   word-of-sameWords T local zero p t x h e q a =
       sym (local p q (rw (sym (add-zero t) ∙ h) at a)) ∙ eqb-true (v .word p) x e
@@ -126,8 +126,8 @@ module _ {R : Type 0} (v : View R) where
       below : suc t + n ≡ T
       below = suc-add t n ∙ sym (add-suc t n) ∙ h
 
-      k : (sameWords v n (withBit p t false) (suc t) x ≡ true) × (sameWords v n (withBit p t true) (suc t) x ≡ true)
-      k = and-split (sameWords v n (withBit p t false) (suc t) x) (sameWords v n (withBit p t true) (suc t) x) e
+      k : (sameWords (v .word) n (withBit p t false) (suc t) x ≡ true) × (sameWords (v .word) n (withBit p t true) (suc t) x ≡ true)
+      k = and-split (sameWords (v .word) n (withBit p t false) (suc t) x) (sameWords (v .word) n (withBit p t true) (suc t) x) e
 
       by-bit : (β : Bool) → q t ≡ β → (sameBits (withBit p t false) q (suc t) 0 ≡ true → v .word q ≡ x)
           → (sameBits (withBit p t true) q (suc t) 0 ≡ true → v .word q ≡ x) → v .word q ≡ x

@@ -55,7 +55,7 @@ module _ {R : Type 0} (v : View R) where
   -- ---- bounds
 
   -- what holds of every leaf, and of a divided region whose sides have it, holds of the division read
-  readDivision-all : (Q : ℕ → Division R → Type 0)
+  pub readDivision-all : (Q : ℕ → Division R → Type 0)
       → ((n : ℕ) (p : ℕ → Bool) → Q n (leaf (fieldRecords v (pageField (v .word p)))))
       → ((n : ℕ) (l u : Division R) → Q n l → Q n u → Q (suc n) (divided l u))
       → (n : ℕ) (p : ℕ → Bool) (t : ℕ) → Q n (readDivision v n p t)

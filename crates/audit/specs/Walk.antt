@@ -22,6 +22,13 @@ depthField word = word / 2 ^ 16
 abbrev pub pageField : ℕ → ℕ
 pageField word = word % 2 ^ 16
 
+-- "Every cell whose split bits begin with a leaf holds that leaf's word": the cells that begin with the first t bits of p,
+-- n steps more, hold the word x, where `word` gives the word at the cell of a string
+module _ (word : (ℕ → Bool) → ℕ) where
+  abbrev pub sameWords : ℕ → (ℕ → Bool) → ℕ → ℕ → Bool
+  sameWords zero p t x = eqb (word p) x
+  sameWords (suc n) p t x = sameWords n (withBit p t false) (suc t) x && sameWords n (withBit p t true) (suc t) x
+
 -- ---- what the test looks at
 
 pub record View (R : Type 0) : Type 0 where
@@ -57,16 +64,11 @@ module _ {R : Type 0} (v : View R) where
       && (leb (length (v .shown g)) (v .capacity)
       && (sorted (v .bit) (v .bits) 0 (v .shown g) && all (recordTest p t) (v .shown g))))
 
-  -- "Every cell whose split bits begin with a leaf holds that leaf's word": the first t bits of p, with n steps left
-  abbrev pub sameWords : ℕ → (ℕ → Bool) → ℕ → ℕ → Bool
-  sameWords zero p t x = eqb (v .word p) x
-  sameWords (suc n) p t x = sameWords n (withBit p t false) (suc t) x && sameWords n (withBit p t true) (suc t) x
-
   -- the region is a leaf, and words and page are as they must be
   abbrev pub leafTest : ℕ → (ℕ → Bool) → ℕ → Bool
   leafTest n p t =
       eqb (depthField (v .word p)) t
-      && (pageTest p t (pageField (v .word p)) && sameWords n p t (v .word p))
+      && (pageTest p t (pageField (v .word p)) && sameWords (v .word) n p t (v .word p))
 
   -- ---- all leaves of a region, with n steps left
 

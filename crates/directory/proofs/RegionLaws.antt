@@ -2,7 +2,7 @@
 -- Assumes nothing.
 use Prim.Native.Nat.{ℕ, suc, _+_, _-_, _/_, _%_, _^_, _≤_, _<_}
 use mathlib.Core.Path.{_≡_, refl, sym, ap, _∙_, subst}
-use mathlib.Core.Bool.{Bool, true}
+use mathlib.Core.Bool.{Bool, true, false}
 use mathlib.Core.List.{List, [], _∷_}
 use native.Mathlib.Omega.{arith}
 use native.Mathlib.Nat.{le-trans}
@@ -18,7 +18,7 @@ use Rattle.address.specs.Address.{address}
 use Rattle.address.specs.Private.{InBox, StepPair}
 use Rattle.address.proofs.SideLaws.{In-sides-get}
 use Rattle.cell.specs.Cell.{cell, cellAddress, Agree}
-use Rattle.cell.proofs.CellLaws.{In-cell, cell-agree, cell-zero-bits}
+use Rattle.cell.proofs.CellLaws.{In-cell, cell-agree, cell-zero-bits, cell-zero-bit}
 use Rattle.cell.proofs.CellLaws.{cellAddress-lt, cellAddress-same, cellAddress-zero-bits}
 use Rattle.directory.specs.Directory.{DirectoryFits, Filled}
 use Rattle.directory.specs.Private.{StepsBefore, bitSet, RegionAt, BlocksFilled, BlockFits, BlockFilled}
@@ -86,8 +86,14 @@ module _ (ws : List ℕ) (fit : Fit ws) (x t : ℕ) (h : x ≤ t) (ht : t ≤ le
 -- ---- the index vectors of a block
 
 module _ (ws : List ℕ) (fit : Fit ws) (y g : ℕ) (pair : StepPair ws y g) where
+  -- the half with bit 0
+  pub cell-lower : (p : ℕ → Bool) → cell ws (suc y) (withBit p y false) ≡ cell ws y p
+  cell-lower p =
+      cell-zero-bit ws fit y (stepPair-lt ws y g pair fit) (withBit p y false) (withBit-here p y false)
+      ∙ cell-agree ws fit y (withBit p y false) p (agree-withBit p y false)
+
   -- the half with bit 1
-  cell-upper : (p : ℕ → Bool) → cell ws (suc y) (withBit p y true) ≡ bitSet g (cell ws y p)
+  pub cell-upper : (p : ℕ → Bool) → cell ws (suc y) (withBit p y true) ≡ bitSet g (cell ws y p)
   cell-upper p =
       cell-bitSet ws fit y g pair (withBit p y true) (withBit-here p y true)
       ∙ ap (bitSet g) (cell-agree ws fit y (withBit p y true) p (agree-withBit p y true))

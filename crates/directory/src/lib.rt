@@ -2,6 +2,6 @@
 // setting every cell of a region. Halving writes nothing.
 pub mod cells;
 pub mod doubling;
-mod places;
+pub mod places;
 pub mod regions;
-mod vectors;
+pub mod vectors;

@@ -1,0 +1,233 @@
+-- Laws of the call's tests, one for each way that a function ends: the limits, the sums of the whole walk, the answer.
+-- Assumes nothing.
+use Prim.Native.Nat.{ℕ, zero, suc, _+_, _-_, _^_, _≤_, _<_}
+use mathlib.Core.Path.{_≡_, refl, sym, ap, _∙_, subst}
+use mathlib.Core.Bool.{Bool, true, false, _&&_, _||_, and-false, false≢true}
+use mathlib.Core.List.{List, [], _∷_}
+use native.Mathlib.Omega.{arith}
+use native.Mathlib.Nat.{le-trans, sub-zero}
+use lib.Dec.{leb, ltb, eqb}
+use lib.ListN.{length, getD, replicate, getD-replicate}
+use lib.Pow.{pow-mono}
+use borrow.Author.Tests.{le-leb, lt-leb, ltb-false, eq-eqb, ne-eqb}
+use Rattle.shape.specs.Refusal.{accepted, refused, refusal}
+use Rattle.shape.specs.Shape.{Fit, shapeNumber, widthsOf, total}
+use Rattle.shape.proofs.ShapeLaws.{inBounds-of, widthsOf-fit}
+use Rattle.shape.proofs.RefusalLaws.{answered-shape-out, answered-first, answered-none}
+use Rattle.directory.specs.Directory.{DirectoryFits}
+use Rattle.region.specs.Strings.{emptyString}
+use Rattle.region.specs.Division.{Division, greatestDepth, nonEmptyLeaves}
+use Rattle.record.specs.Record.{Record}
+use Rattle.shape.proofs.ShapeLaws.{capacity-bounds}
+use Rattle.store.specs.Store.{Store, store, pagesSize, lentConditions}
+use Rattle.store.specs.declared.State.{State}
+use Rattle.store.specs.Sound.{tallies}
+use Rattle.store.specs.Promises.{lentNumber, CheckPromise}
+use Rattle.audit.specs.Walk.{regionTest, readDivision, pagesInUse}
+use Rattle.audit.specs.Test.{viewOf, shownDivision, sameNumbers, boundsTest, walkTest, sumsTest, soundTest, checkAnswer}
+use Rattle.audit.proofs.AnswerLaws.{check-promise}
+use Rattle.audit.proofs.ShowsLaws.{Lent, lentNumber-lent}
+use Rattle.audit.proofs.SoundLaws.{bounds-of-test}
+use Rattle.inspect.specs.declared.regions.Region.{Region}
+use Rattle.inspect.specs.declared.walk.Seen.{Seen}
+use Rattle.inspect.specs.Regions.{wholeRegion}
+use Rattle.inspect.specs.Sums.{viewBy, Tells, Walks, Walked, TallyRoom, usedPages, sameTally, lacksMemory, StoreLent}
+use Rattle.inspect.proofs.RegionLaws.{names-whole, regionIn-whole}
+use Rattle.inspect.proofs.CountLaws.{pagesInUse-usedPages, sameNumbers-sameTally}
+
+-- ---- the limits
+
+module _ (st : State) where
+  abbrev P : ℕ
+  P = st .limits .pages
+
+  abbrev L : ℕ
+  L = st .limits .depth
+
+  abbrev W : ℕ
+  W = total (widthsOf (st .shape))
+
+  abbrev bounds : Bool
+  bounds = boundsTest (store st [] [])
+
+  pub bounds-no-page : P < 1 → false ≡ bounds
+  bounds-no-page h = sym (rw (lt-leb 1 P h))
+
+  pub bounds-most-pages : 4096 < P → false ≡ bounds
+  bounds-most-pages h = sym (rw (lt-leb P 4096 h) (and-false (leb 1 P)))
+
+  pub bounds-deep : 12 < L → false ≡ bounds
+  bounds-deep h = sym (rw (lt-leb L 12 h, and-false (leb P 4096)) (and-false (leb 1 P)))
+
+  module _ (bits : ℕ) (all : bits ≡ W) where
+    pub bounds-bits : bits < L → false ≡ bounds
+    bounds-bits h =
+        let over : W < L = subst (λ n. n < L) all h in
+        sym (rw (lt-leb L W over, and-false (leb L 12), and-false (leb P 4096)) (and-false (leb 1 P)))
+
+    pub bounds-rest : 1 ≤ P → P ≤ 4096 → L ≤ 12 → L ≤ bits → leb (st .depth) L ≡ bounds
+    bounds-rest p q l w =
+        sym (rw (le-leb 1 P p, le-leb P 4096 q, le-leb L 12 l, le-leb L W (subst (λ n. L ≤ n) all w)))
+
+-- ---- the whole walk
+
+-- a walk from the empty string may start
+pub walks-whole : (st : State) (words bytes : ℕ) → StoreLent st words bytes → (ws : List ℕ) → ws ≡ widthsOf (st .shape)
+    → (r : Region) → r ≡ wholeRegion
+    → Walks st ws words bytes r × TallyRoom (st .depth - r .depth) (replicate 13 0)
+unfolding wholeRegion
+walks-whole st words bytes k ws same r whole =
+    subst (λ r. Walks st ws words bytes r × TallyRoom (st .depth - r .depth) (replicate 13 0)) (sym whole) (
+      record {
+        directory = record {
+          fit = subst Fit (sym same) (widthsOf-fit (st .shape) (k .shape));
+          deep = subst (λ v. st .depth ≤ total v) (sym same) (le-trans (k .within) (k .bits));
+          short = le-trans (k .within) (k .short);
+          room = le-trans (pow-mono (k .within)) (k .words-lent);
+        };
+        within = omega arith;
+        region = regionIn-whole ws;
+        capacity = capacity-bounds (st .shape) (k .shape) .1;
+        pages-lent = k .pages-lent;
+      },
+      record {
+        depths = refl;
+        room = λ y h. room y h;
+      },
+    )
+  where
+    room : (y : ℕ) → y < 13 → getD (replicate 13 0) y 0 + 2 ^ (st .depth - 0) ≤ 8192
+    room y h =
+        let m : 2 ^ (st .depth - 0) ≤ 2 ^ 12 = pow-mono {j = 12} (omega (arith, k .within, k .short)) in
+        omega (arith, getD-replicate {A = ℕ} 13 y 0 0 h)
+
+module _ (st : State) (words bytes ws : List ℕ) (same : ws ≡ widthsOf (st .shape)) (r : Region) (whole : r ≡ wholeRegion)
+    (seen : Seen) (counts : List ℕ) (told : Walked st ws words bytes r (replicate 13 0) seen counts) where
+  abbrev lent : Store
+  lent = store st words bytes
+
+  abbrev D : Division Record
+  D = shownDivision lent
+
+  tells : Tells 0 (replicate 13 0) seen counts (walkTest lent) D
+  unfolding wholeRegion
+  tells =
+      subst
+      (λ v. Tells 0 (replicate 13 0) seen counts (regionTest (viewBy v st words bytes) (st .depth) emptyString 0)
+      (readDivision (viewBy v st words bytes) (st .depth) emptyString 0)) same
+      (subst
+      (λ n. Tells 0 (replicate 13 0) seen counts (regionTest (viewBy ws st words bytes) n emptyString 0)
+      (readDivision (viewBy ws st words bytes) n emptyString 0)) (sub-zero (st .depth))
+      (subst (λ r. Walked st ws words bytes r (replicate 13 0) seen counts) whole told emptyString (names-whole ws)))
+
+  abbrev shows : Bool
+  shows = walkTest lent && sumsTest lent
+
+  pub shows-walk-fails : seen .ok ≡ false → false ≡ shows
+  shows-walk-fails e = sym (ap (λ β. β && sumsTest lent) (sym (tells .0 .ok) ∙ e))
+
+  module _ (ok : seen .ok ≡ true) where
+    passes : walkTest lent ≡ true
+    passes = sym (tells .0 .ok) ∙ ok
+
+    abbrev tallyTest : Bool
+    tallyTest = sameNumbers (st .tally .leaves) (tallies D 0 13)
+
+    abbrev pagesTest : Bool
+    pagesTest = eqb (pagesInUse (viewOf lent) (st .limits .pages)) (nonEmptyLeaves D)
+
+    walked : shows ≡ (eqb (st .depth) (seen .depth) && (tallyTest && pagesTest))
+    walked =
+        ap (λ β. β && sumsTest lent) passes
+        ∙ ap (λ d. eqb (st .depth) d && (tallyTest && pagesTest)) (sym (tells .0 .depth passes))
+
+    pub shows-depth-fails : (seen .depth ≡ st .depth → ⊥) → false ≡ shows
+    shows-depth-fails ne = sym (walked ∙ rw (ne-eqb (st .depth) (seen .depth) (λ e. ne (sym e))))
+
+    module _ (depth : seen .depth ≡ st .depth) (depths : length (st .tally .leaves) ≡ 13) where
+      tallied : shows ≡ (sameTally (st .tally .leaves) counts && pagesTest)
+      tallied =
+          walked
+          ∙ ap (λ β. β && (tallyTest && pagesTest)) (eq-eqb (st .depth) (seen .depth) (sym depth))
+          ∙ ap (λ β. β && pagesTest) (sameNumbers-sameTally D (st .tally .leaves) counts depths (tells .1 passes))
+
+      pub shows-tally-fails : sameTally (st .tally .leaves) counts ≡ false → false ≡ shows
+      shows-tally-fails e = sym (tallied ∙ ap (λ β. β && pagesTest) e)
+
+      pub shows-pages : sameTally (st .tally .leaves) counts ≡ true → (used : ℕ)
+          → used ≡ usedPages (st .shape .capacity) bytes (st .limits .pages) → eqb used (seen .pages) ≡ shows
+      shows-pages e used count =
+          rw (
+            count,
+            ← pagesInUse-usedPages (viewOf lent) (st .shape) (st .shape .capacity) bytes (λ g. refl) (st .limits .pages),
+            tells .0 .pages passes,
+          )
+          (sym (tallied ∙ ap (λ β. β && pagesTest) e))
+
+-- ---- the answer
+
+module _ (st : State) (words bytes : List ℕ) where
+  abbrev whole : Store
+  whole = store st words bytes
+
+  pub check-shape-out : (shapeNumber (st .shape) ≡ 0 → ⊥) → (n : ℕ) → n ≡ shapeNumber (st .shape)
+      → CheckPromise whole (refused n)
+  unfolding checkAnswer lentNumber lentConditions
+  check-shape-out ne n e =
+      subst (CheckPromise whole)
+      (sym (ap refused e ∙ answered-shape-out (st .shape) (soundTest whole)
+      (refusal 2 (lacksMemory st (length words) (length bytes)) ∷ []) ne))
+      (check-promise whole)
+
+  module _ (n : shapeNumber (st .shape) ≡ 0) where
+    pub check-lacks : lacksMemory st (length words) (length bytes) ≡ true → CheckPromise whole (refused 2)
+    unfolding checkAnswer lentNumber lentConditions
+    check-lacks e =
+        subst (CheckPromise whole)
+        (sym (answered-first (st .shape) (soundTest whole) 1 (lacksMemory st (length words) (length bytes)) [] n e))
+        (check-promise whole)
+
+    module _ (lent : lacksMemory st (length words) (length bytes) ≡ false) where
+      parts : (a b : Bool) → (a || b) ≡ false → (a ≡ false) × (b ≡ false)
+      parts true b e = absurd (false≢true (sym e))
+      parts false b e = (refl, e)
+
+      memory-lent : Lent whole
+      memory-lent =
+          let k = parts (ltb (length words) (2 ^ st .limits .depth)) (ltb (length bytes) (pagesSize st)) lent in
+          record {
+            shape = inBounds-of (st .shape) n;
+            words-lent = ltb-false (length words) (2 ^ st .limits .depth) (k .0);
+            pages-lent = ltb-false (length bytes) (pagesSize st) (k .1);
+          }
+
+      answer : (β : Bool) → soundTest whole ≡ β → CheckPromise whole (accepted β)
+      unfolding checkAnswer lentNumber lentConditions
+      answer β e =
+          subst (CheckPromise whole)
+          (sym (ap accepted (sym e)
+          ∙ answered-none (st .shape) (soundTest whole) 1 (lacksMemory st (length words) (length bytes)) n lent))
+          (check-promise whole)
+
+      sound : soundTest whole ≡ (boundsTest whole && (walkTest whole && sumsTest whole))
+      unfolding soundTest
+      sound = rw (lentNumber-lent whole memory-lent)
+
+      pub check-limits-fail : boundsTest whole ≡ false → CheckPromise whole (accepted false)
+      check-limits-fail e = answer false (sound ∙ ap (λ β. β && (walkTest whole && sumsTest whole)) e)
+
+      module _ (limits : boundsTest whole ≡ true) where
+        pub storeLent : StoreLent st (length words) (length bytes)
+        storeLent =
+            let b = bounds-of-test whole limits in
+            record {
+              shape = n;
+              words-lent = memory-lent .words-lent;
+              pages-lent = memory-lent .pages-lent;
+              short = b .depth-limit;
+              bits = b .depth-bits;
+              within = b .depth-within;
+            }
+
+        pub check-shows : (β : Bool) → β ≡ (walkTest whole && sumsTest whole) → CheckPromise whole (accepted β)
+        check-shows β e = answer β (sound ∙ ap (λ γ. γ && (walkTest whole && sumsTest whole)) limits ∙ sym e)

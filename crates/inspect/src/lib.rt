@@ -1,0 +1,107 @@
+// The call check: whether a lent store is sound (document 01, "Calls").
+pub mod counts;
+pub mod regions;
+pub mod walk;
+
+use address::total_of;
+use counts::pages_in_use;
+use counts::same_tally;
+use regions::whole_region;
+use shape::shape_number;
+use shape::widths_of;
+use store::Checked;
+use store::State;
+use walk::walk;
+ghost use mathlib.Core.Path.{_≡_};
+ghost use mathlib.Core.Bool.{_&&_};
+ghost use mathlib.Core.List.{[]};
+ghost use lib.ListN.{length};
+ghost use Rattle.shape.specs.Shape.{shapeNumber};
+ghost use Rattle.store.specs.Store.{store};
+ghost use Rattle.store.specs.Answers.{checkedAnswer};
+ghost use Rattle.store.specs.Promises.{CheckPromise};
+ghost use Rattle.audit.specs.Test.{boundsTest, walkTest, sumsTest};
+ghost use Rattle.inspect.specs.Sums.{lacksMemory, StoreLent};
+
+// Whether the lent store is sound: yes exactly for a sound store, otherwise no. Refused with 1 for a
+// shape outside its bounds, then with 2 for fewer than 2^L words or P pages. Writes nothing.
+pub fn check(state: State, dir: &[u32], pages: &[u8]) -> Checked
+    ensures { λ r. ⌜ CheckPromise (store state (now (dir .entry)) (now (pages .entry))) (checkedAnswer r) ⌝ }
+{
+    let number = shape_number(state.shape);
+    if number != 0 {
+        return Checked::Refused(number);
+    }
+    let words = dir.len();
+    let bytes = pages.len();
+    if lacks_memory(state, words, bytes) {
+        return Checked::Refused(2);
+    }
+    if !in_limits(state) {
+        return Checked::No;
+    }
+    if !shows_leaves(state, dir, pages) {
+        return Checked::No;
+    }
+    Checked::Yes
+}
+
+// Whether there are fewer than 2^L words or P pages. No slice has 2^64 words.
+fn lacks_memory(state: State, words: usize, bytes: usize) -> bool
+    requires { ⌜ shapeNumber (state .shape) ≡ 0 ⌝ }
+    ensures { λ r. ⌜ r ≡ lacksMemory state words bytes ⌝ }
+{
+    let depth = state.limits.depth;
+    if 63 < depth {
+        return true;
+    }
+    if (words as u64) < 1u64 << depth {
+        return true;
+    }
+    let size = 2 + 12 * (state.shape.capacity as u64);
+    (bytes as u64) < (state.limits.pages as u64) * size
+}
+
+// Whether P is 1 to 4,096, L at most 12 and at most W, and T at most L.
+fn in_limits(state: State) -> bool
+    requires { ⌜ shapeNumber (state .shape) ≡ 0 ⌝ }
+    ensures { λ r. ⌜ r ≡ boundsTest (store state [] []) ⌝ }
+{
+    let page_count = state.limits.pages;
+    let deepest = state.limits.depth;
+    if page_count < 1 {
+        return false;
+    }
+    if 4096 < page_count {
+        return false;
+    }
+    if 12 < deepest {
+        return false;
+    }
+    if total_of(widths_of(state.shape)) < (deepest as u64) {
+        return false;
+    }
+    state.depth <= deepest
+}
+
+// Whether words and pages show the leaves of some set, and T, the tally and the pages in use are
+// those of the leaves.
+fn shows_leaves(state: State, dir: &[u32], pages: &[u8]) -> bool
+    requires { ⌜ StoreLent state (length (now dir)) (length (now pages)) ⌝ }
+    ensures { λ r. ⌜ r ≡ (walkTest (store state (now (dir .entry)) (now (pages .entry)))
+        && sumsTest (store state (now (dir .entry)) (now (pages .entry)))) ⌝ }
+{
+    let widths = widths_of(state.shape);
+    let mut tally = [0u32; 13];
+    let seen = walk(state, widths, whole_region(), dir, pages, &mut tally);
+    if !seen.ok {
+        return false;
+    }
+    if seen.depth != state.depth {
+        return false;
+    }
+    if !same_tally(state.tally, &tally) {
+        return false;
+    }
+    pages_in_use(state.shape.capacity, state.limits.pages, pages) == seen.pages
+}

@@ -1,0 +1,4 @@
+pub mod CodeLaws
+pub mod ByteLaws
+pub mod KeyLaws
+pub mod PageLaws
