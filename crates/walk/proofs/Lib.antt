@@ -1,0 +1,9 @@
+pub mod BoundLaws
+pub mod DivisionLaws
+pub mod NotedLaws
+pub mod RowLaws
+pub mod SeenLaws
+pub mod StartLaws
+pub mod StoreLaws
+pub mod TurnLaws
+pub mod VectorLaws

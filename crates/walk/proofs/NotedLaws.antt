@@ -1,0 +1,107 @@
+-- What `note_pages` leaves, for its callers: in any store pages that may be read, at most 2^T; in a store that is sound
+-- where the query reads it, the pages that the model reads, with the records that it lists. Assumes nothing.
+use Prim.Native.Nat.{ℕ, zero, suc, _+_, _^_, _≤_, _<_}
+use mathlib.Core.Path.{_≡_, sym, ap, _∙_, subst}
+use mathlib.Core.Bool.{Bool, true, false, cond}
+use mathlib.Core.List.{List, [], _∷_, flatMap}
+use mathlib.Core.Option.{Option}
+use native.Mathlib.Omega.{arith}
+use native.Mathlib.Nat.{zero-add}
+use lib.ListN.{getD, take, length}
+use Rattle.lists.specs.Filter.{filter}
+use Rattle.lists.specs.Members.{All}
+use Rattle.shape.specs.Shape.{widthsOf, total}
+use Rattle.region.specs.Strings.{emptyString}
+use Rattle.region.specs.Query.{QueryBit, agrees, queryEnters}
+use Rattle.record.specs.Record.{Record, recordBit, matches}
+use Rattle.page.specs.Page.{recordsOf, pageAt}
+use Rattle.model.specs.Sets.{inShape, queryBits, readsOf}
+use Rattle.store.specs.declared.State.{State}
+use Rattle.store.specs.Store.{Store, wordAt}
+use Rattle.store.specs.Promises.{SoundWhereRead}
+use Rattle.walk.specs.declared.Noted.{Noted}
+use Rattle.walk.specs.declared.Noted.the-variants.{Pages, Damaged}
+use Rattle.walk.specs.Seen.{Seen, fairPage, walkSeen, emit, answerOf, Put}
+use Rattle.walk.proofs.SeenLaws.{getD-emit, take-emit}
+use Rattle.walk.proofs.BoundLaws.{length-seen-le, Readable, All-seen}
+use Rattle.walk.proofs.StoreLaws.{walkSeen-query, length-readPages-query, records-readPages-query}
+
+All-getD : (P : ℕ → Type 0) (xs : List ℕ) → All P xs → (i : ℕ) → i < length xs → P (getD xs i 0)
+All-getD P [] h i l = absurd (omega arith)
+All-getD P (x ∷ xs) h zero l = h .0
+All-getD P (x ∷ xs) h (suc i) l = All-getD P xs (h .1) i (omega arith)
+
+-- ---- any store
+
+module _ (st : State) (words bytes : List ℕ) (q : ℕ → QueryBit) (list : List ℕ) (r : Noted) (later : List ℕ)
+    (o : Put list (walkSeen st words bytes q) r later) (n : ℕ) (e : r ≡ Pages n) where
+  abbrev s : Seen
+  s = walkSeen st words bytes q
+
+  -- the number is that of the pages seen
+  pub length-noted : n ≡ length (s .pages)
+  length-noted = go (s .sound) (sym e ∙ o .answer)
+    where
+      go : (β : Bool) → Pages n ≡ cond β (Pages (length (s .pages))) Damaged → n ≡ length (s .pages)
+      go true d = cc
+      go false d = let z : _≡_ {A = ℕ} 0 1 = cc in absurd (omega arith)
+
+  pub noted-le : n ≤ 2 ^ st .depth
+  unfolding walkSeen
+  noted-le =
+      omega (
+        arith,
+        length-noted,
+        length-seen-le (λ x p. wordAt (st .shape) x words p) (fairPage (st .shape .capacity) bytes)
+            (queryEnters q) (st .limits .pages) (st .depth) (st .depth) emptyString 0,
+      )
+
+  module _ (room : n ≤ length list) where
+    -- they stand at the front of the list
+    pub take-noted : take n later ≡ s .pages
+    take-noted =
+        let all : n ≡ 0 + length (s .pages) = omega (arith, length-noted) in
+        ap (λ k. take k later) all
+        ∙ ap (take (0 + length (s .pages))) (o .lines)
+        ∙ take-emit list 0 (s .pages) (omega (arith, length-noted))
+
+    -- each is one of the P pages, and its count is 1 to b
+    pub noted-readable : (i : ℕ) → i < n → Readable (st .limits .pages) (fairPage (st .shape .capacity) bytes) (getD later i 0)
+    unfolding walkSeen
+    noted-readable i l =
+        let fair = fairPage (st .shape .capacity) bytes in
+        let P = st .limits .pages in
+        let T = st .depth in
+        let here : getD (s .pages) i 0 ≡ getD later i 0 =
+        sym (ap (λ xs. getD xs i 0) (o .lines)
+        ∙ ap (λ k. getD (emit list 0 (s .pages)) k 0) (sym (zero-add i))
+        ∙ getD-emit list 0 (s .pages) i (omega (arith, length-noted)) (omega (arith, length-noted))) in
+        subst (Readable P fair) here
+        (All-getD (Readable P fair) (s .pages)
+        (All-seen P fair (λ x p. wordAt (st .shape) x words p) (queryEnters q) T T emptyString 0) i (omega (arith, length-noted)))
+
+-- ---- a store that is sound where the query reads it
+
+module _ (store : Store) (q : List (Option ℕ)) (S : List Record)
+    (h : SoundWhereRead store (queryBits (store .state .shape) q) S)
+    (list : List ℕ) (r : Noted) (later : List ℕ)
+    (o : Put list (walkSeen (store .state) (store .memory .words) (store .memory .bytes) (queryBits (store .state .shape) q)) r later) where
+  -- the answer is the model's reads, and no damage
+  pub noted-reads : r ≡ Pages (readsOf (store .state .shape) q S)
+  noted-reads = o .answer ∙ ap answerOf (walkSeen-query store q S h) ∙ ap Pages (length-readPages-query store q S h)
+
+  -- the matching records of the pages noted, one page after the other, are the model's: the matching records of S
+  pub noted-records : readsOf (store .state .shape) q S ≤ length list
+      → ((r : Record) → inShape (store .state .shape) r ≡ true → matches (store .state .shape) q r
+      ≡ agrees (queryBits (store .state .shape) q) (recordBit (store .state .shape) r) (total (widthsOf (store .state .shape))) 0)
+      → flatMap (λ g. filter (matches (store .state .shape) q)
+      (recordsOf (store .state .shape) (pageAt (store .state .shape .capacity) (store .memory .bytes) g)))
+      (take (readsOf (store .state .shape) q S) later)
+      ≡ filter (matches (store .state .shape) q) S
+  noted-records room match =
+      let s = store .state .shape in
+      ap (flatMap (λ g. filter (matches s q) (recordsOf s (pageAt (s .capacity) (store .memory .bytes) g))))
+      (take-noted (store .state) (store .memory .words) (store .memory .bytes) (queryBits s q) list r later o
+      (readsOf s q S) noted-reads room
+      ∙ ap (λ u. u .pages) (walkSeen-query store q S h))
+      ∙ records-readPages-query store q S h match

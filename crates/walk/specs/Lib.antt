@@ -1,0 +1,3 @@
+pub mod Pages
+pub mod Private
+pub mod Seen

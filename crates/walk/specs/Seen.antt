@@ -1,0 +1,111 @@
+-- What a walk over the regions sees in any directory and any pages, sound or not (document 01, "Calls"): the pages that it
+-- notes, in order, and whether all that it met is as in a sound store. The region of depth x is the first x bits of a string.
+-- Assumes nothing.
+use Prim.Native.Nat.{ℕ, zero, suc, _+_, _-_, _/_, _%_, _^_, _≤_}
+use mathlib.Core.Path.{_≡_}
+use mathlib.Core.Bool.{Bool, true, false, cond}
+use mathlib.Core.List.{List, [], _∷_, _++_}
+use lib.Dec.{eqb, ltb}
+use lib.ListN.{length, set}
+use Rattle.shape.specs.Shape.{within, inBounds, widthsOf, total}
+use Rattle.region.specs.Strings.{withBit, emptyString}
+use Rattle.region.specs.Query.{QueryBit, queryEnters}
+use Rattle.page.specs.Page.{countOf, pageAt}
+use Rattle.store.specs.declared.State.{State}
+use Rattle.store.specs.Store.{pagesSize, wordAt}
+use Rattle.walk.specs.declared.Noted.{Noted}
+use Rattle.walk.specs.declared.Noted.the-variants.{Pages, Damaged}
+
+-- ---- what is seen
+
+pub record Seen : Type 0 where
+  pub pages : List ℕ
+  pub sound : Bool
+
+-- no page
+abbrev pub nothing : Seen
+nothing = record { pages = []; sound = true }
+
+-- something that no sound store has
+abbrev pub damaged : Seen
+damaged = record { pages = []; sound = false }
+
+-- one page
+abbrev pub single : ℕ → Seen
+single g = record { pages = g ∷ []; sound = true }
+
+-- one after the other; damage ends the walk
+unfoldable pub after : Seen → Seen → Seen
+after s u = cond (s .sound) (record { pages = s .pages ++ u .pages; sound = u .sound }) s
+
+-- ---- a word
+
+-- "the page number plus one into bits 0–15, or 0 for no page"
+abbrev pub fieldOf : ℕ → ℕ
+fieldOf word = word % 2 ^ 16
+
+-- "the leaf's depth into bits 16–19; .. the rest are zero": all bits from 16 on, so that one of 20–31 gives 16 or more
+abbrev pub depthOf : ℕ → ℕ
+depthOf word = word / 2 ^ 16
+
+-- the count of page g is one that a leaf's page can have, 1 to b
+unfoldable pub fairPage : ℕ → List ℕ → ℕ → Bool
+fairPage b bytes g = within 1 b (countOf (pageAt b bytes g))
+
+-- a leaf's word, where there are P pages and `fair` tells which may be read: page P is none, "word with page number P"
+unfoldable pub noted : ℕ → (ℕ → Bool) → ℕ → Seen
+noted P fair word =
+    cond (eqb (fieldOf word) 0) nothing
+    (cond (ltb P (fieldOf word)) damaged (cond (fair (fieldOf word - 1)) (single (fieldOf word - 1)) damaged))
+
+-- ---- a walk
+
+-- a region of depth x with its word: a leaf, if the word has its depth; of no sound store, if the word's depth is smaller
+-- or above T; else divided, and this is seen below it
+unfoldable pub met : ℕ → (ℕ → Bool) → ℕ → ℕ → ℕ → Seen → Seen
+met P fair T x word below =
+    cond (eqb (depthOf word) x) (noted P fair word)
+    (cond (ltb (depthOf word) x) damaged (cond (ltb T (depthOf word)) damaged below))
+
+-- `word x p` is the word of the region of the first x bits of p, that of its cell with bits 0 from x on; `enter` tests a
+-- region. The fuel is T less the depth.
+module _ (word : ℕ → (ℕ → Bool) → ℕ) (fair : ℕ → Bool) (enter : ℕ → (ℕ → Bool) → Bool) (P T : ℕ) where
+  -- "It walks the regions .. by recursion, bit 0 before bit 1"
+  unfoldable pub seen : ℕ → (ℕ → Bool) → ℕ → Seen
+  seen zero p x = met P fair T x (word x p) damaged
+  seen (suc f) p x =
+      met P fair T x (word x p)
+      (after (cond (enter (suc x) (withBit p x false)) (seen f (withBit p x false) (suc x)) nothing)
+      (cond (enter (suc x) (withBit p x true)) (seen f (withBit p x true) (suc x)) nothing))
+
+-- a query's walk over a store's memory, "from the empty string"
+unfoldable pub walkSeen : State → List ℕ → List ℕ → (ℕ → QueryBit) → Seen
+walkSeen st words bytes q =
+    seen (λ x p. wordAt (st .shape) x words p) (fairPage (st .shape .capacity) bytes) (queryEnters q)
+    (st .limits .pages) (st .depth) (st .depth) emptyString 0
+
+-- ---- the contract
+
+-- numbers put into a list from place n on
+unfoldable pub emit : List ℕ → ℕ → List ℕ → List ℕ
+emit list n [] = list
+emit list n (y ∷ ys) = emit (set list n y) (n + 1) ys
+
+-- what a walk answers
+abbrev pub answerOf : Seen → Noted
+answerOf s = cond (s .sound) (Pages (length (s .pages))) Damaged
+
+-- it noted what it saw from the front of the list on; also where damage ended it
+pub record Put (list : List ℕ) (s : Seen) (r : Noted) (later : List ℕ) : Type 0 where
+  pub answer : r ≡ answerOf s
+  pub lines : later ≡ emit list 0 (s .pages)
+
+-- what the walk asks of a state, the lengths of its slices and the room in the list
+pub record Walkable (st : State) (words bytes room : ℕ) : Type 0 where
+  pub shape : inBounds (st .shape) ≡ true
+  pub depth-twelve : st .depth ≤ 12
+  pub depth-bits : st .depth ≤ total (widthsOf (st .shape))
+  pub words-lent : 2 ^ st .depth ≤ words
+  pub most-pages : st .limits .pages ≤ 4096
+  pub pages-lent : pagesSize st ≤ bytes
+  pub list-lent : 4096 ≤ room
