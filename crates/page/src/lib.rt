@@ -1,5 +1,5 @@
-// One page of the lent bytes: its count and its records (document 01, "Lent memory"). Each function is handed the
-// page's bytes only. Bytes past the records that the count says are free.
+// One page of the lent bytes: its count and its records (document 01, "Lent memory"). Each function
+// is handed the page's bytes only. Bytes past the records that the count says are free.
 use record::Content;
 use record::RECORD_SIZE;
 use record::numbers::read16;

@@ -1,5 +1,5 @@
-// The lent pages, side by side: a part of them for each page, handed to the steps on one page (document 01, "Lent
-// memory"). Page g has the 2 + 12b bytes from g times that on.
+// The lent pages, side by side: a part of them for each page, handed to the steps on one page
+// (document 01, "Lent memory"). Page g has the 2 + 12b bytes from g times that on.
 use record::RECORD_SIZE;
 ghost use mathlib.Core.Path.{_≡_};
 ghost use Prim.Native.Nat.{_+_, _-_, _*_, _<_, _≤_};
@@ -7,8 +7,9 @@ ghost use lib.ListN.{length};
 ghost use Rattle.page.specs.Page.{countOf, pageSize, pageAt};
 ghost use Rattle.pages.specs.Pages.{PageLent, carriedPages, firstFree};
 
-// Carries records between two pages: those from m on of page p, which has n, go behind the j records of page q, and
-// page p keeps its first m. With j = 0 this divides a page; with m = 0 it joins two, and page p is free.
+// Carries records between two pages: those from m on of page p, which has n, go behind the j
+// records of page q, and page p keeps its first m. With j = 0 this divides a page; with m = 0 it
+// joins two, and page p is free.
 pub fn carry(pages: &mut [u8], capacity: usize, p: usize, m: usize, n: usize, q: usize, j: usize)
     requires { ⌜ PageLent capacity p (now pages) × PageLent capacity q (now pages) ⌝ }
     requires { ⌜ (m ≤ n) × (n ≤ capacity) × (j + (n - m) ≤ capacity) ⌝ }

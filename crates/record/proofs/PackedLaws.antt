@@ -1,6 +1,6 @@
 -- Laws of packed keys: put together by shifts, read back, the number of a record's first eight bytes. Assumes nothing.
 use Prim.Native.Nat.{ℕ, zero, suc, _+_, _*_, _/_, _%_, _^_, _≤_, _<_}
-use mathlib.Core.Path.{_≡_, ap, _∙_}
+use mathlib.Core.Path.{_≡_, refl, ap, _∙_}
 use mathlib.Core.List.{List, [], _∷_}
 use native.Mathlib.Nat.{mod-eq-of-lt}
 use native.Mathlib.Omega.{arith}
@@ -10,7 +10,7 @@ use lib.Seq.{drop-drop, take-take}
 use Rattle.moves.proofs.PasteLaws.{window-of-take}
 use Rattle.shape.specs.Key.{perAttribute}
 use Rattle.record.specs.Bytes.{numberOf, field}
-use Rattle.record.specs.Packed.{packedKey, SixteenBits, unpackedKey, keyIn}
+use Rattle.record.specs.Packed.{packedKey, SixteenBits, packedValue, unpackedKey, keyIn}
 use Rattle.record.proofs.NumberLaws.{or-above, numberOf-take-two}
 
 -- ---- by shifts
@@ -55,6 +55,14 @@ pub unpackedKey-packedKey : (values : List ℕ) → SixteenBits values
 unfolding unpackedKey packedKey
 unpackedKey-packedKey values b =
     lanes (getD values 0 0) (getD values 1 0) (getD values 2 0) (getD values 3 0) (b 0) (b 1) (b 2) (b 3)
+
+pub getD-unpackedKey : (key j : ℕ) → j < 4 → getD (unpackedKey key) j 0 ≡ packedValue key j
+unfolding unpackedKey
+getD-unpackedKey key zero h = refl
+getD-unpackedKey key (suc zero) h = refl
+getD-unpackedKey key (suc (suc zero)) h = refl
+getD-unpackedKey key (suc (suc (suc zero))) h = refl
+getD-unpackedKey key (suc (suc (suc (suc j)))) h = absurd (omega arith)
 
 pub unpackedKey-lt : (key : ℕ) → SixteenBits (unpackedKey key)
 unfolding unpackedKey

@@ -16,9 +16,12 @@ packedKey values =
 abbrev pub SixteenBits : List ℕ → Type 0
 SixteenBits values = (j : ℕ) → getD values j 0 < 2 ^ 16
 
--- the values of a packed key
+-- the value of attribute j in a packed key, and all four
+abbrev pub packedValue : ℕ → ℕ → ℕ
+packedValue key j = key / 2 ^ (16 * j) % 2 ^ 16
+
 unfoldable pub unpackedKey : ℕ → List ℕ
-unpackedKey key = perAttribute (λ j. key / 2 ^ (16 * j) % 2 ^ 16)
+unpackedKey key = perAttribute (packedValue key)
 
 -- the packed key and the content that a record's bytes hold
 abbrev pub keyIn : List ℕ → ℕ

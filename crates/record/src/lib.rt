@@ -1,5 +1,5 @@
-// Records: their key, what they hold besides it, and their bytes (document 01, "Lent memory"). The code hands a key on
-// as one number, whose 16-bit parts are the values: a packed key.
+// Records: their key, what they hold besides it, and their bytes (document 01, "Lent memory"). The
+// code hands a key on as one number, whose 16-bit parts are the values: a packed key.
 pub mod numbers;
 
 use numbers::read32;

@@ -30,8 +30,8 @@ pub fn pack_page(page: u32, depth: u32) -> u32
     (depth << 16) | (page + 1)
 }
 
-// The leaf that a word names. Its depth is all of bits 16-31, so that no two words name one leaf: where
-// a bit of 20-31 is set the depth is 16 or more, which no leaf has.
+// The leaf that a word names. Its depth is all of bits 16-31, so that no two words name one leaf:
+// where a bit of 20-31 is set the depth is 16 or more, which no leaf has.
 pub fn unpack(word: u32) -> Leaf
     ensures { λ r. ⌜ r ≡ leafOf word ⌝ }
 {

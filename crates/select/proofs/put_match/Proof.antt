@@ -1,0 +1,64 @@
+-- `select::put_match` meets its contract: no match, no room, or the record is copied. Assumes nothing.
+use native.Mathlib.Omega.{arith}
+use Rattle.select.proofs.MatchLaws.{no-match, match-full, match-put}
+use borrow.Author.Needs.{needs}
+use Rattle.select.proofs.put_match.Statement.{statement}
+use Rattle.select.proofs.put_match.Tie as tie
+
+read-key-requires : tie.Need-read-key-requires
+read-key-requires c κs = search needs
+
+returns : tie.Need-returns
+returns c =
+    let read = c .before .before .before in
+    let a = read .before .before .before .args in
+    no-match (a .pattern) (a .page .now) (a .out .now) (a .at) (a .total) _ (read .read-key .ensures) (c .if1 .taken)
+
+mul-to : tie.Need-mul-to
+mul-to c = search needs
+
+add-if2 : tie.Need-add-if2
+add-if2 c = search needs
+
+add-result : tie.Need-add-result
+add-result c = search needs
+
+returns-2 : tie.Need-returns-2
+returns-2 c =
+    let read = c .before .before .before .before in
+    let a = read .before .before .before .args in
+    match-full (a .pattern) (a .page .now) (a .out .now) (a .at) (a .total) _ (read .read-key .ensures)
+    (c .before .if1 .left) (omega arith)
+
+copy-requires : tie.Need-copy-requires
+copy-requires c κs = search needs
+
+add-result-2 : tie.Need-add-result-2
+add-result-2 c = search needs
+
+same-length : tie.Need-same-length
+same-length c = search needs
+
+returns-3 : tie.Need-returns-3
+returns-3 c =
+    let matched = c .before .before .before .before .before in
+    let read = matched .before .before .before in
+    let a = read .before .before .before .args in
+    match-put (a .pattern) (a .page .now) (a .out .now) (a .at) (a .total) _ (read .read-key .ensures)
+    (matched .if1 .left)
+    (omega arith) _ (c .before .before .copy .ensures)
+
+pub put-match-spec : {M : Type 1} → statement M
+put-match-spec =
+    tie.close
+    (tie.spec
+    read-key-requires
+    returns
+    mul-to
+    add-if2
+    add-result
+    returns-2
+    copy-requires
+    add-result-2
+    same-length
+    returns-3)

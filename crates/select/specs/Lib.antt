@@ -1,0 +1,3 @@
+pub mod KeyPlace
+pub mod Output
+pub mod Pattern
