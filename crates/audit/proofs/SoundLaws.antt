@@ -1,8 +1,8 @@
 -- The test passes exactly the sound stores, and a sound store shows one set: the one that is read off its pages.
 -- Assumes nothing.
 use Prim.Native.Nat.{ℕ, _≤_}
-use mathlib.Core.Path.{_≡_, refl, sym, ap, _∙_}
-use mathlib.Core.Bool.{Bool, true, false, _&&_, false≢true}
+use mathlib.Core.Path.{_≡_, refl, ap, _∙_}
+use mathlib.Core.Bool.{Bool, true, _&&_, false≢true}
 use mathlib.Core.List.{List, [], _∷_}
 use native.Mathlib.Omega.{arith}
 use native.Mathlib.Nat.{zero-add}
@@ -228,7 +228,3 @@ module _ (store : Store) where
               tallied = h .tallied;
               in-use = pagesInUse-Shows store S (h .most-pages) (h .shown);
             })
-
-  -- a store shows one set only
-  pub one-set : (S S′ : List Record) → Sound store S → Sound store S′ → S ≡ S′
-  one-set S S′ h h′ = sym (sound-set S h) ∙ sound-set S′ h′

@@ -11,7 +11,7 @@ use Rattle.lists.specs.Filter.{nonEmpty}
 use Rattle.region.specs.Division.{tally, leafDepth, leafRecords}
 use Rattle.record.specs.Record.{Record}
 use Rattle.page.specs.Page.{countOf, pageAt}
-use Rattle.page.proofs.PageLaws.{length-recordsFrom}
+use Rattle.page.proofs.FieldLaws.{length-recordsFrom}
 use Rattle.word.specs.Word.{wordOf}
 use Rattle.word.specs.declared.Leaf.the-variants.{Empty, Page}
 use Rattle.store.specs.Store.{Store}

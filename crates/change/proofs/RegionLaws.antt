@@ -15,7 +15,7 @@ use Rattle.region.specs.Division.{Division, greatestDepth, leafDepth, leafRecor
 use Rattle.region.proofs.InsertLaws.{SameLeaf}
 use Rattle.record.specs.Record.{Record}
 use Rattle.page.specs.Page.{countOf, pageAt}
-use Rattle.page.proofs.PageLaws.{length-recordsFrom}
+use Rattle.page.proofs.FieldLaws.{length-recordsFrom}
 use Rattle.word.specs.Word.{wordOf}
 use Rattle.word.specs.declared.Leaf.the-variants.{Page}
 use Rattle.model.specs.Sets.{isSet}

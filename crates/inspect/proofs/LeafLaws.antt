@@ -15,7 +15,7 @@ use Rattle.region.specs.Division.{Division, leaf}
 use Rattle.record.specs.Record.{Record}
 use Rattle.record.proofs.ByteLaws.{length-field}
 use Rattle.page.specs.Page.{pageSize, countOf, recordsOf, recordsFrom, pageAt}
-use Rattle.page.proofs.PageLaws.{length-recordsFrom}
+use Rattle.page.proofs.FieldLaws.{length-recordsFrom}
 use Rattle.store.specs.Store.{pagesSize}
 use Rattle.store.specs.declared.State.{State}
 use Rattle.audit.specs.Walk.{View, fieldRecords, pageTest}

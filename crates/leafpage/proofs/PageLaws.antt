@@ -14,7 +14,7 @@ use Rattle.split.specs.Bits.{splitBit}
 use Rattle.record.specs.Record.{Record}
 use Rattle.record.specs.Bytes.{recordSize, field, recordOf}
 use Rattle.page.specs.Page.{countOf, recordsFrom, recordsOf}
-use Rattle.page.proofs.PageLaws.{length-recordsFrom}
+use Rattle.page.proofs.FieldLaws.{length-recordsFrom}
 use Rattle.audit.specs.Codes.{code, recordHere, chainAfter, chain, pageChain}
 use Rattle.leafpage.specs.Private.{keyAt, keyCode, recordPasses, recordsAfter, recordsPass, pagePasses}
 use Rattle.leafpage.proofs.ByteLaws.{key-recordOf}

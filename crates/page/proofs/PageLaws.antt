@@ -1,10 +1,9 @@
 -- Laws of pages: records read back from their bytes and written back, records one after the other. Assumes nothing.
-use Prim.Native.Nat.{ℕ, zero, suc, _+_, _*_, _≤_, _<_}
+use Prim.Native.Nat.{ℕ, zero, suc, _+_, _*_, _≤_}
 use mathlib.Core.Path.{_≡_, refl, sym, ap, _∙_}
 use mathlib.Core.List.{List, [], _∷_, _++_, append-assoc}
 use native.Mathlib.Omega.{arith}
-use native.Mathlib.Nat.{add-zero}
-use lib.ListN.{length, getD, take, length-append}
+use lib.ListN.{length, take, length-append}
 use lib.Seq.{take-at, drop-at}
 use Rattle.lists.specs.Members.{All}
 use Rattle.shape.specs.declared.Shape.{Shape}
@@ -15,21 +14,6 @@ use Rattle.record.proofs.ByteLaws.{recordOf-recordBytes, recordBytes-recordOf, 
 use Rattle.page.specs.Page.{recordsFrom}
 
 module _ (s : Shape) where
-  pub length-recordsFrom : (n offset : ℕ) (bytes : List ℕ) → length (recordsFrom s n offset bytes) ≡ n
-  length-recordsFrom zero offset bytes = refl
-  length-recordsFrom (suc n) offset bytes = ap suc (length-recordsFrom n (offset + recordSize) bytes)
-
-  -- record i
-  pub getD-recordsFrom : (n i offset : ℕ) (bytes : List ℕ) (d : Record) → i < n
-      → getD (recordsFrom s n offset bytes) i d ≡ recordOf s (field bytes (offset + recordSize * i) recordSize)
-  getD-recordsFrom zero i offset bytes d h = absurd (omega arith)
-  getD-recordsFrom (suc n) zero offset bytes d h =
-      ap (λ o. recordOf s (field bytes o recordSize)) (sym (add-zero offset))
-  getD-recordsFrom (suc n) (suc i) offset bytes d h =
-      let e : offset + recordSize + recordSize * i ≡ offset + recordSize * suc i = omega arith in
-      getD-recordsFrom n i (offset + recordSize) bytes d (omega arith)
-      ∙ ap (λ o. recordOf s (field bytes o recordSize)) e
-
   -- the first n, and those behind them
   pub recordsFrom-add : (n m offset : ℕ) (bytes : List ℕ)
       → recordsFrom s (n + m) offset bytes
