@@ -1,6 +1,6 @@
 -- Laws of the call's tests, one for each way that a function ends: the limits, the sums of the whole walk, the answer.
 -- Assumes nothing.
-use Prim.Native.Nat.{ℕ, zero, suc, _+_, _-_, _^_, _≤_, _<_}
+use Prim.Native.Nat.{ℕ, _+_, _-_, _^_, _≤_, _<_}
 use mathlib.Core.Path.{_≡_, refl, sym, ap, _∙_, subst}
 use mathlib.Core.Bool.{Bool, true, false, _&&_, _||_, and-false, false≢true}
 use mathlib.Core.List.{List, [], _∷_}
@@ -14,9 +14,8 @@ use Rattle.shape.specs.Refusal.{accepted, refused, refusal}
 use Rattle.shape.specs.Shape.{Fit, shapeNumber, widthsOf, total}
 use Rattle.shape.proofs.ShapeLaws.{inBounds-of, widthsOf-fit}
 use Rattle.shape.proofs.RefusalLaws.{answered-shape-out, answered-first, answered-none}
-use Rattle.directory.specs.Directory.{DirectoryFits}
 use Rattle.region.specs.Strings.{emptyString}
-use Rattle.region.specs.Division.{Division, greatestDepth, nonEmptyLeaves}
+use Rattle.region.specs.Division.{Division, nonEmptyLeaves}
 use Rattle.record.specs.Record.{Record}
 use Rattle.shape.proofs.ShapeLaws.{capacity-bounds}
 use Rattle.store.specs.Store.{Store, store, pagesSize, lentConditions}
@@ -31,7 +30,8 @@ use Rattle.audit.proofs.SoundLaws.{bounds-of-test}
 use Rattle.inspect.specs.declared.regions.Region.{Region}
 use Rattle.inspect.specs.declared.walk.Seen.{Seen}
 use Rattle.inspect.specs.Regions.{wholeRegion}
-use Rattle.inspect.specs.Sums.{viewBy, Tells, Walks, Walked, TallyRoom, usedPages, sameTally, lacksMemory, StoreLent}
+use Rattle.inspect.specs.Sums.{viewBy, Tells, Walks, Walked, TallyRoom}
+use Rattle.inspect.specs.Sums.{usedPages, sameTally, lacksMemory, StoreLent}
 use Rattle.inspect.proofs.RegionLaws.{names-whole, regionIn-whole}
 use Rattle.inspect.proofs.CountLaws.{pagesInUse-usedPages, sameNumbers-sameTally}
 
@@ -101,68 +101,74 @@ walks-whole st words bytes k ws same r whole =
         let m : 2 ^ (st .depth - 0) ≤ 2 ^ 12 = pow-mono {j = 12} (omega (arith, k .within, k .short)) in
         omega (arith, getD-replicate {A = ℕ} 13 y 0 0 h)
 
-module _ (st : State) (words bytes ws : List ℕ) (same : ws ≡ widthsOf (st .shape)) (r : Region) (whole : r ≡ wholeRegion)
-    (seen : Seen) (counts : List ℕ) (told : Walked st ws words bytes r (replicate 13 0) seen counts) where
-  abbrev lent : Store
-  lent = store st words bytes
+-- what it tells
+pub tells-whole : (st : State) (words bytes ws : List ℕ) → ws ≡ widthsOf (st .shape) → (r : Region) → r ≡ wholeRegion
+    → (seen : Seen) (counts : List ℕ) → Walked st ws words bytes r (replicate 13 0) seen counts
+    → let lent = store st words bytes in
+    Tells 0 (replicate 13 0) seen counts (walkTest lent) (shownDivision lent)
+unfolding wholeRegion
+tells-whole st words bytes ws same r whole seen counts told =
+    subst
+    (λ v. Tells 0 (replicate 13 0) seen counts (regionTest (viewBy v st words bytes) (st .depth) emptyString 0)
+    (readDivision (viewBy v st words bytes) (st .depth) emptyString 0)) same
+    (subst
+    (λ n. Tells 0 (replicate 13 0) seen counts (regionTest (viewBy ws st words bytes) n emptyString 0)
+    (readDivision (viewBy ws st words bytes) n emptyString 0)) (sub-zero (st .depth))
+    (subst (λ r. Walked st ws words bytes r (replicate 13 0) seen counts) whole told emptyString (names-whole ws)))
 
-  abbrev D : Division Record
-  D = shownDivision lent
+module _ (st : State) (words bytes : List ℕ) (seen : Seen) (counts : List ℕ)
+    (tells :
+    Tells 0 (replicate 13 0) seen counts (walkTest (store st words bytes)) (shownDivision (store st words bytes)))
+  where
+    abbrev lent : Store
+    lent = store st words bytes
 
-  tells : Tells 0 (replicate 13 0) seen counts (walkTest lent) D
-  unfolding wholeRegion
-  tells =
-      subst
-      (λ v. Tells 0 (replicate 13 0) seen counts (regionTest (viewBy v st words bytes) (st .depth) emptyString 0)
-      (readDivision (viewBy v st words bytes) (st .depth) emptyString 0)) same
-      (subst
-      (λ n. Tells 0 (replicate 13 0) seen counts (regionTest (viewBy ws st words bytes) n emptyString 0)
-      (readDivision (viewBy ws st words bytes) n emptyString 0)) (sub-zero (st .depth))
-      (subst (λ r. Walked st ws words bytes r (replicate 13 0) seen counts) whole told emptyString (names-whole ws)))
+    abbrev D : Division Record
+    D = shownDivision lent
 
-  abbrev shows : Bool
-  shows = walkTest lent && sumsTest lent
+    abbrev shows : Bool
+    shows = walkTest lent && sumsTest lent
 
-  pub shows-walk-fails : seen .ok ≡ false → false ≡ shows
-  shows-walk-fails e = sym (ap (λ β. β && sumsTest lent) (sym (tells .0 .ok) ∙ e))
+    pub shows-walk-fails : seen .ok ≡ false → false ≡ shows
+    shows-walk-fails e = sym (ap (λ β. β && sumsTest lent) (sym (tells .sees .ok) ∙ e))
 
-  module _ (ok : seen .ok ≡ true) where
-    passes : walkTest lent ≡ true
-    passes = sym (tells .0 .ok) ∙ ok
+    module _ (ok : seen .ok ≡ true) where
+      passes : walkTest lent ≡ true
+      passes = sym (tells .sees .ok) ∙ ok
 
-    abbrev tallyTest : Bool
-    tallyTest = sameNumbers (st .tally .leaves) (tallies D 0 13)
+      abbrev tallyTest : Bool
+      tallyTest = sameNumbers (st .tally .leaves) (tallies D 0 13)
 
-    abbrev pagesTest : Bool
-    pagesTest = eqb (pagesInUse (viewOf lent) (st .limits .pages)) (nonEmptyLeaves D)
+      abbrev pagesTest : Bool
+      pagesTest = eqb (pagesInUse (viewOf lent) (st .limits .pages)) (nonEmptyLeaves D)
 
-    walked : shows ≡ (eqb (st .depth) (seen .depth) && (tallyTest && pagesTest))
-    walked =
-        ap (λ β. β && sumsTest lent) passes
-        ∙ ap (λ d. eqb (st .depth) d && (tallyTest && pagesTest)) (sym (tells .0 .depth passes))
+      walked : shows ≡ (eqb (st .depth) (seen .depth) && (tallyTest && pagesTest))
+      walked =
+          ap (λ β. β && sumsTest lent) passes
+          ∙ ap (λ d. eqb (st .depth) d && (tallyTest && pagesTest)) (sym (tells .sees .depth passes))
 
-    pub shows-depth-fails : (seen .depth ≡ st .depth → ⊥) → false ≡ shows
-    shows-depth-fails ne = sym (walked ∙ rw (ne-eqb (st .depth) (seen .depth) (λ e. ne (sym e))))
+      pub shows-depth-fails : (seen .depth ≡ st .depth → ⊥) → false ≡ shows
+      shows-depth-fails ne = sym (walked ∙ rw (ne-eqb (st .depth) (seen .depth) (λ e. ne (sym e))))
 
-    module _ (depth : seen .depth ≡ st .depth) (depths : length (st .tally .leaves) ≡ 13) where
-      tallied : shows ≡ (sameTally (st .tally .leaves) counts && pagesTest)
-      tallied =
-          walked
-          ∙ ap (λ β. β && (tallyTest && pagesTest)) (eq-eqb (st .depth) (seen .depth) (sym depth))
-          ∙ ap (λ β. β && pagesTest) (sameNumbers-sameTally D (st .tally .leaves) counts depths (tells .1 passes))
+      module _ (depth : seen .depth ≡ st .depth) (depths : length (st .tally .leaves) ≡ 13) where
+        tallied : shows ≡ (sameTally (st .tally .leaves) counts && pagesTest)
+        tallied =
+            walked
+            ∙ ap (λ β. β && (tallyTest && pagesTest)) (eq-eqb (st .depth) (seen .depth) (sym depth))
+            ∙ ap (λ β. β && pagesTest) (sameNumbers-sameTally D (st .tally .leaves) counts depths (tells .tallied passes))
 
-      pub shows-tally-fails : sameTally (st .tally .leaves) counts ≡ false → false ≡ shows
-      shows-tally-fails e = sym (tallied ∙ ap (λ β. β && pagesTest) e)
+        pub shows-tally-fails : sameTally (st .tally .leaves) counts ≡ false → false ≡ shows
+        shows-tally-fails e = sym (tallied ∙ ap (λ β. β && pagesTest) e)
 
-      pub shows-pages : sameTally (st .tally .leaves) counts ≡ true → (used : ℕ)
-          → used ≡ usedPages (st .shape .capacity) bytes (st .limits .pages) → eqb used (seen .pages) ≡ shows
-      shows-pages e used count =
-          rw (
-            count,
-            ← pagesInUse-usedPages (viewOf lent) (st .shape) (st .shape .capacity) bytes (λ g. refl) (st .limits .pages),
-            tells .0 .pages passes,
-          )
-          (sym (tallied ∙ ap (λ β. β && pagesTest) e))
+        pub shows-pages : sameTally (st .tally .leaves) counts ≡ true → (used : ℕ)
+            → used ≡ usedPages (st .shape .capacity) bytes (st .limits .pages) → eqb used (seen .pages) ≡ shows
+        shows-pages e used count =
+            rw (
+              count,
+              ← pagesInUse-usedPages (viewOf lent) (st .shape) _ bytes (λ g. refl) (st .limits .pages),
+              tells .sees .pages passes,
+            )
+            (sym (tallied ∙ ap (λ β. β && pagesTest) e))
 
 -- ---- the answer
 

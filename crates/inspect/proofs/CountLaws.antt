@@ -1,22 +1,21 @@
 -- Laws of what the walk's sums are compared with: pages in use, the tally, the memory that is lent. Assumes nothing.
-use Prim.Native.Nat.{ℕ, zero, suc, _+_, _-_, _*_, _%_, _^_, _≤_, _<_}
+use Prim.Native.Nat.{ℕ, zero, suc, _+_, _*_, _%_, _^_, _≤_, _<_}
 use mathlib.Core.Path.{_≡_, refl, sym, ap, _∙_, subst}
-use mathlib.Core.Bool.{Bool, true, false, cond, not, _&&_, _||_}
-use mathlib.Core.List.{List, [], _∷_}
+use mathlib.Core.Bool.{Bool, true, false, cond}
+use mathlib.Core.List.{List}
 use native.Mathlib.Omega.{arith}
-use native.Mathlib.Nat.{zero-add, add-zero, add-suc, suc-add, min-le-left, lt-of-lt-of-le, mul-le-mul}
+use native.Mathlib.Nat.{zero-add, add-zero, add-suc, suc-add, lt-of-lt-of-le, mul-le-mul}
 use native.Mathlib.Numerals.{add-one}
-use lib.Dec.{leb, ltb, eqb}
-use lib.ListN.{length, getD, take, drop, replicate, getD-replicate, length-replicate}
+use lib.Dec.{ltb, eqb}
+use lib.ListN.{length, getD, drop, replicate, getD-replicate}
 use lib.Pow.{pow-mono}
 use lib.Seq.{ext-getD, take-take}
 use borrow.Author.Tests.{eqb-true, eq-eqb, ne-eqb, lt-ltb, le-ltb}
 use Rattle.lists.specs.Filter.{nonEmpty}
 use Rattle.lists.proofs.Bools.{eq-of-iff}
 use Rattle.lists.proofs.Shifts.{one-shifted}
-use Rattle.shape.specs.Shape.{allBelow}
 use Rattle.shape.specs.declared.Shape.{Shape}
-use Rattle.shape.proofs.BoundsLaws.{test-of-allBelow, allBelow-suc, allBelow-fails}
+use Rattle.shape.proofs.BoundsLaws.{test-of-allBelow}
 use Rattle.region.specs.Division.{Division, leaf, divided, tally}
 use Rattle.record.specs.Record.{Record}
 use Rattle.record.specs.Bytes.{numberOf, field}
@@ -27,7 +26,6 @@ use Rattle.store.specs.Store.{pagesSize}
 use Rattle.store.specs.declared.State.{State}
 use Rattle.audit.specs.Test.{sameNumbers}
 use Rattle.audit.specs.Walk.{View, pagesInUse}
-use Rattle.audit.proofs.ShowsLaws.{nonEmpty-recordsFrom}
 use Rattle.audit.proofs.SoundLaws.{eq-of-sameNumbers, sameNumbers-refl}
 use Rattle.inspect.specs.Sums.{leavesAt, Tallied, usedPages, sameTally, lacksMemory}
 
@@ -88,8 +86,7 @@ leavesAt-tally (leaf rs) x y =
     (eq-of-iff (eqb (x + y) x) (eqb y 0) (λ e. eq-eqb y 0 (omega (arith, eqb-true (x + y) x e)))
     (λ e. eq-eqb (x + y) x (omega (arith, eqb-true y 0 e))))
 leavesAt-tally (divided l u) x zero =
-    let none : (D : Division Record) → leavesAt D (suc x) (x + 0) ≡ 0 = λ D. leavesAt-above D (suc x) (x + 0) (omega arith) in
-    omega (arith, none l, none u)
+    omega (arith, leavesAt-above l (suc x) (x + 0) (omega arith), leavesAt-above u (suc x) (x + 0) (omega arith))
 leavesAt-tally (divided l u) x (suc y) =
     let e : x + suc y ≡ suc x + y = omega arith in
     rw e (cc (leavesAt-tally l (suc x) y, leavesAt-tally u (suc x) y))
@@ -107,7 +104,8 @@ getD-tallies D x (suc n) (suc i) h =
 -- the counts of the whole walk are the tally
 pub sameNumbers-sameTally : (D : Division Record) (leaves counts : List ℕ) → length leaves ≡ 13
     → Tallied D 0 (replicate 13 0) counts → sameNumbers leaves (tallies D 0 13) ≡ sameTally leaves counts
-sameNumbers-sameTally D leaves counts len told = eq-of-iff (sameNumbers leaves (tallies D 0 13)) (sameTally leaves counts) to from
+sameNumbers-sameTally D leaves counts len told =
+    eq-of-iff (sameNumbers leaves (tallies D 0 13)) (sameTally leaves counts) to from
   where
     count : (x : ℕ) → x < 13 → getD counts x 0 ≡ getD (tallies D 0 13) x 0
     count x h =

@@ -1,27 +1,24 @@
 -- Laws of a leaf's page: where it lies in the lent bytes; what is told of it, by case. Assumes nothing.
-use Prim.Native.Nat.{ℕ, zero, suc, _+_, _-_, _*_, _≤_, _<_}
+use Prim.Native.Nat.{ℕ, suc, _+_, _-_, _*_, _≤_, _<_}
 use mathlib.Core.Path.{_≡_, refl, sym, ap, _∙_, subst}
-use mathlib.Core.Bool.{Bool, true, false, cond, not, and-false, false≢true}
-use mathlib.Core.List.{List, []}
+use mathlib.Core.Bool.{Bool, true, false, cond, not, false≢true}
+use mathlib.Core.List.{List}
 use native.Mathlib.Omega.{arith}
 use native.Mathlib.Nat.{mul-le-mul-right, suc-mul}
-use lib.Dec.{leb, eqb}
 use lib.ListN.{length, take, drop}
 use borrow.Author.Tests.{le-ltb, ne-eqb}
 use Rattle.lists.specs.Filter.{nonEmpty}
-use Rattle.lists.proofs.Numbers.{eq-or-ne}
-use Rattle.shape.specs.Shape.{Fit, total}
-use Rattle.region.specs.Division.{Division, leaf}
+use Rattle.shape.specs.Shape.{total}
+use Rattle.region.specs.Division.{leaf}
 use Rattle.record.specs.Record.{Record}
 use Rattle.record.proofs.ByteLaws.{length-field}
-use Rattle.page.specs.Page.{pageSize, countOf, recordsOf, recordsFrom, pageAt}
+use Rattle.page.specs.Page.{pageSize, countOf, recordsOf, pageAt}
 use Rattle.page.proofs.FieldLaws.{length-recordsFrom}
-use Rattle.store.specs.Store.{pagesSize}
 use Rattle.store.specs.declared.State.{State}
 use Rattle.audit.specs.Walk.{View, fieldRecords, pageTest}
 use Rattle.audit.proofs.CodeLaws.{pageTest-chain}
 use Rattle.audit.proofs.ShowsLaws.{nonEmpty-recordsFrom}
-use Rattle.leafpage.specs.Private.{pagePasses, recordsPass, PageLent}
+use Rattle.leafpage.specs.Private.{pagePasses, PageLent}
 use Rattle.leafpage.proofs.PageLaws.{pagePasses-none, pageChain-pagePasses}
 use Rattle.inspect.specs.declared.regions.Region.{Region}
 use Rattle.inspect.specs.declared.walk.Seen.{Seen}
@@ -131,7 +128,8 @@ module _ (st : State) (ws words bytes : List ℕ) (r : Region) (p : ℕ → Bool
               false≢true (pagePasses-none ws b (r .depth) (r .string) page (countOf page) refl z ∙ e)
 
       told : (γ : Bool) → passes ≡ γ
-          → Sees γ (leaf (recordsOf (st .shape) page)) (cond γ (record { ok = true; records = countOf page; pages = 1; depth = 0 }) failed)
+          → Sees γ (leaf (recordsOf (st .shape) page))
+          (cond γ (record { ok = true; records = countOf page; pages = 1; depth = 0 }) failed)
       told true e =
           record {
             ok = refl;

@@ -1,19 +1,17 @@
 -- Laws of regions as the code hands them on: the whole, the halves, the word of the first cell, the words of all cells.
 -- Assumes nothing.
-use Prim.Native.Nat.{ℕ, zero, suc, _+_, _-_, _*_, _/_, _%_, _^_, _≤_, _<_}
+use Prim.Native.Nat.{ℕ, suc, _+_, _-_, _*_, _/_, _%_, _^_, _≤_, _<_}
 use mathlib.Core.Path.{_≡_, refl, sym, ap, _∙_, subst}
-use mathlib.Core.Bool.{Bool, true, false, _&&_, cond}
+use mathlib.Core.Bool.{Bool, true, false, _&&_}
 use mathlib.Core.List.{List, [], _∷_}
 use native.Mathlib.Omega.{arith}
-use native.Mathlib.Nat.{le-trans, mod-eq-of-lt, two-pow-succ}
+use native.Mathlib.Nat.{mod-eq-of-lt, two-pow-succ}
 use native.Mathlib.Numerals.{add-one}
 use lib.Bits.{bitOr, or-shifted}
 use lib.Dec.{eqb}
 use lib.ListN.{getD, length}
 use lib.Pow.{pow-mono}
-use borrow.Author.Tests.{ne-eqb}
-use Rattle.shape.specs.Shape.{Fit, total}
-use Rattle.shape.proofs.ShapeLaws.{total-le}
+use Rattle.shape.specs.Shape.{Fit}
 use Rattle.split.specs.Steps.{steps, bitValue}
 use Rattle.split.proofs.StepLaws.{length-steps}
 use Rattle.address.specs.Address.{address, addressFrom, latestStep, createdBy}
@@ -69,8 +67,10 @@ module _ (ws : List ℕ) (r : Region) (i : RegionIn ws r) where
         (getD-cell-lt ws fit (r .depth) g pair (i .named .0))
 
     -- the strings of the sides, by their bit
-    module _ (β : Bool) (s : Region) (deeper : s .depth ≡ r .depth + 1) (bits : s .string ≡ 2 * r .string + bitValue β) where
-      names-side : (p : ℕ → Bool) → Names ws r p → cell ws (suc (r .depth)) (withBit p (r .depth) β) ≡ indexList (s .index)
+    module _ (β : Bool) (s : Region) (deeper : s .depth ≡ r .depth + 1)
+        (bits : s .string ≡ 2 * r .string + bitValue β) where
+      names-side : (p : ℕ → Bool) → Names ws r p
+          → cell ws (suc (r .depth)) (withBit p (r .depth) β) ≡ indexList (s .index)
           → Names ws s (withBit p (r .depth) β)
       names-side p n v =
           let x = r .depth in
@@ -123,7 +123,8 @@ module _ (ws : List ℕ) (r : Region) (i : RegionIn ws r) where
     -- the vector of the upper side, before it is one
     pub upper-inBox : (v : List ℕ) → v ≡ bitSet g (indexList (r .index)) → InBox ws v
     upper-inBox v e =
-        subst (InBox ws) (cell-upper ws fit (r .depth) g pair (i .named .0) ∙ ap (bitSet g) (i .named .1 .vector) ∙ sym e)
+        subst (InBox ws)
+        (cell-upper ws fit (r .depth) g pair (i .named .0) ∙ ap (bitSet g) (i .named .1 .vector) ∙ sym e)
         (inBox-cell ws fit (suc (r .depth)) (withBit (i .named .0) (r .depth) true))
 
 -- ---- strings as numbers: s << 1, and (s << 1) | 1
@@ -158,7 +159,8 @@ module _ (w0 w1 w2 w3 : ℕ) (r : Region) (i : RegionIn (w0 ∷ w1 ∷ w2 ∷ w3
       ∙ ap (address ws) (n .vector)
       ∙ sym (i .at)
 
-  pub cellWord-first : (words : List ℕ) (p : ℕ → Bool) → Names ws r p → cellWord ws t words p ≡ getD words (r .address) 0
+  pub cellWord-first : (words : List ℕ) (p : ℕ → Bool) → Names ws r p
+      → cellWord ws t words p ≡ getD words (r .address) 0
   cellWord-first words p n = ap (λ a. getD words a 0) (first-cell p n)
 
   pub region-lt : (r .address < size) × (r .address < 4096)
@@ -185,7 +187,8 @@ module _ (word : (ℕ → Bool) → ℕ) (t x : ℕ) (p : ℕ → Bool) (w : ℕ
         ap (λ n. sameWords word n p x w) n
         ∙ ap (λ z. sameWords word (t - y) (withBit p x false) z w && sameWords word (t - y) (withBit p x true) z w) e
 
-    pub sameWords-lower-fails : sameWords word (t - y) (withBit p x false) y w ≡ false → false ≡ sameWords word (t - x) p x w
+    pub sameWords-lower-fails : sameWords word (t - y) (withBit p x false) y w ≡ false
+        → false ≡ sameWords word (t - x) p x w
     sameWords-lower-fails e = sym (sameWords-sides ∙ rw e)
 
     pub sameWords-upper : sameWords word (t - y) (withBit p x false) y w ≡ true → (z : ℕ) → z ≡ x + 1 → (β : Bool)

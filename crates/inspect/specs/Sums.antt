@@ -77,8 +77,10 @@ abbrev pub Tallied : Division Record → ℕ → List ℕ → List ℕ → Type 
 Tallied D x before after = (y : ℕ) → y < 13 → getD after y 0 ≡ getD before y 0 + leavesAt D x y
 
 -- both
-abbrev pub Tells : ℕ → List ℕ → Seen → List ℕ → Bool → Division Record → Type 0
-Tells x before seen after test D = Sees test D seen × (test ≡ true → Tallied D x before after)
+pub record Tells (x : ℕ) (before : List ℕ) (seen : Seen) (after : List ℕ) (test : Bool) (D : Division Record)
+    : Type 0 where
+  pub sees : Sees test D seen
+  pub tallied : test ≡ true → Tallied D x before after
 
 module _ (st : State) (ws : List ℕ) where
   -- a region, and pages that are lent

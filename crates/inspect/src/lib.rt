@@ -40,10 +40,10 @@ pub fn check(state: State, dir: &[u32], pages: &[u8]) -> Checked
     if !in_limits(state) {
         return Checked::No;
     }
-    if !shows_leaves(state, dir, pages) {
-        return Checked::No;
+    if shows_leaves(state, dir, pages) {
+        return Checked::Yes;
     }
-    Checked::Yes
+    Checked::No
 }
 
 // Whether there are fewer than 2^L words or P pages. No slice has 2^64 words.

@@ -48,7 +48,8 @@ pub fn whole_region() -> Region
 
 // The two sides of a region at its next split step.
 pub fn sides_of(widths: Widths, region: Region) -> Sides
-    requires { ⌜ Fit (widthList widths) × (region .depth < total (widthList widths)) × RegionIn (widthList widths) region ⌝ }
+    requires { ⌜ Fit (widthList widths) × (region .depth < total (widthList widths))
+        × RegionIn (widthList widths) region ⌝ }
     ensures { λ r. ⌜ SidesOf (widthList widths) region r ⌝ }
 {
     let index = region.index;
@@ -74,7 +75,8 @@ pub fn sides_of(widths: Widths, region: Region) -> Sides
 
 // Whether every cell of a region holds a word, in a directory of depth t.
 pub fn same_words(widths: Widths, region: Region, t: u64, word: u32, dir: &[u32]) -> bool
-    requires { ⌜ DirectoryFits (widthList widths) t (length (now dir)) × (region .depth ≤ t) × RegionIn (widthList widths) region ⌝ }
+    requires { ⌜ DirectoryFits (widthList widths) t (length (now dir)) × (region .depth ≤ t)
+        × RegionIn (widthList widths) region ⌝ }
     ensures { λ r. ⌜ SameWords (widthList widths) t (now (dir .entry)) region word r ⌝ }
 {
     if region.depth < t {

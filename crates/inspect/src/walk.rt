@@ -12,7 +12,8 @@ ghost use lib.ListN.{length, getD};
 ghost use Rattle.shape.specs.Shape.{widthList};
 ghost use Rattle.audit.specs.Walk.{depthField};
 ghost use Rattle.leafpage.specs.Private.{PageLent};
-ghost use Rattle.inspect.specs.Sums.{failed, pageSeen, joinedSeen, JoinFits, PageSeen, LeafSeen, Walked, PageAsked, Walks, TallyRoom};
+ghost use Rattle.inspect.specs.Sums.{failed, pageSeen, joinedSeen, PageSeen, LeafSeen, Walked};
+ghost use Rattle.inspect.specs.Sums.{JoinFits, PageAsked, Walks, TallyRoom};
 
 // What a region has: whether it passes, and if so its records, its leaves with a page, and how far
 // below it its deepest leaf is.
@@ -35,7 +36,8 @@ pub fn walk(
 ) -> Seen
     requires { ⌜ Walks state (widthList widths) (length (now dir)) (length (now pages)) region
         × TallyRoom (state .depth - region .depth) (now tally) ⌝ }
-    ensures { λ r. ⌜ Walked state (widthList widths) (now (dir .entry)) (now (pages .entry)) region (now (tally .entry)) r (now (tally .exit)) ⌝ }
+    ensures { λ r. ⌜ Walked state (widthList widths) (now (dir .entry)) (now (pages .entry)) region
+        (now (tally .entry)) r (now (tally .exit)) ⌝ }
 {
     let word = dir[region.address as usize];
     if depth_of(word) <= region.depth {
@@ -89,7 +91,8 @@ fn leaf(
 ) -> Seen
     requires { ⌜ Walks state (widthList widths) (length (now dir)) (length (now pages)) region
         × TallyRoom (state .depth - region .depth) (now tally) × (word ≡ getD (now dir) (region .address) 0) ⌝ }
-    ensures { λ r. ⌜ LeafSeen state (widthList widths) (now (dir .entry)) (now (pages .entry)) region (now (tally .entry)) r (now (tally .exit)) ⌝ }
+    ensures { λ r. ⌜ LeafSeen state (widthList widths) (now (dir .entry)) (now (pages .entry)) region
+        (now (tally .entry)) r (now (tally .exit)) ⌝ }
 {
     if depth_of(word) != region.depth {
         return fails();

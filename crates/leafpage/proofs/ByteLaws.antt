@@ -18,12 +18,14 @@ numberOf-two [] = refl
 numberOf-two (x ∷ []) = omega arith
 numberOf-two (x ∷ y ∷ xs) = omega arith
 
-pub numberOf-field-two : (page : List ℕ) (at : ℕ) → numberOf (field page at 2) ≡ getD page at 0 + getD page (at + 1) 0 * 256
+pub numberOf-field-two : (page : List ℕ) (at : ℕ)
+    → numberOf (field page at 2) ≡ getD page at 0 + getD page (at + 1) 0 * 256
 numberOf-field-two page at =
     numberOf-two (drop at page) ∙ rw (getD-drop at page 0 0, getD-drop at page 1 0, add-zero at)
 
 -- as the code puts them together
-pub number-of-bytes : (page : List ℕ) (at lo hi : ℕ) → lo ≡ getD page at 0 → hi ≡ getD page (at + 1) 0 → lo < 256 → hi < 256
+pub number-of-bytes : (page : List ℕ) (at lo hi : ℕ) → lo ≡ getD page at 0 → hi ≡ getD page (at + 1) 0
+    → lo < 256 → hi < 256
     → (bitOr lo (hi * 256 % 2 ^ 32) ≡ numberOf (field page at 2)) × (bitOr lo (hi * 256 % 2 ^ 32) < 65536)
 number-of-bytes page at lo hi el eh hl hh =
     let m : hi * 256 % 2 ^ 32 ≡ hi * 2 ^ 8 = mod-eq-of-lt (omega arith) in

@@ -103,8 +103,8 @@ begins-zero bits code x s e h k =
     sym (eq-eqb (code / 2 ^ (bits - x)) s (ap (λ y. code / 2 ^ y) (sym all) ∙ div-eq-of-lt h ∙ sym none))
 
 -- a key's code, within a page
-pub beginsFits-keyCode : (ws : List ℕ) (b x s size : ℕ) → PageLent ws b x s size → (key : List ℕ) (c : ℕ) → c ≡ keyCode ws key
-    → BeginsFits ws c x s
+pub beginsFits-keyCode : (ws : List ℕ) (b x s size : ℕ) → PageLent ws b x s size → (key : List ℕ) (c : ℕ)
+    → c ≡ keyCode ws key → BeginsFits ws c x s
 beginsFits-keyCode ws b x s size lent key c e = record {
   fit = lent .fit;
   bits = omega (arith, e, keyCode-lt ws key);

@@ -32,7 +32,8 @@ module _ (ws : List ℕ) (b x s : ℕ) (page : List ℕ) (n : ℕ) (count : n �
 
   module _ (some : n ≡ 0 → ⊥) (most : n ≤ b) where
     first : pagePasses ws b x s page
-        ≡ (recordPasses ws x s (keyAt page 2) && recordsAfter ws x s page (keyCode ws (keyAt page 2)) (n - 1) (2 + recordSize))
+        ≡ (recordPasses ws x s (keyAt page 2)
+        && recordsAfter ws x s page (keyCode ws (keyAt page 2)) (n - 1) (2 + recordSize))
     unfolding pagePasses
     first =
         let e : n ≡ suc (n - 1) = omega arith in
@@ -53,7 +54,8 @@ module _ (ws : List ℕ) (b x s : ℕ) (page : List ℕ) (n : ℕ) (count : n �
           ∙ ap (λ y. recordsAfter ws x s page y (n - 1) (2 + recordSize)) (ap (keyCode ws) (sym at) ∙ sym coded)
 
   -- the loop, at record k: the page passes if the records from it on do
-  module _ (c k : ℕ) (left : k < n) (inv : pagePasses ws b x s page ≡ recordsAfter ws x s page c (n - k) (2 + recordSize * k))
+  module _ (c k : ℕ) (left : k < n)
+      (inv : pagePasses ws b x s page ≡ recordsAfter ws x s page c (n - k) (2 + recordSize * k))
       (key : List ℕ) (at : key ≡ keyAt page (2 + recordSize * k)) (d : ℕ) (coded : d ≡ keyCode ws key) where
     abbrev later : Bool
     later = recordsAfter ws x s page d (n - (k + 1)) (2 + recordSize * (k + 1))
@@ -65,9 +67,11 @@ module _ (ws : List ℕ) (b x s : ℕ) (page : List ℕ) (n : ℕ) (count : n �
         inv
         ∙ ap (λ m. recordsAfter ws x s page c m (2 + recordSize * k)) e
         ∙ ap (λ q. ltb c (keyCode ws q)
-        && (recordPasses ws x s q && recordsAfter ws x s page (keyCode ws q) (n - (k + 1)) (2 + recordSize * k + recordSize)))
+        && (recordPasses ws x s q
+        && recordsAfter ws x s page (keyCode ws q) (n - (k + 1)) (2 + recordSize * k + recordSize)))
         (sym at)
-        ∙ ap (λ y. ltb c y && (recordPasses ws x s key && recordsAfter ws x s page y (n - (k + 1)) (2 + recordSize * k + recordSize)))
+        ∙ ap (λ y. ltb c y
+        && (recordPasses ws x s key && recordsAfter ws x s page y (n - (k + 1)) (2 + recordSize * k + recordSize)))
         (sym coded)
         ∙ ap (λ y. ltb c d && (recordPasses ws x s key && recordsAfter ws x s page d (n - (k + 1)) y)) o
 
@@ -81,7 +85,8 @@ module _ (ws : List ℕ) (b x s : ℕ) (page : List ℕ) (n : ℕ) (count : n �
       pub pagePasses-next : recordPasses ws x s key ≡ true → pagePasses ws b x s page ≡ later
       pagePasses-next e = next ∙ rw (lt-ltb c d order, e)
 
-  pub pagePasses-end : (c k : ℕ) → n ≤ k → pagePasses ws b x s page ≡ recordsAfter ws x s page c (n - k) (2 + recordSize * k)
+  pub pagePasses-end : (c k : ℕ) → n ≤ k
+      → pagePasses ws b x s page ≡ recordsAfter ws x s page c (n - k) (2 + recordSize * k)
       → true ≡ pagePasses ws b x s page
   pagePasses-end c k h inv =
       let e : n - k ≡ 0 = omega arith in

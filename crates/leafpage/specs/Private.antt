@@ -36,7 +36,8 @@ module _ (ws : List ℕ) (x s : ℕ) where
   -- n records, one at least
   abbrev pub recordsPass : List ℕ → ℕ → Bool
   recordsPass page zero = false
-  recordsPass page (suc n) = recordPasses (keyAt page 2) && recordsAfter page (keyCode ws (keyAt page 2)) n (2 + recordSize)
+  recordsPass page (suc n) =
+      recordPasses (keyAt page 2) && recordsAfter page (keyCode ws (keyAt page 2)) n (2 + recordSize)
 
 -- 1 to b records, in split order, each within the widths and beginning with the x bits
 unfoldable pub pagePasses : List ℕ → ℕ → ℕ → ℕ → List ℕ → Bool

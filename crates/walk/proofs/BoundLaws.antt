@@ -1,8 +1,8 @@
 -- Laws of what a walk sees in any store: at most 2^T pages, each below P and with a count from 1 to b. Assumes nothing.
-use Prim.Native.Nat.{ℕ, zero, suc, _*_, _-_, _^_, _≤_, _<_}
+use Prim.Native.Nat.{ℕ, zero, suc, _+_, _*_, _-_, _^_, _≤_, _<_}
 use mathlib.Core.Path.{_≡_, refl}
 use mathlib.Core.Bool.{Bool, true, false, cond}
-use mathlib.Core.List.{_++_}
+use mathlib.Core.List.{List, _++_}
 use native.Mathlib.Omega.{arith}
 use native.Mathlib.Nat.{pow-suc}
 use lib.Dec.{eqb, ltb}
@@ -14,6 +14,7 @@ use Rattle.lists.proofs.Bools.{cond-cases}
 use Rattle.lists.proofs.MemberLaws.{All-append}
 use Rattle.region.specs.Strings.{withBit}
 use Rattle.walk.specs.Seen.{Seen, nothing, damaged, single, after, fieldOf, depthOf, noted, met, seen}
+use Rattle.walk.specs.Private.{sides, seenBy}
 
 -- ---- how many
 
@@ -28,7 +29,7 @@ length-noted-le P fair word = go (eqb (fieldOf word) 0) (ltb P (fieldOf word)) (
     go false false true = omega arith
     go false false false = omega arith
 
-pub length-met-le : (P : ℕ) (fair : ℕ → Bool) (T x word : ℕ) (below : Seen) (k : ℕ) → 1 ≤ k → length (below .pages) ≤ k
+length-met-le : (P : ℕ) (fair : ℕ → Bool) (T x word : ℕ) (below : Seen) (k : ℕ) → 1 ≤ k → length (below .pages) ≤ k
     → length (met P fair T x word below .pages) ≤ k
 unfolding met
 length-met-le P fair T x word below k h l = go (eqb (depthOf word) x) (ltb (depthOf word) x) (ltb T (depthOf word))
@@ -39,7 +40,8 @@ length-met-le P fair T x word below k h l = go (eqb (depthOf word) x) (ltb (dept
     go false false true = omega arith
     go false false false = l
 
-pub length-after-le : (s u : Seen) (k : ℕ) → length (s .pages) ≤ k → length (u .pages) ≤ k → length (after s u .pages) ≤ k * 2
+length-after-le : (s u : Seen) (k : ℕ) → length (s .pages) ≤ k → length (u .pages) ≤ k
+    → length (after s u .pages) ≤ k * 2
 unfolding after
 length-after-le s u k h l = go (s .sound)
   where
@@ -58,13 +60,34 @@ module _ (word : ℕ → (ℕ → Bool) → ℕ) (fair : ℕ → Bool) (enter : 
   length-seen-le (suc f) p x =
       rw pow-suc
       (length-met-le P fair T x (word x p) _ (2 ^ f * 2) (omega (arith, pow-pos f))
-      (length-after-le (side false f p x) (side true f p x) (2 ^ f) (one false (length-seen-le f (withBit p x false) (suc x)))
+      (length-after-le (side false f p x) (side true f p x) (2 ^ f)
+      (one false (length-seen-le f (withBit p x false) (suc x)))
       (one true (length-seen-le f (withBit p x true) (suc x)))))
     where
       one : (β : Bool) → length (seen word fair enter P T f (withBit p x β) (suc x) .pages) ≤ 2 ^ f
           → length (side β f p x .pages) ≤ 2 ^ f
       one β h =
-          cond-cases (λ s. length (s .pages) ≤ 2 ^ f) (enter (suc x) (withBit p x β)) _ nothing (λ e. h) (λ e. omega arith)
+          cond-cases (λ s. length (s .pages) ≤ 2 ^ f) (enter (suc x) (withBit p x β)) _ nothing (λ e. h)
+          (λ e. omega arith)
+
+module _ (rows words : List ℕ) (fair : ℕ → Bool) (P T : ℕ) where
+  length-sides-le : (wanted : ℕ) (s u : Seen) (k : ℕ) → length (s .pages) ≤ k → length (u .pages) ≤ k
+      → length (sides wanted s u .pages) ≤ k * 2
+  unfolding sides
+  length-sides-le wanted s u k h l = go (eqb wanted 0) (eqb wanted 1)
+    where
+      go : (β γ : Bool) → length (cond β s (cond γ u (after s u)) .pages) ≤ k * 2
+      go true γ = omega arith
+      go false true = omega arith
+      go false false = length-after-le s u k h l
+
+  pub length-seenBy-le : (f x v word : ℕ) → length (seenBy rows words fair P T f x v word .pages) ≤ 2 ^ f
+  unfolding seenBy
+  length-seenBy-le zero x v word = length-met-le P fair T x word damaged 1 (omega arith) (omega arith)
+  length-seenBy-le (suc f) x v word =
+      rw pow-suc
+      (length-met-le P fair T x word _ (2 ^ f * 2) (omega (arith, pow-pos f))
+      (length-sides-le _ _ _ (2 ^ f) (length-seenBy-le f (x + 1) v word) (length-seenBy-le f (x + 1) _ _)))
 
 -- ---- which
 
@@ -94,7 +117,8 @@ module _ (P : ℕ) (fair : ℕ → Bool) where
   unfolding met
   All-met T x word below h = go (eqb (depthOf word) x) (ltb (depthOf word) x) (ltb T (depthOf word))
     where
-      go : (a b c : Bool) → All (Readable P fair) (cond a (noted P fair word) (cond b damaged (cond c damaged below)) .pages)
+      go : (a b c : Bool)
+          → All (Readable P fair) (cond a (noted P fair word) (cond b damaged (cond c damaged below)) .pages)
       go true b c = All-noted word
       go false true c = tt
       go false false true = tt
@@ -124,4 +148,5 @@ module _ (P : ℕ) (fair : ℕ → Bool) where
       one : (β : Bool) → All (Readable P fair) (seen word fair enter P T f (withBit p x β) (suc x) .pages)
           → All (Readable P fair) (side word fair enter P T β f p x .pages)
       one β h =
-          cond-cases (λ s. All (Readable P fair) (s .pages)) (enter (suc x) (withBit p x β)) _ nothing (λ e. h) (λ e. tt)
+          cond-cases (λ s. All (Readable P fair) (s .pages)) (enter (suc x) (withBit p x β)) _ nothing (λ e. h)
+          (λ e. tt)

@@ -1,5 +1,6 @@
--- Where words show the leaves of a division, the walk sees exactly the pages of the leaves that it enters and that are not
--- empty, in order; their number is that of the leaves opened, and their records are those of the leaves. Assumes nothing.
+-- Where words show the leaves of a division, the walk sees exactly the pages of the leaves that it enters and that are
+-- not empty, in order; their number is that of the leaves opened, and their records are those of the leaves. Assumes
+-- nothing.
 use Prim.Native.Nat.{ℕ, zero, suc, _+_, _-_, _≤_, _<_}
 use mathlib.Core.Path.{_≡_, refl, sym, ap, _∙_}
 use mathlib.Core.Bool.{Bool, true, false, cond}
@@ -188,7 +189,8 @@ module _ {R : Type 0} (enter : ℕ → (ℕ → Bool) → Bool) (page : (ℕ →
             ∙ ap (filter matches) (has p (rw at-depth k) (ap nonEmpty here ∙ e) ∙ here)
         one false e = refl
     gathered-walkPages (divided l u) p t h k =
-        flatMap-append _ (cond (enter (suc t) (withBit p t false)) (walkPages enter page (withBit p t false) (suc t) l) [])
+        flatMap-append _
+        (cond (enter (suc t) (withBit p t false)) (walkPages enter page (withBit p t false) (suc t) l) [])
         (cond (enter (suc t) (withBit p t true)) (walkPages enter page (withBit p t true) (suc t) u) [])
         ∙ join _ _ _ _
         (side (enter (suc t) (withBit p t false)) _ _
@@ -196,7 +198,8 @@ module _ {R : Type 0} (enter : ℕ → (ℕ → Bool) → Bool) (page : (ℕ →
         (side (enter (suc t) (withBit p t true)) _ _
         (λ e. gathered-walkPages u (withBit p t true) (suc t) (Under-upper D t p l u h) e))
       where
-        side : (β : Bool) (gs : List ℕ) (rs : List R) → (β ≡ true → gathered gs ≡ rs) → gathered (cond β gs []) ≡ cond β rs []
+        side : (β : Bool) (gs : List ℕ) (rs : List R) → (β ≡ true → gathered gs ≡ rs)
+            → gathered (cond β gs []) ≡ cond β rs []
         side true gs rs i = i refl
         side false gs rs i = refl
 

@@ -11,20 +11,22 @@ use lib.ListN.{getD, take, length}
 use Rattle.lists.specs.Filter.{filter}
 use Rattle.lists.specs.Members.{All}
 use Rattle.shape.specs.Shape.{widthsOf, total}
+use Rattle.shape.specs.declared.Shape.{Shape}
 use Rattle.region.specs.Strings.{emptyString}
 use Rattle.region.specs.Query.{QueryBit, agrees, queryEnters}
 use Rattle.record.specs.Record.{Record, recordBit, matches}
 use Rattle.page.specs.Page.{recordsOf, pageAt}
-use Rattle.model.specs.Sets.{inShape, queryBits, readsOf}
+use Rattle.model.specs.Sets.{inShape, divisionOf, queryBits, readsOf}
 use Rattle.store.specs.declared.State.{State}
 use Rattle.store.specs.Store.{Store, wordAt}
 use Rattle.store.specs.Promises.{SoundWhereRead}
 use Rattle.walk.specs.declared.Noted.{Noted}
 use Rattle.walk.specs.declared.Noted.the-variants.{Pages, Damaged}
 use Rattle.walk.specs.Seen.{Seen, fairPage, walkSeen, emit, answerOf, Put}
+use Rattle.walk.specs.Pages.{readPages}
 use Rattle.walk.proofs.SeenLaws.{getD-emit, take-emit}
 use Rattle.walk.proofs.BoundLaws.{length-seen-le, Readable, All-seen}
-use Rattle.walk.proofs.StoreLaws.{walkSeen-query, length-readPages-query, records-readPages-query}
+use Rattle.walk.proofs.StoreLaws.{walkSeen-sound, length-readPages, records-readPages}
 
 All-getD : (P : ℕ → Type 0) (xs : List ℕ) → All P xs → (i : ℕ) → i < length xs → P (getD xs i 0)
 All-getD P [] h i l = absurd (omega arith)
@@ -66,7 +68,8 @@ module _ (st : State) (words bytes : List ℕ) (q : ℕ → QueryBit) (list : Li
         ∙ take-emit list 0 (s .pages) (omega (arith, length-noted))
 
     -- each is one of the P pages, and its count is 1 to b
-    pub noted-readable : (i : ℕ) → i < n → Readable (st .limits .pages) (fairPage (st .shape .capacity) bytes) (getD later i 0)
+    pub noted-readable : (i : ℕ) → i < n
+        → Readable (st .limits .pages) (fairPage (st .shape .capacity) bytes) (getD later i 0)
     unfolding walkSeen
     noted-readable i l =
         let fair = fairPage (st .shape .capacity) bytes in
@@ -78,30 +81,51 @@ module _ (st : State) (words bytes : List ℕ) (q : ℕ → QueryBit) (list : Li
         ∙ getD-emit list 0 (s .pages) i (omega (arith, length-noted)) (omega (arith, length-noted))) in
         subst (Readable P fair) here
         (All-getD (Readable P fair) (s .pages)
-        (All-seen P fair (λ x p. wordAt (st .shape) x words p) (queryEnters q) T T emptyString 0) i (omega (arith, length-noted)))
+        (All-seen P fair (λ x p. wordAt (st .shape) x words p) (queryEnters q) T T emptyString 0) i
+        (omega (arith, length-noted)))
 
 -- ---- a store that is sound where the query reads it
 
-module _ (store : Store) (q : List (Option ℕ)) (S : List Record)
-    (h : SoundWhereRead store (queryBits (store .state .shape) q) S)
-    (list : List ℕ) (r : Noted) (later : List ℕ)
-    (o : Put list (walkSeen (store .state) (store .memory .words) (store .memory .bytes) (queryBits (store .state .shape) q)) r later) where
-  -- the answer is the model's reads, and no damage
-  pub noted-reads : r ≡ Pages (readsOf (store .state .shape) q S)
-  noted-reads = o .answer ∙ ap answerOf (walkSeen-query store q S h) ∙ ap Pages (length-readPages-query store q S h)
+-- a record of the shape matches exactly if it agrees with the query's bits
+abbrev pub MatchesBits : Shape → List (Option ℕ) → Type 0
+MatchesBits s q =
+    (r : Record) → inShape s r ≡ true
+    → matches s q r ≡ agrees (queryBits s q) (recordBit s r) (total (widthsOf s)) 0
 
-  -- the matching records of the pages noted, one page after the other, are the model's: the matching records of S
-  pub noted-records : readsOf (store .state .shape) q S ≤ length list
-      → ((r : Record) → inShape (store .state .shape) r ≡ true → matches (store .state .shape) q r
-      ≡ agrees (queryBits (store .state .shape) q) (recordBit (store .state .shape) r) (total (widthsOf (store .state .shape))) 0)
-      → flatMap (λ g. filter (matches (store .state .shape) q)
-      (recordsOf (store .state .shape) (pageAt (store .state .shape .capacity) (store .memory .bytes) g)))
-      (take (readsOf (store .state .shape) q S) later)
-      ≡ filter (matches (store .state .shape) q) S
-  noted-records room match =
-      let s = store .state .shape in
-      ap (flatMap (λ g. filter (matches s q) (recordsOf s (pageAt (s .capacity) (store .memory .bytes) g))))
-      (take-noted (store .state) (store .memory .words) (store .memory .bytes) (queryBits s q) list r later o
-      (readsOf s q S) noted-reads room
-      ∙ ap (λ u. u .pages) (walkSeen-query store q S h))
-      ∙ records-readPages-query store q S h match
+module _ (store : Store) (wanted : List (Option ℕ)) (S : List Record)
+    (h : SoundWhereRead store (queryBits (store .state .shape) wanted) S) where
+  abbrev shape : Shape
+  shape = store .state .shape
+
+  abbrev bits : ℕ → QueryBit
+  bits = queryBits shape wanted
+
+  abbrev bytesNow : List ℕ
+  bytesNow = store .memory .bytes
+
+  module _ (list : List ℕ) (r : Noted) (later : List ℕ)
+      (o : Put list (walkSeen (store .state) (store .memory .words) bytesNow bits) r later) where
+    -- the answer is the model's reads, and no damage
+    pub noted-reads : r ≡ Pages (readsOf shape wanted S)
+    unfolding readsOf
+    noted-reads =
+        o .answer ∙ ap answerOf (walkSeen-sound store bits S h) ∙ ap Pages (length-readPages store bits S h)
+
+    -- the pages noted are those of the agreeing leaves that are not empty, in order
+    pub noted-pages : readsOf shape wanted S ≤ length list
+        → take (readsOf shape wanted S) later
+        ≡ readPages (store .state) (store .memory .words) bits (divisionOf shape S)
+    noted-pages room =
+        take-noted (store .state) (store .memory .words) bytesNow bits list r later o (readsOf shape wanted S)
+        noted-reads room
+        ∙ ap (λ u. u .pages) (walkSeen-sound store bits S h)
+
+    -- their matching records, one page after the other, are the matching records of S
+    pub noted-records : readsOf shape wanted S ≤ length list → MatchesBits shape wanted
+        → flatMap (λ g. filter (matches shape wanted) (recordsOf shape (pageAt (shape .capacity) bytesNow g)))
+        (take (readsOf shape wanted S) later)
+        ≡ filter (matches shape wanted) S
+    noted-records room match =
+        ap (flatMap (λ g. filter (matches shape wanted) (recordsOf shape (pageAt (shape .capacity) bytesNow g))))
+        (noted-pages room)
+        ∙ records-readPages store bits S h (matches shape wanted) (λ x g m. sym (match x g) ∙ m)

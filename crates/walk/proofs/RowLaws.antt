@@ -1,4 +1,4 @@
--- Laws of the table by step: what the query wants of a bit, the row of a step, and the rows filled so far. Assumes nothing.
+-- Laws of the table by step: what the query wants of a bit, the row of a step, the rows filled so far. Assumes nothing.
 use Prim.Native.Nat.{ℕ, zero, suc, _+_, _*_, _-_, _/_, _%_, _^_, _≤_, _<_, min}
 use mathlib.Core.Path.{_≡_, refl, sym, ap, _∙_, subst}
 use mathlib.Core.Bool.{true, _&&_, cond}
@@ -29,6 +29,7 @@ use Rattle.model.specs.Sets.{queryBitOf, queryBits, encodeWanted}
 use Rattle.walk.specs.Seen.{emit}
 use Rattle.walk.specs.Private.{shiftOf, otherDepth, wantedNumber, wantedAt, stepRow, Rows}
 use Rattle.walk.proofs.SeenLaws.{length-emit, getD-emit-before, getD-emit}
+use Rattle.walk.proofs.LaneLaws.{four}
 
 -- ---- what the query wants of a bit
 
@@ -62,7 +63,8 @@ module _ (query : Query) where
         bit (suc (suc x)) l = absurd (omega arith)
 
 -- an encoding is the value itself
-wantedAt-queryBits : (s : Shape) (wanted : List (Option ℕ)) (t : ℕ) → wantedAt (widthsOf s) wanted t ≡ queryBits s wanted t
+wantedAt-queryBits : (s : Shape) (wanted : List (Option ℕ)) (t : ℕ)
+    → wantedAt (widthsOf s) wanted t ≡ queryBits s wanted t
 unfolding queryBits
 wantedAt-queryBits s wanted t =
     let z = step (widthsOf s) t .attribute in
@@ -73,9 +75,6 @@ wantedAt-queryBits s wanted t =
     same j (some v) = refl
 
 -- ---- the row of a step
-
-abbrev four : ℕ → ℕ → ℕ → ℕ → List ℕ
-four a b c d = a ∷ b ∷ c ∷ d ∷ []
 
 -- the four shifts, from the other depths
 module _ (d0 d1 d2 d3 h0 h1 h2 h3 : ℕ) where
@@ -128,7 +127,8 @@ module _ (w0 w1 w2 w3 : ℕ) (fit : Fit (four w0 w1 w2 w3)) (g : ℕ) (low : g <
       let deep : (j : ℕ) → j < 4 → (x : ℕ) → x ≡ cond (eqb j z) 0 (min (getD ws j 0) ((g + 3 - j) / 4))
       → x ≡ cond (eqb j z) 0 (depth ws t j) = λ j hj x e. e ∙ ap (cond (eqb j z) 0) (sym (depth-at j hj)) in
       let s = shifts (depth ws t 0) (depth ws t 1) (depth ws t 2) (depth ws t 3) h0 h1 h2 h3 z (omega arith)
-      (deep 0 (omega arith) h0 e0) (deep 1 (omega arith) h1 e1) (deep 2 (omega arith) h2 e2) (deep 3 (omega arith) h3 e3) in
+      (deep 0 (omega arith) h0 e0) (deep 1 (omega arith) h1 e1) (deep 2 (omega arith) h2 e2)
+      (deep 3 (omega arith) h3 e3) in
       let small : 16 * z + g / 4 < 64 = omega (arith, fit z, live) in
       rw (step-here ws fit (g / 4) (g % 4) (omega arith) live number)
       (cc (
@@ -153,7 +153,7 @@ pub record Filled (ws : List ℕ) (q : ℕ → QueryBit) (t : ℕ) (rows₀ : Li
 pub filled-zero : (ws : List ℕ) (q : ℕ → QueryBit) (t : ℕ) (rows : List ℕ) → Filled ws q t rows 0 0 rows
 unfolding stepsBelow
 filled-zero ws q t rows =
-    record { counted = refl; short = omega arith; low = omega arith; kept = refl; row = λ y i h l. absurd (omega arith) }
+    record { counted = refl; short = omega arith; low = omega arith; kept = refl; row = λ y i h. absurd (omega arith) }
 
 module _ (ws : List ℕ) (q : ℕ → QueryBit) (t : ℕ) (rows₀ : List ℕ) (g x : ℕ) (rows : List ℕ)
     (inv : Filled ws q t rows₀ g x rows) (next : x < t) where
@@ -204,7 +204,9 @@ module _ (ws : List ℕ) (q : ℕ → QueryBit) (t : ℕ) (rows₀ : List ℕ) (
 
       each : (y i : ℕ) → i < 6 → (y < x) ⊎ (x ≤ y) → y < x + 1 → getD later (y * 6 + i) 0 ≡ getD (stepRow ws q y) i 0
       each y i b (inl c) a =
-          ap (λ r. getD r (y * 6 + i) 0) el ∙ getD-emit-before rows (x * 6) row (y * 6 + i) (omega arith) ∙ inv .row y i c b
+          ap (λ r. getD r (y * 6 + i) 0) el
+          ∙ getD-emit-before rows (x * 6) row (y * 6 + i) (omega arith)
+          ∙ inv .row y i c b
       each y i b (inr c) a =
           let e : y ≡ x = omega arith in
           ap (λ r. getD r (y * 6 + i) 0) el
@@ -238,5 +240,6 @@ unfolding inBounds
 capacity-bounds s e =
     let widths = allBelow (s .attributes) (λ j. within 1 16 (getD (s .widths) j 0)) in
     let rest = and-split (within 1 4 (s .attributes)) (widths && within 1 16 (s .capacity)) e .1 in
-    let both = and-split (leb 1 (s .capacity)) (leb (s .capacity) 16) (and-split widths (within 1 16 (s .capacity)) rest .1) in
+    let both =
+    and-split (leb 1 (s .capacity)) (leb (s .capacity) 16) (and-split widths (within 1 16 (s .capacity)) rest .1) in
     (leb-true 1 (s .capacity) (both .0), leb-true (s .capacity) 16 (both .1))

@@ -51,7 +51,8 @@ module _ (ws : List ℕ) (fit : Fit ws) (q : ℕ → QueryBit) (T : ℕ) (bits :
       (by-bit (q x) (λ d. hs (queryEnters-side q p x false e ∙ d)) (λ d. hu (queryEnters-side q p x true e ∙ d)))
     where
       by-bit : (w : QueryBit) → (bitAgrees w false ≡ true → s ≡ s′) → (bitAgrees w true ≡ true → u ≡ u′)
-          → sides (wantedNumber w) s u ≡ after (cond (bitAgrees w false) s′ nothing) (cond (bitAgrees w true) u′ nothing)
+          → sides (wantedNumber w) s u
+          ≡ after (cond (bitAgrees w false) s′ nothing) (cond (bitAgrees w true) u′ nothing)
       by-bit free h k = rw (h refl, k refl)
       by-bit (given false) h k = h refl ∙ sym (after-nothing s′)
       by-bit (given true) h k = k refl ∙ sym (nothing-after u′)
@@ -116,14 +117,14 @@ module _ (st : State) (words bytes : List ℕ) (room : ℕ) (h : Walkable st (le
       let most = pow-mono {j = 12} (h .depth-twelve) in
       let all : st .depth - 0 ≡ st .depth = omega arith in
       record {
-        shared = record {
+        lent = record {
           list-lent = h .list-lent;
           most-pages = h .most-pages;
           capacity = capacity-bounds (st .shape) (h .shape) .1;
           pages-lent = h .pages-lent;
-          depth-twelve = h .depth-twelve;
-          words-lent = h .words-lent;
         };
+        depth-twelve = h .depth-twelve;
+        words-lent = h .words-lent;
         widths = ws;
         query = q;
         string = emptyString;
@@ -138,7 +139,8 @@ module _ (st : State) (words bytes : List ℕ) (room : ℕ) (h : Walkable st (le
   -- the walk by rows from the zero vector
   abbrev byRows : Seen
   byRows =
-      seenBy rows words (fairPage (st .shape .capacity) bytes) (st .limits .pages) (st .depth) (st .depth - 0) 0 0 (getD words 0 0)
+      seenBy rows words (fairPage (st .shape .capacity) bytes) (st .limits .pages) (st .depth) (st .depth - 0) 0 0
+      (getD words 0 0)
 
   byRows-walkSeen : byRows ≡ walkSeen st words bytes q
   unfolding walkSeen cellAddress
@@ -170,8 +172,9 @@ module _ (st : State) (words bytes : List ℕ) (room : ℕ) (h : Walkable st (le
 
     pub Put-pages : r ≤ 4096 → Put list (walkSeen st words bytes q) (Pages r) later
     Put-pages k =
-        let d = sound-of-next list later 0 (walkSeen st words bytes q) r here k in
-        record { answer = ap Pages (d .1 ∙ zero-add (length (walkSeen st words bytes q .pages))) ∙ rw (d .0); lines = here .lines }
+        let s = walkSeen st words bytes q in
+        let d = sound-of-next list later 0 s r here k in
+        record { answer = ap Pages (d .1 ∙ zero-add (length (s .pages))) ∙ rw (d .0); lines = here .lines }
 
     pub Put-damaged : 4096 < r → Put list (walkSeen st words bytes q) Damaged later
     Put-damaged k =

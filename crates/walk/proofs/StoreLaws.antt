@@ -1,11 +1,10 @@
--- What the walk sees in a store that is sound where the query reads it (document 01, "Calls"): it is sound, notes the pages
--- of the agreeing leaves that are not empty, in order, and their matching records are those of the set. What the other
--- pages hold does not matter. Assumes nothing.
+-- What the walk sees in a store that is sound where the query reads it (document 01, "Calls"): it is sound, notes the
+-- pages of the agreeing leaves that are not empty, in order, and their matching records are those of the set. What the
+-- other pages hold does not matter. Assumes nothing.
 use Prim.Native.Nat.{ℕ, zero, suc, _+_, _-_, _≤_, _<_}
 use mathlib.Core.Path.{_≡_, refl, sym, ap, _∙_}
 use mathlib.Core.Bool.{Bool, true, cond, false≢true}
 use mathlib.Core.List.{List, [], _∷_, flatMap}
-use mathlib.Core.Option.{Option}
 use native.Mathlib.Omega.{arith}
 use lib.ListN.{getD, length}
 use Rattle.lists.specs.Filter.{filter, all, nonEmpty}
@@ -16,14 +15,14 @@ use Rattle.split.specs.Steps.{steps}
 use Rattle.cell.proofs.CellLaws.{cellAddress-zero-bits}
 use Rattle.region.specs.Sets.{sorted}
 use Rattle.region.specs.Division.{Division, leafDepth, leafRecords}
-use Rattle.region.specs.Query.{QueryBit, agrees, queryEnters, reads, found}
+use Rattle.region.specs.Query.{QueryBit, agrees, queryEnters, reads}
 use Rattle.region.proofs.StringLeafLaws.{length-leafRecords-le}
 use Rattle.region.proofs.QueryLaws.{found-divide}
-use Rattle.record.specs.Record.{Record, recordBit, matches}
+use Rattle.record.specs.Record.{Record, recordBit}
 use Rattle.page.specs.Page.{countOf, recordsFrom, recordsOf, pageAt}
 use Rattle.word.specs.Word.{wordOf}
 use Rattle.word.specs.declared.Leaf.the-variants.{Page}
-use Rattle.model.specs.Sets.{inShape, isSet, divisionOf, queryBits, readsOf}
+use Rattle.model.specs.Sets.{inShape, isSet, divisionOf}
 use Rattle.store.specs.Store.{Store, wordAt}
 use Rattle.store.specs.Sound.{LeafWord, Sound}
 use Rattle.store.specs.Promises.{withBytes, SoundWhereRead}
@@ -31,11 +30,13 @@ use Rattle.walk.specs.Seen.{fieldOf, depthOf, fairPage, noted, walkSeen}
 use Rattle.walk.specs.Pages.{pageIn, readPages}
 use Rattle.walk.proofs.SeenLaws.{within-true, noted-none, noted-fair}
 use Rattle.walk.proofs.RowLaws.{fit-steps, capacity-bounds}
-use Rattle.walk.proofs.DivisionLaws.{whole, ShowsLeaves, seen-whole, Under-all, length-walkPages, gathered-walkPages}
+use Rattle.walk.proofs.DivisionLaws.{whole, ShowsLeaves, seen-whole, Under-all}
+use Rattle.walk.proofs.DivisionLaws.{length-walkPages, gathered-walkPages}
 
 -- ---- a leaf's word
 
-depthOf-wordOf : (P g x word : ℕ) → P ≤ 4096 → g < P → word ≡ wordOf (Page g x) → (depthOf word ≡ x) × (fieldOf word ≡ g + 1)
+depthOf-wordOf : (P g x word : ℕ) → P ≤ 4096 → g < P → word ≡ wordOf (Page g x)
+    → (depthOf word ≡ x) × (fieldOf word ≡ g + 1)
 depthOf-wordOf P g x word l h e = (omega arith, omega arith)
 
 module _ (s : Shape) (P : ℕ) (most : P ≤ 4096) (bytes : List ℕ) where
@@ -74,7 +75,8 @@ length-recordsFrom s (suc n) offset bytes = ap suc (length-recordsFrom s n (offs
 -- ---- the store
 
 -- a sound store is sound where a query reads it
-pub soundWhereRead-of-sound : (store : Store) (q : ℕ → QueryBit) (S : List Record) → Sound store S → SoundWhereRead store q S
+pub soundWhereRead-of-sound : (store : Store) (q : ℕ → QueryBit) (S : List Record) → Sound store S
+    → SoundWhereRead store q S
 soundWhereRead-of-sound store q S h = (store .memory .bytes, h, refl, λ p e g x l d. refl)
 
 module _ (store : Store) (q : ℕ → QueryBit) (S : List Record) (h : SoundWhereRead store q S) where
@@ -132,61 +134,37 @@ module _ (store : Store) (q : ℕ → QueryBit) (S : List Record) (h : SoundWher
       (set-parts .0) in
       within-true (s .capacity) (countOf page) (omega arith) (omega arith)
 
-  shows-leaves : ShowsLeaves (λ x p. wordAt s x words p) (fairPage (s .capacity) (store .memory .bytes)) (queryEnters q) P T D
+  shows-leaves : ShowsLeaves (λ x p. wordAt s x words p) (fairPage (s .capacity) (store .memory .bytes)) (queryEnters q)
+      P T D
   shows-leaves = record {
     own-word = λ t p l z.
-        ap (λ a. getD words a 0) (sym (cellAddress-zero-bits (widthsOf s) (fits .0) t T l (fits .1) p (λ u m k. z u m)));
-    word-depth = λ p. depthOf-leafWord s P (sound .most-pages) (h .0) (leafRecords p 0 D) (leafDepth p 0 D) _ (leaf-word p);
-    word-noted = λ p e. noted-leafWord s P (sound .most-pages) (h .0) _ (leafRecords p 0 D) (leafDepth p 0 D) _ (leaf-word p)
+        ap (λ a. getD words a 0)
+        (sym (cellAddress-zero-bits (widthsOf s) (fits .0) t T l (fits .1) p (λ u m k. z u m)));
+    word-depth = λ p.
+        depthOf-leafWord s P (sound .most-pages) (h .0) (leafRecords p 0 D) (leafDepth p 0 D) _ (leaf-word p);
+    word-noted = λ p e.
+        noted-leafWord s P (sound .most-pages) (h .0) _ (leafRecords p 0 D) (leafDepth p 0 D) _ (leaf-word p)
         (page-fair p e);
   }
 
   -- the walk is sound, and notes the pages of the agreeing leaves that are not empty, in order
-  pub walkSeen-sound : walkSeen (store .state) words (store .memory .bytes) q ≡ whole (readPages (store .state) words q D)
+  pub walkSeen-sound : walkSeen (store .state) words (store .memory .bytes) q
+      ≡ whole (readPages (store .state) words q D)
   unfolding walkSeen readPages
-  walkSeen-sound =
-      seen-whole _ _ (queryEnters q) P T D shows-leaves (omega (arith, sound .deepest)) refl
+  walkSeen-sound = seen-whole _ _ (queryEnters q) P T D shows-leaves (omega (arith, sound .deepest)) refl
 
   -- their number is the reads
   pub length-readPages : length (readPages (store .state) words q D) ≡ reads q D
   unfolding readPages
   length-readPages = length-walkPages (queryEnters q) (pageIn (store .state) words) D _ 0
 
-  -- their matching records, one page after the other, are what the query finds in the set's division
+  -- their matching records, one page after the other, are the matching records of S in split order, where a record that
+  -- matches agrees with the query's bits
   pub records-readPages : (M : Record → Bool)
-      → flatMap (λ g. filter M (records g)) (readPages (store .state) words q D) ≡ found q M D
-  unfolding readPages
-  records-readPages M =
+      → ((r : Record) → inShape s r ≡ true → M r ≡ true → agrees q (recordBit s r) (total (widthsOf s)) 0 ≡ true)
+      → flatMap (λ g. filter M (records g)) (readPages (store .state) words q D) ≡ filter M S
+  unfolding readPages divisionOf
+  records-readPages M agreeing =
       gathered-walkPages (queryEnters q) (pageIn (store .state) words) D M records page-records D _ 0 (Under-all D) refl
-
--- ---- a query of the model
-
-module _ (store : Store) (q : List (Option ℕ)) (S : List Record)
-    (h : SoundWhereRead store (queryBits (store .state .shape) q) S) where
-  abbrev readsHere : List ℕ
-  readsHere =
-      readPages (store .state) (store .memory .words) (queryBits (store .state .shape) q) (divisionOf (store .state .shape) S)
-
-  pub walkSeen-query : walkSeen (store .state) (store .memory .words) (store .memory .bytes) (queryBits (store .state .shape) q)
-      ≡ whole readsHere
-  walkSeen-query = walkSeen-sound store (queryBits (store .state .shape) q) S h
-
-  -- "Reads are the non-empty leaves of S that agree with the query."
-  pub length-readPages-query : length readsHere ≡ readsOf (store .state .shape) q S
-  unfolding readsOf
-  length-readPages-query = length-readPages store (queryBits (store .state .shape) q) S h
-
-  -- the matching records of S in split order, where a record matches if it agrees with the query's bits
-  pub records-readPages-query :
-      ((r : Record) → inShape (store .state .shape) r ≡ true → matches (store .state .shape) q r
-      ≡ agrees (queryBits (store .state .shape) q) (recordBit (store .state .shape) r) (total (widthsOf (store .state .shape))) 0)
-      → flatMap (λ g. filter (matches (store .state .shape) q)
-      (recordsOf (store .state .shape) (pageAt (store .state .shape .capacity) (store .memory .bytes) g))) readsHere
-      ≡ filter (matches (store .state .shape) q) S
-  unfolding divisionOf
-  records-readPages-query match =
-      let s = store .state .shape in
-      let set = set-parts store (queryBits s q) S h in
-      records-readPages store (queryBits s q) S h (matches s q)
-      ∙ found-divide (recordBit s) (queryBits s q) (matches s q) (inShape s) (total (widthsOf s))
-      (λ r g m. sym (match r g) ∙ m) (s .capacity) S (set .0) (set .1)
+      ∙ found-divide (recordBit s) q M (inShape s) (total (widthsOf s)) agreeing (s .capacity) S (set-parts .0)
+      (set-parts .1)

@@ -1,12 +1,11 @@
 -- Laws of a turn of the walk by rows: what its calls ask, and what each return promises. Assumes nothing.
 use Prim.Native.Nat.{ℕ, zero, suc, _+_, _*_, _-_, _^_, _≤_, _<_}
 use mathlib.Core.Path.{_≡_, refl, sym, ap, _∙_, subst}
-use mathlib.Core.Bool.{Bool, true, false, cond}
+use mathlib.Core.Bool.{Bool, true, false}
 use mathlib.Core.List.{List}
 use native.Mathlib.Omega.{arith}
 use native.Mathlib.Nat.{pow-suc, le-trans}
 use native.Mathlib.Numerals.{add-one}
-use lib.Dec.{eqb}
 use lib.Pow.{pow-mono, pow-pos}
 use lib.ListN.{getD, length}
 use borrow.Author.Tests.{eq-eqb, ne-eqb}
@@ -16,32 +15,11 @@ use Rattle.cell.proofs.CellLaws.{cellAddress-lt}
 use Rattle.region.specs.Strings.{withBit}
 use Rattle.region.proofs.StringLaws.{withBit-same}
 use Rattle.walk.specs.Seen.{Seen, damaged, after, depthOf, noted, met}
-use Rattle.walk.specs.Private.{stepRow, packed, weighed, sides, seenBy, Wrote, Turn}
-use Rattle.walk.proofs.SeenLaws.{met-leaf, met-above, met-deep, met-divided, Wrote-damaged, Wrote-after, Wrote-stop}
-use Rattle.walk.proofs.SeenLaws.{sound-of-next}
-use Rattle.walk.proofs.BoundLaws.{length-met-le, length-after-le}
+use Rattle.walk.specs.Private.{stepRow, packed, weighed, Weighable, sides, seenBy, Wrote, Turn}
+use Rattle.walk.proofs.SeenLaws.{met-leaf, met-above, met-deep, met-divided}
+use Rattle.walk.proofs.SeenLaws.{sound-of-next, Wrote-damaged, Wrote-after, Wrote-stop}
+use Rattle.walk.proofs.BoundLaws.{length-seenBy-le}
 use Rattle.walk.proofs.VectorLaws.{packed-cell-lt, cell-lower, packed-upper, weighed-cell, shiftOf-step-le}
-
--- ---- how many pages
-
-module _ (rows words : List ℕ) (fair : ℕ → Bool) (P T : ℕ) where
-  length-sides-le : (wanted : ℕ) (s u : Seen) (k : ℕ) → length (s .pages) ≤ k → length (u .pages) ≤ k
-      → length (sides wanted s u .pages) ≤ k * 2
-  unfolding sides
-  length-sides-le wanted s u k h l = go (eqb wanted 0) (eqb wanted 1)
-    where
-      go : (β γ : Bool) → length (cond β s (cond γ u (after s u)) .pages) ≤ k * 2
-      go true γ = omega arith
-      go false true = omega arith
-      go false false = length-after-le s u k h l
-
-  pub length-seenBy-le : (f x v word : ℕ) → length (seenBy rows words fair P T f x v word .pages) ≤ 2 ^ f
-  unfolding seenBy
-  length-seenBy-le zero x v word = length-met-le P fair T x word damaged 1 (omega arith) (omega arith)
-  length-seenBy-le (suc f) x v word =
-      rw pow-suc
-      (length-met-le P fair T x word _ (2 ^ f * 2) (omega (arith, pow-pos f))
-      (length-sides-le _ _ _ (2 ^ f) (length-seenBy-le f (x + 1) v word) (length-seenBy-le f (x + 1) _ _)))
 
 -- ---- a divided region
 
@@ -59,7 +37,8 @@ inside h k d u = record { turn = h; inner = omega arith; below = omega arith; wi
 pub turn-room : {rows words : List ℕ} {bytes room P b T v x n : ℕ} → Turn rows words bytes room P b T v x n → n < 4096
 turn-room {T = T} {x = x} h = omega (arith, h .count, pow-pos (T - x))
 
-module _ {rows words : List ℕ} {bytes room P b T v x n word : ℕ} (i : Inside rows words bytes room P b T v x n word) where
+module _ {rows words : List ℕ} {bytes room P b T v x n word : ℕ}
+    (i : Inside rows words bytes room P b T v x n word) where
   abbrev h : Turn rows words bytes room P b T v x n
   h = i .turn
 
@@ -80,11 +59,13 @@ module _ {rows words : List ℕ} {bytes room P b T v x n word : ℕ} (i : Inside
 
   -- the row lies in the table
   pub row-lent : (x < 12) × (x * 6 + 6 ≤ 72)
-  row-lent = (omega (arith, i .inner, h .shared .depth-twelve), omega (arith, i .inner, h .shared .depth-twelve))
+  row-lent = (omega (arith, i .inner, h .depth-twelve), omega (arith, i .inner, h .depth-twelve))
 
   pub Turn-lower : Turn rows words bytes room P b T v (x + 1) n
   Turn-lower = record {
-    shared = h .shared;
+    lent = h .lent;
+    depth-twelve = h .depth-twelve;
+    words-lent = h .words-lent;
     widths = h .widths;
     query = h .query;
     string = withBit (h .string) x false;
@@ -121,45 +102,36 @@ module _ {rows words : List ℕ} {bytes room P b T v x n word : ℕ} (i : Inside
   upper-room =
       let lt = cellAddress-lt (h .widths) (h .fit) (suc x) step-lt (withBit (h .string) x true) in
       let most = pow-mono {j = T} (i .inner) in
-      let twelve = pow-mono {j = 12} (h .shared .depth-twelve) in
-      (omega (arith, upper-address, lt, most, h .shared .words-lent), omega (arith, upper-address, lt, most, twelve))
+      let twelve = pow-mono {j = 12} (h .depth-twelve) in
+      (omega (arith, upper-address, lt, most, h .words-lent), omega (arith, upper-address, lt, most, twelve))
 
   -- what `address_by` asks
-  pub upper-asked : (x * 6 + 4 ≤ 72)
-      × ((((getD rows (x * 6) 0 < 64) × (getD rows (x * 6 + 1) 0 < 64) × (getD rows (x * 6 + 2) 0 < 64)
-      × (getD rows (x * 6 + 3) 0 < 64)))
-      × (weighed rows (x * 6) upperVector < 4096))
+  pub upper-weighable : Weighable rows (x * 6) upperVector
   unfolding stepRow
-  upper-asked =
+  upper-weighable =
       let row = h .table x in
-      let z = step (h .widths) x .attribute in
       let first : x * 6 + 0 ≡ x * 6 = omega arith in
-      let shift = shiftOf-step-le (h .widths) (h .fit) x step-lt z in (
-        omega (arith, row-lent),
-        (
-          (
-            omega (arith, ap (λ y. getD rows y 0) first, row 0 (i .inner) (omega arith), shift 0, row-lent),
-            omega (arith, row 1 (i .inner) (omega arith), shift 1, row-lent),
-            omega (arith, row 2 (i .inner) (omega arith), shift 2, row-lent),
-            omega (arith, row 3 (i .inner) (omega arith), shift 3, row-lent),
-          ),
-          upper-room .1,
-        ),
-      )
+      let shift = shiftOf-step-le (h .widths) (h .fit) x step-lt (step (h .widths) x .attribute) in
+      record {
+        row = omega (arith, row-lent);
+        shift0 = omega (arith, ap (λ y. getD rows y 0) first, row 0 (i .inner) (omega arith), shift 0, row-lent);
+        shift1 = omega (arith, row 1 (i .inner) (omega arith), shift 1, row-lent);
+        shift2 = omega (arith, row 2 (i .inner) (omega arith), shift 2, row-lent);
+        shift3 = omega (arith, row 3 (i .inner) (omega arith), shift 3, row-lent);
+        sum = upper-room .1;
+      }
 
   pub Turn-upper : (m size : ℕ) → m + 2 ^ (T - (x + 1)) ≤ 4096 → size ≡ room
       → Turn rows words bytes size P b T upperVector (x + 1) m
   Turn-upper m size j e = record {
-    shared =
-        let o = h .shared in
-        record {
-          list-lent = subst (λ y. 4096 ≤ y) (sym e) (o .list-lent);
-          most-pages = o .most-pages;
-          capacity = o .capacity;
-          pages-lent = o .pages-lent;
-          depth-twelve = o .depth-twelve;
-          words-lent = o .words-lent;
-        };
+    lent = record {
+      list-lent = subst (λ y. 4096 ≤ y) (sym e) (h .lent .list-lent);
+      most-pages = h .lent .most-pages;
+      capacity = h .lent .capacity;
+      pages-lent = h .lent .pages-lent;
+    };
+    depth-twelve = h .depth-twelve;
+    words-lent = h .words-lent;
     widths = h .widths;
     query = h .query;
     string = withBit (h .string) x true;
@@ -188,13 +160,15 @@ module _ {rows words : List ℕ} {bytes room P b T v x n word : ℕ} (i : Inside
     first-le = length-seenBy-le rows words fair P T (T - (x + 1)) (x + 1) v word
 
     -- after the first side there is room for the second
-    pub Turn-upper-next : (list mid : List ℕ) (r size : ℕ) → size ≡ room → Wrote list n (by (T - (x + 1)) (x + 1) v word) r mid
-        → r ≤ 4096 → Turn rows words bytes size P b T upperVector (x + 1) r
+    pub Turn-upper-next : (list mid : List ℕ) (r size : ℕ) → size ≡ room
+        → Wrote list n (by (T - (x + 1)) (x + 1) v word) r mid → r ≤ 4096
+        → Turn rows words bytes size P b T upperVector (x + 1) r
     Turn-upper-next list mid r size e o k =
         Turn-upper r size (omega (arith, sound-of-next list mid n _ r o k .1, h .count, halves, first-le)) e
 
     seenBy-inside : by (T - x) x v word
-        ≡ sides (getD rows (x * 6 + 5) 0) (by (T - (x + 1)) (x + 1) v word) (by (T - (x + 1)) (x + 1) upperVector upperWord)
+        ≡ sides (getD rows (x * 6 + 5) 0) (by (T - (x + 1)) (x + 1) v word)
+        (by (T - (x + 1)) (x + 1) upperVector upperWord)
     unfolding seenBy
     seenBy-inside =
         ap (λ f. by f x v word) fuel ∙ met-divided P fair T x word _ (i .below) (i .within)
@@ -204,7 +178,8 @@ module _ {rows words : List ℕ} {bytes room P b T v x n word : ℕ} (i : Inside
     unfolding sides
     Wrote-lower list later r e o = subst (λ s. Wrote list n s r later) (sym (seenBy-inside ∙ rw (eq-eqb _ 0 e))) o
 
-    pub Wrote-upper : (list later : List ℕ) (r a : ℕ) → a ≡ weighed rows (x * 6) upperVector → getD rows (x * 6 + 5) 0 ≡ 1
+    pub Wrote-upper : (list later : List ℕ) (r a : ℕ) → a ≡ weighed rows (x * 6) upperVector
+        → getD rows (x * 6 + 5) 0 ≡ 1
         → Wrote list n (by (T - (x + 1)) (x + 1) upperVector (getD words a 0)) r later
         → Wrote list n (by (T - x) x v word) r later
     unfolding sides

@@ -1,11 +1,11 @@
--- Laws of index vectors in one number, and of addresses as sums of shifted indices. Assumes nothing.
-use Prim.Native.Nat.{ℕ, zero, suc, _+_, _*_, _/_, _%_, _^_, _≤_, _<_}
-use mathlib.Core.Path.{_≡_, refl, sym, ap, _∙_, subst}
+-- Laws of addresses as sums of shifted indices, and of cells in one number: the address of a 1-side from the row of its
+-- step. Assumes nothing.
+use Prim.Native.Nat.{ℕ, zero, suc, _+_, _*_, _^_, _≤_, _<_}
+use mathlib.Core.Path.{_≡_, sym, ap, _∙_, subst}
 use mathlib.Core.Bool.{Bool, true, false}
 use mathlib.Core.List.{List, [], _∷_}
 use native.Mathlib.Omega.{arith}
-use native.Mathlib.Nat.{le-trans, mod-eq-of-lt}
-use lib.Bits.{bitAnd, and-mask}
+use native.Mathlib.Nat.{le-trans}
 use lib.Pow.{pow-add, pow-mono}
 use lib.ListN.{getD, length, set, drop}
 use lib.Seq.{getD-set-same}
@@ -25,36 +25,7 @@ use Rattle.region.specs.Strings.{withBit}
 use Rattle.region.specs.Query.{QueryBit}
 use Rattle.region.proofs.StringLaws.{withBit-same, withBit-other}
 use Rattle.walk.specs.Private.{depths, shiftOf, stepRow, Rows, packed, lane, weighed}
-
-abbrev four : ℕ → ℕ → ℕ → ℕ → List ℕ
-four a b c d = a ∷ b ∷ c ∷ d ∷ []
-
-four-of : (v : List ℕ) → length v ≡ 4 → v ≡ four (getD v 0 0) (getD v 1 0) (getD v 2 0) (getD v 3 0)
-four-of [] e = absurd (omega arith)
-four-of (a ∷ []) e = absurd (omega arith)
-four-of (a ∷ b ∷ []) e = absurd (omega arith)
-four-of (a ∷ b ∷ c ∷ []) e = absurd (omega arith)
-four-of (a ∷ b ∷ c ∷ d ∷ []) e = refl
-four-of (a ∷ b ∷ c ∷ d ∷ x ∷ v) e = absurd (omega arith)
-
--- ---- lanes
-
-lane-four : (a b c d : ℕ) → a < 2 ^ 16 → b < 2 ^ 16 → c < 2 ^ 16 → d < 2 ^ 16
-    → (lane (packed (four a b c d)) 0 ≡ a) × (lane (packed (four a b c d)) 1 ≡ b)
-    × (lane (packed (four a b c d)) 2 ≡ c) × (lane (packed (four a b c d)) 3 ≡ d)
-lane-four a b c d ha hb hc hd = (omega arith, omega arith, omega arith, omega arith)
-
--- all four fit one number
-packed-lt : (a b c d : ℕ) → a < 2 ^ 16 → b < 2 ^ 16 → c < 2 ^ 16 → d < 2 ^ 16 → packed (four a b c d) < 2 ^ 64
-packed-lt a b c d ha hb hc hd = omega arith
-
--- x more at attribute z
-packed-plus : (z x a b c d : ℕ) → z < 4 → packed (plus z x (four a b c d)) ≡ packed (four a b c d) + 2 ^ (16 * z) * x
-packed-plus zero x a b c d h = omega arith
-packed-plus (suc zero) x a b c d h = omega arith
-packed-plus (suc (suc zero)) x a b c d h = omega arith
-packed-plus (suc (suc (suc zero))) x a b c d h = omega arith
-packed-plus (suc (suc (suc (suc z)))) x a b c d h = absurd (omega arith)
+use Rattle.walk.proofs.LaneLaws.{four, four-of, lane-four, packed-lt, packed-plus}
 
 -- ---- the address as a sum of shifted indices
 
@@ -109,7 +80,8 @@ shiftOf-le z hs j =
     (λ e. total-set-le hs z) (λ e. omega (arith, total-set-le hs z, total-drop-le (set hs z 0) (suc j)))
 
 -- which is the step's number
-pub shiftOf-step-le : (ws : List ℕ) → Fit ws → (t : ℕ) → t < length (steps ws) → (z j : ℕ) → shiftOf z (depths ws t) j ≤ t
+pub shiftOf-step-le : (ws : List ℕ) → Fit ws → (t : ℕ) → t < length (steps ws) → (z j : ℕ)
+    → shiftOf z (depths ws t) j ≤ t
 shiftOf-step-le ws fit t h z j =
     let d = step-of ws t h in
     omega (arith, shiftOf-le z (depths ws t) j, depth-sum ws fit (d .0) (d .1) (d .2) (d .3) (d .4))
@@ -172,7 +144,8 @@ module _ (ws : List ℕ) (fit : Fit ws) where
         (cell-suc ws fit t h p) in
         let value : getD (cell ws (suc t) p) z 0 ≡ getD old z 0 + bitValue (p t) * 2 ^ k =
         ap (λ v. getD v z 0) put
-        ∙ getD-set-same old z (getD old z 0 + bitValue (p t) * 2 ^ k) 0 (subst (λ n. z < n) (sym (length-cell ws t p)) hz) in
+        ∙ getD-set-same old z (getD old z 0 + bitValue (p t) * 2 ^ k) 0
+        (subst (λ n. z < n) (sym (length-cell ws t p)) hz) in
         let one : bitValue (p t) * 2 ^ k ≡ 1 * 2 ^ k = ap (λ β. bitValue β * 2 ^ k) e in
         omega arith
 
@@ -191,12 +164,19 @@ module _ (ws : List ℕ) (fit : Fit ws) where
         is-four : is ≡ four (i 0) (i 1) (i 2) (i 3)
         is-four = four-of is (length-cell ws (suc t) p)
 
-        lanes : (lane (packed is) 0 ≡ i 0) × (lane (packed is) 1 ≡ i 1) × (lane (packed is) 2 ≡ i 2) × (lane (packed is) 3 ≡ i 3)
+        Lanes : List ℕ → Type 0
+        Lanes v =
+            (lane (packed v) 0 ≡ i 0)
+            × (lane (packed v) 1 ≡ i 1)
+            × (lane (packed v) 2 ≡ i 2)
+            × (lane (packed v) 3 ≡ i 3)
+
+        lanes : Lanes is
         lanes =
-            subst (λ v. (lane (packed v) 0 ≡ i 0) × (lane (packed v) 1 ≡ i 1) × (lane (packed v) 2 ≡ i 2)
-            × (lane (packed v) 3 ≡ i 3)) (sym is-four)
-            (lane-four (i 0) (i 1) (i 2) (i 3) (cell-lane (suc t) p 0 (omega arith)) (cell-lane (suc t) p 1 (omega arith))
-            (cell-lane (suc t) p 2 (omega arith)) (cell-lane (suc t) p 3 (omega arith)))
+            let fits : (r : ℕ) → r < 4 → i r < 2 ^ 16 = cell-lane (suc t) p in
+            subst Lanes (sym is-four)
+            (lane-four (i 0) (i 1) (i 2) (i 3) (fits 0 (omega arith)) (fits 1 (omega arith)) (fits 2 (omega arith))
+            (fits 3 (omega arith)))
 
         at : StepBelow ws t 64 → weighed rows (t * 6) (packed is) ≡ address ws is
         at (k, z, hz, hk, number, low) =
@@ -226,30 +206,3 @@ module _ (ws : List ℕ) (fit : Fit ws) where
             row (suc (suc zero)) hr here = ap (λ s. shiftOf (s .attribute) (depths ws t) 2) here
             row (suc (suc (suc zero))) hr here = ap (λ s. shiftOf (s .attribute) (depths ws t) 3) here
             row (suc (suc (suc (suc r)))) hr here = absurd (omega arith)
-
--- ---- the terms of such a sum, as 64-bit numbers
-
--- the low 16 bits, shifted
-abbrev pub shiftedLane : ℕ → ℕ → ℕ
-shiftedLane u s = (bitAnd u 65535 * 2 ^ s) % 2 ^ 64
-
--- the four terms fit, and make the sum
-pub record Terms (rows : List ℕ) (at v a0 a1 a2 a3 : ℕ) : Type 0 where
-  pub fits1 : a0 + a1 < 2 ^ 64
-  pub fits2 : a0 + a1 + a2 < 2 ^ 64
-  pub fits3 : a0 + a1 + a2 + a3 < 2 ^ 64
-  pub sum : a0 + a1 + a2 + a3 ≡ weighed rows at v
-
-pub terms-of : (rows : List ℕ) (at v : ℕ) → weighed rows at v < 4096
-    → Terms rows at v (shiftedLane v (getD rows at 0)) (shiftedLane (v / 65536) (getD rows (at + 1) 0))
-    (shiftedLane (v / 4294967296) (getD rows (at + 2) 0)) (shiftedLane (v / 281474976710656) (getD rows (at + 3) 0))
-unfolding weighed
-terms-of rows at v h =
-    let e0 = term v (lane v 0) (getD rows at 0) (omega arith) (omega arith) in
-    let e1 = term (v / 65536) (lane v 1) (getD rows (at + 1) 0) refl (omega arith) in
-    let e2 = term (v / 4294967296) (lane v 2) (getD rows (at + 2) 0) refl (omega arith) in
-    let e3 = term (v / 281474976710656) (lane v 3) (getD rows (at + 3) 0) refl (omega arith) in
-    record { fits1 = omega arith; fits2 = omega arith; fits3 = omega arith; sum = omega arith }
-  where
-    term : (u i s : ℕ) → u % 2 ^ 16 ≡ i → i * 2 ^ s < 4096 → shiftedLane u s ≡ i * 2 ^ s
-    term u i s e l = ap (λ x. (x * 2 ^ s) % 2 ^ 64) (and-mask u 16 ∙ e) ∙ mod-eq-of-lt (omega arith)

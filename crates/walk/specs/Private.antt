@@ -1,5 +1,5 @@
--- Definitions that only private functions' contracts cite: the rows of the table by step, index vectors in one number, and
--- the walk by these. Assumes nothing.
+-- Definitions that only private functions' contracts cite: the rows of the table by step, index vectors in one number,
+-- and the walk by these. Assumes nothing.
 use Prim.Native.Nat.{ℕ, zero, suc, _+_, _*_, _-_, _/_, _%_, _^_, _≤_, _<_, min}
 use mathlib.Core.Path.{_≡_}
 use mathlib.Core.Bool.{Bool, true, false, cond}
@@ -14,7 +14,7 @@ use Rattle.region.specs.Query.{QueryBit, free, given}
 use Rattle.page.specs.Page.{pageSize}
 use Rattle.model.specs.Sets.{queryBitOf}
 use Rattle.walk.specs.Seen.{Seen, damaged, after, met, emit}
-use Rattle.walk.specs.declared.Row.{Row}
+use Rattle.walk.specs.declared.steps.Row.{Row}
 
 -- ---- rows
 
@@ -22,8 +22,8 @@ use Rattle.walk.specs.declared.Row.{Row}
 abbrev pub depths : List ℕ → ℕ → List ℕ
 depths ws t = depth ws t 0 ∷ depth ws t 1 ∷ depth ws t 2 ∷ depth ws t 3 ∷ []
 
--- how far index j is shifted in the address of a cell that a step of attribute z appended, before which the depths are hs:
--- "the product of all J_j with j ≠ z" for z, "the product of those J_r with r > j and r ≠ z" for another
+-- how far index j is shifted in the address of a cell that a step of attribute z appended, before which the depths are
+-- hs: "the product of all J_j with j ≠ z" for z, "the product of those J_r with r > j and r ≠ z" for another
 unfoldable pub shiftOf : ℕ → List ℕ → ℕ → ℕ
 shiftOf z hs j = cond (eqb j z) (total (set hs z 0)) (total (drop (suc j) (set hs z 0)))
 
@@ -81,6 +81,15 @@ weighed rows at v =
     + lane v 2 * 2 ^ getD rows (at + 2) 0
     + lane v 3 * 2 ^ getD rows (at + 3) 0
 
+-- the row lies in the table, and the sum is an address of the directory
+pub record Weighable (rows : List ℕ) (at v : ℕ) : Type 0 where
+  pub row : at + 4 ≤ 72
+  pub shift0 : getD rows at 0 < 64
+  pub shift1 : getD rows (at + 1) 0 < 64
+  pub shift2 : getD rows (at + 2) 0 < 64
+  pub shift3 : getD rows (at + 3) 0 < 64
+  pub sum : weighed rows at v < 4096
+
 -- ---- the walk by rows
 
 -- the sides that a number lets in: 0, 1, or both
@@ -102,18 +111,18 @@ pub record Wrote (list : List ℕ) (n : ℕ) (s : Seen) (r : ℕ) (later : List 
   pub next : r ≡ cond (s .sound) (n + length (s .pages)) 65535
   pub lines : later ≡ emit list n (s .pages)
 
--- what every turn has: P pages of capacity b, room in the list, T steps with their rows, 2^T words
-pub record Shared (rows words : List ℕ) (bytes room P b T : ℕ) : Type 0 where
+-- room in the list, and P pages of capacity b
+pub record Lent (bytes room P b : ℕ) : Type 0 where
   pub list-lent : 4096 ≤ room
   pub most-pages : P ≤ 4096
   pub capacity : b ≤ 16
   pub pages-lent : P * pageSize b ≤ bytes
-  pub depth-twelve : T ≤ 12
-  pub words-lent : 2 ^ T ≤ length words
 
 -- what a turn asks: the rows are those of some widths and query, the vector is that of some string of x bits
 pub record Turn (rows words : List ℕ) (bytes room P b T v x n : ℕ) : Type 0 where
-  pub shared : Shared rows words bytes room P b T
+  pub lent : Lent bytes room P b
+  pub depth-twelve : T ≤ 12
+  pub words-lent : 2 ^ T ≤ length words
   pub widths : List ℕ
   pub query : ℕ → QueryBit
   pub string : ℕ → Bool

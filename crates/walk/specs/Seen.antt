@@ -1,6 +1,6 @@
--- What a walk over the regions sees in any directory and any pages, sound or not (document 01, "Calls"): the pages that it
--- notes, in order, and whether all that it met is as in a sound store. The region of depth x is the first x bits of a string.
--- Assumes nothing.
+-- What a walk over the regions sees in any directory and any pages, sound or not (document 01, "Calls"): the pages
+-- that it notes, in order, and whether all that it met is as in a sound store. The region of depth x is the first x
+-- bits of a string. Assumes nothing.
 use Prim.Native.Nat.{ℕ, zero, suc, _+_, _-_, _/_, _%_, _^_, _≤_}
 use mathlib.Core.Path.{_≡_}
 use mathlib.Core.Bool.{Bool, true, false, cond}
@@ -60,15 +60,15 @@ noted P fair word =
 
 -- ---- a walk
 
--- a region of depth x with its word: a leaf, if the word has its depth; of no sound store, if the word's depth is smaller
--- or above T; else divided, and this is seen below it
+-- a region of depth x with its word: a leaf, if the word has its depth; of no sound store, if the word's depth is
+-- smaller or above T; else divided, and this is seen below it
 unfoldable pub met : ℕ → (ℕ → Bool) → ℕ → ℕ → ℕ → Seen → Seen
 met P fair T x word below =
     cond (eqb (depthOf word) x) (noted P fair word)
     (cond (ltb (depthOf word) x) damaged (cond (ltb T (depthOf word)) damaged below))
 
--- `word x p` is the word of the region of the first x bits of p, that of its cell with bits 0 from x on; `enter` tests a
--- region. The fuel is T less the depth.
+-- `word x p` is the word of the region of the first x bits of p, that of its cell with bits 0 from x on; `enter` tests
+-- a region. The fuel is T less the depth.
 module _ (word : ℕ → (ℕ → Bool) → ℕ) (fair : ℕ → Bool) (enter : ℕ → (ℕ → Bool) → Bool) (P T : ℕ) where
   -- "It walks the regions .. by recursion, bit 0 before bit 1"
   unfoldable pub seen : ℕ → (ℕ → Bool) → ℕ → Seen

@@ -6,14 +6,14 @@ use shape::Query;
 use steps::fill_rows;
 use store::State;
 ghost use mathlib.Core.Path.{_≡_};
-ghost use Prim.Native.Nat.{_+_, _*_, _-_, _%_, _^_, _<_, _≤_};
-ghost use lib.ListN.{getD, length};
+ghost use Prim.Native.Nat.{_-_, _<_, _≤_};
+ghost use lib.ListN.{length};
 ghost use Rattle.shape.specs.Shape.{within};
 ghost use Rattle.shape.specs.Key.{wantedValues};
-ghost use Rattle.page.specs.Page.{countOf, pageSize};
+ghost use Rattle.page.specs.Page.{countOf};
 ghost use Rattle.model.specs.Sets.{queryBits};
 ghost use Rattle.walk.specs.Seen.{Put, Walkable, walkSeen, noted, fieldOf, fairPage};
-ghost use Rattle.walk.specs.Private.{Wrote, Turn, seenBy, weighed};
+ghost use Rattle.walk.specs.Private.{Wrote, Lent, Turn, seenBy, Weighable, weighed};
 
 // No store has more pages, so that no walk notes more.
 const MOST_PAGES: usize = 4096;
@@ -27,21 +27,9 @@ pub enum Noted {
     Damaged,
 }
 
-// What the walk needs of a split step: how far each index is shifted in the address of a cell that
-// the step appended, the bit that the step sets in a vector of 16-bit lanes, and the query's bit
-// (0, 1, or 2 where it is free).
-pub struct Row {
-    pub s0: u64,
-    pub s1: u64,
-    pub s2: u64,
-    pub s3: u64,
-    pub bit: u64,
-    pub wanted: u64,
-}
-
 // Notes the pages of the leaves that agree with the query and are not empty, bit 0 before bit 1, from
-// the front of the list on. It ends, not sound, at a word with a bit of 20-31 set, a depth below its
-// region's or above T, a page number of P or more, or a page whose count is 0 or above b.
+// the front of the list on. Damaged where it meets a word with a bit of 20-31 set, with a depth below
+// its region's or above T, or with a page number of P or more, or a page whose count is 0 or above b.
 pub fn note_pages(state: State, query: Query, dir: &[u32], pages: &[u8], list: &mut [u32]) -> Noted
     requires { ⌜ Walkable state (length (now dir)) (length (now pages)) (length (now list)) ⌝ }
     ensures { λ r. ⌜ Put (now (list .entry))
@@ -123,8 +111,10 @@ fn walk(
 
 // Notes the page of a leaf's word at place n, if it has one, and returns the next place, or DAMAGED.
 fn note(pages: &[u8], list: &mut [u32], word: u32, p: usize, b: usize, n: usize) -> usize
-    requires { ⌜ (n < 4096) × (4096 ≤ length (now list)) × (p ≤ 4096) × (b ≤ 16) × (p * pageSize b ≤ length (now pages)) ⌝ }
-    ensures { λ r. ⌜ Wrote (now (list .entry)) n (noted p (fairPage b (now (pages .entry))) word) r (now (list .exit)) ⌝ }
+    requires { ⌜ (n < 4096) × Lent (length (now pages)) (length (now list)) p b ⌝ }
+    ensures { λ r. ⌜ Wrote (now (list .entry)) n
+        (noted p (fairPage b (now (pages .entry))) word)
+        r (now (list .exit)) ⌝ }
 {
     let field = field_of(word);
     if field == 0 {
@@ -163,6 +153,7 @@ fn fair_count(page: &[u8], b: usize) -> bool
     count <= b
 }
 
+// The byte, widened.
 fn wide(x: u8) -> usize
     ensures { λ r. ⌜ (r ≡ x) × (r < 256) ⌝ }
 {
@@ -171,9 +162,7 @@ fn wide(x: u8) -> usize
 
 // The address of a cell of this index vector that the step of the row at this place appended.
 fn address_by(rows: &[u64; 72], at: usize, index: u64) -> usize
-    requires { ⌜ at + 4 ≤ 72 ⌝ }
-    requires { ⌜ (getD (now rows) at 0 < 64) × (getD (now rows) (at + 1) 0 < 64) × (getD (now rows) (at + 2) 0 < 64) × (getD (now rows) (at + 3) 0 < 64) ⌝ }
-    requires { ⌜ weighed (now rows) at index < 4096 ⌝ }
+    requires { ⌜ Weighable (now rows) at index ⌝ }
     ensures { λ r. ⌜ r ≡ weighed (now (rows .entry)) at index ⌝ }
 {
     let a0 = (index & 0xffff) << rows[at];

@@ -1,6 +1,5 @@
 // The table by step that a walk uses: six numbers for each step below the directory's depth, made once
 // a query.
-use super::Row;
 use address::pairs::depth_before;
 use address::pairs::width_at;
 use shape::Query;
@@ -21,10 +20,24 @@ ghost use Rattle.model.specs.Sets.{queryBits, queryBitOf};
 ghost use Rattle.walk.specs.Seen.{emit};
 ghost use Rattle.walk.specs.Private.{Rows, stepRow, rowList, wantedAt, wantedNumber, otherDepth};
 
+// What the walk needs of a step: how far each index is shifted in the address of a cell that the step
+// appended, the bit that the step sets in a vector of 16-bit lanes, and the query's bit (0, 1, or 2
+// where it is free).
+pub struct Row {
+    pub s0: u64,
+    pub s1: u64,
+    pub s2: u64,
+    pub s3: u64,
+    pub bit: u64,
+    pub wanted: u64,
+}
+
 // Writes the rows of the steps below t.
 pub fn fill_rows(shape: Shape, query: Query, t: usize, rows: &mut [u64; 72])
-    requires { ⌜ (inBounds shape ≡ true) × (t ≤ 12) × (t ≤ total (widthsOf shape)) × (72 ≤ length (now rows)) ⌝ }
-    ensures { λ _. ⌜ Rows (widthsOf shape) (queryBits shape (wantedValues query)) t (now (rows .exit)) ⌝ }
+    requires { ⌜ (inBounds shape ≡ true) × (t ≤ 12) × (t ≤ total (widthsOf shape))
+        × (72 ≤ length (now rows)) ⌝ }
+    ensures { λ _. ⌜ Rows (widthsOf shape) (queryBits shape (wantedValues query)) t
+        (now (rows .exit)) ⌝ }
 {
     let widths = widths_of(shape);
     let mut g: u64 = 0;
@@ -41,7 +54,9 @@ pub fn fill_rows(shape: Shape, query: Query, t: usize, rows: &mut [u64; 72])
 // The row of the step at place g.
 fn row_at(widths: Widths, query: Query, g: u64) -> Row
     requires { ⌜ Fit (widthList widths) × (g < 64) × (g / 4 < getD (widthList widths) (g % 4) 0) ⌝ }
-    ensures { λ r. ⌜ rowList r ≡ stepRow (widthList widths) (wantedAt (widthList widths) (wantedValues query)) (length (stepsBelow (widthList widths) g)) ⌝ }
+    ensures { λ r. ⌜ rowList r
+        ≡ stepRow (widthList widths) (wantedAt (widthList widths) (wantedValues query))
+        (length (stepsBelow (widthList widths) g)) ⌝ }
 {
     let z = g % 4;
     let bit = g / 4;

@@ -17,10 +17,12 @@ use Rattle.inspect.proofs.check.Tie as tie
 in-bounds : (c : tie.Else1) → shapeNumber (c .before .before .before .before .args .state .shape) ≡ 0
 in-bounds c = sym (c .before .shape-number .ensures) ∙ c .if1 .left
 
-lent : (c : tie.Else2) → let a = c .before .before .before .before .before .before .args in lacksMemory (a .state) (length (a .dir .now)) (length (a .pages .now)) ≡ false
+lent : (c : tie.Else2) → let a = c .before .before .before .before .before .before .args in
+    lacksMemory (a .state) (length (a .dir .now)) (length (a .pages .now)) ≡ false
 lent c = sym (c .before .lacks-memory .ensures) ∙ c .if2 .left
 
-limits : (c : tie.Else3) → let a = c .before .before .before .before .before .before .before .before .args in boundsTest (store (a .state) (a .dir .now) (a .pages .now)) ≡ true
+limits : (c : tie.Else3) → let a = c .before .before .before .before .before .before .before .before .args in
+    boundsTest (store (a .state) (a .dir .now) (a .pages .now)) ≡ true
 limits c = sym (c .before .in-limits .ensures) ∙ not-false _ (c .if3 .left)
 
 shape-number-requires : tie.Need-shape-number-requires
@@ -31,7 +33,8 @@ unfolding checkedAnswer
 returns c =
     let a = c .before .before .before .before .args in
     let number = c .before .shape-number in
-    check-shape-out (a .state) (a .dir .now) (a .pages .now) (λ e. c .if1 .taken (number .ensures ∙ e)) _ (number .ensures)
+    check-shape-out (a .state) (a .dir .now) (a .pages .now) (λ e. c .if1 .taken (number .ensures ∙ e)) _
+    (number .ensures)
 
 lacks-memory-requires : tie.Need-lacks-memory-requires
 lacks-memory-requires c κs = search needs
@@ -40,7 +43,8 @@ returns-2 : tie.Need-returns-2
 unfolding checkedAnswer
 returns-2 c =
     let a = c .before .before .before .before .before .before .args in
-    check-lacks (a .state) (a .dir .now) (a .pages .now) (in-bounds (c .before .before)) (sym (c .before .lacks-memory .ensures) ∙ c .if2 .taken)
+    check-lacks (a .state) (a .dir .now) (a .pages .now) (in-bounds (c .before .before))
+    (sym (c .before .lacks-memory .ensures) ∙ c .if2 .taken)
 
 in-limits-requires : tie.Need-in-limits-requires
 in-limits-requires c κs = search needs
@@ -55,21 +59,26 @@ returns-3 c =
 shows-leaves-requires : tie.Need-shows-leaves-requires
 shows-leaves-requires c κs =
     let a = c .before .before .before .before .before .before .before .before .args in
-    storeLent (a .state) (a .dir .now) (a .pages .now) (in-bounds (c .before .before .before .before)) (lent (c .before .before)) (limits c)
+    storeLent (a .state) (a .dir .now) (a .pages .now) (in-bounds (c .before .before .before .before)) (lent (c .before .before))
+    (limits c)
 
 returns-4 : tie.Need-returns-4
 unfolding checkedAnswer
 returns-4 c =
-    let a = c .before .before .before .before .before .before .before .before .before .before .args in
-    check-shows (a .state) (a .dir .now) (a .pages .now) (in-bounds (c .before .before .before .before .before .before)) (lent (c .before .before .before .before)) (limits (c .before .before)) false
-    (sym (not-true _ (c .if4 .taken)) ∙ c .before .shows-leaves .ensures)
+    let limited = c .before .before in
+    let memory = limited .before .before in
+    let a = memory .before .before .before .before .before .before .args in
+    check-shows (a .state) (a .dir .now) (a .pages .now) (in-bounds (memory .before .before)) (lent memory) (limits limited)
+    true (sym (c .if4 .taken) ∙ c .before .shows-leaves .ensures)
 
 returns-5 : tie.Need-returns-5
 unfolding checkedAnswer
 returns-5 c =
-    let a = c .before .before .before .before .before .before .before .before .before .before .args in
-    check-shows (a .state) (a .dir .now) (a .pages .now) (in-bounds (c .before .before .before .before .before .before)) (lent (c .before .before .before .before)) (limits (c .before .before)) true
-    (sym (not-false _ (c .if4 .left)) ∙ c .before .shows-leaves .ensures)
+    let limited = c .before .before in
+    let memory = limited .before .before in
+    let a = memory .before .before .before .before .before .before .args in
+    check-shows (a .state) (a .dir .now) (a .pages .now) (in-bounds (memory .before .before)) (lent memory) (limits limited)
+    false (sym (c .if4 .left) ∙ c .before .shows-leaves .ensures)
 
 pub check-spec : {M : Type 1} → statement M
 check-spec =

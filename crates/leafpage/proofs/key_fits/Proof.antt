@@ -31,7 +31,8 @@ returns : tie.Need-returns
 returns c =
     let s = c .before .before .args in
     let w = s .widths in
-    indexFits-first (w .w0) (w .w1) (w .w2) (w .w3) (s .t2) (sym (c .before .below .ensures) ∙ not-true _ (c .if1 .taken))
+    indexFits-first (w .w0) (w .w1) (w .w2) (w .w3) (s .t2)
+    (sym (c .before .below .ensures) ∙ not-true _ (c .if1 .taken))
 
 array-read-below-2 : tie.Need-array-read-below-2
 array-read-below-2 c = search needs

@@ -6,7 +6,7 @@ use lib.ListN.{length}
 use borrow.Fn.Kinds.{In}
 use borrow.Fn.PlainCycle.{Measures, is, falls, and}
 use Rattle.walk.specs.Seen.{fairPage}
-use Rattle.walk.proofs.TurnLaws.{Inside, inside, turn-room, row-lent, upper-fits, upper-room, upper-asked}
+use Rattle.walk.proofs.TurnLaws.{Inside, inside, turn-room, row-lent, upper-fits, upper-room, upper-weighable}
 use Rattle.walk.proofs.TurnLaws.{Turn-lower, Turn-upper-first, Turn-upper-next}
 use Rattle.walk.proofs.TurnLaws.{Wrote-leaf, Wrote-above, Wrote-deep, Wrote-lower, Wrote-upper, Wrote-first}
 use Rattle.walk.proofs.TurnLaws.{Wrote-both}
@@ -47,8 +47,7 @@ walk-cast-depth t c = omega (arith, c .before .before .before .fits .word .fits)
 walk-note-requires : (t : ℕ) → walk-lts.Need-note-requires (near t) (walk-at t) walk.Post
 walk-note-requires t c κs =
     let h = c .before .before .before .before .before .pre .1 in
-    let o = h .shared in
-    (turn-room h, o .list-lent, o .most-pages, o .capacity, o .pages-lent)
+    (turn-room h, h .lent)
 
 walk-same-length : (t : ℕ) → walk-lts.Need-same-length (near t) (walk-at t) walk.Post
 walk-same-length t c = c .before .before .note .kept .1 .0
@@ -118,7 +117,7 @@ walk-add-upper-2 : (t : ℕ) → walk-lts.Need-add-upper-2 (near t) (walk-at t) 
 walk-add-upper-2 t c = record { fits = upper-fits (here t (c .before .before .before)) }
 
 walk-address-by-requires : (t : ℕ) → walk-lts.Need-address-by-requires (near t) (walk-at t) walk.Post
-walk-address-by-requires t c κs = upper-asked (here t (c .before .before .before))
+walk-address-by-requires t c κs = upper-weighable (here t (c .before .before .before))
 
 walk-mul-other : (t : ℕ) → walk-lts.Need-mul-other (near t) (walk-at t) walk.Post
 walk-mul-other t c = omega (arith, c .address-by .ensures, upper-room (here t (c .before .before .before .before)) .1)

@@ -36,18 +36,22 @@ same-length c = search needs
 
 returns : tie.Need-returns
 returns c =
-    let s = c .before .before .before .before .before .before .before .before .before .before .before .before .before .before .before .before .before in
+    let at-walk = c .before .before .before in
+    let at-rows = at-walk .before .before .before .before .before .before in
+    let s = at-rows .before .before .before .before .before .before .before .before in
     Put-damaged (s .args .state) (s .args .dir .now) (s .args .pages .now) (length (s .args .list .now)) (s .pre) _ _
-    (c .before .before .before .before .before .before .before .before .before .fill-rows .ensures) (s .args .list .now) _ _ (c .before .before .before .walk .ensures) (c .if1 .taken)
+    (at-rows .fill-rows .ensures) (s .args .list .now) _ _ (at-walk .walk .ensures) (c .if1 .taken)
 
 same-length-2 : tie.Need-same-length-2
 same-length-2 c = search needs
 
 returns-2 : tie.Need-returns-2
 returns-2 c =
-    let s = c .before .before .before .before .before .before .before .before .before .before .before .before .before .before .before .before .before in
+    let at-walk = c .before .before .before in
+    let at-rows = at-walk .before .before .before .before .before .before in
+    let s = at-rows .before .before .before .before .before .before .before .before in
     Put-pages (s .args .state) (s .args .dir .now) (s .args .pages .now) (length (s .args .list .now)) (s .pre) _ _
-    (c .before .before .before .before .before .before .before .before .before .fill-rows .ensures) (s .args .list .now) _ _ (c .before .before .before .walk .ensures) (c .if1 .left)
+    (at-rows .fill-rows .ensures) (s .args .list .now) _ _ (at-walk .walk .ensures) (c .if1 .left)
 
 pub note-pages-spec : {M : Type 1} → statement M
 note-pages-spec =

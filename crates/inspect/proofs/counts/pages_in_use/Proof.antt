@@ -1,6 +1,7 @@
--- `inspect::counts::pages_in_use` meets its contract: the pages before `page` are counted; n - page falls. Assumes nothing.
-use Prim.Native.Nat.{_+_, _-_, _*_, _≤_, _<_}
-use mathlib.Core.Path.{_≡_, refl, sym, ap, _∙_}
+-- `inspect::counts::pages_in_use` meets its contract: the pages before `page` are counted; n - page falls.
+-- Assumes nothing.
+use Prim.Native.Nat.{_+_, _-_, _*_, _≤_}
+use mathlib.Core.Path.{_≡_, refl, ap, _∙_}
 use mathlib.Core.Logic.{⊎-elim}
 use native.Mathlib.Omega.{arith}
 use native.Mathlib.Nat.{suc-mul}
@@ -27,7 +28,8 @@ within : (c : tie.In-loop Inv-loop μ-loop) → let s = c .before .before .befor
 within c =
     let s = c .before .before .before in
     let l = c .before .loop in
-    omega (arith, s .pre, l .inv .1, page-end (l .page) (s .args .n) (pageSize (s .args .capacity)) (c .loop-test .taken))
+    let end = page-end (l .page) (s .args .n) (pageSize (s .args .capacity)) (c .loop-test .taken) in
+    omega (arith, s .pre, l .inv .1, end)
 
 mul-size : tie.Need-mul-size Inv-loop μ-loop
 mul-size c = search needs
@@ -42,7 +44,11 @@ number-at-requires : tie.Need-number-at-requires Inv-loop μ-loop
 number-at-requires c κs = omega (arith, within c)
 
 add-used : tie.Need-add-used Inv-loop μ-loop
-add-used c = record { fits = omega (arith, c .before .before .loop-test .taken, usedPages-le (c .before .before .before .before .before .args .capacity) (c .before .before .before .before .before .args .pages .now) (c .before .before .before .loop .page), c .before .before .before .loop .inv) }
+add-used c =
+    let s = c .before .before .before .before .before .args in
+    let l = c .before .before .before .loop in
+    let le = usedPages-le (s .capacity) (s .pages .now) (l .page) in
+    record { fits = omega (arith, c .before .before .loop-test .taken, le, l .inv) }
 
 add-start : tie.Need-add-start Inv-loop μ-loop
 add-start c = record { fits = omega (arith, within (c .before .before)) }
@@ -57,22 +63,24 @@ loop-again : tie.Need-loop-again Inv-loop μ-loop
 loop-again c =
     let s = c .before .before .before .before .before .args in
     let l = c .before .before .before .loop in
+    let b = s .capacity in
     let read = c .before .number-at .ensures .0
     ∙ ap (λ o. numberOf (field (s .pages .now) o 2)) (l .inv .1)
-    ∙ countOf-pageAt (s .capacity) (l .page) (s .pages .now) in (
+    ∙ countOf-pageAt b (l .page) (s .pages .now) in (
       omega (arith, c .before .before .loop-test .taken),
-      rw (l .inv .1, add-one (l .page), suc-mul (l .page) (pageSize (s .capacity))) refl,
+      rw (l .inv .1, add-one (l .page), suc-mul (l .page) (pageSize b)) refl,
       ⊎-elim
-          (λ w. rw (w .1) (usedPages-used (s .capacity) (s .pages .now) (l .page) (l .used) (l .inv .2) _ read (w .0 .taken)))
-          (λ w. rw (w .1) (usedPages-free (s .capacity) (s .pages .now) (l .page) (l .used) (l .inv .2) _ read (w .0 .left)))
+          (λ w. rw (w .1) (usedPages-used b (s .pages .now) (l .page) (l .used) (l .inv .2) _ read (w .0 .taken)))
+          (λ w. rw (w .1) (usedPages-free b (s .pages .now) (l .page) (l .used) (l .inv .2) _ read (w .0 .left)))
           (c .if1 .came),
     )
 
 returns : tie.Need-returns Inv-loop μ-loop
 returns c =
     let l = c .before .loop in
-    let end : l .page ≡ c .before .before .before .args .n = omega (arith, c .loop-test .left, l .inv .0) in
-    l .inv .2 ∙ ap (usedPages (c .before .before .before .args .capacity) (c .before .before .before .args .pages .now)) end
+    let s = c .before .before .before .args in
+    let end : l .page ≡ s .n = omega (arith, c .loop-test .left, l .inv .0) in
+    l .inv .2 ∙ ap (usedPages (s .capacity) (s .pages .now)) end
 
 pub pages-in-use-spec : {M : Type 1} → statement M
 pages-in-use-spec =

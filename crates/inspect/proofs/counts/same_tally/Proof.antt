@@ -1,6 +1,6 @@
 -- `inspect::counts::same_tally` meets its contract: the counts below x are equal; 13 - x falls. Assumes nothing.
-use Prim.Native.Nat.{ℕ, _-_, _≤_, _<_}
-use mathlib.Core.Path.{_≡_, refl, sym, ap, _∙_, subst}
+use Prim.Native.Nat.{ℕ, _-_, _≤_}
+use mathlib.Core.Path.{_≡_, refl, sym, ap, _∙_}
 use mathlib.Core.Bool.{Bool, true}
 use native.Mathlib.Omega.{arith}
 use native.Mathlib.Numerals.{add-one}
@@ -37,11 +37,10 @@ shared-slice-read-if1 c = omega (arith, c .before .loop-test .taken, c .before .
 returns : tie.Need-returns Inv-loop μ-loop
 returns c =
     let s = c .before .before .before .before .before .args in
-    let x = c .before .before .before .loop .x in (
-      sym (allBelow-fails (λ y. eqb (getD (s .tally .leaves) y 0) (getD (s .counts .now) y 0)) 13 x (c .before .before .loop-test .taken)
-          (ne-eqb (getD (s .tally .leaves) x 0) (getD (s .counts .now) x 0) (c .if1 .taken))),
-      search needs,
-    )
+    let x = c .before .before .before .loop .x in
+    let test : ℕ → Bool = λ y. eqb (getD (s .tally .leaves) y 0) (getD (s .counts .now) y 0) in
+    let fails = ne-eqb (getD (s .tally .leaves) x 0) (getD (s .counts .now) x 0) (c .if1 .taken) in
+    (sym (allBelow-fails test 13 x (c .before .before .loop-test .taken) fails), search needs)
 
 add-x : tie.Need-add-x Inv-loop μ-loop
 add-x c = omega (arith, c .before .before .loop-test .taken)
@@ -53,10 +52,10 @@ loop-again : tie.Need-loop-again Inv-loop μ-loop
 loop-again c =
     let s = c .before .before .before .before .before .args in
     let l = c .before .before .before .loop in
-    let test : ℕ → Bool = λ y. eqb (getD (s .tally .leaves) y 0) (getD (s .counts .now) y 0) in (
+    let test : ℕ → Bool = λ y. eqb (getD (s .tally .leaves) y 0) (getD (s .counts .now) y 0) in
+    let same = eq-eqb (getD (s .tally .leaves) (l .x) 0) (getD (s .counts .now) (l .x) 0) (c .if1 .left) in (
       omega (arith, c .before .before .loop-test .taken),
-      ap (λ n. allBelow n test) (add-one (l .x))
-          ∙ allBelow-suc test (l .x) (l .inv .1) (eq-eqb (getD (s .tally .leaves) (l .x) 0) (getD (s .counts .now) (l .x) 0) (c .if1 .left)),
+      ap (λ n. allBelow n test) (add-one (l .x)) ∙ allBelow-suc test (l .x) (l .inv .1) same,
     )
 
 returns-2 : tie.Need-returns-2 Inv-loop μ-loop

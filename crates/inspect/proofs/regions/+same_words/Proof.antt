@@ -1,12 +1,14 @@
 -- `inspect::regions::same_words` meets its contract: a region is its two sides; t − x falls. Assumes nothing.
-use Prim.Native.Nat.{ℕ, _+_, _-_, _≤_, _<_}
+use Prim.Native.Nat.{ℕ, _-_, _<_}
 use mathlib.Core.Path.{sym, _∙_}
+use mathlib.Core.Bool.{Bool}
 use native.Mathlib.Omega.{arith}
 use lib.ListN.{length}
 use borrow.Author.Tests.{not-true, not-false}
 use Rattle.shape.specs.Shape.{widthList}
 use Rattle.inspect.specs.Regions.{cellWord}
-use Rattle.inspect.proofs.RegionLaws.{cellWord-first, region-lt, sameWords-cell, sameWords-lower-fails, sameWords-upper}
+use Rattle.inspect.proofs.RegionLaws.{cellWord-first, region-lt}
+use Rattle.inspect.proofs.RegionLaws.{sameWords-cell, sameWords-lower-fails, sameWords-upper}
 use borrow.Fn.Kinds.{In}
 use borrow.Fn.PlainCycle.{Measures, is, falls, and}
 use Rattle.inspect.proofs.regions.same_words.Reads as same-words
@@ -36,7 +38,13 @@ near t = (
   same-words.Post,
 )
 
-low : (t : ℕ) (s : same-words-lts.Start (near t) (same-words-at t) same-words.Post)
+abbrev Start : ℕ → Type 0
+Start t = same-words-lts.Start (near t) (same-words-at t) same-words.Post
+
+abbrev words : (t : ℕ) → Start t → (ℕ → Bool) → ℕ
+words t s = cellWord (widthList (s .args .widths)) (s .args .t) (s .args .dir .now)
+
+low : (t : ℕ) (s : Start t)
     → (s .args .region .address < length (s .args .dir .now)) × (s .args .region .address < 4096)
 low t s =
     let w = s .args .widths in
@@ -59,13 +67,13 @@ same-words-same-words-requires t c κs =
 
 same-words-returns : (t : ℕ) → same-words-lts.Need-returns (near t) (same-words-at t) same-words.Post
 same-words-returns t c =
+    let first = c .before in
+    let sides = first .before in
+    let a = sides .before .before .before .before .args in
+    let d = sides .sides-of .ensures in
     λ p n.
-    let s = c .before .before .before .before .before .before in
-    let d = c .before .before .sides-of .ensures in
-    let a = s .args in
-    sameWords-lower-fails (cellWord (widthList (a .widths)) (a .t) (a .dir .now)) (a .t) (a .region .depth) p (a .word)
-    (c .before .before .before .if1 .taken) _ (d .lower-depth)
-    (sym (c .before .same-words .ensures _ (d .lower-names p n)) ∙ not-true _ (c .if2 .taken))
+    sameWords-lower-fails (words t (sides .before .before .before .before)) (a .t) (a .region .depth) p (a .word) (sides .before .if1 .taken) _
+    (d .lower-depth) (sym (first .same-words .ensures _ (d .lower-names p n)) ∙ not-true _ (c .if2 .taken))
 
 same-words-same-words-requires-2 : (t : ℕ) → same-words-lts.Need-same-words-requires-2 (near t) (same-words-at t) same-words.Post
 same-words-same-words-requires-2 t c κs =
@@ -77,14 +85,14 @@ same-words-same-words-requires-2 t c κs =
 
 same-words-returns-2 : (t : ℕ) → same-words-lts.Need-returns-2 (near t) (same-words-at t) same-words.Post
 same-words-returns-2 t c =
+    let first = c .before .before in
+    let sides = first .before in
+    let a = sides .before .before .before .before .args in
+    let d = sides .sides-of .ensures in
     λ p n.
-    let s = c .before .before .before .before .before .before .before in
-    let d = c .before .before .before .sides-of .ensures in
-    let a = s .args in
-    sameWords-upper (cellWord (widthList (a .widths)) (a .t) (a .dir .now)) (a .t) (a .region .depth) p (a .word)
-    (c .before .before .before .before .if1 .taken) _ (d .lower-depth)
-    (sym (c .before .before .same-words .ensures _ (d .lower-names p n)) ∙ not-false _ (c .before .if2 .left)) _ (d .upper-depth) _
-    (c .same-words2 .ensures _ (d .upper-names p n))
+    sameWords-upper (words t (sides .before .before .before .before)) (a .t) (a .region .depth) p (a .word) (sides .before .if1 .taken) _
+    (d .lower-depth) (sym (first .same-words .ensures _ (d .lower-names p n)) ∙ not-false _ (c .before .if2 .left)) _
+    (d .upper-depth) _ (c .same-words2 .ensures _ (d .upper-names p n))
 
 same-words-mul-result : (t : ℕ) → same-words-lts.Need-mul-result (near t) (same-words-at t) same-words.Post
 same-words-mul-result t c = record { fits = omega (arith, low t (c .before .before .before) .1) }
@@ -94,12 +102,13 @@ same-words-shared-slice-read-result t c = low t (c .before .before .before .befo
 
 same-words-returns-3 : (t : ℕ) → same-words-lts.Need-returns-3 (near t) (same-words-at t) same-words.Post
 same-words-returns-3 t c =
-    λ p n.
     let s = c .before .before .before .before in
     let a = s .args in
     let w = a .widths in
-    sameWords-cell (cellWord (widthList w) (a .t) (a .dir .now)) (a .t) (a .region .depth) p (a .word) (c .before .if1 .left) (s .pre .1 .1) _
-    (cellWord-first (w .w0) (w .w1) (w .w2) (w .w3) (a .region) (s .pre .1 .2) (a .t) _ (s .pre .1 .0) (s .pre .1 .1) (a .dir .now) p n)
+    let k = s .pre .1 in
+    λ p n.
+    sameWords-cell (words t s) (a .t) (a .region .depth) p (a .word) (c .before .if1 .left) (k .1) _
+    (cellWord-first (w .w0) (w .w1) (w .w2) (w .w3) (a .region) (k .2) (a .t) _ (k .0) (k .1) (a .dir .now) p n)
 
 pub +same-words-spec : {M : Type 1} → statement M
 +same-words-spec = close μ-same-words λ t. same-words-lts.spec (near t)

@@ -4,8 +4,9 @@ use mathlib.Core.Path.{refl}
 use native.Mathlib.Omega.{arith}
 use borrow.Author.Needs.{needs}
 use Rattle.shape.proofs.ShapeLaws.{total-le}
-use Rattle.shape.specs.Shape.{widthList, total}
-use Rattle.inspect.proofs.RegionLaws.{string-lt, region-small, upper-inBox, sidesOf-parts, string-lower, string-upper}
+use Rattle.shape.specs.Shape.{widthList}
+use Rattle.inspect.proofs.RegionLaws.{string-lt, region-small, upper-inBox, sidesOf-parts}
+use Rattle.inspect.proofs.RegionLaws.{string-lower, string-upper}
 use Rattle.inspect.proofs.regions.sides_of.Statement.{statement}
 use Rattle.inspect.proofs.regions.sides_of.Tie as tie
 
@@ -29,8 +30,9 @@ add-t10 c = record { fits = omega (arith, few (c .before .before .before .before
 
 locate-requires : tie.Need-locate-requires
 locate-requires c κs =
-    let s = c .before .before .before .before .before in
-    upper-inBox _ _ (s .pre .2) (s .pre .0) _ (c .before .before .before .step-from .ensures) _ (c .before .before .with-bit .ensures)
+    let step = c .before .before .before in
+    let s = step .before .before in
+    upper-inBox _ _ (s .pre .2) (s .pre .0) _ (step .step-from .ensures) _ (c .before .before .with-bit .ensures)
 
 add-t10-2 : tie.Need-add-t10-2
 add-t10-2 c = search needs
@@ -40,10 +42,11 @@ add-t11 c = record { fits = omega (arith, few (c .before .before .before .before
 
 returns : tie.Need-returns
 returns c =
-    let s = c .before .before .before .before .before .before .before in
+    let set = c .before .before .before .before in
+    let s = set .before .before .before in
     let low = string-lt _ _ (s .pre .2) in
-    sidesOf-parts _ (s .args .region) (s .pre .2) (s .pre .0) _ (c .before .before .before .before .before .step-from .ensures) _ refl refl refl refl
-    (string-lower _ _ low (few s)) (string-upper _ _ low (few s)) refl (c .before .before .before .before .with-bit .ensures) refl
+    sidesOf-parts _ (s .args .region) (s .pre .2) (s .pre .0) _ (set .before .step-from .ensures) _ refl refl refl refl
+    (string-lower _ _ low (few s)) (string-upper _ _ low (few s)) refl (set .with-bit .ensures) refl
     (c .before .locate .ensures)
 
 pub sides-of-spec : {M : Type 1} → statement M

@@ -1,7 +1,8 @@
 -- `inspect::walk::walk` meets its contract: a region is a leaf, or its two sides; T − x falls. Assumes nothing.
-use Prim.Native.Nat.{ℕ, suc, _+_, _-_, _≤_, _<_}
+use Prim.Native.Nat.{ℕ, _-_, _≤_, _<_}
 use mathlib.Core.Path.{_≡_, refl, sym, ap, _∙_, subst}
 use mathlib.Core.Bool.{Bool, true, false}
+use mathlib.Core.List.{List}
 use native.Mathlib.Omega.{arith}
 use borrow.Author.Needs.{needs}
 use borrow.Author.Tests.{not-true, not-false}
@@ -10,12 +11,13 @@ use Rattle.shape.specs.Shape.{widthList}
 use Rattle.region.specs.Strings.{withBit}
 use Rattle.record.specs.Record.{Record}
 use Rattle.audit.specs.Walk.{depthField, View, regionTest, readDivision}
+use Rattle.inspect.specs.declared.walk.Seen.{Seen}
 use Rattle.inspect.specs.Regions.{Names}
-use Rattle.inspect.specs.Sums.{viewBy, Tells, Walks, TallyRoom}
+use Rattle.inspect.specs.Sums.{viewBy, Tells, TallyRoom}
 use Rattle.inspect.proofs.RegionLaws.{cellWord-first, region-lt}
 use Rattle.inspect.proofs.LeafLaws.{sub-walks}
-use Rattle.inspect.proofs.SumLaws.{region-leaf, region-too-deep, region-lower-fails, room-upper, region-upper-fails, room-lower}
-use Rattle.inspect.proofs.SumLaws.{sums-fit, region-joined}
+use Rattle.inspect.proofs.SumLaws.{region-leaf, region-too-deep, Divided, room-lower, region-lower-fails}
+use Rattle.inspect.proofs.SumLaws.{room-upper, region-upper-fails, sums-fit, region-joined}
 use borrow.Fn.Kinds.{In}
 use borrow.Fn.PlainCycle.{Measures, is, falls, and}
 use Rattle.inspect.proofs.walk.walk.Reads as walk
@@ -55,72 +57,88 @@ near t = (
   joined-reads.Learnt,
 )
 
--- what stands in the directory and the pages
-abbrev view : (t : ℕ) → walk-lts.Start (near t) (walk-at t) walk.Post → View Record
+abbrev Start : ℕ → Type 0
+Start t = walk-lts.Start (near t) (walk-at t) walk.Post
+
+-- what stands in the directory and the pages, and how many steps are left
+abbrev view : (t : ℕ) → Start t → View Record
 view t s = let a = s .args in viewBy (widthList (a .widths)) (a .state) (a .dir .now) (a .pages .now)
 
-low : (t : ℕ) (s : walk-lts.Start (near t) (walk-at t) walk.Post)
+abbrev steps : (t : ℕ) → Start t → ℕ
+steps t s = s .args .state .depth - s .args .region .depth
+
+abbrev IsNamed : (t : ℕ) → Start t → (ℕ → Bool) → Type 0
+IsNamed t s p = Names (widthList (s .args .widths)) (s .args .region) p
+
+low : (t : ℕ) (s : Start t)
     → (s .args .region .address < length (s .args .dir .now)) × (s .args .region .address < 4096)
 low t s =
-    let w = s .args .widths in
+    let a = s .args in
+    let w = a .widths in
     let k = s .pre .1 .0 in
-    region-lt (w .w0) (w .w1) (w .w2) (w .w3) (s .args .region) (k .region) (s .args .state .depth) _ (k .directory) (k .within)
+    region-lt (w .w0) (w .w1) (w .w2) (w .w3) (a .region) (k .region) (a .state .depth) _ (k .directory) (k .within)
 
-here : (t : ℕ) (s : walk-lts.Start (near t) (walk-at t) walk.Post) (p : ℕ → Bool)
-    → Names (widthList (s .args .widths)) (s .args .region) p
+here : (t : ℕ) (s : Start t) (p : ℕ → Bool) → IsNamed t s p
     → view t s .word p ≡ getD (s .args .dir .now) (s .args .region .address) 0
 here t s p n =
-    let w = s .args .widths in
+    let a = s .args in
+    let w = a .widths in
     let k = s .pre .1 .0 in
-    cellWord-first (w .w0) (w .w1) (w .w2) (w .w3) (s .args .region) (k .region) (s .args .state .depth) _ (k .directory) (k .within)
-    (s .args .dir .now) p n
+    cellWord-first (w .w0) (w .w1) (w .w2) (w .w3) (a .region) (k .region) (a .state .depth) _ (k .directory) (k .within)
+    (a .dir .now) p n
 
--- the word's depth is greater
-deeper : (t : ℕ) (c : walk-lts.Else1 (near t) (walk-at t) walk.Post) → let a = c .before .before .before .before .before .before .before .args in
-    a .region .depth < depthField (getD (a .dir .now) (a .region .address) 0)
-deeper t c = let x = c .before .before .before .before .before .before .before .args .region .depth in subst (λ d. x < d) (c .before .before .depth-of .ensures) (c .if1 .left)
+-- the depth of the word, as the test has it
+depth : (t : ℕ) (c : walk-lts.After-depth-of (near t) (walk-at t) walk.Post) (p : ℕ → Bool) → let s = c .before .before .before .before .before in
+    IsNamed t s p → c .depth-of .result ≡ depthField (view t s .word p)
+depth t c p n = c .depth-of .ensures ∙ ap depthField (sym (here t (c .before .before .before .before .before) p n))
 
--- one step less is left for the sides
-fewer : (t : ℕ) (c : walk-lts.After-sides-of (near t) (walk-at t) walk.Post)
-    → let a = c .before .before .before .before .before .before .before .before .before .before .before .args in
+deeper : (t : ℕ) (c : walk-lts.Else1 (near t) (walk-at t) walk.Post) (p : ℕ → Bool) → let s = c .before .before .before .before .before .before .before in
+    IsNamed t s p → s .args .region .depth < depthField (view t s .word p)
+deeper t c p n =
+    let x = c .before .before .before .before .before .before .before .args .region .depth in
+    subst (λ d. x < d) (depth t (c .before .before) p n) (c .if1 .left)
+
+-- the region is divided, and a step is left
+divided : (t : ℕ) (c : walk-lts.After-sides-of (near t) (walk-at t) walk.Post) (p : ℕ → Bool) → let s = c .before .before .before .before .before .before .before .before .before .before .before in
     let y = c .sides-of .result .lower .depth in
-    (a .state .depth - a .region .depth ≡ suc (a .state .depth - y)) × (y ≡ suc (a .region .depth)) × (a .state .depth - y ≤ 12)
-fewer t c =
-    let s = c .before .before .before .before .before .before .before .before .before .before .before in
-    let d = c .sides-of .ensures .lower-depth in
-    let l = c .before .if2 .left in
-    (omega arith, omega arith, omega (arith, s .pre .1 .0 .directory .short))
+    IsNamed t s p → Divided (view t s) (steps t s) (s .args .state .depth - y) p (s .args .region .depth) y
+divided t c p n =
+    let next = c .sides-of .ensures .lower-depth in
+    let left = c .before .if2 .left in
+    record { deeper = deeper t (c .before .before .before .before) p n; steps = omega arith; next = omega arith }
 
--- what is told of the lower side
-told-lower : (t : ℕ) (c : walk-lts.After-walk (near t) (walk-at t) walk.Post) → let s = c .before .before .before .before .before .before .before .before .before .before .before .before .before in
-    let sides = c .before .before .sides-of .result in
-    let x = s .args .region .depth in
-    let y = sides .lower .depth in
-    (p : ℕ → Bool) → Names (widthList (s .args .widths)) (s .args .region) p
-    → Tells y (s .args .tally .now) (c .walk .result) (c .walk .last .1 .1 .1 .1 .1 .0)
-    (regionTest (view t s) (s .args .state .depth - y) (withBit p x false) y)
-    (readDivision (view t s) (s .args .state .depth - y) (withBit p x false) y)
+-- the sides have the same depth
+level : (t : ℕ) (c : walk-lts.After-sides-of (near t) (walk-at t) walk.Post)
+    → c .sides-of .result .upper .depth ≡ c .sides-of .result .lower .depth
+level t c = c .sides-of .ensures .upper-depth ∙ sym (c .sides-of .ensures .lower-depth)
+
+-- what is told of a side with the bit β, at the depth y
+abbrev Told : (t : ℕ) → Start t → (ℕ → Bool) → Bool → List ℕ → Seen → List ℕ → ℕ → Type 0
+Told t s p β before seen after y =
+    let q = withBit p (s .args .region .depth) β in
+    Tells y before seen after (regionTest (view t s) (s .args .state .depth - y) q y)
+    (readDivision (view t s) (s .args .state .depth - y) q y)
+
+-- the tally that a call leaves
+abbrev tally-lower : (t : ℕ) → walk-lts.After-walk (near t) (walk-at t) walk.Post → List ℕ
+tally-lower t c = c .walk .last .1 .1 .1 .1 .1 .0
+
+abbrev tally-upper : (t : ℕ) → walk-lts.After-walk2 (near t) (walk-at t) walk.Post → List ℕ
+tally-upper t c = c .walk2 .last .1 .1 .1 .1 .1 .0
+
+told-lower : (t : ℕ) (c : walk-lts.After-walk (near t) (walk-at t) walk.Post) (p : ℕ → Bool) → let s = c .before .before .before .before .before .before .before .before .before .before .before .before .before in
+    IsNamed t s p
+    → Told t s p false (s .args .tally .now) (c .walk .result) (tally-lower t c) (c .before .before .sides-of .result .lower .depth)
 told-lower t c p n = c .walk .ensures _ (c .before .before .sides-of .ensures .lower-names p n)
 
--- and of the upper
-told-upper : (t : ℕ) (c : walk-lts.After-walk2 (near t) (walk-at t) walk.Post) → let s = c .before .before .before .before .before .before .before .before .before .before .before .before .before .before .before .before .before .before .before in
+told-upper : (t : ℕ) (c : walk-lts.After-walk2 (near t) (walk-at t) walk.Post) (p : ℕ → Bool) → let s = c .before .before .before .before .before .before .before .before .before .before .before .before .before .before .before .before .before .before .before in
     let first = c .before .before .before .before .before .before in
-    let x = s .args .region .depth in
-    let y = first .before .before .sides-of .result .lower .depth in
-    (p : ℕ → Bool) → Names (widthList (s .args .widths)) (s .args .region) p
-    → Tells y (first .walk .last .1 .1 .1 .1 .1 .0) (c .walk2 .result) (c .walk2 .last .1 .1 .1 .1 .1 .0)
-    (regionTest (view t s) (s .args .state .depth - y) (withBit p x true) y)
-    (readDivision (view t s) (s .args .state .depth - y) (withBit p x true) y)
+    IsNamed t s p
+    → Told t s p true (tally-lower t first) (c .walk2 .result) (tally-upper t c) (first .before .before .sides-of .result .lower .depth)
 told-upper t c p n =
-    let s = c .before .before .before .before .before .before .before .before .before .before .before .before .before .before .before .before .before .before .before in
-    let first = c .before .before .before .before .before .before in
-    let x = s .args .region .depth in
-    let d = first .before .before .sides-of .ensures in
-    subst
-    (λ y. Tells y (first .walk .last .1 .1 .1 .1 .1 .0) (c .walk2 .result) (c .walk2 .last .1 .1 .1 .1 .1 .0)
-    (regionTest (view t s) (s .args .state .depth - y) (withBit p x true) y)
-    (readDivision (view t s) (s .args .state .depth - y) (withBit p x true) y))
-    (d .upper-depth ∙ sym (d .lower-depth)) (c .walk2 .ensures _ (d .upper-names p n))
+    let sides = c .before .before .before .before .before .before .before .before in
+    subst (Told t (c .before .before .before .before .before .before .before .before .before .before .before .before .before .before .before .before .before .before .before) p true (tally-lower t (c .before .before .before .before .before .before)) (c .walk2 .result) (tally-upper t c)) (level t sides)
+    (c .walk2 .ensures _ (sides .sides-of .ensures .upper-names p n))
 
 walk-mul-word : (t : ℕ) → walk-lts.Need-mul-word (near t) (walk-at t) walk.Post
 walk-mul-word t c = record { fits = omega (arith, low t (c .before .before .before) .1) }
@@ -139,11 +157,11 @@ walk-same-length t c = c .before .before .leaf .kept .1 .1 .1 .1 .1 .1 .0
 
 walk-returns : (t : ℕ) → walk-lts.Need-returns (near t) (walk-at t) walk.Post
 walk-returns t c =
-    λ p n.
     let s = c .before .before .before .before .before .before .before .before .before .before .before in
-    let a = s .args in
-    region-leaf (view t s) (a .state .depth - a .region .depth) p (a .region .depth) _ (here t s p n) (a .tally .now)
-    (subst (λ d. d ≤ a .region .depth) (c .before .before .before .before .before .before .depth-of .ensures) (c .before .before .before .before .if1 .taken)) _ (c .before .before .leaf .last .1 .1 .1 .1 .1 .1 .0) (c .before .before .leaf .ensures p n)
+    let x = s .args .region .depth in
+    λ p n.
+    region-leaf (view t s) (steps t s) p x (subst (λ d. d ≤ x) (depth t (c .before .before .before .before .before .before) p n) (c .before .before .before .before .if1 .taken)) _ _ _
+    (c .before .before .leaf .ensures p n)
 
 walk-cast-if2 : (t : ℕ) → walk-lts.Need-cast-if2 (near t) (walk-at t) walk.Post
 walk-cast-if2 t c = search needs
@@ -153,12 +171,11 @@ walk-fails-requires t c κs = tt
 
 walk-returns-2 : (t : ℕ) → walk-lts.Need-returns-2 (near t) (walk-at t) walk.Post
 walk-returns-2 t c =
-    λ p n.
     let s = c .before .before .before .before .before .before .before .before .before .before .before in
-    let a = s .args in
+    let x = s .args .region .depth in
+    λ p n.
     rw (c .fails .ensures)
-    (region-too-deep (view t s) (a .state .depth - a .region .depth) p (a .region .depth) _ (here t s p n) (a .tally .now)
-    (deeper t (c .before .before .before .before)) (omega (arith, c .before .if2 .taken)))
+    (region-too-deep (view t s) (steps t s) p x (deeper t (c .before .before .before .before) p n) (omega (arith, c .before .if2 .taken)) (s .args .tally .now))
 
 walk-sides-of-requires : (t : ℕ) → walk-lts.Need-sides-of-requires (near t) (walk-at t) walk.Post
 walk-sides-of-requires t c κs =
@@ -170,40 +187,41 @@ walk-walk-requires : (t : ℕ) → walk-lts.Need-walk-requires (near t) (walk-at
 walk-walk-requires t c κs =
     let s = c .before .before .before .before .before .before .before .before .before .before .before .before in
     let k = s .pre .1 .0 in
-    let d = c .before .sides-of .ensures in
-    let f = fewer t (c .before) in
-    (omega (arith, s .pre .0, f .0), (sub-walks (s .args .state) _ _ _ (s .args .region) k _ (d .lower-in) (d .lower-depth) (c .before .before .if2 .left), room-lower _ _ (f .0) _ (s .pre .1 .1)))
+    let sides = c .before .sides-of .ensures in
+    let d = divided t (c .before) (k .region .named .0) (k .region .named .1) in (
+      omega (arith, s .pre .0, d .steps),
+      (
+        sub-walks _ _ _ _ _ k _ (sides .lower-in) (sides .lower-depth) (c .before .before .if2 .left),
+        room-lower _ _ (d .steps) _ (s .pre .1 .1),
+      ),
+    )
 
 walk-same-length-2 : (t : ℕ) → walk-lts.Need-same-length-2 (near t) (walk-at t) walk.Post
 walk-same-length-2 t c = c .before .before .before .before .walk .kept .1 .1 .1 .1 .1 .0
 
 walk-returns-3 : (t : ℕ) → walk-lts.Need-returns-3 (near t) (walk-at t) walk.Post
 walk-returns-3 t c =
+    let first = c .before .before .before .before in
     λ p n.
-    let s = c .before .before .before .before .before .before .before .before .before .before .before .before .before .before .before .before .before in
-    let a = s .args in
-    let f = fewer t (c .before .before .before .before .before .before) in
-    region-lower-fails (view t s) (a .state .depth - a .region .depth) p (a .region .depth) _ (here t s p n) (a .tally .now)
-    (deeper t (c .before .before .before .before .before .before .before .before .before .before)) _ _ (f .0) (f .1) _ (c .before .before .before .before .walk .last .1 .1 .1 .1 .1 .0)
-    (told-lower t (c .before .before .before .before) p n) (not-true _ (c .if3 .taken))
+    region-lower-fails _ _ _ _ _ _ (divided t (first .before .before) p n) _ _ _ (told-lower t first p n)
+    (not-true _ (c .if3 .taken))
 
 walk-walk-requires-2 : (t : ℕ) → walk-lts.Need-walk-requires-2 (near t) (walk-at t) walk.Post
 walk-walk-requires-2 t c κs =
-    let s = c .before .before .before .before .before .before .before .before .before .before .before .before .before .before .before .before .before .before in
-    let a = s .args in
+    let first = c .before .before .before .before .before in
+    let sides = first .before .before in
+    let s = sides .before .before .before .before .before .before .before .before .before .before .before in
     let k = s .pre .1 .0 in
-    let d = c .before .before .before .before .before .before .before .sides-of .ensures in
-    let f = fewer t (c .before .before .before .before .before .before .before) in
     let p = k .region .named .0 in
     let n = k .region .named .1 in
-    let same = d .upper-depth ∙ sym (d .lower-depth) in (
-      omega (arith, s .pre .0, f .0, same),
+    let d = divided t sides p n in (
+      omega (arith, s .pre .0, d .steps, level t sides),
       (
-        sub-walks (a .state) _ _ _ (a .region) k _ (d .upper-in) (d .upper-depth) (c .before .before .before .before .before .before .before .before .if2 .left),
-        subst (λ y. TallyRoom (a .state .depth - y) (c .before .before .before .before .before .walk .last .1 .1 .1 .1 .1 .0)) (sym same)
-            (room-upper (view t s) (a .state .depth - a .region .depth) p (a .region .depth) _ (here t s p n) (a .tally .now)
-            (deeper t (c .before .before .before .before .before .before .before .before .before .before .before)) _ _ (f .0) (f .1) _ (c .before .before .before .before .before .walk .last .1 .1 .1 .1 .1 .0) (told-lower t (c .before .before .before .before .before) p n)
-            (not-false _ (c .before .if3 .left)) (s .pre .1 .1) (c .before .before .before .before .before .walk .kept .1 .1 .1 .1 .1 .0)),
+        sub-walks _ _ _ _ _ k _ (sides .sides-of .ensures .upper-in) (sides .sides-of .ensures .upper-depth)
+            (sides .before .if2 .left),
+        subst (λ y. TallyRoom (s .args .state .depth - y) (tally-lower t first)) (sym (level t sides))
+            (room-upper _ _ _ _ _ _ d _ _ _ (told-lower t first p n) (not-false _ (c .before .if3 .left)) (s .pre .1 .1)
+            (first .walk .kept .1 .1 .1 .1 .1 .0)),
       ),
     )
 
@@ -212,42 +230,34 @@ walk-same-length-3 t c = c .before .before .before .before .walk2 .kept .1 .1 .1
 
 walk-returns-4 : (t : ℕ) → walk-lts.Need-returns-4 (near t) (walk-at t) walk.Post
 walk-returns-4 t c =
+    let second = c .before .before .before .before in
+    let first = second .before .before .before .before .before .before in
     λ p n.
-    let s = c .before .before .before .before .before .before .before .before .before .before .before .before .before .before .before .before .before .before .before .before .before .before .before in
-    let a = s .args in
-    let f = fewer t (c .before .before .before .before .before .before .before .before .before .before .before .before) in
-    region-upper-fails (view t s) (a .state .depth - a .region .depth) p (a .region .depth) _ (here t s p n) (a .tally .now)
-    (deeper t (c .before .before .before .before .before .before .before .before .before .before .before .before .before .before .before .before)) _ _ (f .0) (f .1) _ (c .before .before .before .before .before .before .before .before .before .before .walk .last .1 .1 .1 .1 .1 .0)
-    (told-lower t (c .before .before .before .before .before .before .before .before .before .before) p n) (not-false _ (c .before .before .before .before .before .before .if3 .left)) _ (c .before .before .before .before .walk2 .last .1 .1 .1 .1 .1 .0)
-    (told-upper t (c .before .before .before .before) p n) (not-true _ (c .if4 .taken))
+    region-upper-fails _ _ _ _ _ _ (divided t (first .before .before) p n) _ _ _ (told-lower t first p n)
+    (not-false _ (second .before .before .if3 .left)) _ _ (told-upper t second p n) (not-true _ (c .if4 .taken))
 
 walk-joined-requires : (t : ℕ) → walk-lts.Need-joined-requires (near t) (walk-at t) walk.Post
 walk-joined-requires t c κs =
-    let s = c .before .before .before .before .before .before .before .before .before .before .before .before .before .before .before .before .before .before .before .before .before .before .before in
-    let a = s .args in
-    let k = s .pre .1 .0 in
-    let f = fewer t (c .before .before .before .before .before .before .before .before .before .before .before .before) in
+    let second = c .before .before .before .before in
+    let first = second .before .before .before .before .before .before in
+    let k = first .before .before .before .before .before .before .before .before .before .before .before .before .before .pre .1 .0 in
     let p = k .region .named .0 in
     let n = k .region .named .1 in
-    sums-fit (view t s) (a .state .depth - a .region .depth) p (a .region .depth) _ (here t s p n) (a .tally .now)
-    (deeper t (c .before .before .before .before .before .before .before .before .before .before .before .before .before .before .before .before)) _ _ (f .0) (f .1) _ (c .before .before .before .before .before .before .before .before .before .before .walk .last .1 .1 .1 .1 .1 .0) (told-lower t (c .before .before .before .before .before .before .before .before .before .before) p n)
-    (not-false _ (c .before .before .before .before .before .before .if3 .left)) _ (c .before .before .before .before .walk2 .last .1 .1 .1 .1 .1 .0) (told-upper t (c .before .before .before .before) p n)
-    (not-false _ (c .if4 .left)) (k .capacity) (f .2)
+    let d = divided t (first .before .before) p n in
+    sums-fit _ _ _ _ _ _ d _ _ _ (told-lower t first p n) (not-false _ (second .before .before .if3 .left)) _ _
+    (told-upper t second p n) (not-false _ (c .if4 .left)) (k .capacity) (omega (arith, d .steps, k .directory .short))
 
 walk-same-length-4 : (t : ℕ) → walk-lts.Need-same-length-4 (near t) (walk-at t) walk.Post
 walk-same-length-4 t c = c .before .before .before .before .before .walk2 .kept .1 .1 .1 .1 .1 .0 ∙ c .before .before .before .before .before .before .before .before .before .before .before .walk .kept .1 .1 .1 .1 .1 .0
 
 walk-returns-5 : (t : ℕ) → walk-lts.Need-returns-5 (near t) (walk-at t) walk.Post
 walk-returns-5 t c =
+    let second = c .before .before .before .before .before in
+    let first = second .before .before .before .before .before .before in
     λ p n.
-    let s = c .before .before .before .before .before .before .before .before .before .before .before .before .before .before .before .before .before .before .before .before .before .before .before .before in
-    let a = s .args in
-    let f = fewer t (c .before .before .before .before .before .before .before .before .before .before .before .before .before) in
     rw (c .joined .ensures)
-    (region-joined (view t s) (a .state .depth - a .region .depth) p (a .region .depth) _ (here t s p n) (a .tally .now)
-    (deeper t (c .before .before .before .before .before .before .before .before .before .before .before .before .before .before .before .before .before)) _ _ (f .0) (f .1) _ (c .before .before .before .before .before .before .before .before .before .before .before .walk .last .1 .1 .1 .1 .1 .0) (told-lower t (c .before .before .before .before .before .before .before .before .before .before .before) p n)
-    (not-false _ (c .before .before .before .before .before .before .before .if3 .left)) _ (c .before .before .before .before .before .walk2 .last .1 .1 .1 .1 .1 .0) (told-upper t (c .before .before .before .before .before) p n)
-    (not-false _ (c .before .if4 .left)))
+    (region-joined _ _ _ _ _ _ (divided t (first .before .before) p n) _ _ _ (told-lower t first p n)
+    (not-false _ (second .before .before .if3 .left)) _ _ (told-upper t second p n) (not-false _ (c .before .if4 .left)))
 
 pub +walk-spec : {M : Type 1} → statement M
 +walk-spec = close μ-walk λ t. walk-lts.spec (near t)

@@ -12,6 +12,7 @@ use Rattle.shape.specs.Shape.{widthList}
 use Rattle.region.specs.Division.{leaf}
 use Rattle.record.specs.Record.{Record}
 use Rattle.audit.specs.Walk.{depthField, View, pageField, pageTest, fieldRecords}
+use Rattle.inspect.specs.declared.walk.Seen.{Seen}
 use Rattle.inspect.specs.Regions.{Names}
 use Rattle.inspect.specs.Sums.{viewBy, Sees}
 use Rattle.inspect.proofs.RegionLaws.{cellWord-first}
@@ -26,25 +27,28 @@ view s = let a = s .args in viewBy (widthList (a .widths)) (a .state) (a .dir .n
 abbrev steps : tie.Start → ℕ
 steps s = s .args .state .depth - s .args .region .depth
 
+abbrev IsNamed : tie.Start → (ℕ → Bool) → Type 0
+IsNamed s p = Names (widthList (s .args .widths)) (s .args .region) p
+
 -- the word is that of the first cell
-here : (s : tie.Start) (p : ℕ → Bool) → Names (widthList (s .args .widths)) (s .args .region) p
-    → view s .word p ≡ s .args .word
+here : (s : tie.Start) (p : ℕ → Bool) → IsNamed s p → view s .word p ≡ s .args .word
 here s p n =
     let a = s .args in
     let w = a .widths in
     let k = s .pre .0 in
-    cellWord-first (w .w0) (w .w1) (w .w2) (w .w3) (a .region) (k .region) (a .state .depth) _ (k .directory) (k .within) (a .dir .now) p n
+    cellWord-first (w .w0) (w .w1) (w .w2) (w .w3) (a .region) (k .region) (a .state .depth) _ (k .directory) (k .within)
+    (a .dir .now) p n
     ∙ sym (s .pre .2)
 
 -- what is told of its page
-page : (c : tie.After-leaf-page) → let s = c .before .before .before .before .before .before .before in
-    (p : ℕ → Bool) → Names (widthList (s .args .widths)) (s .args .region) p
-    → Sees (pageTest (view s) p (s .args .region .depth) (pageField (s .args .word)))
-    (leaf (fieldRecords (view s) (pageField (s .args .word)))) (c .leaf-page .result)
+abbrev Told : tie.Start → (ℕ → Bool) → Seen → ℕ → Type 0
+Told s p seen f = Sees (pageTest (view s) p (s .args .region .depth) f) (leaf (fieldRecords (view s) f)) seen
+
+page : (c : tie.After-leaf-page) (p : ℕ → Bool) → let s = c .before .before .before .before .before .before .before in
+    IsNamed s p → Told s p (c .leaf-page .result) (pageField (s .args .word))
 page c p n =
     let s = c .before .before .before .before .before .before .before in
-    subst (λ f. Sees (pageTest (view s) p (s .args .region .depth) f) (leaf (fieldRecords (view s) f)) (c .leaf-page .result))
-    (and-mask (s .args .word) 16) (c .leaf-page .ensures (s .args .dir .now) p n)
+    subst (Told s p (c .leaf-page .result)) (and-mask (s .args .word) 16) (c .leaf-page .ensures (s .args .dir .now) p n)
 
 -- the word's depth is the region's
 depth : (c : tie.Else1) → let a = c .before .before .before .before .before .before .args in depthField (a .word) ≡ a .region .depth
@@ -58,7 +62,8 @@ short s =
 low : (s : tie.Start) → getD (s .args .tally .now) (s .args .region .depth) 0 < 8192
 low s =
     let k = s .pre .0 in
-    omega (arith, s .pre .1 .room (s .args .region .depth) (omega (arith, k .within, k .directory .short)), pow-pos (steps s))
+    let x = s .args .region .depth in
+    omega (arith, s .pre .1 .room x (omega (arith, k .within, k .directory .short)), pow-pos (steps s))
 
 depth-of-requires : tie.Need-depth-of-requires
 depth-of-requires c κs = search needs
@@ -72,17 +77,19 @@ returns c =
     let a = s .args in
     λ p n.
     rw (c .fails .ensures)
-    (leaf-depth-fails (view s) (steps s) p (a .region .depth) (a .word) (here s p n) (a .tally .now) (a .tally .now) (λ e. c .before .if1 .taken (c .before .before .before .depth-of .ensures ∙ e)))
+    (leaf-depth-fails (view s) (steps s) p (a .region .depth) (a .word) (here s p n) (a .tally .now) (a .tally .now)
+    (λ e. c .before .if1 .taken (c .before .before .before .depth-of .ensures ∙ e)))
 
 leaf-page-requires : tie.Need-leaf-page-requires
 leaf-page-requires c κs = let s = c .before .before .before .before .before .before in pageAsked-walks (s .args .state) _ (s .args .region) _ _ (s .pre .0)
 
 returns-2 : tie.Need-returns-2
 returns-2 c =
-    let s = c .before .before .before .before .before .before .before .before .before in
+    let test = c .before .before .before in
+    let s = test .before .before .before .before .before .before in
     let a = s .args in
     λ p n.
-    leaf-page-fails (view s) (steps s) p (a .region .depth) (a .word) (here s p n) (a .tally .now) (a .tally .now) (depth (c .before .before .before)) _
+    leaf-page-fails (view s) (steps s) p (a .region .depth) (a .word) (here s p n) (a .tally .now) (a .tally .now) (depth test) _
     (page (c .before .before) p n) (not-true _ (c .if2 .taken))
 
 cast-same-words : tie.Need-cast-same-words
@@ -96,12 +103,14 @@ fails-requires-2 c κs = search needs
 
 returns-3 : tie.Need-returns-3
 returns-3 c =
-    let s = c .before .before .before .before .before .before .before .before .before .before .before .before .before in
+    let test = c .before .before .before .before .before .before .before in
+    let s = test .before .before .before .before .before .before in
     let a = s .args in
     λ p n.
     rw (c .fails2 .ensures)
-    (leaf-words-fail (view s) (steps s) p (a .region .depth) (a .word) (here s p n) (a .tally .now) (a .tally .now) (depth (c .before .before .before .before .before .before .before)) _
-    (page (c .before .before .before .before .before .before) p n) (not-false _ (c .before .before .before .before .if2 .left)) (sym (c .before .before .same-words .ensures p n) ∙ not-true _ (c .before .if3 .taken)))
+    (leaf-words-fail (view s) (steps s) p (a .region .depth) (a .word) (here s p n) (a .tally .now) (a .tally .now) (depth test) _
+    (page (c .before .before .before .before .before .before) p n) (not-false _ (c .before .before .before .before .if2 .left))
+    (sym (c .before .before .same-words .ensures p n) ∙ not-true _ (c .before .if3 .taken)))
 
 mul-tally : tie.Need-mul-tally
 mul-tally c = search needs
@@ -123,12 +132,13 @@ same-length c = search needs
 
 returns-4 : tie.Need-returns-4
 returns-4 c =
-    let s = c .before .before .before .before .before .before .before .before .before .before .before .before .before in
+    let test = c .before .before .before .before .before .before .before in
+    let s = test .before .before .before .before .before .before in
     let a = s .args in
     λ p n.
-    leaf-passes (view s) (steps s) p (a .region .depth) (a .word) (here s p n) (a .tally .now) _ (depth (c .before .before .before .before .before .before .before)) _
-    (page (c .before .before .before .before .before .before) p n) (not-false _ (c .before .before .before .before .if2 .left)) (sym (c .before .before .same-words .ensures p n) ∙ not-false _ (c .before .if3 .left))
-    (s .pre .1 .depths) refl
+    leaf-passes (view s) (steps s) p (a .region .depth) (a .word) (here s p n) (a .tally .now) _ (depth test) _
+    (page (c .before .before .before .before .before .before) p n) (not-false _ (c .before .before .before .before .if2 .left))
+    (sym (c .before .before .same-words .ensures p n) ∙ not-false _ (c .before .if3 .left)) (s .pre .1 .depths) refl
 
 pub leaf-spec : {M : Type 1} → statement M
 leaf-spec =

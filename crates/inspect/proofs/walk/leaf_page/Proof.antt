@@ -1,27 +1,31 @@
 -- `inspect::walk::leaf_page` meets its contract: no page, none of the P pages, or one of them. Assumes nothing.
 use Prim.Native.Nat.{_+_, _-_, _*_, _≤_}
-use mathlib.Core.Path.{sym, ap, _∙_}
+use mathlib.Core.Path.{ap, _∙_}
 use native.Mathlib.Omega.{arith}
 use borrow.Author.Needs.{needs}
 use lib.ListN.{length}
 use Rattle.shape.specs.Shape.{widthList}
 use Rattle.page.specs.Page.{pageSize}
-use Rattle.inspect.specs.Sums.{failed, pageSeen}
-use Rattle.inspect.proofs.LeafLaws.{part-pageAt, page-within, pageLent-part, page-none, page-past, page-told}
+use Rattle.inspect.specs.Sums.{pageSeen}
+use Rattle.inspect.proofs.LeafLaws.{part-pageAt, page-within, pageLent-part}
+use Rattle.inspect.proofs.LeafLaws.{page-none, page-past, page-told}
 use Rattle.inspect.proofs.walk.leaf_page.Statement.{statement}
 use Rattle.inspect.proofs.walk.leaf_page.Tie as tie
 
 -- the page lies in the lent bytes
 within : (c : tie.Else2) → let a = c .before .before .before .before .args in
-    (a .field - 1) * pageSize (a .state .shape .capacity) + pageSize (a .state .shape .capacity) ≤ length (a .pages .now)
+    let size = pageSize (a .state .shape .capacity) in
+    (a .field - 1) * size + size ≤ length (a .pages .now)
 within c =
     let s = c .before .before .before .before in
-    page-within (s .args .state) _ (s .args .region) (length (s .args .pages .now)) (s .args .field - 1) (s .pre) (c .if2 .left)
+    let a = s .args in
+    page-within (a .state) _ (a .region) (length (a .pages .now)) (a .field - 1) (s .pre) (c .if2 .left)
 
 returns : tie.Need-returns
 returns c =
     let a = c .before .before .args in
-    λ words p n. page-none (a .state) (widthList (a .widths)) words (a .pages .now) (a .region) p n (a .field) (c .if1 .taken)
+    λ words p n.
+    page-none (a .state) (widthList (a .widths)) words (a .pages .now) (a .region) p n (a .field) (c .if1 .taken)
 
 sub-page : tie.Need-sub-page
 sub-page c = search needs
@@ -67,18 +71,20 @@ part-page-seen-end c = within c
 page-seen-requires : tie.Need-page-seen-requires
 page-seen-requires c κs =
     let s = c .before .before .before .before .before in
-    pageLent-part (s .args .state) _ (s .args .region) (s .args .pages .now) (s .args .field - 1) (s .pre) (c .before .if2 .left)
+    let a = s .args in
+    pageLent-part (a .state) _ (a .region) (a .pages .now) (a .field - 1) (s .pre) (c .before .if2 .left)
 
 returns-3 : tie.Need-returns-3
 returns-3 c =
     let s = c .before .before .before .before .before .before in
     let a = s .args in
+    let b = a .state .shape .capacity in
     λ words p n.
     page-told (a .state) (widthList (a .widths)) words (a .pages .now) (a .region) p n (a .field) (c .before .before .before .before .if1 .left)
     (c .before .before .if2 .left) (s .pre .bits) _
     (c .page-seen .ensures
-    ∙ ap (pageSeen (widthList (a .widths)) (a .state .shape .capacity) (a .region .depth) (a .region .string))
-    (part-pageAt (a .state .shape .capacity) (a .field - 1) (a .pages .now)))
+    ∙ ap (pageSeen (widthList (a .widths)) b (a .region .depth) (a .region .string))
+    (part-pageAt b (a .field - 1) (a .pages .now)))
 
 pub leaf-page-spec : {M : Type 1} → statement M
 leaf-page-spec =

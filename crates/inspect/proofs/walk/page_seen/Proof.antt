@@ -14,14 +14,18 @@ fails-requires c κs = search needs
 
 returns : tie.Need-returns
 unfolding pageSeen
-returns c = rw (sym (c .before .before .page-passes .ensures) ∙ not-true _ (c .before .if1 .taken)) (c .fails .ensures)
+returns c =
+    let failed = sym (c .before .before .page-passes .ensures) ∙ not-true _ (c .before .if1 .taken) in
+    rw failed (c .fails .ensures)
 
 number-at-requires : tie.Need-number-at-requires
 number-at-requires c κs = search needs
 
 returns-2 : tie.Need-returns-2
 unfolding pageSeen
-returns-2 c = rw (sym (c .before .before .page-passes .ensures) ∙ not-false _ (c .before .if1 .left), c .number-at .ensures .0)
+returns-2 c =
+    let passed = sym (c .before .before .page-passes .ensures) ∙ not-false _ (c .before .if1 .left) in
+    rw (passed, c .number-at .ensures .0)
 
 pub page-seen-spec : {M : Type 1} → statement M
 page-seen-spec =

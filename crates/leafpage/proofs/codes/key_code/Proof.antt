@@ -1,4 +1,5 @@
--- `leafpage::codes::key_code` meets its contract: the bits before place g are taken; the pairs left fall. Assumes nothing.
+-- `leafpage::codes::key_code` meets its contract: the bits before place g are taken; the pairs left fall.
+-- Assumes nothing.
 use Prim.Native.Nat.{_-_, _/_, _%_, _≤_, _<_}
 use mathlib.Core.Path.{ap, subst, _∙_}
 use mathlib.Core.Logic.{⊎-elim}
@@ -52,7 +53,9 @@ bit-of-requires c κs =
     (c .if1 .taken, omega (arith, c .before .width-at .ensures, s .pre (c .before .before .before .loop .g % 4)))
 
 add-n : tie.Need-add-n Inv-loop μ-loop
-add-n c = record { fits = omega (arith, c .before .before .before .loop-test .taken, c .before .before .before .before .before .total-of .ensures .1) }
+add-n c =
+    let turn = c .before .before .before in
+    record { fits = omega (arith, turn .loop-test .taken, turn .before .before .total-of .ensures .1) }
 
 add-g : tie.Need-add-g Inv-loop μ-loop
 add-g c = record { fits = omega (arith, next (c .before .before)) }
@@ -62,16 +65,21 @@ loop-less c = omega (arith, next (c .before .before))
 
 loop-again : tie.Need-loop-again Inv-loop μ-loop
 loop-again c =
-    let s = c .before .before .before .before .before in
-    let l = c .before .before .before .loop in
+    let turn = c .before .before in
+    let s = turn .before .before .before in
+    let l = turn .before .loop in
     let ws = widthList (s .args .widths) in
     let width = c .before .width-at .ensures in
     let bits = c .before .before .before .before .total-of .ensures in
     ⊎-elim
-    (λ w. rw (w .2, w .3) (coded-step ws (s .args .t2) (s .pre) (l .code) (l .n) (l .g) (l .inv) (next (c .before .before))
-    (subst (λ x. l .g / 4 < x) width (w .0 .taken)) (omega (arith, bits)) (omega (arith, bits, c .before .before .loop-test .taken)) _
+    (λ w.
+    rw (w .2, w .3)
+    (coded-step ws (s .args .t2) (s .pre) (l .code) (l .n) (l .g) (l .inv) (next turn)
+    (subst (λ x. l .g / 4 < x) width (w .0 .taken)) (omega (arith, bits)) (omega (arith, bits, turn .loop-test .taken)) _
     (w .1 .ensures ∙ ap (λ x. bitValue (bitOf x (getD (s .args .t2) (l .g % 4) 0) (l .g / 4))) width)))
-    (λ w. rw (w .1, w .2) (coded-skip ws (s .args .t2) (s .pre) (l .code) (l .n) (l .g) (l .inv) (next (c .before .before))
+    (λ w.
+    rw (w .1, w .2)
+    (coded-skip ws (s .args .t2) (s .pre) (l .code) (l .n) (l .g) (l .inv) (next turn)
     (subst (λ x. x ≤ l .g / 4) width (w .0 .left))))
     (c .if1 .came)
 
@@ -79,7 +87,8 @@ returns : tie.Need-returns Inv-loop μ-loop
 returns c =
     let s = c .before .before .before .args in
     let l = c .before .loop in
-    coded-end (widthList (s .widths)) (s .t2) (l .code) (l .n) (l .g) (l .inv) (omega (arith, c .loop-test .left, c .before .before .total-of .ensures .0))
+    coded-end (widthList (s .widths)) (s .t2) (l .code) (l .n) (l .g) (l .inv)
+    (omega (arith, c .loop-test .left, c .before .before .total-of .ensures .0))
 
 pub key-code-spec : {M : Type 1} → statement M
 key-code-spec =

@@ -9,7 +9,8 @@ use Rattle.shape.specs.Shape.{Fit, widthList}
 use Rattle.shape.specs.Key.{wantedValues}
 use Rattle.split.specs.Steps.{steps}
 use Rattle.walk.specs.Private.{wantedAt}
-use Rattle.walk.proofs.RowLaws.{Filled, filled-zero, filled-live, filled-skip, filled-step, rows-filled, fit-steps}
+use Rattle.walk.proofs.RowLaws.{Filled, filled-zero, filled-live, filled-skip, filled-step, rows-filled}
+use Rattle.walk.proofs.RowLaws.{fit-steps}
 use Rattle.walk.proofs.steps.fill_rows.Statement.{statement}
 use Rattle.walk.proofs.steps.fill_rows.Tie as tie
 
@@ -32,7 +33,8 @@ fits : (c : tie.After-widths-of Inv-loop μ-loop) → let ws = widthList (c .wid
 fits c =
     let s = c .before in
     let w = c .widths-of .result in
-    fit-steps (s .args .shape) (w .w0) (w .w1) (w .w2) (w .w3) (s .args .t) (s .pre .0) (c .widths-of .ensures) (s .pre .2)
+    fit-steps (s .args .shape) (w .w0) (w .w1) (w .w2) (w .w3) (s .args .t) (s .pre .0) (c .widths-of .ensures)
+    (s .pre .2)
 
 live : (c : tie.In-loop Inv-loop μ-loop) → c .before .loop .g < 64
 live c = filled-live _ _ _ _ _ _ _ (c .before .loop .inv) (c .loop-test .taken) (fits (c .before .before) .1)
@@ -48,7 +50,9 @@ mul-put-row c =
 row-at-requires : tie.Need-row-at-requires Inv-loop μ-loop
 row-at-requires c κs =
     let test = c .before .before .before in
-    (fits (test .before .before) .0, live test, subst (λ w. test .before .loop .g / 4 < w) (c .before .before .width-at .ensures) (c .before .if1 .taken))
+    let width = c .before .before .width-at .ensures in
+    let below = subst (λ w. test .before .loop .g / 4 < w) width (c .before .if1 .taken) in
+    (fits (test .before .before) .0, live test, below)
 
 put-row-requires : tie.Need-put-row-requires Inv-loop μ-loop
 put-row-requires c κs =
@@ -83,10 +87,11 @@ loop-again c =
 
 returns : tie.Need-returns Inv-loop μ-loop
 returns c =
-    let s = c .before .before .before in
+    let a = c .before .before .before .args in
     let l = c .before .loop in
-    rows-filled (s .args .shape) (wantedValues (s .args .query)) (s .args .t) (s .args .rows .now) (l .g) (l .x) (l .rows)
-    (subst (λ ws. Filled ws (wantedAt ws (wantedValues (s .args .query))) (s .args .t) (s .args .rows .now) (l .g) (l .x) (l .rows))
+    let wanted = wantedValues (a .query) in
+    rows-filled (a .shape) wanted (a .t) (a .rows .now) (l .g) (l .x) (l .rows)
+    (subst (λ ws. Filled ws (wantedAt ws wanted) (a .t) (a .rows .now) (l .g) (l .x) (l .rows))
     (c .before .before .widths-of .ensures) (l .inv))
     (c .loop-test .left)
 

@@ -1,0 +1,103 @@
+-- Lookup's promise: kept by the number of an early refusal, and by the answer of the store otherwise. Assumes nothing.
+use Prim.Native.Nat.{ℕ}
+use mathlib.Core.Path.{_≡_, refl, sym, ap, subst, _∙_}
+use mathlib.Core.Bool.{Bool, true, false, not, _&&_, cond}
+use mathlib.Core.List.{List}
+use mathlib.Core.Logic.{_⊎_, inl, inr}
+use native.Mathlib.Omega.{arith}
+use lib.Dec.{leb, ltb}
+use Rattle.shape.specs.Refusal.{Answer, accepted, refused}
+use Rattle.shape.specs.Shape.{within, widthsOf}
+use Rattle.shape.specs.Key.{keyFits}
+use Rattle.split.specs.Bits.{splitBit}
+use Rattle.record.specs.declared.Content.{Content}
+use Rattle.record.specs.Record.{Record}
+use Rattle.record.specs.Packed.{packedKey}
+use Rattle.page.specs.Page.{countOf, pageAt}
+use Rattle.page.specs.Fields.{contentAt}
+use Rattle.word.specs.Word.{leafOf}
+use Rattle.word.specs.declared.Leaf.{Leaf}
+use Rattle.word.specs.declared.Leaf.the-variants.{Empty, Page}
+use Rattle.model.specs.Model.{lookupCall, Reply, found, outcome}
+use Rattle.store.specs.Store.{Store, fixedOf}
+use Rattle.store.specs.Promises.{keyNumber, LookupPromise}
+use Rattle.store.specs.declared.State.{State}
+use Rattle.store.proofs.ShownLaws.{wordOn}
+use Rattle.lookup.specs.Private.{keyPlace, placeAnswer, pageAnswer, leafAnswer, limitsHold, soughtAnswer}
+use Rattle.lookup.proofs.EarlyLaws.{passed}
+use Rattle.lookup.proofs.SoughtLaws.{keyNumber-read, soughtAnswer-stored}
+use Rattle.lookup.proofs.StoredLaws.{lookup-unfit, lookup-stored}
+
+-- ---- on any store: a content with 1 read, 5 or 9
+
+abbrev Ordinary : Answer Reply → Type 0
+Ordinary answer =
+    ((content : Content) × (answer ≡ accepted (found content 1))) ⊎ ((answer ≡ refused 5) ⊎ (answer ≡ refused 9))
+
+ordinary-or-nine : (β : Bool) (answer : Answer Reply) → Ordinary answer → Ordinary (cond β answer (refused 9))
+ordinary-or-nine true answer h = h
+ordinary-or-nine false answer h = inr (inr refl)
+
+placeAnswer-ordinary : (page : List ℕ) (n i : ℕ) → Ordinary (placeAnswer page n i)
+unfolding placeAnswer
+placeAnswer-ordinary page n i = go (ltb i n)
+  where
+    go : (β : Bool) → Ordinary (cond β (accepted (found (contentAt page i) 1)) (refused 5))
+    go true = inl (contentAt page i, refl)
+    go false = inr (inl refl)
+
+pageAnswer-ordinary : (b key : ℕ) (page : List ℕ) → Ordinary (pageAnswer b page key)
+unfolding pageAnswer
+pageAnswer-ordinary b key page =
+    let n = countOf page in
+    let i = keyPlace page key n 0 in
+    ordinary-or-nine (within 1 b n) (placeAnswer page n i) (placeAnswer-ordinary page n i)
+
+leafAnswer-ordinary : (st : State) (bytes : List ℕ) (key : ℕ) (leaf : Leaf) → Ordinary (leafAnswer st bytes key leaf)
+unfolding leafAnswer
+leafAnswer-ordinary st bytes key (Empty depth) = inr (inl refl)
+leafAnswer-ordinary st bytes key (Page g depth) =
+    let b = st .shape .capacity in
+    let page = pageAt b bytes g in
+    ordinary-or-nine (leb depth (st .depth) && ltb g (st .limits .pages)) (pageAnswer b page key)
+    (pageAnswer-ordinary b key page)
+
+soughtAnswer-ordinary : (store : Store) (values : List ℕ) → Ordinary (soughtAnswer store values)
+unfolding soughtAnswer
+soughtAnswer-ordinary store values =
+    let st = store .state in
+    let leaf = leafOf (wordOn store (splitBit (widthsOf (st .shape)) values)) in
+    ordinary-or-nine (limitsHold st) (leafAnswer st (store .memory .bytes) (packedKey values) leaf)
+    (leafAnswer-ordinary st (store .memory .bytes) (packedKey values) leaf)
+
+-- ---- the promise
+
+module _ (store : Store) (values : List ℕ) where
+  -- 1, 2 or 3; on a sound store 3, which the model gives too
+  pub promise-early : (n : ℕ) → n ≡ keyNumber store values → (n ≡ 0 → ⊥) → LookupPromise store values (refused n)
+  promise-early n e some =
+      record {
+        early-refused = λ m h. ap refused (e ∙ h);
+        ordinary = λ h. absurd (some (e ∙ h));
+        answered-as = λ S w.
+            by-fit (keyFits (store .state .shape) values) refl (e ∙ keyNumber-read store values S w) S;
+      }
+    where
+      by-fit : (β : Bool) → keyFits (store .state .shape) values ≡ β
+          → n ≡ cond (not (keyFits (store .state .shape) values)) 3 0 → (S : List Record)
+          → refused n ≡ outcome (fixedOf (store .state)) S (lookupCall values) .answer
+      by-fit true f h S = absurd (some (h ∙ ap (λ b. cond (not b) 3 0) f))
+      by-fit false f h S =
+          ap refused (h ∙ ap (λ b. cond (not b) 3 0) f) ∙ sym (lookup-unfit (fixedOf (store .state)) S values f)
+
+  -- none of them: the answer of the store
+  pub promise-sought : (answer : Answer Reply) → keyNumber store values ≡ 0 → answer ≡ soughtAnswer store values
+      → LookupPromise store values answer
+  promise-sought answer e a =
+      let fits = passed store values e .fits in
+      record {
+        early-refused = λ n h. absurd (omega arith);
+        ordinary = λ h. subst Ordinary (sym a) (soughtAnswer-ordinary store values);
+        answered-as = λ S w.
+            a ∙ soughtAnswer-stored store values S w fits ∙ sym (lookup-stored (fixedOf (store .state)) S values fits);
+      }

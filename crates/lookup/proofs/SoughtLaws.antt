@@ -1,0 +1,161 @@
+-- Laws of lookup's answer on a store that is sound where the key is read: what is stored under the key decides. Only
+-- the page of the key's leaf is looked at. Assumes nothing.
+use Prim.Native.Nat.{ℕ, zero, suc, _+_, _/_, _%_, _^_, _≤_, _<_}
+use mathlib.Core.Path.{_≡_, refl, sym, ap, _∙_}
+use mathlib.Core.Bool.{Bool, true, not, cond}
+use mathlib.Core.List.{List, [], _∷_}
+use native.Mathlib.Numerals.{add-one}
+use native.Mathlib.Omega.{arith}
+use lib.ListN.{length}
+use borrow.Author.Tests.{le-leb}
+use Rattle.lists.specs.Filter.{all, nonEmpty}
+use Rattle.lists.proofs.FilterLaws.{all-filter}
+use Rattle.shape.specs.Shape.{shapeNumber, widthsOf, total}
+use Rattle.shape.specs.Key.{keyFits, encodings}
+use Rattle.shape.specs.declared.Shape.{Shape}
+use Rattle.split.specs.Bits.{splitBit}
+use Rattle.region.specs.Strings.{sameBits}
+use Rattle.region.specs.Division.{leafDepth, leafRecords}
+use Rattle.record.specs.Record.{Record, recordBit}
+use Rattle.record.specs.Packed.{packedKey, SixteenBits}
+use Rattle.record.proofs.KeyLaws.{key-below-bytes}
+use Rattle.page.specs.Page.{countOf, recordsOf, pageAt}
+use Rattle.page.proofs.FieldLaws.{length-recordsFrom}
+use Rattle.word.specs.Word.{leafOf, wordOf}
+use Rattle.word.specs.declared.Leaf.the-variants.{Page}
+use Rattle.word.proofs.LeafLaws.{leafOf-empty}
+use Rattle.model.specs.Sets.{inShape, isSet, stored, divisionOf}
+use Rattle.model.proofs.SetLaws.{length-encodings, indexFits-encodings, inShape-of-isSet}
+use Rattle.store.specs.Store.{Store}
+use Rattle.store.specs.Sound.{Sound}
+use Rattle.store.specs.Promises.{keyNumber, keyQuery, withBytes, SoundWhereRead}
+use Rattle.store.proofs.AgreeLaws.{Agree-le, wordAt-agree}
+use Rattle.store.proofs.ShownLaws.{wordOn, shape-of-Sound, depth-of-Sound, leafDepth-le-depth}
+use Rattle.store.proofs.ShownLaws.{wordOn-depth, leafRecords-page}
+use Rattle.store.proofs.SetLaws.{length-leafRecords}
+use Rattle.store.proofs.DividedLaws.{leafDepth-le-total, leafRecords-divisionOf}
+use Rattle.store.proofs.KeyLaws.{keyWord, stored-no-page, stored-page}
+use Rattle.lookup.specs.Private.{pageAnswer, leafAnswer, limitsHold, soughtAnswer}
+use Rattle.lookup.proofs.CaseLaws.{pageAnswer-place, leafAnswer-empty, leafAnswer-page, limitsHold-depth}
+use Rattle.lookup.proofs.CaseLaws.{soughtAnswer-leaf}
+use Rattle.lookup.proofs.EarlyLaws.{keyNumber-lent}
+use Rattle.lookup.proofs.KeyBitLaws.{packedKey-encodings, Agree-encodings, agrees-keyQuery}
+use Rattle.lookup.proofs.StoredLaws.{storedAnswer, placeAnswer-stored}
+
+-- ---- a leaf's page
+
+-- a page that shows a leaf's records
+module _ (s : Shape) (good : shapeNumber s ≡ 0) (S : List Record) (set : isSet s S ≡ true) (p : ℕ → Bool) where
+  abbrev records : List Record
+  records = leafRecords p 0 (divisionOf s S)
+
+  all-inShape : all (inShape s) records ≡ true
+  all-inShape =
+      let x = leafDepth p 0 (divisionOf s S) in
+      rw (leafRecords-divisionOf s S p)
+      (all-filter (inShape s) (λ r. sameBits p (recordBit s r) x 0) (inShape s) (λ r f e. f) S
+      (inShape-of-isSet s S set))
+
+  pub pageAnswer-stored : (b : ℕ) (key page : List ℕ) → SixteenBits key → recordsOf s page ≡ records
+      → nonEmpty records ≡ true → length records ≤ b
+      → pageAnswer b page (packedKey key) ≡ storedAnswer (stored key (recordsOf s page))
+  pageAnswer-stored b key page k e h l =
+      let n = countOf page in
+      let count : n ≡ length records = sym (length-recordsFrom s n 2 page) ∙ ap length e in
+      pageAnswer-place b (packedKey key) page n refl (λ z. some records h (sym count ∙ z)) (omega arith)
+      ∙ placeAnswer-stored s good key page k n n 0 (omega arith) (ap (all (inShape s)) e ∙ all-inShape)
+    where
+      some : (rs : List Record) → nonEmpty rs ≡ true → length rs ≡ 0 → ⊥
+      some [] h z = let d : _≡_ {A = ℕ} 0 1 = cc in omega arith
+      some (r ∷ rs) h z = omega arith
+
+-- ---- a store that is sound where the key is read
+
+leafOf-suc : (word g : ℕ) → word % 2 ^ 16 ≡ suc g → leafOf word ≡ Page g (word / 2 ^ 16)
+unfolding leafOf
+leafOf-suc word g e = rw e
+
+module _ (store : Store) (values : List ℕ) (S : List Record)
+    (w : SoundWhereRead store (keyQuery (store .state .shape) values) S) where
+  abbrev s : Shape
+  s = store .state .shape
+
+  -- the key's encodings, and its split bits
+  abbrev key : List ℕ
+  key = encodings s values
+
+  abbrev bits : ℕ → Bool
+  bits = splitBit (widthsOf s) key
+
+  -- the sound store that it is, but for other keys' pages
+  abbrev whole : Store
+  whole = withBytes store (w .0)
+
+  sound : Sound whole S
+  sound = w .1
+
+  good : shapeNumber s ≡ 0
+  good = shape-of-Sound whole S sound
+
+  -- 1 and 2 do not hold
+  pub keyNumber-read : keyNumber store values ≡ cond (not (keyFits s values)) 3 0
+  keyNumber-read =
+      keyNumber-lent store values (sound .shape) (sound .words-lent) (omega (arith, sound .pages-lent, w .2))
+
+  limits : limitsHold (store .state) ≡ true
+  limits =
+      sym
+      (limitsHold-depth (store .state) (sound .some-page) (sound .most-pages) (sound .depth-limit) (sound .depth-bits))
+      ∙ le-leb (store .state .depth) (store .state .limits .depth) (sound .depth-within)
+
+  -- the cell of the values is the cell of the key
+  word-key : keyWord whole key ≡ wordOn store (splitBit (widthsOf s) values)
+  word-key =
+      sym
+      (wordAt-agree s good (store .state .depth) (store .memory .words) (splitBit (widthsOf s) values) bits
+      (Agree-le (splitBit (widthsOf s) values) bits (store .state .depth) (total (widthsOf s))
+      (depth-of-Sound whole S sound) (Agree-encodings s values good)))
+
+  leafAnswer-sound : keyFits s values ≡ true → (field : ℕ) → keyWord whole key % 2 ^ 16 ≡ field
+      → leafAnswer (store .state) (store .memory .bytes) (packedKey values) (leafOf (keyWord whole key))
+      ≡ storedAnswer (stored key S)
+  leafAnswer-sound f zero e =
+      sym (leafAnswer-empty (store .state) (store .memory .bytes) (packedKey values) (leafOf (keyWord whole key)) _
+      (leafOf-empty (keyWord whole key) e))
+      ∙ ap storedAnswer (sym (stored-no-page whole S sound key e))
+  leafAnswer-sound f (suc g) e =
+      sym (leafAnswer-page (store .state) (store .memory .bytes) (packedKey values) (leafOf (keyWord whole key)) g x
+      (leafOf-suc (keyWord whole key) g e) deep (leaf .0))
+      ∙ ap (λ page. pageAnswer (s .capacity) page (packedKey values)) read
+      ∙ ap (pageAnswer (s .capacity) page) (packedKey-encodings s values)
+      ∙ pageAnswer-stored s good S (sound .set) bits (s .capacity) key page
+      (key-below-bytes s good key (length-encodings s values) (indexFits-encodings s values ∙ f)) (leaf .2) (leaf .3)
+      (length-leafRecords s S (sound .set) (sound .shape) bits)
+      ∙ ap storedAnswer (sym (stored-page whole S sound key g plus .1))
+    where
+      plus : keyWord whole key % 2 ^ 16 ≡ g + 1
+      plus = e ∙ sym (add-one g)
+
+      x : ℕ
+      x = keyWord whole key / 2 ^ 16
+
+      page : List ℕ
+      page = pageAt (s .capacity) (w .0) g
+
+      leaf : (g < store .state .limits .pages)
+          × (keyWord whole key ≡ wordOf (Page g (leafDepth bits 0 (divisionOf s S))))
+          × (recordsOf s page ≡ leafRecords bits 0 (divisionOf s S))
+          × (nonEmpty (leafRecords bits 0 (divisionOf s S)) ≡ true)
+      leaf = leafRecords-page whole S sound bits g plus
+
+      deep : x ≤ store .state .depth
+      deep = omega (arith, wordOn-depth whole S sound bits, leafDepth-le-depth whole S sound bits)
+
+      -- the page of the key's leaf is as that of the sound store
+      read : pageAt (s .capacity) (store .memory .bytes) g ≡ page
+      read = w .3 bits (agrees-keyQuery s values good _ (leafDepth-le-total s S bits)) g _ (leaf .0) (leaf .1)
+
+  pub soughtAnswer-stored : keyFits s values ≡ true → soughtAnswer store values ≡ storedAnswer (stored key S)
+  soughtAnswer-stored f =
+      sym (soughtAnswer-leaf store values limits (keyWord whole key) (packedKey values) word-key refl)
+      ∙ leafAnswer-sound f (keyWord whole key % 2 ^ 16) refl
