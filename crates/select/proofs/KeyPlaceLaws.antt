@@ -5,9 +5,7 @@ use mathlib.Core.List.{List}
 use native.Mathlib.Numerals.{add-one}
 use native.Mathlib.Omega.{arith}
 use borrow.Author.Tests.{eq-eqb, ne-eqb}
-use Rattle.record.specs.Bytes.{numberOf, field}
-use Rattle.record.proofs.PackedLaws.{keyIn-field}
-use Rattle.page.specs.Fields.{recordOffset, keyAt}
+use Rattle.page.specs.Fields.{keyAt}
 use Rattle.select.specs.KeyPlace.{keyPlace}
 
 -- ---- at record i of n
@@ -17,18 +15,15 @@ module _ (key : ℕ) (page : List ℕ) (n i : ℕ) where
   unfolding keyPlace
   keyPlace-end h = let e : n - i ≡ 0 = omega arith in rw e
 
-  module _ (l : i < n) (read : ℕ) (e : read ≡ numberOf (field page (recordOffset i) 8)) where
-    key-read : keyAt page i ≡ read
-    key-read = keyIn-field page (recordOffset i) ∙ sym e
-
+  module _ (l : i < n) (read : ℕ) (e : read ≡ keyAt page i) where
     pub keyPlace-here : read ≡ key → keyPlace key page (n - i) i ≡ i
     unfolding keyPlace
     keyPlace-here q =
         let more : n - i ≡ suc (n - suc i) = omega arith in
-        rw (more, eq-eqb (keyAt page i) key (key-read ∙ q))
+        rw (more, eq-eqb (keyAt page i) key (sym e ∙ q))
 
     pub keyPlace-next : (read ≡ key → ⊥) → keyPlace key page (n - i) i ≡ keyPlace key page (n - (i + 1)) (i + 1)
     unfolding keyPlace
     keyPlace-next q =
         let more : n - i ≡ suc (n - suc i) = omega arith in
-        rw (add-one i, more, ne-eqb (keyAt page i) key (λ z. q (sym key-read ∙ z)))
+        rw (add-one i, more, ne-eqb (keyAt page i) key (λ z. q (e ∙ z)))

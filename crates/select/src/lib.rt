@@ -1,5 +1,6 @@
 // The records of a page that match a query, written into the output (document 01, "Calls"), and the
 // record with a key. The four values of a record are compared at once, as its packed key.
+use page::key_at;
 use record::RECORD_SIZE;
 use record::pack_key;
 use record::read_key;
@@ -71,7 +72,7 @@ pub fn find_key(page: &[u8], n: usize, key: u64) -> usize
 {
     let mut i = 0;
     while i < n {
-        if read_key(page, 2 + RECORD_SIZE * i) == key {
+        if key_at(page, i) == key {
             return i;
         }
         i += 1;

@@ -19,24 +19,17 @@ loop-holds c =
     let all : c .before .args .n - 0 ≡ c .before .args .n = omega arith in
     (omega arith, rw all)
 
-mul-read-key : tie.Need-mul-read-key Inv-loop μ-loop
-mul-read-key c = omega arith
-
-add-read-key : tie.Need-add-read-key Inv-loop μ-loop
-add-read-key c = omega arith
-
-read-key-requires : tie.Need-read-key-requires Inv-loop μ-loop
-read-key-requires c κs = omega arith
+key-at-requires : tie.Need-key-at-requires Inv-loop μ-loop
+key-at-requires c κs = omega arith
 
 returns : tie.Need-returns Inv-loop μ-loop
 returns c =
     let loop = c .before .before .before .loop in
     let a = c .before .before .before .before .before .args in
+    let l = c .before .before .loop-test .taken in
     sym
     (loop .inv .1
-    ∙ keyPlace-here (a .key) (a .page .now) (a .n) (loop .i) (c .before .before .loop-test .taken) _
-    (c .before .read-key .ensures)
-    (c .if1 .taken))
+    ∙ keyPlace-here (a .key) (a .page .now) (a .n) (loop .i) l _ (c .before .key-at .ensures) (c .if1 .taken))
 
 add-i : tie.Need-add-i Inv-loop μ-loop
 add-i c = omega arith
@@ -47,12 +40,11 @@ loop-less c = omega arith
 loop-again : tie.Need-loop-again Inv-loop μ-loop
 loop-again c =
     let loop = c .before .before .before .loop in
-    let a = c .before .before .before .before .before .args in (
+    let a = c .before .before .before .before .before .args in
+    let l = c .before .before .loop-test .taken in (
       omega arith,
       loop .inv .1
-          ∙ keyPlace-next (a .key) (a .page .now) (a .n) (loop .i) (c .before .before .loop-test .taken) _
-          (c .before .read-key .ensures)
-          (c .if1 .left),
+          ∙ keyPlace-next (a .key) (a .page .now) (a .n) (loop .i) l _ (c .before .key-at .ensures) (c .if1 .left),
     )
 
 returns-2 : tie.Need-returns-2 Inv-loop μ-loop
@@ -68,9 +60,7 @@ find-key-spec =
     Inv-loop
     μ-loop
     loop-holds
-    mul-read-key
-    add-read-key
-    read-key-requires
+    key-at-requires
     returns
     add-i
     loop-less

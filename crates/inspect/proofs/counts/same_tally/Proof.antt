@@ -40,7 +40,7 @@ returns c =
     let x = c .before .before .before .loop .x in
     let test : ℕ → Bool = λ y. eqb (getD (s .tally .leaves) y 0) (getD (s .counts .now) y 0) in
     let fails = ne-eqb (getD (s .tally .leaves) x 0) (getD (s .counts .now) x 0) (c .if1 .taken) in
-    (sym (allBelow-fails test 13 x (c .before .before .loop-test .taken) fails), search needs)
+    (sym (allBelow-fails test 13 x (omega (arith, c .before .before .loop-test .taken)) fails), search needs)
 
 add-x : tie.Need-add-x Inv-loop μ-loop
 add-x c = omega (arith, c .before .before .loop-test .taken)
