@@ -155,7 +155,8 @@ module _ (st : State) (words bytes : List ℕ) (seen : Seen) (counts : List ℕ)
         tallied =
             walked
             ∙ ap (λ β. β && (tallyTest && pagesTest)) (eq-eqb (st .depth) (seen .depth) (sym depth))
-            ∙ ap (λ β. β && pagesTest) (sameNumbers-sameTally D (st .tally .leaves) counts depths (tells .tallied passes))
+            ∙ ap (λ β. β && pagesTest)
+            (sameNumbers-sameTally D (st .tally .leaves) counts depths (tells .tallied passes))
 
         pub shows-tally-fails : sameTally (st .tally .leaves) counts ≡ false → false ≡ shows
         shows-tally-fails e = sym (tallied ∙ ap (λ β. β && pagesTest) e)

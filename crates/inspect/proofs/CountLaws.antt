@@ -80,7 +80,7 @@ leavesAt-above (leaf rs) x y h = rw (ne-eqb y x (λ e. omega arith))
 leavesAt-above (divided l u) x y h =
     omega (arith, leavesAt-above l (suc x) y (omega arith), leavesAt-above u (suc x) y (omega arith))
 
-pub leavesAt-tally : (D : Division Record) (x y : ℕ) → leavesAt D x (x + y) ≡ tally D y
+leavesAt-tally : (D : Division Record) (x y : ℕ) → leavesAt D x (x + y) ≡ tally D y
 leavesAt-tally (leaf rs) x y =
     ap (λ β. cond β 1 0)
     (eq-of-iff (eqb (x + y) x) (eqb y 0) (λ e. eq-eqb y 0 (omega (arith, eqb-true (x + y) x e)))

@@ -22,7 +22,7 @@ use Rattle.audit.specs.Codes.{code}
 use Rattle.audit.proofs.CodeLaws.{code-lt, code-add}
 use Rattle.leafpage.specs.Private.{keyCode, PageLent, BeginsFits}
 
-pub bitValue-lt : (β : Bool) → bitValue β < 2 ^ 1
+bitValue-lt : (β : Bool) → bitValue β < 2 ^ 1
 bitValue-lt true = omega arith
 bitValue-lt false = omega arith
 
@@ -34,7 +34,7 @@ bitAnd-bitOf w encoding k =
     ∙ and-mask (encoding / 2 ^ (w - suc k)) 1
     ∙ sym (bitValue-digit (encoding / 2 ^ (w - suc k) % 2) (omega arith))
 
-pub keyCode-lt : (ws key : List ℕ) → keyCode ws key < 2 ^ total ws
+keyCode-lt : (ws key : List ℕ) → keyCode ws key < 2 ^ total ws
 unfolding keyCode
 keyCode-lt ws key = code-lt (total ws) 0 (splitBit ws key)
 

@@ -10,7 +10,7 @@ use borrow.Author.Tests.{lt-ltb}
 use Rattle.shape.specs.Shape.{indexFits}
 
 -- a value that a short list leaves out is 0, and fits
-pub indexFits-four : (w0 w1 w2 w3 : ℕ) (key : List ℕ)
+indexFits-four : (w0 w1 w2 w3 : ℕ) (key : List ℕ)
     → indexFits (w0 ∷ w1 ∷ w2 ∷ w3 ∷ []) key
     ≡ (ltb (getD key 0 0) (2 ^ w0)
     && (ltb (getD key 1 0) (2 ^ w1) && (ltb (getD key 2 0) (2 ^ w2) && ltb (getD key 3 0) (2 ^ w3))))

@@ -53,13 +53,15 @@ returns-3 : tie.Need-returns-3
 unfolding checkedAnswer
 returns-3 c =
     let a = c .before .before .before .before .before .before .before .before .args in
-    check-limits-fail (a .state) (a .dir .now) (a .pages .now) (in-bounds (c .before .before .before .before)) (lent (c .before .before))
+    check-limits-fail (a .state) (a .dir .now) (a .pages .now) (in-bounds (c .before .before .before .before))
+    (lent (c .before .before))
     (sym (c .before .in-limits .ensures) ∙ not-true _ (c .if3 .taken))
 
 shows-leaves-requires : tie.Need-shows-leaves-requires
 shows-leaves-requires c κs =
     let a = c .before .before .before .before .before .before .before .before .args in
-    storeLent (a .state) (a .dir .now) (a .pages .now) (in-bounds (c .before .before .before .before)) (lent (c .before .before))
+    storeLent (a .state) (a .dir .now) (a .pages .now) (in-bounds (c .before .before .before .before))
+    (lent (c .before .before))
     (limits c)
 
 returns-4 : tie.Need-returns-4
@@ -68,7 +70,8 @@ returns-4 c =
     let limited = c .before .before in
     let memory = limited .before .before in
     let a = memory .before .before .before .before .before .before .args in
-    check-shows (a .state) (a .dir .now) (a .pages .now) (in-bounds (memory .before .before)) (lent memory) (limits limited)
+    check-shows (a .state) (a .dir .now) (a .pages .now) (in-bounds (memory .before .before)) (lent memory)
+    (limits limited)
     true (sym (c .if4 .taken) ∙ c .before .shows-leaves .ensures)
 
 returns-5 : tie.Need-returns-5
@@ -77,7 +80,8 @@ returns-5 c =
     let limited = c .before .before in
     let memory = limited .before .before in
     let a = memory .before .before .before .before .before .before .args in
-    check-shows (a .state) (a .dir .now) (a .pages .now) (in-bounds (memory .before .before)) (lent memory) (limits limited)
+    check-shows (a .state) (a .dir .now) (a .pages .now) (in-bounds (memory .before .before)) (lent memory)
+    (limits limited)
     false (sym (c .if4 .left) ∙ c .before .shows-leaves .ensures)
 
 pub check-spec : {M : Type 1} → statement M

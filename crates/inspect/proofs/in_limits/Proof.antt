@@ -8,7 +8,8 @@ use Rattle.inspect.proofs.in_limits.Statement.{statement}
 use Rattle.inspect.proofs.in_limits.Tie as tie
 
 -- W
-bits : (c : tie.After-total-of) → c .total-of .result ≡ total (widthsOf (c .before .before .before .before .before .args .state .shape))
+bits : (c : tie.After-total-of) → c .total-of .result ≡ total
+    (widthsOf (c .before .before .before .before .before .args .state .shape))
 bits c = c .total-of .ensures .0 ∙ ap total (c .before .widths-of .ensures)
 
 returns : tie.Need-returns
@@ -32,13 +33,15 @@ cast-if4 : tie.Need-cast-if4
 cast-if4 c = search needs
 
 returns-4 : tie.Need-returns-4
-returns-4 c = bounds-bits (c .before .before .before .before .before .before .args .state) _ (bits (c .before)) (c .if4 .taken)
+returns-4 c =
+    bounds-bits (c .before .before .before .before .before .before .args .state) _ (bits (c .before)) (c .if4 .taken)
 
 returns-5 : tie.Need-returns-5
 returns-5 c =
     let sum = c .before .before in
     let s = sum .before .before .before .before .before in
-    bounds-rest (s .args .state) _ (bits sum) (sum .before .before .before .before .if1 .left) (sum .before .before .before .if2 .left)
+    bounds-rest (s .args .state) _ (bits sum) (sum .before .before .before .before .if1 .left)
+    (sum .before .before .before .if2 .left)
     (sum .before .before .if3 .left) (c .before .if4 .left)
 
 pub in-limits-spec : {M : Type 1} → statement M

@@ -45,7 +45,8 @@ mul-result c =
 returns-3 : tie.Need-returns-3
 returns-3 c =
     let s = c .before .before .before .before .args in
-    lacksMemory-bytes (s .state) (s .words) (s .bytes) (c .before .before .before .if1 .left) (c .before .before .if2 .left)
+    lacksMemory-bytes (s .state) (s .words) (s .bytes) (c .before .before .before .if1 .left)
+    (c .before .before .if2 .left)
 
 pub lacks-memory-spec : {M : Type 1} → statement M
 lacks-memory-spec =

@@ -38,13 +38,15 @@ walk-requires c κs =
 returns : tie.Need-returns
 returns c =
     let a = c .before .before .before .before .before .before .before .before .before .args in
-    shows-walk-fails (a .state) (a .dir .now) (a .pages .now) _ _ (walked (c .before .before .before)) (not-true _ (c .if1 .taken))
+    shows-walk-fails (a .state) (a .dir .now) (a .pages .now) _ _ (walked (c .before .before .before))
+    (not-true _ (c .if1 .taken))
 
 returns-2 : tie.Need-returns-2
 returns-2 c =
     let test = c .before .before .before in
     let a = test .before .before .before .before .before .before .before .before .before .args in
-    shows-depth-fails (a .state) (a .dir .now) (a .pages .now) _ _ (walked (test .before .before .before)) (not-false _ (test .if1 .left))
+    shows-depth-fails (a .state) (a .dir .now) (a .pages .now) _ _ (walked (test .before .before .before))
+    (not-false _ (test .if1 .left))
     (c .if2 .taken)
 
 slice-aggregate-same-tally : tie.Need-slice-aggregate-same-tally
@@ -70,7 +72,8 @@ returns-4 c =
     let test = c .before .before .before .before .before .before .before .before in
     let a = test .before .before .before .before .before .before .before .before .before .args in
     let tally = c .before .before .before .same-tally .ensures in
-    shows-pages (a .state) (a .dir .now) (a .pages .now) _ _ (walked (test .before .before .before)) (not-false _ (test .if1 .left))
+    shows-pages (a .state) (a .dir .now) (a .pages .now) _ _ (walked (test .before .before .before))
+    (not-false _ (test .if1 .left))
     (c .before .before .before .before .before .if2 .left) (tally .1)
     (sym (tally .0) ∙ not-false _ (c .before .before .if3 .left)) _ (c .before .pages-in-use .ensures)
 

@@ -29,7 +29,9 @@ count : (c : tie.In-loop Inv-loop μ-loop) → let few = c .before .before .befo
 count c = c .before .before .before .before .before .before .before .before .before .number-at .ensures .0
 
 small : (c : tie.In-loop Inv-loop μ-loop) → c .before .loop .k < 65535
-small c = omega (arith, c .loop-test .taken, c .before .before .before .before .before .before .before .before .before .number-at .ensures .1)
+small c =
+    let few = c .before .before .before .before .before .before .before in
+    omega (arith, c .loop-test .taken, few .before .before .number-at .ensures .1)
 
 number-at-requires : tie.Need-number-at-requires Inv-loop μ-loop
 number-at-requires c κs = omega (arith, c .before .pre .whole)
@@ -54,15 +56,18 @@ record-passes-requires c κs =
 returns-3 : tie.Need-returns-3 Inv-loop μ-loop
 returns-3 c =
     let few = c .before .before .before .before .before in
-    pagePasses-first-fails _ _ _ _ _ _ (few .before .before .number-at .ensures .0) (few .before .if1 .left) (few .if2 .left) _
-    (c .before .before .before .before .key-at .ensures) (sym (c .before .record-passes .ensures) ∙ not-true _ (c .if3 .taken))
+    pagePasses-first-fails _ _ _ _ _ _ (few .before .before .number-at .ensures .0) (few .before .if1 .left)
+    (few .if2 .left) _
+    (c .before .before .before .before .key-at .ensures)
+    (sym (c .before .record-passes .ensures) ∙ not-true _ (c .if3 .taken))
 
 loop-holds : tie.Need-loop-holds Inv-loop μ-loop
 loop-holds c =
     let few = c .before .before .before .before .before in (
       omega arith,
       omega (arith, few .before .if1 .left),
-      pagePasses-first _ _ _ _ _ _ (few .before .before .number-at .ensures .0) (few .before .if1 .left) (few .if2 .left) _
+      pagePasses-first _ _ _ _ _ _ (few .before .before .number-at .ensures .0) (few .before .if1 .left)
+          (few .if2 .left) _
           (c .before .before .before .before .key-at .ensures) _ (c .before .before .key-code .ensures)
           (sym (c .before .record-passes .ensures) ∙ not-false _ (c .if3 .left)),
     )
@@ -82,7 +87,8 @@ key-at-requires-2 c κs =
     omega (arith, few .before .before .before .before .pre .whole, c .loop-test .taken, few .if2 .left)
 
 key-code-requires-2 : tie.Need-key-code-requires-2 Inv-loop μ-loop
-key-code-requires-2 c κs = c .before .before .before .before .before .before .before .before .before .before .before .before .before .pre .fit
+key-code-requires-2 c κs =
+    c .before .before .before .before .before .before .before .before .before .before .before .before .before .pre .fit
 
 returns-4 : tie.Need-returns-4 Inv-loop μ-loop
 returns-4 c =
@@ -95,14 +101,16 @@ record-passes-requires-2 : tie.Need-record-passes-requires-2 Inv-loop μ-loop
 record-passes-requires-2 c κs =
     let e = c .before .key-code2 .ensures in
     let turn = c .before .before .before .before in
-    (beginsFits-keyCode _ _ _ _ _ (turn .before .before .before .before .before .before .before .before .before .before .before .pre) _ _ e, e)
+    let lent = turn .before .before .before .before .before .before .before .before .before .before .before .pre in
+    (beginsFits-keyCode _ _ _ _ _ lent _ _ e, e)
 
 returns-5 : tie.Need-returns-5 Inv-loop μ-loop
 returns-5 c =
     let turn = c .before .before .before .before .before .before in
     let l = turn .before .loop in
     pagePasses-fails _ _ _ _ _ _ (count turn) (l .last) (l .k) (turn .loop-test .taken) (l .inv .2) _
-    (c .before .before .before .before .before .key-at2 .ensures) _ (c .before .before .before .key-code2 .ensures) (c .before .before .if4 .left)
+    (c .before .before .before .before .before .key-at2 .ensures) _ (c .before .before .before .key-code2 .ensures)
+    (c .before .before .if4 .left)
     (sym (c .before .record-passes2 .ensures) ∙ not-true _ (c .if5 .taken))
 
 add-k : tie.Need-add-k Inv-loop μ-loop
@@ -118,7 +126,8 @@ loop-again c =
       omega arith,
       omega (arith, turn .loop-test .taken),
       pagePasses-next _ _ _ _ _ _ (count turn) (l .last) (l .k) (turn .loop-test .taken) (l .inv .2) _
-          (c .before .before .before .before .before .key-at2 .ensures) _ (c .before .before .before .key-code2 .ensures) (c .before .before .if4 .left)
+          (c .before .before .before .before .before .key-at2 .ensures) _
+          (c .before .before .before .key-code2 .ensures) (c .before .before .if4 .left)
           (sym (c .before .record-passes2 .ensures) ∙ not-false _ (c .if5 .left)),
     )
 

@@ -17,7 +17,8 @@ use Rattle.inspect.proofs.counts.pages_in_use.Statement.{statement}
 use Rattle.inspect.proofs.counts.pages_in_use.Tie as tie
 
 abbrev Inv-loop : tie.InvT-loop
-Inv-loop capacity n pages size used₀ page₀ start₀ used page start = (page ≤ n) × (start ≡ page * pageSize capacity) × (used ≡ usedPages capacity pages page)
+Inv-loop capacity n pages size used₀ page₀ start₀ used page start =
+    (page ≤ n) × (start ≡ page * pageSize capacity) × (used ≡ usedPages capacity pages page)
 
 abbrev μ-loop : tie.MeasureT-loop
 μ-loop capacity n pages size used₀ page₀ start₀ used page start = n - page

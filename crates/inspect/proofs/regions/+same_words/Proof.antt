@@ -51,13 +51,15 @@ low t s =
     let q = s .pre .1 in
     region-lt (w .w0) (w .w1) (w .w2) (w .w3) (s .args .region) (q .2) (s .args .t) _ (q .0) (q .1)
 
-same-words-sides-of-requires : (t : ℕ) → same-words-lts.Need-sides-of-requires (near t) (same-words-at t) same-words.Post
+same-words-sides-of-requires : (t : ℕ)
+    → same-words-lts.Need-sides-of-requires (near t) (same-words-at t) same-words.Post
 same-words-sides-of-requires t c κs =
     let s = c .before .before .before in
     let q = s .pre .1 in
     (q .0 .fit, omega (arith, c .if1 .taken, q .0 .deep), q .2)
 
-same-words-same-words-requires : (t : ℕ) → same-words-lts.Need-same-words-requires (near t) (same-words-at t) same-words.Post
+same-words-same-words-requires : (t : ℕ)
+    → same-words-lts.Need-same-words-requires (near t) (same-words-at t) same-words.Post
 same-words-same-words-requires t c κs =
     let s = c .before .before .before .before in
     let q = s .pre .1 in
@@ -72,10 +74,12 @@ same-words-returns t c =
     let a = sides .before .before .before .before .args in
     let d = sides .sides-of .ensures in
     λ p n.
-    sameWords-lower-fails (words t (sides .before .before .before .before)) (a .t) (a .region .depth) p (a .word) (sides .before .if1 .taken) _
+    sameWords-lower-fails (words t (sides .before .before .before .before)) (a .t) (a .region .depth) p (a .word)
+    (sides .before .if1 .taken) _
     (d .lower-depth) (sym (first .same-words .ensures _ (d .lower-names p n)) ∙ not-true _ (c .if2 .taken))
 
-same-words-same-words-requires-2 : (t : ℕ) → same-words-lts.Need-same-words-requires-2 (near t) (same-words-at t) same-words.Post
+same-words-same-words-requires-2 : (t : ℕ)
+    → same-words-lts.Need-same-words-requires-2 (near t) (same-words-at t) same-words.Post
 same-words-same-words-requires-2 t c κs =
     let s = c .before .before .before .before .before .before in
     let q = s .pre .1 in
@@ -90,14 +94,16 @@ same-words-returns-2 t c =
     let a = sides .before .before .before .before .args in
     let d = sides .sides-of .ensures in
     λ p n.
-    sameWords-upper (words t (sides .before .before .before .before)) (a .t) (a .region .depth) p (a .word) (sides .before .if1 .taken) _
+    sameWords-upper (words t (sides .before .before .before .before)) (a .t) (a .region .depth) p (a .word)
+    (sides .before .if1 .taken) _
     (d .lower-depth) (sym (first .same-words .ensures _ (d .lower-names p n)) ∙ not-false _ (c .before .if2 .left)) _
     (d .upper-depth) _ (c .same-words2 .ensures _ (d .upper-names p n))
 
 same-words-mul-result : (t : ℕ) → same-words-lts.Need-mul-result (near t) (same-words-at t) same-words.Post
 same-words-mul-result t c = record { fits = omega (arith, low t (c .before .before .before) .1) }
 
-same-words-shared-slice-read-result : (t : ℕ) → same-words-lts.Need-shared-slice-read-result (near t) (same-words-at t) same-words.Post
+same-words-shared-slice-read-result : (t : ℕ)
+    → same-words-lts.Need-shared-slice-read-result (near t) (same-words-at t) same-words.Post
 same-words-shared-slice-read-result t c = low t (c .before .before .before .before) .0
 
 same-words-returns-3 : (t : ℕ) → same-words-lts.Need-returns-3 (near t) (same-words-at t) same-words.Post

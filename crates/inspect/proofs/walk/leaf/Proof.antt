@@ -36,7 +36,8 @@ here s p n =
     let a = s .args in
     let w = a .widths in
     let k = s .pre .0 in
-    cellWord-first (w .w0) (w .w1) (w .w2) (w .w3) (a .region) (k .region) (a .state .depth) _ (k .directory) (k .within)
+    cellWord-first (w .w0) (w .w1) (w .w2) (w .w3) (a .region) (k .region) (a .state .depth) _ (k .directory)
+    (k .within)
     (a .dir .now) p n
     ∙ sym (s .pre .2)
 
@@ -48,10 +49,12 @@ page : (c : tie.After-leaf-page) (p : ℕ → Bool) → let s = c .before .befor
     IsNamed s p → Told s p (c .leaf-page .result) (pageField (s .args .word))
 page c p n =
     let s = c .before .before .before .before .before .before .before in
-    subst (Told s p (c .leaf-page .result)) (and-mask (s .args .word) 16) (c .leaf-page .ensures (s .args .dir .now) p n)
+    subst (Told s p (c .leaf-page .result)) (and-mask (s .args .word) 16)
+    (c .leaf-page .ensures (s .args .dir .now) p n)
 
 -- the word's depth is the region's
-depth : (c : tie.Else1) → let a = c .before .before .before .before .before .before .args in depthField (a .word) ≡ a .region .depth
+depth : (c : tie.Else1) → let a = c .before .before .before .before .before .before .args in
+    depthField (a .word) ≡ a .region .depth
 depth c = sym (c .before .before .depth-of .ensures) ∙ c .if1 .left
 
 short : (s : tie.Start) → s .args .region .depth < length (s .args .tally .now)
@@ -81,7 +84,9 @@ returns c =
     (λ e. c .before .if1 .taken (c .before .before .before .depth-of .ensures ∙ e)))
 
 leaf-page-requires : tie.Need-leaf-page-requires
-leaf-page-requires c κs = let s = c .before .before .before .before .before .before in pageAsked-walks (s .args .state) _ (s .args .region) _ _ (s .pre .0)
+leaf-page-requires c κs =
+    let s = c .before .before .before .before .before .before in
+    pageAsked-walks (s .args .state) _ (s .args .region) _ _ (s .pre .0)
 
 returns-2 : tie.Need-returns-2
 returns-2 c =
@@ -89,7 +94,8 @@ returns-2 c =
     let s = test .before .before .before .before .before .before in
     let a = s .args in
     λ p n.
-    leaf-page-fails (view s) (steps s) p (a .region .depth) (a .word) (here s p n) (a .tally .now) (a .tally .now) (depth test) _
+    leaf-page-fails (view s) (steps s) p (a .region .depth) (a .word) (here s p n) (a .tally .now) (a .tally .now)
+    (depth test) _
     (page (c .before .before) p n) (not-true _ (c .if2 .taken))
 
 cast-same-words : tie.Need-cast-same-words
@@ -108,24 +114,30 @@ returns-3 c =
     let a = s .args in
     λ p n.
     rw (c .fails2 .ensures)
-    (leaf-words-fail (view s) (steps s) p (a .region .depth) (a .word) (here s p n) (a .tally .now) (a .tally .now) (depth test) _
-    (page (c .before .before .before .before .before .before) p n) (not-false _ (c .before .before .before .before .if2 .left))
+    (leaf-words-fail (view s) (steps s) p (a .region .depth) (a .word) (here s p n) (a .tally .now) (a .tally .now)
+    (depth test) _
+    (page (c .before .before .before .before .before .before) p n)
+    (not-false _ (c .before .before .before .before .if2 .left))
     (sym (c .before .before .same-words .ensures p n) ∙ not-true _ (c .before .if3 .taken)))
 
 mul-tally : tie.Need-mul-tally
 mul-tally c = search needs
 
 slice-read-tally : tie.Need-slice-read-tally
-slice-read-tally c = short (c .before .before .before .before .before .before .before .before .before .before .before .before .before)
+slice-read-tally c =
+    short (c .before .before .before .before .before .before .before .before .before .before .before .before .before)
 
 add-tally : tie.Need-add-tally
-add-tally c = record { fits = omega (arith, low (c .before .before .before .before .before .before .before .before .before .before .before .before .before)) }
+add-tally c =
+    let test = c .before .before .before .before .before .before .before in
+    record { fits = omega (arith, low (test .before .before .before .before .before .before)) }
 
 mul-tally-2 : tie.Need-mul-tally-2
 mul-tally-2 c = search needs
 
 slice-write-tally : tie.Need-slice-write-tally
-slice-write-tally c = short (c .before .before .before .before .before .before .before .before .before .before .before .before .before)
+slice-write-tally c =
+    short (c .before .before .before .before .before .before .before .before .before .before .before .before .before)
 
 same-length : tie.Need-same-length
 same-length c = search needs
@@ -137,7 +149,8 @@ returns-4 c =
     let a = s .args in
     λ p n.
     leaf-passes (view s) (steps s) p (a .region .depth) (a .word) (here s p n) (a .tally .now) _ (depth test) _
-    (page (c .before .before .before .before .before .before) p n) (not-false _ (c .before .before .before .before .if2 .left))
+    (page (c .before .before .before .before .before .before) p n)
+    (not-false _ (c .before .before .before .before .if2 .left))
     (sym (c .before .before .same-words .ensures p n) ∙ not-false _ (c .before .if3 .left)) (s .pre .1 .depths) refl
 
 pub leaf-spec : {M : Type 1} → statement M

@@ -38,8 +38,8 @@ returns-2 c =
     let a = c .before .before .before .before .before .args in
     λ words p n.
     rw (c .fails .ensures)
-    (page-past (a .state) (widthList (a .widths)) words (a .pages .now) (a .region) p n (a .field) (c .before .before .before .if1 .left)
-    (c .before .if2 .taken))
+    (page-past (a .state) (widthList (a .widths)) words (a .pages .now) (a .region) p n (a .field)
+    (c .before .before .before .if1 .left) (c .before .if2 .taken))
 
 cast-size : tie.Need-cast-size
 cast-size c = search needs
@@ -80,7 +80,8 @@ returns-3 c =
     let a = s .args in
     let b = a .state .shape .capacity in
     λ words p n.
-    page-told (a .state) (widthList (a .widths)) words (a .pages .now) (a .region) p n (a .field) (c .before .before .before .before .if1 .left)
+    page-told (a .state) (widthList (a .widths)) words (a .pages .now) (a .region) p n (a .field)
+    (c .before .before .before .before .if1 .left)
     (c .before .before .if2 .left) (s .pre .bits) _
     (c .page-seen .ensures
     ∙ ap (pageSeen (widthList (a .widths)) b (a .region .depth) (a .region .string))

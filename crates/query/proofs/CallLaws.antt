@@ -1,0 +1,153 @@
+-- Laws of the call query: what each step asks, and the promise from what the steps leave. Assumes nothing.
+use Prim.Native.Nat.{ℕ, _+_, _*_, _/_, _^_, _≤_, _<_, min}
+use mathlib.Core.Path.{_≡_, refl, sym, ap, _∙_, subst}
+use mathlib.Core.Bool.{Bool, true, false, true≢false}
+use mathlib.Core.List.{List, map, flatMap}
+use mathlib.Core.Option.{Option}
+use native.Mathlib.Omega.{arith}
+use lib.ListN.{length, getD, take}
+use lib.Pow.{pow-mono}
+use Rattle.lists.specs.Filter.{filter}
+use Rattle.lists.specs.Members.{All}
+use Rattle.shape.specs.Shape.{shapeNumber}
+use Rattle.shape.specs.Refusal.{accepted, refused}
+use Rattle.shape.specs.Key.{queryFits}
+use Rattle.shape.proofs.ShapeLaws.{inBounds-of, capacity-bounds}
+use Rattle.record.specs.Record.{Record, matches}
+use Rattle.record.specs.Bytes.{recordSize, recordOf}
+use Rattle.record.proofs.CodecLaws.{AreBytes}
+use Rattle.record.proofs.KeyLaws.{key-below-bytes}
+use Rattle.model.specs.Model.{listed}
+use Rattle.model.specs.Sets.{queryBits, readsOf}
+use Rattle.model.proofs.MatchLaws.{matches-agrees}
+use Rattle.page.specs.Page.{pageAt, recordsOf}
+use Rattle.select.specs.Pattern.{GivenSixteenBits, bitsOf, patternOf}
+use Rattle.select.specs.Output.{emit}
+use Rattle.select.proofs.EmitLaws.{IsField}
+use Rattle.store.specs.declared.State.{State}
+use Rattle.store.specs.Store.{store}
+use Rattle.store.specs.Promises.{QueryPromise, SoundWhereRead}
+use Rattle.lent.specs.Private.{lentNumberBy}
+use Rattle.lent.proofs.LentLaws.{shape-of-lentNumberBy}
+use Rattle.walk.specs.declared.Noted.{Noted}
+use Rattle.walk.specs.declared.Noted.the-variants.{Pages, Damaged}
+use Rattle.walk.specs.Seen.{walkSeen, Put, Walkable, fairPage}
+use Rattle.walk.proofs.NotedLaws.{noted-le, noted-readable, noted-reads, noted-records}
+use Rattle.query.specs.Private.{queryNumberBy, walkable, PagesListed, listHits}
+use Rattle.query.proofs.EarlyLaws.{parts-of-queryNumberBy, lent-of-lentNumberBy, bounds-of-walkable, indexFits-query}
+use Rattle.query.proofs.NotedLaws.{Lent, Lent-readable, All-take-of, IsField-listHits, map-listHits}
+use Rattle.query.proofs.PromiseLaws.{walkable-sound, promise-nine, promise-listed}
+
+abbrev isPages : Noted → Bool
+isPages (Pages n) = true
+isPages Damaged = false
+
+abbrev pagesIn : Noted → ℕ
+pagesIn (Pages n) = n
+pagesIn Damaged = 0
+
+module _ (st : State) (words bytes : List ℕ) (q : List (Option ℕ))
+    (none : queryNumberBy st (length words) (length bytes) q ≡ 0) where
+  lent : lentNumberBy st (length words) (length bytes) ≡ 0
+  lent = parts-of-queryNumberBy st (length words) (length bytes) q none .0
+
+  pub shape-of-none : shapeNumber (st .shape) ≡ 0
+  shape-of-none = shape-of-lentNumberBy st (length words) (length bytes) lent
+
+  fits : queryFits (st .shape) q ≡ true
+  fits = parts-of-queryNumberBy st (length words) (length bytes) q none .1
+
+  pub six-of-none : GivenSixteenBits q
+  six-of-none =
+      key-below-bytes (st .shape) shape-of-none (bitsOf q) refl (indexFits-query (st .shape) q ∙ fits)
+
+  pub nine-unwalkable : (out : List ℕ) → walkable st ≡ false → QueryPromise (store st words bytes) q out (refused 9) out
+  nine-unwalkable out e =
+      promise-nine st words bytes q out (sym none)
+      (λ S h. true≢false (sym (walkable-sound st words bytes q out S h) ∙ e))
+
+  module _ (can : walkable st ≡ true) where
+    pub walkable-none : Walkable st (length words) (length bytes) 4096
+    walkable-none =
+        let b = bounds-of-walkable st can in
+        let l = lent-of-lentNumberBy st (length words) (length bytes) q lent in
+        let p : 2 ^ st .depth ≤ 2 ^ st .limits .depth = pow-mono {i = st .depth} {j = st .limits .depth} (b .0) in
+        record {
+          shape = inBounds-of (st .shape) shape-of-none;
+          depth-twelve = omega (arith, b .0, b .1);
+          depth-bits = omega (arith, b .0, b .3);
+          words-lent = omega (arith, l .0, p);
+          most-pages = b .2;
+          pages-lent = l .1;
+          list-lent = omega arith;
+        }
+
+    module _ (list : List ℕ) (r : Noted) (later : List ℕ)
+        (o : Put list (walkSeen st words bytes (queryBits (st .shape) q)) r later)
+        (long : length list ≡ 4096) (long-later : length later ≡ 4096) where
+      pub nine-damaged : (out : List ℕ) → r ≡ Damaged → QueryPromise (store st words bytes) q out (refused 9) out
+      nine-damaged out e =
+          promise-nine st words bytes q out (sym none)
+          (λ S h. true≢false (sym (ap isPages (noted-reads (store st words bytes) q S h list r later o)) ∙ ap isPages e))
+
+      module _ (n : ℕ) (e : r ≡ Pages n) where
+        few : n ≤ 4096
+        few =
+            let b = bounds-of-walkable st can in
+            let p : 2 ^ st .depth ≤ 2 ^ 12 = pow-mono {i = st .depth} {j = 12} (omega (arith, b .0, b .1)) in
+            omega (arith, p, noted-le st words bytes (queryBits (st .shape) q) list r later o n e)
+
+        each-lent : (i : ℕ) → i < n → Lent (st .shape .capacity) bytes (getD later i 0)
+        each-lent i l =
+            Lent-readable (st .shape .capacity) (st .limits .pages) bytes (getD later i 0) (walkable-none .pages-lent)
+            (noted-readable st words bytes (queryBits (st .shape) q) list r later o n e (omega (arith, few, long)) i l)
+
+        pub pages-listed : PagesListed (st .shape .capacity) bytes n later
+        pages-listed = record {
+          capacity = capacity-bounds (st .shape) shape-of-none .1;
+          few = few;
+          within = omega (arith, few, long-later);
+          lent = λ i l. each-lent i l .0;
+          counted = λ i l. each-lent i l .1;
+        }
+
+        module _ (are : AreBytes bytes) (out : List ℕ) where
+          abbrev fs : List (List ℕ)
+          fs = listHits (patternOf q) (st .shape .capacity) bytes (take n later)
+
+          all-lent : All (Lent (st .shape .capacity) bytes) (take n later)
+          all-lent = All-take-of (Lent (st .shape .capacity) bytes) later n (omega (arith, few, long-later)) each-lent
+
+          -- the matching records of the first k pages noted
+          abbrev gathered : ℕ → List Record
+          gathered k =
+              flatMap (λ g. filter (matches (st .shape) q) (recordsOf (st .shape) (pageAt (st .shape .capacity) bytes g)))
+              (take k later)
+
+          as-model : (S : List Record) → SoundWhereRead (store st words bytes) (queryBits (st .shape) q) S
+              → (n ≡ readsOf (st .shape) q S) × (map (recordOf (st .shape)) fs ≡ filter (matches (st .shape) q) S)
+          as-model S h =
+              let reads : n ≡ readsOf (st .shape) q S =
+              ap pagesIn (sym e ∙ noted-reads (store st words bytes) q S h list r later o) in (
+                reads,
+                map-listHits (st .shape .capacity) bytes are (st .shape) q six-of-none (take n later) all-lent
+                    ∙ subst (λ k. _≡_ (gathered k) (filter (matches (st .shape) q) S)) (sym reads)
+                    (noted-records (store st words bytes) q S h list r later o (omega (arith, few, long, reads))
+                    (λ x f. matches-agrees (st .shape) shape-of-none q x f fits)),
+              )
+
+          abbrev pub Promised : ℕ → ℕ → List ℕ → Type 0
+          Promised written total out′ =
+              QueryPromise (store st words bytes) q out (accepted (listed written total n)) out′
+
+          pub promise-of-pages : (written total : ℕ) (out′ : List ℕ) → total ≡ length fs
+              → written ≡ min total (length out / recordSize) → out′ ≡ emit out 0 fs
+              → Promised written total out′
+          promise-of-pages written total out′ t w d =
+              let found = promise-listed st words bytes q out (sym none) fs
+              (IsField-listHits (st .shape .capacity) bytes are (patternOf q) (take n later) all-lent) n as-model in
+              let w′ : written ≡ min (length fs) (length out / recordSize) =
+              w ∙ ap (λ k. min k (length out / recordSize)) t in
+              subst (λ x. Promised written total x) (sym d)
+              (subst (λ x. Promised x total (emit out 0 fs)) (sym w′)
+              (subst (λ x. Promised (min (length fs) (length out / recordSize)) x (emit out 0 fs)) (sym t) found))

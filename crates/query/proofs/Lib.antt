@@ -1,0 +1,5 @@
+pub mod CallLaws
+pub mod EarlyLaws
+pub mod ListLaws
+pub mod NotedLaws
+pub mod PromiseLaws

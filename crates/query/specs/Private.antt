@@ -1,0 +1,52 @@
+-- Early refusals by the lengths of the lent slices; the records that match in some pages, one page after the other.
+-- Assumes nothing.
+use Prim.Native.Nat.{ℕ, _+_, _*_, _≤_, _<_}
+use mathlib.Core.Bool.{Bool, _&&_}
+use mathlib.Core.List.{List, _++_, flatMap}
+use mathlib.Core.Option.{Option}
+use lib.Dec.{leb}
+use lib.ListN.{length, getD}
+use Rattle.shape.specs.Refusal.{firstNumber}
+use Rattle.shape.specs.Shape.{widthsOf, total}
+use Rattle.model.specs.Model.{queryConditions}
+use Rattle.store.specs.declared.State.{State}
+use Rattle.lent.specs.Private.{lentBy}
+use Rattle.page.specs.Page.{countOf, pageSize, pageAt}
+use Rattle.page.specs.Fields.{recordOffset}
+use Rattle.select.specs.declared.Pattern.{Pattern}
+use Rattle.select.specs.Output.{hits}
+
+-- ---- refusals
+
+-- 1, 2, 8, 3 of a state with so many words and bytes lent
+unfoldable pub queryNumberBy : State → ℕ → ℕ → List (Option ℕ) → ℕ
+queryNumberBy st words bytes q = firstNumber (lentBy st words bytes ++ queryConditions (st .shape) q)
+
+-- "P is 1–4,096, L is at most 12 and at most W, and T is at most L": what the walk needs of it
+unfoldable pub walkable : State → Bool
+walkable st =
+    leb (st .depth) (st .limits .depth)
+    && (leb (st .limits .depth) 12
+    && (leb (st .limits .pages) 4096 && leb (st .limits .depth) (total (widthsOf (st .shape)))))
+
+-- ---- pages
+
+-- a page has the records that its count says
+abbrev pub CountLent : List ℕ → Type 0
+CountLent page = (2 ≤ length page) × (recordOffset (countOf page) ≤ length page)
+
+-- the first n numbers of a list are pages of the lent bytes, with counts of at most b
+pub record PagesListed (b : ℕ) (bytes : List ℕ) (n : ℕ) (list : List ℕ) : Type 0 where
+  pub capacity : b ≤ 16
+  pub few : n ≤ 4096
+  pub within : n ≤ length list
+  pub lent : (i : ℕ) → i < n → getD list i 0 * pageSize b + pageSize b ≤ length bytes
+  pub counted : (i : ℕ) → i < n → countOf (pageAt b bytes (getD list i 0)) ≤ b
+
+-- the records of a page that match
+abbrev pub pageHits : Pattern → List ℕ → List (List ℕ)
+pageHits p page = hits p (countOf page) page
+
+-- those of some pages
+unfoldable pub listHits : Pattern → ℕ → List ℕ → List ℕ → List (List ℕ)
+listHits p b bytes gs = flatMap (λ g. pageHits p (pageAt b bytes g)) gs
