@@ -28,6 +28,7 @@ use Rattle.model.specs.Sets.{divisionOf}
 use Rattle.store.specs.Store.{Store, wordAt, pagesSize, lentConditions}
 use Rattle.store.specs.Sound.{LeafWord, Shows}
 use Rattle.store.specs.Promises.{lentNumber}
+use Rattle.page.proofs.FieldLaws.{length-recordsFrom}
 use Rattle.audit.specs.Walk.{depthField, pageField, pagesInUse}
 use Rattle.audit.specs.Test.{viewOf}
 use Rattle.audit.proofs.ViewLaws.{Holds, Shown}
@@ -51,11 +52,6 @@ pub pageField-wordOf : (w g x : ℕ) → g < 4096 → w ≡ wordOf (Page g x) �
 pageField-wordOf w g x h e = omega arith
 
 -- ---- counts
-
--- a page shows as many records as its count says
-pub length-recordsFrom : (s : Shape) (n offset : ℕ) (bytes : List ℕ) → length (recordsFrom s n offset bytes) ≡ n
-length-recordsFrom s zero offset bytes = refl
-length-recordsFrom s (suc n) offset bytes = ap suc (length-recordsFrom s n _ bytes)
 
 pub nonEmpty-recordsFrom : (s : Shape) (n offset : ℕ) (bytes : List ℕ)
     → nonEmpty (recordsFrom s n offset bytes) ≡ not (eqb n 0)

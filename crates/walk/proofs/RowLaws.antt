@@ -1,20 +1,18 @@
 -- Laws of the table by step: what the query wants of a bit, the row of a step, the rows filled so far. Assumes nothing.
 use Prim.Native.Nat.{ℕ, zero, suc, _+_, _*_, _-_, _/_, _%_, _^_, _≤_, _<_, min}
 use mathlib.Core.Path.{_≡_, refl, sym, ap, _∙_, subst}
-use mathlib.Core.Bool.{true, _&&_, cond}
+use mathlib.Core.Bool.{true, cond}
 use mathlib.Core.List.{List, [], _∷_}
 use mathlib.Core.Option.{Option, none, some}
 use mathlib.Core.Logic.{_⊎_, inl, inr}
 use native.Mathlib.Omega.{arith}
 use native.Mathlib.Numerals.{add-one}
 use lib.Bits.{bitAnd, and-mask}
-use lib.Dec.{leb, eqb}
+use lib.Dec.{eqb}
 use lib.ListN.{getD, length}
-use borrow.Author.Tests.{leb-true}
-use Rattle.lists.proofs.Bools.{and-split}
 use Rattle.lists.proofs.Numbers.{lt-or-le}
 use Rattle.lists.proofs.Shifts.{one-shifted}
-use Rattle.shape.specs.Shape.{Fit, within, allBelow, inBounds, widthsOf, total}
+use Rattle.shape.specs.Shape.{Fit, inBounds, widthsOf, total}
 use Rattle.shape.specs.Key.{wantedValue, wantedValues}
 use Rattle.shape.specs.declared.Shape.{Shape}
 use Rattle.shape.specs.declared.Wanted.{Wanted}
@@ -234,12 +232,3 @@ pub fit-steps : (s : Shape) (w0 w1 w2 w3 t : ℕ) → inBounds s ≡ true → fo
 fit-steps s w0 w1 w2 w3 t b e h =
     let fit : Fit (four w0 w1 w2 w3) = subst Fit (sym e) (widthsOf-fit s (shapeNumber-true s b)) in
     (fit, omega (arith, length-steps w0 w1 w2 w3 fit, ap total e))
-
-pub capacity-bounds : (s : Shape) → inBounds s ≡ true → (1 ≤ s .capacity) × (s .capacity ≤ 16)
-unfolding inBounds
-capacity-bounds s e =
-    let widths = allBelow (s .attributes) (λ j. within 1 16 (getD (s .widths) j 0)) in
-    let rest = and-split (within 1 4 (s .attributes)) (widths && within 1 16 (s .capacity)) e .1 in
-    let both =
-    and-split (leb 1 (s .capacity)) (leb (s .capacity) 16) (and-split widths (within 1 16 (s .capacity)) rest .1) in
-    (leb-true 1 (s .capacity) (both .0), leb-true (s .capacity) 16 (both .1))

@@ -20,12 +20,13 @@ use Rattle.region.proofs.StringLaws.{withBit-same}
 use Rattle.region.proofs.QueryLaws.{queryEnters-side}
 use Rattle.store.specs.declared.State.{State}
 use Rattle.store.specs.Store.{wordAt}
+use Rattle.shape.proofs.ShapeLaws.{shapeNumber-true, capacity-bounds}
 use Rattle.walk.specs.declared.Noted.the-variants.{Pages, Damaged}
 use Rattle.walk.specs.Seen.{Seen, nothing, after, met, seen, fairPage, walkSeen, Put, Walkable}
 use Rattle.walk.specs.Private.{wantedNumber, stepRow, Rows, packed, weighed, sides, seenBy, Wrote, Turn}
 use Rattle.walk.proofs.SeenLaws.{after-nothing, nothing-after, sound-of-next, damaged-of-next}
 use Rattle.walk.proofs.BoundLaws.{length-seen-le}
-use Rattle.walk.proofs.RowLaws.{fit-steps, capacity-bounds}
+use Rattle.walk.proofs.RowLaws.{fit-steps}
 use Rattle.walk.proofs.VectorLaws.{cell-lower, packed-upper, weighed-cell}
 
 -- ---- by rows and over strings
@@ -120,7 +121,7 @@ module _ (st : State) (words bytes : List ℕ) (room : ℕ) (h : Walkable st (le
         lent = record {
           list-lent = h .list-lent;
           most-pages = h .most-pages;
-          capacity = capacity-bounds (st .shape) (h .shape) .1;
+          capacity = capacity-bounds (st .shape) (shapeNumber-true (st .shape) (h .shape)) .1;
           pages-lent = h .pages-lent;
         };
         depth-twelve = h .depth-twelve;

@@ -1,7 +1,7 @@
 -- What the walk sees in a store that is sound where the query reads it (document 01, "Calls"): it is sound, notes the
 -- pages of the agreeing leaves that are not empty, in order, and their matching records are those of the set. What the
 -- other pages hold does not matter. Assumes nothing.
-use Prim.Native.Nat.{ℕ, zero, suc, _+_, _-_, _≤_, _<_}
+use Prim.Native.Nat.{ℕ, _+_, _-_, _≤_, _<_}
 use mathlib.Core.Path.{_≡_, refl, sym, ap, _∙_}
 use mathlib.Core.Bool.{Bool, true, cond, false≢true}
 use mathlib.Core.List.{List, [], _∷_, flatMap}
@@ -19,17 +19,19 @@ use Rattle.region.specs.Query.{QueryBit, agrees, queryEnters, reads}
 use Rattle.region.proofs.StringLeafLaws.{length-leafRecords-le}
 use Rattle.region.proofs.QueryLaws.{found-divide}
 use Rattle.record.specs.Record.{Record, recordBit}
-use Rattle.page.specs.Page.{countOf, recordsFrom, recordsOf, pageAt}
+use Rattle.page.proofs.FieldLaws.{length-recordsFrom}
+use Rattle.page.specs.Page.{countOf, recordsOf, pageAt}
 use Rattle.word.specs.Word.{wordOf}
 use Rattle.word.specs.declared.Leaf.the-variants.{Page}
 use Rattle.model.specs.Sets.{inShape, isSet, divisionOf}
 use Rattle.store.specs.Store.{Store, wordAt}
 use Rattle.store.specs.Sound.{LeafWord, Sound}
 use Rattle.store.specs.Promises.{withBytes, SoundWhereRead}
+use Rattle.shape.proofs.ShapeLaws.{shapeNumber-true, capacity-bounds}
 use Rattle.walk.specs.Seen.{fieldOf, depthOf, fairPage, noted, walkSeen}
 use Rattle.walk.specs.Pages.{pageIn, readPages}
 use Rattle.walk.proofs.SeenLaws.{within-true, noted-none, noted-fair}
-use Rattle.walk.proofs.RowLaws.{fit-steps, capacity-bounds}
+use Rattle.walk.proofs.RowLaws.{fit-steps}
 use Rattle.walk.proofs.DivisionLaws.{whole, ShowsLeaves, seen-whole, Under-all}
 use Rattle.walk.proofs.DivisionLaws.{length-walkPages, gathered-walkPages}
 
@@ -68,16 +70,7 @@ length-nonEmpty : {A : Type 0} (xs : List A) → nonEmpty xs ≡ true → 1 ≤ 
 length-nonEmpty [] e = absurd (false≢true e)
 length-nonEmpty (x ∷ xs) e = omega arith
 
-length-recordsFrom : (s : Shape) (n offset : ℕ) (bytes : List ℕ) → length (recordsFrom s n offset bytes) ≡ n
-length-recordsFrom s zero offset bytes = refl
-length-recordsFrom s (suc n) offset bytes = ap suc (length-recordsFrom s n (offset + 12) bytes)
-
 -- ---- the store
-
--- a sound store is sound where a query reads it
-pub soundWhereRead-of-sound : (store : Store) (q : ℕ → QueryBit) (S : List Record) → Sound store S
-    → SoundWhereRead store q S
-soundWhereRead-of-sound store q S h = (store .memory .bytes, h, refl, λ p e g x l d. refl)
 
 module _ (store : Store) (q : ℕ → QueryBit) (S : List Record) (h : SoundWhereRead store q S) where
   abbrev s : Shape
@@ -130,7 +123,7 @@ module _ (store : Store) (q : ℕ → QueryBit) (S : List Record) (h : SoundWher
       sym (length-recordsFrom s (countOf page) 2 page) ∙ ap length (page-records p e n) in
       let some : 1 ≤ length (leafRecords p 0 D) = length-nonEmpty (leafRecords p 0 D) n in
       let few : length (leafRecords p 0 D) ≤ s .capacity =
-      length-leafRecords-le (recordBit s) (s .capacity) p (total (widthsOf s)) 0 S (capacity-bounds s (sound .shape) .0)
+      length-leafRecords-le (recordBit s) (s .capacity) p (total (widthsOf s)) 0 S (capacity-bounds s (shapeNumber-true s (sound .shape)) .0)
       (set-parts .0) in
       within-true (s .capacity) (countOf page) (omega arith) (omega arith)
 
