@@ -1,6 +1,6 @@
-// The directory's words of a leaf that is divided: doubled until the new leaves fit, then the leaf's
-// region set to its new leaves. After the doubling, before any other word is set, the words show the
-// old leaves at the new T (`shows-deepened`, crates/change/proofs/DirectoryLaws.antt).
+// The directory's words of a leaf that is divided: doubled until the new leaves fit, then the words
+// of the leaf's region set to its new leaves. After the doubling, before any other word is set, the
+// words show the old leaves at the new T (`shows-deepened`, crates/change/proofs/DirectoryLaws.antt).
 use directory::doubling::double;
 use directory::regions::fill;
 use shape::Widths;
@@ -29,7 +29,7 @@ pub fn deepen(widths: Widths, t: u64, u: u64, dir: &mut [u32])
 
 // Sets the words of a leaf of depth x that gives way to empty siblings of a key's regions down to
 // depth m and to two leaves of depth m + 1: page `zero` for bit 0 of step m, page `one` for bit 1.
-// `bit` is the key's. The region of m bits is set for the half without the key, then the key's half.
+// `bit` is the key's. The region of m bits is set to the other half's page, then the key's half.
 pub fn set_leaves(
     widths: Widths,
     key: [u32; 4],
@@ -55,8 +55,8 @@ pub fn set_leaves(
     fill(widths, key, m + 1, t, own, dir);
 }
 
-// Sets the siblings of a key's regions of depths x + 1 to m to empty leaves. For each depth the whole
-// region one bit shorter is set: its other half, the key's, is set later.
+// Sets the siblings of a key's regions of depths x + 1 to m to empty leaves. For each depth the
+// whole region one bit shorter is set: its other half, the key's, is set later.
 fn set_siblings(widths: Widths, key: [u32; 4], x: u64, m: u64, t: u64, dir: &mut [u32])
     requires { ⌜ DirectoryFits (widthList widths) t (length (now dir)) × (x ≤ m) × (m ≤ t) ⌝ }
     ensures { λ _. ⌜ SiblingsSet (widthList widths) t x m (splitBit (widthList widths) key)

@@ -14,8 +14,8 @@ ghost use Rattle.split.specs.Bits.{splitBit};
 ghost use Rattle.cell.specs.Cell.{cellAddress, Agree};
 ghost use Rattle.region.specs.Strings.{sibling};
 
-// The word of a cell of the sibling of a key's region of z + 1 bits, in a directory of depth t. If the
-// sibling is a leaf or within one, all its cells have this word.
+// The word of a cell of the sibling of a key's region of z + 1 bits, in a directory of depth t. If
+// the sibling is a leaf or within one, all its cells have this word.
 pub fn sibling_word(widths: Widths, key: [u32; 4], z: u64, t: u64, dir: &[u32]) -> u32
     requires { ⌜ Fit (widthList widths) × (t ≤ total (widthList widths)) × (z < t) ⌝ }
     requires { ⌜ 2 ^ t ≤ length (now dir) ⌝ }
@@ -26,9 +26,8 @@ pub fn sibling_word(widths: Widths, key: [u32; 4], z: u64, t: u64, dir: &[u32]) 
     dir[cell as usize]
 }
 
-// The address of the sibling's cell of z + 1 bits, which more bits 0 do not change. The half with bit
-// 0 has the index vector of the region of z bits; in that of the half with bit 1 the bit of step z is
-// set.
+// The address of the sibling's cell of z + 1 bits, which more bits 0 do not change. The half with
+// bit 0 has the index vector of the region of z bits; in that of the other the bit of step z is set.
 fn sibling_cell(widths: Widths, key: [u32; 4], z: u64) -> u64
     requires { ⌜ Fit (widthList widths) × (z < total (widthList widths)) ⌝ }
     ensures { λ r. ⌜ r

@@ -39,8 +39,8 @@ loop-less c = omega (arith, turn c .loop-test .taken)
 
 loop-again : tie.Need-loop-again Inv-loop μ-loop
 loop-again c =
-    let l = turn c .before .loop in
-    (omega (arith, turn c .loop-test .taken), deepened-next _ _ _ _ _ (l .inv .1) _ (c .before .before .double .ensures))
+    let doubled = c .before .before .double .ensures in
+    (omega (arith, turn c .loop-test .taken), deepened-next _ _ _ _ _ (turn c .before .loop .inv .1) _ doubled)
 
 same-length : tie.Need-same-length Inv-loop μ-loop
 same-length c = c .before .loop .inv .1 .size

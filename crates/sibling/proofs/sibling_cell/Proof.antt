@@ -43,8 +43,8 @@ bit-is c =
     ap (string s) (sym (c .before .before .place-of-step .ensures .before)) ∙ sym (c .bit-at .ensures)
 
 -- with bit 1 the sibling's vector is that one
-zero-half : (c : tie.Then1) → let s = start (c .before .before) in
-    cell (ws s) (suc (s .args .z)) (sibling (string s) (s .args .z)) ≡ indexList (c .before .before .cell-before .result)
+zero-half : (c : tie.Then1) → let at = c .before .before in let s = start at in
+    cell (ws s) (suc (s .args .z)) (sibling (string s) (s .args .z)) ≡ indexList (at .cell-before .result)
 zero-half c =
     let s = start (c .before .before) in
     cell-sibling-zero (ws s) (s .pre .0) _ _ (c .before .before .before .place-of-step .ensures) (string s)
