@@ -1,15 +1,16 @@
 // The sibling of a key's region in the directory: the region whose last split bit is the other one.
 use address::locate;
+use address::pairs::pair_of_step;
+use address::pairs::width_at;
 use directory::cells::cell_before;
 use directory::vectors::with_bit;
-use order::places::bit_at;
-use order::places::place_of_step;
 use shape::Widths;
 ghost use mathlib.Core.Path.{_≡_};
 ghost use mathlib.Core.Bool.{Bool};
-ghost use Prim.Native.Nat.{ℕ, suc, _^_, _<_, _≤_};
+ghost use Prim.Native.Nat.{ℕ, suc, _/_, _%_, _^_, _<_, _≤_};
 ghost use lib.ListN.{getD, length};
 ghost use Rattle.shape.specs.Shape.{Fit, widthList, total};
+ghost use Rattle.split.specs.Steps.{stepsBelow};
 ghost use Rattle.split.specs.Bits.{splitBit};
 ghost use Rattle.cell.specs.Cell.{cellAddress, Agree};
 ghost use Rattle.region.specs.Strings.{sibling};
@@ -33,10 +34,20 @@ fn sibling_cell(widths: Widths, key: [u32; 4], z: u64) -> u64
     ensures { λ r. ⌜ r
         ≡ cellAddress (widthList widths) (suc z) (sibling (splitBit (widthList widths) key) z) ⌝ }
 {
-    let g = place_of_step(widths, z);
+    let g = pair_of_step(widths, z);
     let index = cell_before(widths, key, g);
     if bit_at(widths, key, g) {
         return locate(widths, index);
     }
     locate(widths, with_bit(index, g))
+}
+
+// The split bit of a key at the step at place g.
+pub fn bit_at(widths: Widths, key: [u32; 4], g: u64) -> bool
+    requires { ⌜ Fit (widthList widths) × (g / 4 < getD (widthList widths) (g % 4) 0) ⌝ }
+    ensures { λ r. ⌜ r ≡ splitBit (widthList widths) key (length (stepsBelow (widthList widths) g)) ⌝ }
+{
+    let w = width_at(widths, g % 4);
+    let encoding = key[(g % 4) as usize];
+    (encoding >> (w - (g / 4 + 1))) & 1 == 1
 }
