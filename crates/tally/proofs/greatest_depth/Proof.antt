@@ -1,5 +1,5 @@
 -- `tally::greatest_depth` meets its contract: no depth past x has a leaf; x falls. Assumes nothing.
-use Prim.Native.Nat.{_-_, _≤_}
+use Prim.Native.Nat.{_-_, _≤_, _<_}
 use mathlib.Core.Path.{_≡_, refl, sym, _∙_}
 use native.Mathlib.Omega.{arith}
 use Rattle.change.specs.Delete.{tallyDepth}
@@ -26,7 +26,8 @@ returns : tie.Need-returns Inv-loop μ-loop
 returns c =
     let l = c .before .before .loop in
     let leaves = c .before .before .before .before .args .tally .leaves in
-    sym (tallyDepth-some leaves (l .x) (c .before .loop-test .taken) (c .if1 .taken)) ∙ l .inv .1
+    let deep : 0 < l .x = omega (arith, c .before .loop-test .taken) in
+    sym (tallyDepth-some leaves (l .x) deep (c .if1 .taken)) ∙ l .inv .1
 
 sub-x : tie.Need-sub-x Inv-loop μ-loop
 sub-x c = omega (arith, c .before .loop-test .taken)
@@ -37,9 +38,10 @@ loop-less c = omega (arith, c .before .loop-test .taken)
 loop-again : tie.Need-loop-again Inv-loop μ-loop
 loop-again c =
     let l = c .before .before .loop in
-    let leaves = c .before .before .before .before .args .tally .leaves in (
+    let leaves = c .before .before .before .before .args .tally .leaves in
+    let deep : 0 < l .x = omega (arith, c .before .loop-test .taken) in (
       omega (arith, l .inv .0),
-      sym (tallyDepth-none leaves (l .x) (c .before .loop-test .taken) (c .if1 .left)) ∙ l .inv .1,
+      sym (tallyDepth-none leaves (l .x) deep (c .if1 .left)) ∙ l .inv .1,
     )
 
 returns-2 : tie.Need-returns-2 Inv-loop μ-loop

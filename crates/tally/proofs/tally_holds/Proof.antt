@@ -41,7 +41,7 @@ unfolding tallyHolds
 returns c =
     let leaves = c .before .before .before .before .args .tally .leaves in
     let x = c .before .before .loop .x in
-    let short : x < 13 = c .before .loop-test .taken in
+    let short : x < 13 = omega (arith, c .before .loop-test .taken) in
     let over : 2 ^ x < getD leaves x 0 = omega (arith, c .if1 .taken, one-shifted x (omega arith)) in
     sym (allBelow-fails (within leaves) 13 x short (lt-leb (getD leaves x 0) (2 ^ x) over))
 
@@ -56,7 +56,7 @@ loop-again c =
     let leaves = c .before .before .before .before .args .tally .leaves in
     let l = c .before .before .loop in
     let x = l .x in
-    let short : x < 13 = c .before .loop-test .taken in
+    let short : x < 13 = omega (arith, c .before .loop-test .taken) in
     let not-over : getD leaves x 0 ≤ 2 ^ x = omega (arith, c .if1 .left, one-shifted x (omega arith)) in (
       omega arith,
       ap (λ n. allBelow n (within leaves)) (add-one x)
