@@ -98,16 +98,75 @@ module _ (b g i n : ℕ) (bytes : List ℕ) (lent : PageLent b g bytes) (l : i <
   -- ---- joined with page h, which has k records
 
   module _ (h k : ℕ) (lent-h : PageLent b h bytes) (some : k ≤ b) (fit : n - 1 + k ≤ b) where
-    to-own : 0 ≤ k
-    to-own = omega arith
+    lent-own : PageLent b g removed
+    lent-own = lent-removedBytes g lent
+
+    lent-other : PageLent b h removed
+    lent-other = lent-removedBytes h lent-h
 
     pub length-joinedBytes : (β : Bool) → length (joinedBytes β b g i n h k bytes) ≡ length bytes
     unfolding joinedBytes
     length-joinedBytes true =
-        length-carriedPages b g 0 (n - 1) h k removed (lent-removedBytes g lent) (lent-removedBytes h lent-h)
-        (omega arith) (omega arith) (omega arith)
+        length-carriedPages b g 0 (n - 1) h k removed lent-own lent-other (omega arith) (omega arith) (omega arith)
         ∙ length-removedBytes
     length-joinedBytes false =
-        length-carriedPages b h 0 k g (n - 1) removed (lent-removedBytes h lent-h) (lent-removedBytes g lent)
-        (omega arith) some (omega arith)
+        length-carriedPages b h 0 k g (n - 1) removed lent-other lent-own (omega arith) some (omega arith)
         ∙ length-removedBytes
+
+    -- the bytes past the P pages
+    pub drop-joinedBytes : (β : Bool) (P : ℕ) → g < P → h < P
+        → drop (P * pageSize b) (joinedBytes β b g i n h k bytes) ≡ drop (P * pageSize b) bytes
+    unfolding joinedBytes
+    drop-joinedBytes true P lg lh =
+        drop-carriedPages b g 0 (n - 1) h k removed lent-own lent-other (omega arith) (omega arith) (omega arith) P lg lh
+        ∙ drop-removedBytes P lg
+    drop-joinedBytes false P lg lh =
+        drop-carriedPages b h 0 k g (n - 1) removed lent-other lent-own (omega arith) some (omega arith) P lh lg
+        ∙ drop-removedBytes P lg
+
+    pub pageAt-joinedBytes-other : (β : Bool) (q : ℕ) → (q ≡ g → ⊥) → (q ≡ h → ⊥)
+        → pageAt b (joinedBytes β b g i n h k bytes) q ≡ pageAt b bytes q
+    unfolding joinedBytes
+    pageAt-joinedBytes-other true q ng nh =
+        pageAt-carriedPages-other b g 0 (n - 1) h k removed lent-own lent-other (omega arith) (omega arith) (omega arith)
+        q ng nh
+        ∙ pageAt-removedBytes-other q ng
+    pageAt-joinedBytes-other false q ng nh =
+        pageAt-carriedPages-other b h 0 k g (n - 1) removed lent-other lent-own (omega arith) some (omega arith) q nh ng
+        ∙ pageAt-removedBytes-other q ng
+
+    module _ (apart : h ≡ g → ⊥) where
+      same-other : pageAt b removed h ≡ pageAt b bytes h
+      same-other = pageAt-removedBytes-other h apart
+
+      long : (q : ℕ) → PageLent b q removed → 2 ≤ length (pageAt b removed q)
+      long q lq = omega (arith, length-pageAt b q removed (lq .whole))
+
+      -- the page that is freed
+      pub countOf-joinedBytes-freed : (β : Bool)
+          → countOf (pageAt b (joinedBytes β b g i n h k bytes) (freedPage β g h)) ≡ 0
+      unfolding joinedBytes
+      countOf-joinedBytes-freed true =
+          ap countOf
+          (pageAt-carriedPages-from b g 0 (n - 1) h k removed lent-own lent-other (omega arith) (omega arith)
+          (omega arith) apart)
+          ∙ countOf-countedPage 0 (pageAt b removed g) (long g lent-own) (omega arith)
+      countOf-joinedBytes-freed false =
+          ap countOf
+          (pageAt-carriedPages-from b h 0 k g (n - 1) removed lent-other lent-own (omega arith) some (omega arith)
+          (λ e. apart (sym e)))
+          ∙ countOf-countedPage 0 (pageAt b removed h) (long h lent-other) (omega arith)
+
+      -- the page that is kept: the records of both in split order
+      pub recordsOf-joinedBytes-kept : (s : Shape) → countOf (pageAt b bytes g) ≡ n → countOf (pageAt b bytes h) ≡ k
+          → (β : Bool) → recordsOf s (pageAt b (joinedBytes β b g i n h k bytes) (keptPage β g h))
+          ≡ inOrder β (removeAt i (recordsOf s (pageAt b bytes g))) (recordsOf s (pageAt b bytes h))
+      unfolding joinedBytes
+      recordsOf-joinedBytes-kept s cg ch true =
+          recordsOf-carriedPages-to b g 0 (n - 1) h k removed lent-own lent-other (omega arith) (omega arith)
+          (omega arith) apart s (countOf-removedBytes s cg) (ap countOf same-other ∙ ch)
+          ∙ (λ t. recordsOf s (same-other t) ++ recordsOf-removedBytes s cg t)
+      recordsOf-joinedBytes-kept s cg ch false =
+          recordsOf-carriedPages-to b h 0 k g (n - 1) removed lent-other lent-own (omega arith) some (omega arith)
+          (λ e. apart (sym e)) s (ap countOf same-other ∙ ch) (countOf-removedBytes s cg)
+          ∙ (λ t. recordsOf-removedBytes s cg t ++ recordsOf s (same-other t))
