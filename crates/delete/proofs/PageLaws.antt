@@ -1,21 +1,21 @@
 -- Laws of the lent pages after a delete, on any store: their length, the bytes past the pages, the pages that stay, and
 -- the records of those that change. Assumes nothing.
-use Prim.Native.Nat.{ℕ, suc, _+_, _-_, _*_, _^_, _≤_, _<_}
+use Prim.Native.Nat.{ℕ, zero, suc, _+_, _-_, _*_, _≤_, _<_}
 use mathlib.Core.Path.{_≡_, refl, sym, ap, _∙_}
 use mathlib.Core.Bool.{Bool, true, false}
 use mathlib.Core.List.{List, _++_}
 use mathlib.Core.Logic.{_⊎_, inl, inr}
 use native.Mathlib.Omega.{arith}
 use lib.ListN.{length, drop}
+use Rattle.lists.specs.Filter.{nonEmpty}
 use Rattle.shape.specs.declared.Shape.{Shape}
 use Rattle.region.specs.Sets.{inOrder}
-use Rattle.record.specs.Record.{Record}
 use Rattle.page.specs.Page.{countOf, recordsFrom, recordsOf, pageSize, pageAt}
-use Rattle.page.specs.Changes.{countedPage, removedPage, removeAt}
+use Rattle.page.specs.Changes.{removedPage, removeAt}
 use Rattle.page.proofs.FieldLaws.{length-recordsFrom}
 use Rattle.page.proofs.PlaceLaws.{length-removeAt}
-use Rattle.page.proofs.ChangeLaws.{length-countedPage, countOf-countedPage, length-removedPage, recordsOf-removedPage}
-use Rattle.pages.specs.Pages.{PageLent, carriedPages}
+use Rattle.page.proofs.ChangeLaws.{countOf-countedPage, length-removedPage, recordsOf-removedPage}
+use Rattle.pages.specs.Pages.{PageLent}
 use Rattle.pages.proofs.PageLaws.{length-pageAt, page-end-le, length-withPage}
 use Rattle.pages.proofs.PageLaws.{pageAt-withPage-same, drop-withPage, pageAt-withPage-other}
 use Rattle.pages.proofs.CarryLaws.{length-carriedPages, drop-carriedPages, pageAt-carriedPages-other}
@@ -94,6 +94,19 @@ module _ (b g i n : ℕ) (bytes : List ℕ) (lent : PageLent b g bytes) (l : i <
           length-removeAt i (recordsOf s page) (omega (arith, own, count)),
           count,
         )
+
+    -- whether records are left
+    pub some-left : 1 < n → nonEmpty (recordsOf s (pageAt b (removedBytes b g i n bytes) g)) ≡ true
+    some-left h = by-count (countOf (pageAt b removed g)) countOf-removedBytes
+      where
+        by-count : (c : ℕ) → c ≡ n - 1 → nonEmpty (recordsFrom s c 2 (pageAt b removed g)) ≡ true
+        by-count zero e = absurd (omega arith)
+        by-count (suc c) e = refl
+
+    pub none-left : n ≡ 1 → nonEmpty (recordsOf s (pageAt b (removedBytes b g i n bytes) g)) ≡ false
+    none-left e =
+        let none : n - 1 ≡ 0 = omega arith in
+        ap (λ c. nonEmpty (recordsFrom s c 2 (pageAt b removed g))) (countOf-removedBytes ∙ none)
 
   -- ---- joined with page h, which has k records
 

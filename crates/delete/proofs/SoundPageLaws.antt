@@ -1,7 +1,7 @@
 -- Laws of the lent pages after a delete, on a sound store: the page of the key's leaf loses the key's record; joined
 -- with its sibling's, the page that is kept has the records of both in split order. Assumes nothing.
 use Prim.Native.Nat.{ℕ, suc, _+_, _-_, _%_, _^_, _≤_, _<_}
-use mathlib.Core.Path.{_≡_, refl, sym, ap, _∙_}
+use mathlib.Core.Path.{_≡_, sym, ap, _∙_}
 use mathlib.Core.Bool.{Bool, true, false, not, false≢true, true≢false}
 use mathlib.Core.List.{List}
 use native.Mathlib.Nat.{le-trans}
@@ -14,7 +14,7 @@ use Rattle.shape.specs.declared.Shape.{Shape}
 use Rattle.shape.proofs.ShapeLaws.{capacity-bounds}
 use Rattle.cell.specs.Cell.{Agree}
 use Rattle.region.specs.Sets.{inOrder}
-use Rattle.region.specs.Division.{leafDepth, leafRecords}
+use Rattle.region.specs.Division.{leafDepth}
 use Rattle.region.proofs.StringLaws.{withBit-same}
 use Rattle.region.proofs.StringLeafLaws.{all-leafRecords}
 use Rattle.record.specs.Record.{Record, recordBit, sameKey}
@@ -159,3 +159,50 @@ module _ (before : Store) (S : List Record) (sound : Sound before S) where
           → pageRecords s (removedBytes b g i n bytes) h ≡ pageRecords s bytes h
       records-removed-other h o =
           ap (recordsOf s) (pageAt-removedBytes-other b g i n bytes (lent-of-sound g within) l few h o)
+
+    -- ---- joined
+
+    module _ (four : length key ≡ 4) (fits : indexFits (widthsOf s) key ≡ true) (g h m y : ℕ)
+        (found : JoinFound before key g h m y) (i n k : ℕ) (count : countOf (pageAt b bytes g) ≡ n)
+        (count-h : countOf (pageAt b bytes h) ≡ k) (l : i < n)
+        (here : keyAt (pageAt b bytes g) i ≡ packedKey key) where
+      abbrev β : Bool
+      β = keyString before key m
+
+      abbrev joined : List ℕ
+      joined = joinedBytes β b g i n h k bytes
+
+      lent-g : PageLent b g bytes
+      lent-g = lent-of-sound g (found .own-within)
+
+      lent-h : PageLent b h bytes
+      lent-h = lent-of-sound h (found .other-within)
+
+      few-g : n ≤ b
+      few-g = omega (arith, count, count-le (keyString before key) g (suc m) (found .own-within) (found .own))
+
+      few-h : k ≤ b
+      few-h = omega (arith, count-h, count-le (found .other .0) h (suc m) (found .other-within) (found .other .2))
+
+      fit : n - 1 + k ≤ b
+      fit = omega (arith, found .fit, count, count-h)
+
+      apart : h ≡ g → ⊥
+      apart = siblings-apart g h m (found .own-within) (found .own) (found .other)
+
+      pub records-joined : pageRecords s (joinedBytes (keyString before key m) b g i n h k bytes)
+          (keptPage (keyString before key m) g h)
+          ≡ inOrder (keyString before key m) (withoutKey key (pageRecords s bytes g)) (pageRecords s bytes h)
+      records-joined =
+          recordsOf-joinedBytes-kept b g i n bytes lent-g l few-g h k lent-h few-h fit apart s count count-h β
+          ∙ ap (λ rs. inOrder β rs (recordsOn h))
+          (sym (withoutKey-removeAt four fits g (suc m) (found .own-within) (found .own) i n count l here))
+
+      pub count-freed : countOf (pageAt b (joinedBytes (keyString before key m) b g i n h k bytes)
+          (freedPage (keyString before key m) g h)) ≡ 0
+      count-freed = countOf-joinedBytes-freed b g i n bytes lent-g l few-g h k lent-h few-h fit apart β
+
+      pub records-joined-other : (q : ℕ) → (q ≡ g → ⊥) → (q ≡ h → ⊥)
+          → pageRecords s (joinedBytes (keyString before key m) b g i n h k bytes) q ≡ pageRecords s bytes q
+      records-joined-other q ng nh =
+          ap (recordsOf s) (pageAt-joinedBytes-other b g i n bytes lent-g l few-g h k lent-h few-h fit β q ng nh)
