@@ -131,7 +131,8 @@ module _ (b g i n : ℕ) (bytes : List ℕ) (lent : PageLent b g bytes) (l : i <
         → drop (P * pageSize b) (joinedBytes β b g i n h k bytes) ≡ drop (P * pageSize b) bytes
     unfolding joinedBytes
     drop-joinedBytes true P lg lh =
-        drop-carriedPages b g 0 (n - 1) h k removed lent-own lent-other (omega arith) (omega arith) (omega arith) P lg lh
+        drop-carriedPages b g 0 (n - 1) h k removed lent-own lent-other (omega arith) (omega arith) (omega arith) P lg
+        lh
         ∙ drop-removedBytes P lg
     drop-joinedBytes false P lg lh =
         drop-carriedPages b h 0 k g (n - 1) removed lent-other lent-own (omega arith) some (omega arith) P lh lg
@@ -141,8 +142,8 @@ module _ (b g i n : ℕ) (bytes : List ℕ) (lent : PageLent b g bytes) (l : i <
         → pageAt b (joinedBytes β b g i n h k bytes) q ≡ pageAt b bytes q
     unfolding joinedBytes
     pageAt-joinedBytes-other true q ng nh =
-        pageAt-carriedPages-other b g 0 (n - 1) h k removed lent-own lent-other (omega arith) (omega arith) (omega arith)
-        q ng nh
+        pageAt-carriedPages-other b g 0 (n - 1) h k removed lent-own lent-other (omega arith) (omega arith)
+        (omega arith) q ng nh
         ∙ pageAt-removedBytes-other q ng
     pageAt-joinedBytes-other false q ng nh =
         pageAt-carriedPages-other b h 0 k g (n - 1) removed lent-other lent-own (omega arith) some (omega arith) q nh ng

@@ -45,7 +45,8 @@ use Rattle.change.proofs.DeletePlaceLaws.{nonEmpty-filter, withoutKey-place}
 use Rattle.lookup.proofs.StoredLaws.{sameKey-packed}
 use Rattle.delete.specs.PageBytes.{removedBytes, keptPage, freedPage, joinedBytes}
 use Rattle.delete.proofs.PageLaws.{recordsOf-removedBytes, pageAt-removedBytes-other}
-use Rattle.delete.proofs.PageLaws.{countOf-joinedBytes-freed, recordsOf-joinedBytes-kept, pageAt-joinedBytes-other}
+use Rattle.delete.proofs.PageLaws.{countOf-joinedBytes-freed, recordsOf-joinedBytes-kept}
+use Rattle.delete.proofs.PageLaws.{pageAt-joinedBytes-other}
 
 module _ (before : Store) (S : List Record) (sound : Sound before S) where
   abbrev s : Shape
@@ -168,9 +169,6 @@ module _ (before : Store) (S : List Record) (sound : Sound before S) where
         (here : keyAt (pageAt b bytes g) i ≡ packedKey key) where
       abbrev β : Bool
       β = keyString before key m
-
-      abbrev joined : List ℕ
-      joined = joinedBytes β b g i n h k bytes
 
       lent-g : PageLent b g bytes
       lent-g = lent-of-sound g (found .own-within)
