@@ -1,0 +1,1 @@
+// The call delete: definitions and laws of the pages it changes; no code yet.
