@@ -1,0 +1,5 @@
+pub mod FieldLaws
+pub mod ReadingLaws
+pub mod LineLaws
+pub mod WordLaws
+pub mod ShownLaws
