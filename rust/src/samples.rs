@@ -84,7 +84,7 @@ pub fn random_page(random: &mut Random, widths: &[u32], b: usize, kind: Kind) ->
 }
 
 /// So many different random keys in split order.
-fn distinct_keys(random: &mut Random, widths: &[u32], count: usize) -> Vec<[u16; 4]> {
+pub fn distinct_keys(random: &mut Random, widths: &[u32], count: usize) -> Vec<[u16; 4]> {
     let mut keys = BTreeMap::new();
     while keys.len() < count {
         let values = random_values(random, widths);
