@@ -31,6 +31,11 @@ impl Kind {
     }
 }
 
+/// Random bytes.
+pub fn random_bytes(random: &mut Random, count: usize) -> Vec<u8> {
+    (0..count).map(|_| random.number() as u8).collect()
+}
+
 /// Random values below 2^w_j, 0 for an unused attribute.
 pub fn random_values(random: &mut Random, widths: &[u32]) -> [u16; 4] {
     let mut values = [0; 4];

@@ -4,7 +4,7 @@ use mdeh_tests::compare::Comparisons;
 use mdeh_tests::pages::{self, Record};
 use mdeh_tests::probe::matching::{pattern_of, put_matches, Pattern};
 use mdeh_tests::random::Random;
-use mdeh_tests::samples::{random_page, KINDS};
+use mdeh_tests::samples::{random_bytes, random_page, Kind, KINDS};
 use mdeh_tests::shapes::widths_of_shapes;
 
 const SEED: u64 = 0x6d64_6568_2d30_3038;
@@ -40,11 +40,10 @@ fn the_records_that_match_are_written_while_whole_ones_fit() {
                 for _ in 0..QUERIES {
                     let query = random_query(&mut random, widths.len(), records);
                     let total = random.between(0, 4) as usize;
-                    let before: Vec<u8> =
-                        (0..random.between(0, 12 * (b as u64 + 4))).map(|_| random.number() as u8).collect();
+                    let bytes = random.between(0, 12 * (b as u64 + 4)) as usize;
+                    let before = random_bytes(&mut random, bytes);
                     let about = format_args!(
-                        "query {query:?}, from {total} in {} bytes, {n} of {page:?}, {kind:?}",
-                        before.len()
+                        "query {query:?}, from {total} in {bytes} bytes, {n} of {page:?}, {kind:?}"
                     );
                     let mut after = before.clone();
                     let pattern = pattern_of(query).expect("values have 16 bits");
@@ -65,7 +64,7 @@ fn a_full_output_stays_and_records_are_counted_up_to_2_to_the_32() {
     let mut count = Comparisons::default();
     let mut random = Random::new(SEED);
     for b in 1..=16 {
-        let (page, _) = random_page(&mut random, &[8, 8], b, KINDS[1]);
+        let (page, _) = random_page(&mut random, &[8, 8], b, Kind::Full);
         let every = pattern_of([None; 4]).expect("no value");
         for total in [b, 1 << 31, (1 << 32) - b] {
             let before = vec![9; 12 * b];

@@ -4,7 +4,7 @@ use mdeh_tests::compare::Comparisons;
 use mdeh_tests::pages::{self, packed, Page};
 use mdeh_tests::probe::records::{carry, count, first_free, insert_at, key_at, payload_at, remove_at, Carry};
 use mdeh_tests::random::Random;
-use mdeh_tests::samples::{random_page, random_record, Kind, KINDS};
+use mdeh_tests::samples::{random_bytes, random_page, random_record, Kind, KINDS};
 use mdeh_tests::shapes::widths_of_shapes;
 use std::fmt::{self, Arguments, Display, Formatter};
 use std::ops::Range;
@@ -38,11 +38,6 @@ impl Display for Sample<'_> {
         let Sample { widths, b, kind, page, n } = self;
         write!(f, "{n} records, {page:?}, {kind:?}, capacity {b}, widths {widths:?}")
     }
-}
-
-/// Random bytes.
-fn random_bytes(random: &mut Random, count: usize) -> Vec<u8> {
-    (0..count).map(|_| random.number() as u8).collect()
 }
 
 /// Bytes between random others, and where they are.
