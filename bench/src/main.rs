@@ -4,6 +4,7 @@ mod address;
 mod directory;
 mod inputs;
 mod measure;
+mod pages;
 mod plain;
 
 use mdeh_tests::random::Random;
@@ -13,5 +14,6 @@ fn main() {
     let mut random = Random::new(0x6d64_6568_2d30_3033);
     address::rows(&mut table, &mut random);
     directory::rows(&mut table, &mut random);
+    pages::rows(&mut table, &mut random);
     table.measure();
 }

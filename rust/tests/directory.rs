@@ -5,22 +5,12 @@ use mdeh_tests::compare::Comparisons;
 use mdeh_tests::probe::{double, fill, find_cell, Widths};
 use mdeh_tests::random::Random;
 use mdeh_tests::reference::{formula, steps};
-use mdeh_tests::shapes::{all_widths, random_widths};
+use mdeh_tests::shapes::{random_widths, widths_of_shapes};
 
 const SEED: u64 = 0x6d64_6568_2d30_3032;
 
 /// Words past a directory, which no step changes.
 const GUARDS: usize = 7;
-
-/// The widths of all 385 shapes of up to ten bits, and of four random shapes of each size from 11 to 64.
-fn widths_of_shapes(random: &mut Random) -> Vec<Vec<u32>> {
-    let mut all: Vec<Vec<u32>> = (1..=4).flat_map(|d| all_widths(d, 10)).collect();
-    for total in 11..=64 {
-        all.extend((0..4).map(|_| random_widths(random, total)));
-    }
-    assert_eq!(all.len(), 385 + 4 + 212);
-    all
-}
 
 /// The greatest depth of a directory of these widths: the smaller of 12 and W.
 fn greatest_depth(widths: &[u32]) -> usize {
