@@ -5,3 +5,4 @@ pub mod FirstLaws
 pub mod LeadingLaws
 pub mod PairLaws
 pub mod StepLaws
+pub mod WidthLaws
