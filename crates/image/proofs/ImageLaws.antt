@@ -1,15 +1,15 @@
--- Laws of states in words: words written over the first of a slice; the state that a slice shows; the state written, read
--- back. Assumes nothing.
+-- Laws of states in words: words written over the first of a slice; the state that a slice shows; the state written,
+-- read back. Assumes nothing.
 use Prim.Native.Nat.{ℕ, zero, suc, _+_, _≤_, _<_}
 use mathlib.Core.Path.{_≡_, refl, sym, ap, _∙_}
-use mathlib.Core.Bool.{true, false, cond}
-use mathlib.Core.List.{List, [], _∷_, _++_}
+use mathlib.Core.Bool.{true, false}
+use mathlib.Core.List.{List, _∷_, _++_}
 use native.Mathlib.Nat.{add-zero, zero-add}
 use native.Mathlib.Numerals.{add-one}
 use native.Mathlib.Omega.{arith}
 use borrow.Author.Tests.{lt-ltb, le-ltb}
 use lib.Dec.{ltb}
-use lib.ListN.{length, getD, drop, set, take, length-drop}
+use lib.ListN.{length, getD, drop, set, length-drop}
 use lib.Seq.{paste, paste-suc, drop-cons, drop-length, take-length}
 use Rattle.store.specs.Fresh.{noState}
 use Rattle.store.specs.declared.State.{State}

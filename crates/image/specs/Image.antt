@@ -1,5 +1,5 @@
--- A state in 32-bit words, as a host keeps it between calls: d, the four widths, b, P, L, T, and the tally of depths 0 to
--- 12. Assumes nothing.
+-- A state in 32-bit words, as a host keeps it between calls: d, the four widths, b, P, L, T, and the tally of depths 0
+-- to 12. Assumes nothing.
 use Prim.Native.Nat.{ℕ, zero, suc, _+_}
 use mathlib.Core.Bool.{cond}
 use mathlib.Core.List.{List, [], _∷_, _++_}

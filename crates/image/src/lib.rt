@@ -19,8 +19,8 @@ ghost use Rattle.image.specs.Image.{shownState, stateIn, statePut};
 // The words of a state.
 pub const STATE_SIZE: usize = 22;
 
-// The state that a slice of words shows: that of its first 22. Fewer show the state without attributes, on
-// which every call is refused with 1.
+// The state that a slice of words shows: that of its first 22. Fewer show the state without
+// attributes, on which every call is refused with 1.
 pub fn state_in(words: &[u32]) -> State
     ensures { λ r. ⌜ r ≡ stateIn (now (words .entry)) ⌝ }
 {

@@ -1,9 +1,10 @@
--- `image::put_words` meets its contract: the first i words are written. Falling number: the words left. Assumes nothing.
+-- `image::put_words` meets its contract: the first i words are written. Falling number: the words left.
+-- Assumes nothing.
 use Prim.Native.Nat.{_-_, _≤_}
 use mathlib.Core.Path.{_≡_, refl, ap, _∙_}
 use native.Mathlib.Omega.{arith}
 use lib.ListN.{length, length-set, set, getD}
-use lib.Seq.{paste, paste-zero, paste-suc}
+use lib.Seq.{paste, paste-zero}
 use Rattle.image.proofs.ImageLaws.{paste-next, paste-whole}
 use Rattle.image.proofs.put_words.Statement.{statement}
 use Rattle.image.proofs.put_words.Tie as tie
@@ -56,7 +57,8 @@ returns : tie.Need-returns Inv-loop μ-loop
 returns c =
     let a = c .before .before .args in
     let end : c .before .loop .i ≡ length (a .image .now) = omega arith in
-    c .before .loop .inv .3 ∙ ap (paste (a .words .now) 0 (a .image .now)) end ∙ paste-whole (a .words .now) (a .image .now)
+    c .before .loop .inv .3 ∙ ap (paste (a .words .now) 0 (a .image .now)) end
+    ∙ paste-whole (a .words .now) (a .image .now)
 
 pub put-words-spec : {M : Type 1} → statement M
 put-words-spec =
