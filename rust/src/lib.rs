@@ -2,6 +2,8 @@
 pub mod cells;
 pub mod compare;
 pub mod host;
+pub mod lent;
+pub mod plain;
 pub mod probe;
 pub mod random;
 pub mod reference;
