@@ -1,5 +1,5 @@
 //! Slices lent to calls, between guards that no call may change.
-use crate::host;
+use crate::host::{self, CheckResult, HostQuery, LookupResult, QueryResult};
 use crate::plain::image::Image;
 use crate::random::Random;
 use std::fmt::Debug;
@@ -69,25 +69,35 @@ impl LentStore {
         }
     }
 
+    /// The payload and the reads, or the number of the refusal.
     pub fn lookup(&self, key: [u32; 4]) -> Result<(u32, u32), u32> {
-        let answer = host::lookup(self.state.slice(), self.dir.slice(), self.pages.slice(), key);
+        let LookupResult { number, payload, reads } =
+            host::lookup_result(self.state.slice(), self.dir.slice(), self.pages.slice(), key);
         self.assert_unchanged();
-        answer
+        answer(number, (payload, reads), (0, 0))
     }
 
-    /// Written, total and reads.
+    /// Written, total and reads, or the number of the refusal. Attributes are given by any number but 0, and have
+    /// any value where they are free.
     pub fn query(&self, query: [Option<u32>; 4], out: &mut Lent<u8>) -> Result<(u64, u64, u64), u32> {
-        let out_part = out.slice_mut();
-        let answer = host::query(self.state.slice(), self.dir.slice(), self.pages.slice(), query, out_part);
+        let given = [0, 1, 2, 3].map(|j| if query[j].is_some() { [1, 2, 1 << 31, u32::MAX][j] } else { 0 });
+        let values = [0, 1, 2, 3].map(|j| query[j].unwrap_or([u32::MAX, 1, 1 << 16, 0][j]));
+        let query = HostQuery { given, values };
+        let (state, dir, pages) = (self.state.slice(), self.dir.slice(), self.pages.slice());
+        let QueryResult { number, written, total, reads } =
+            host::query_result(state, dir, pages, query, out.slice_mut());
         self.assert_unchanged();
         assert!(out.guards_stay(), "a guard of the output is changed");
-        answer.map(|counts| (counts.written, counts.total, counts.reads))
+        answer(number, (written, total, reads), (0, 0, 0))
     }
 
+    /// Whether the store is sound, or the number of the refusal.
     pub fn check(&self) -> Result<bool, u32> {
-        let answer = host::check(self.state.slice(), self.dir.slice(), self.pages.slice());
+        let CheckResult { number, sound } =
+            host::check_result(self.state.slice(), self.dir.slice(), self.pages.slice());
         self.assert_unchanged();
-        answer
+        assert!(sound <= 1, "check says {sound}");
+        answer(number, sound == 1, false)
     }
 
     /// "Query, lookup and check write nothing in the store, sound or not."
@@ -96,4 +106,13 @@ impl LentStore {
         assert!(self.dir.unchanged(), "the directory is changed");
         assert!(self.pages.unchanged(), "the pages are changed");
     }
+}
+
+/// Values beside number 0; any other number, which has zeros beside it.
+fn answer<T: PartialEq + Debug>(number: u32, values: T, zeros: T) -> Result<T, u32> {
+    if number == 0 {
+        return Ok(values);
+    }
+    assert_eq!(values, zeros, "values beside number {number}");
+    Err(number)
 }

@@ -231,7 +231,8 @@ fn depth_too_large(random: &mut Random, laid: &Laid) -> Option<Image> {
 
 fn depth_above_limit(random: &mut Random, laid: &Laid) -> Option<Image> {
     let l = laid.image.state[DEPTH_LIMIT];
-    let depth = [l + 1, 13, 32, 64, u32::MAX, random.between(u64::from(l) + 1, 1 << 31) as u32][random.below(6)];
+    let depth =
+        [l + 1, 13, 32, 64, u32::MAX, random.between(u64::from(l) + 1, 1 << 31) as u32][random.below(6)];
     changed(laid, |image| image.state[DEPTH] = depth)
 }
 
