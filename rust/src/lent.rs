@@ -1,6 +1,7 @@
 //! Slices lent to calls, between guards that no call may change.
 use crate::host::{self, CheckResult, HostQuery, LookupResult, QueryResult};
-use crate::plain::image::Image;
+use crate::plain::image::{Image, Laid};
+use crate::plain::model::Model;
 use crate::random::Random;
 use std::fmt::Debug;
 use std::hint::black_box;
@@ -67,6 +68,12 @@ impl LentStore {
             dir: lend_words(random, &image.dir),
             pages: lend_bytes(random, &image.pages),
         }
+    }
+
+    /// A sound store of a model's set.
+    pub fn of(random: &mut Random, model: &Model) -> LentStore {
+        let laid = Laid::new(random, model);
+        LentStore::new(random, &laid.image)
     }
 
     /// The payload and the reads, or the number of the refusal.

@@ -14,7 +14,7 @@ fn keys_of_random_stores() {
     let mut random = Random::new(SEED);
     for _ in 0..1000 {
         let model = random_model(&mut random);
-        let store = LentStore::new(&mut random, &Laid::new(&mut random, &model).image);
+        let store = LentStore::of(&mut random, &model);
         for _ in 0..100 {
             let key = random_key(&mut random, &model);
             count.same(store.lookup(key), model.lookup(key), format_args!("{model:?}, {key:?}"));
@@ -39,7 +39,7 @@ fn every_key_of_a_large_store() {
         model.records.sort_by(|r, s| r.bits.cmp(&s.bits));
         model.records.dedup_by(|r, s| r.bits == s.bits);
         assert!(model.holds());
-        let store = LentStore::new(&mut random, &Laid::new(&mut random, &model).image);
+        let store = LentStore::of(&mut random, &model);
         for i in 0..500 {
             let record = &model.records[i * model.records.len() / 500];
             let about = format_args!("{record:?}");
@@ -82,7 +82,7 @@ fn values_out_of_range_are_refused_with_3() {
     let mut random = Random::new(SEED);
     for _ in 0..500 {
         let model = random_model(&mut random);
-        let store = LentStore::new(&mut random, &Laid::new(&mut random, &model).image);
+        let store = LentStore::of(&mut random, &model);
         for j in 0..4 {
             let least = 1u32 << model.shape.widths[j];
             for value in [least, least + 1, 1 << 16, 1 << 31, u32::MAX] {

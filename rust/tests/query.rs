@@ -43,7 +43,7 @@ fn every_subset_of_given_attributes() {
     let mut subsets = 0;
     for _ in 0..1000 {
         let model = random_model(&mut random);
-        let store = LentStore::new(&mut random, &Laid::new(&mut random, &model).image);
+        let store = LentStore::of(&mut random, &model);
         for subset in 0..1 << model.widths().len() {
             subsets += 1;
             for _ in 0..4 {
@@ -63,7 +63,7 @@ fn outputs_of_every_length() {
     let mut lengths = 0;
     for _ in 0..200 {
         let model = random_model(&mut random);
-        let store = LentStore::new(&mut random, &Laid::new(&mut random, &model).image);
+        let store = LentStore::of(&mut random, &model);
         let query = random_query(&mut random, &model);
         let most = output_size(&model, query).min(40 * 12) + 25;
         for bytes in 0..=most {
@@ -111,7 +111,7 @@ fn refusal_8_comes_before_3() {
     let mut random = Random::new(SEED);
     for _ in 0..300 {
         let model = random_model(&mut random);
-        let store = LentStore::new(&mut random, &Laid::new(&mut random, &model).image);
+        let store = LentStore::of(&mut random, &model);
         for j in 0..4 {
             let large = 1u32 << model.shape.widths[j];
             for value in [0, large, large + 1, 1 << 16, 1 << 31, u32::MAX] {
