@@ -13,14 +13,14 @@ const SEED: u64 = 0x6d64_6568_2d30_3037;
 fn sound_stores() {
     let mut count = Comparisons::default();
     let mut random = Random::new(SEED);
-    for _ in 0..3000 {
+    for _ in 0..1000 {
         let model = random_model(&mut random);
         let image = Laid::new(&mut random, &model).image;
         let about = format_args!("{model:?}");
         count.same(judge(&image), Ok(true), about);
         count.same(LentStore::new(&mut random, &image).check(), Ok(true), about);
     }
-    count.end(3000 * 2);
+    count.end(1000 * 2);
 }
 
 #[test]
@@ -44,7 +44,7 @@ fn each_clause_broken_in_turn() {
     let mut random = Random::new(SEED);
     for (name, break_clause) in WAYS {
         let mut stores = 0;
-        while stores < 150 {
+        while stores < 100 {
             let model = random_model(&mut random);
             let laid = Laid::new(&mut random, &model);
             let Some(image) = break_clause(&mut random, &laid) else { continue };
@@ -54,7 +54,7 @@ fn each_clause_broken_in_turn() {
             count.same(LentStore::new(&mut random, &image).check(), Ok(false), about);
         }
     }
-    count.end(25 * 150 * 2);
+    count.end(25 * 100 * 2);
 }
 
 #[test]
@@ -82,7 +82,7 @@ fn one_number_changed_at_random() {
     let mut count = Comparisons::default();
     let mut random = Random::new(SEED);
     let mut sound = 0;
-    for _ in 0..1000 {
+    for _ in 0..500 {
         let model = random_model(&mut random);
         let laid = Laid::new(&mut random, &model);
         for _ in 0..20 {
@@ -94,8 +94,8 @@ fn one_number_changed_at_random() {
         }
     }
     println!("{sound} of them sound");
-    assert!((1000..15_000).contains(&sound));
-    count.end(1000 * 20);
+    assert!((500..7_500).contains(&sound));
+    count.end(500 * 20);
 }
 
 fn change_one(random: &mut Random, image: &mut Image) {
@@ -127,7 +127,7 @@ fn change_one(random: &mut Random, image: &mut Image) {
 fn early_refusals() {
     let mut count = Comparisons::default();
     let mut random = Random::new(SEED);
-    for _ in 0..500 {
+    for _ in 0..200 {
         let model = random_model(&mut random);
         let laid = Laid::new(&mut random, &model);
         let words = random.below(1 << model.depth_limit);
@@ -153,5 +153,5 @@ fn early_refusals() {
         let short = Image { state: images[0].state[..random.below(STATE)].to_vec(), ..images[0].clone() };
         count.same(LentStore::new(&mut random, &short).check(), Err(1), format_args!("{:?}", short.state));
     }
-    count.end(500 * (8 * 2 + 1));
+    count.end(200 * (8 * 2 + 1));
 }

@@ -66,7 +66,7 @@ fn each_clause_broken_in_turn() {
     let mut random = Random::new(SEED);
     for (_, break_clause) in WAYS {
         let mut stores = 0;
-        while stores < 100 {
+        while stores < 60 {
             let model = random_model(&mut random);
             let laid = Laid::new(&mut random, &model);
             let Some(image) = break_clause(&mut random, &laid) else { continue };
@@ -74,14 +74,14 @@ fn each_clause_broken_in_turn() {
             both_calls(&mut count, &mut random, &model, &image);
         }
     }
-    count.end(25 * 100 * COMPARED);
+    count.end(25 * 60 * COMPARED);
 }
 
 #[test]
 fn several_clauses_broken_at_once() {
     let mut count = Comparisons::default();
     let mut random = Random::new(SEED);
-    for _ in 0..2000 {
+    for _ in 0..1000 {
         let model = random_model(&mut random);
         let mut laid = Laid::new(&mut random, &model);
         for _ in 0..random.between(2, 5) {
@@ -92,14 +92,14 @@ fn several_clauses_broken_at_once() {
         }
         both_calls(&mut count, &mut random, &model, &laid.image);
     }
-    count.end(2000 * COMPARED);
+    count.end(1000 * COMPARED);
 }
 
 #[test]
 fn random_words_and_pages() {
     let mut count = Comparisons::default();
     let mut random = Random::new(SEED);
-    for turn in 0..3000 {
+    for turn in 0..1500 {
         let model = random_model(&mut random);
         let mut image = Laid::new(&mut random, &model).image;
         if turn % 3 != 0 {
@@ -119,14 +119,14 @@ fn random_words_and_pages() {
         }
         both_calls(&mut count, &mut random, &model, &image);
     }
-    count.end(3000 * COMPARED);
+    count.end(1500 * COMPARED);
 }
 
 #[test]
 fn random_states() {
     let mut count = Comparisons::default();
     let mut random = Random::new(SEED);
-    for _ in 0..3000 {
+    for _ in 0..1500 {
         let model = random_model(&mut random);
         let mut image = Laid::new(&mut random, &model).image;
         image.dir.resize(random.between(0, 70) as usize, 0x1_0001);
@@ -137,7 +137,7 @@ fn random_states() {
         }
         both_calls(&mut count, &mut random, &model, &image);
     }
-    count.end(3000 * COMPARED);
+    count.end(1500 * COMPARED);
 }
 
 /// Every P, L and T of these, also with slices that are long enough for them.
@@ -148,7 +148,7 @@ fn wild_limits() {
     let wild = [0, 1, 2, 11, 12, 13, 14, 31, 32, 33, 63, 64, 65, 127, 4096, 4097, 1 << 16, 1 << 31, u32::MAX];
     for place in [PAGE_LIMIT, DEPTH_LIMIT, DEPTH] {
         for value in wild {
-            for _ in 0..20 {
+            for _ in 0..8 {
                 let model = random_model(&mut random);
                 let mut image = Laid::new(&mut random, &model).image;
                 image.state[place] = value;
@@ -159,5 +159,5 @@ fn wild_limits() {
             }
         }
     }
-    count.end(3 * 19 * 20 * 2 * COMPARED);
+    count.end(3 * 19 * 8 * 2 * COMPARED);
 }
