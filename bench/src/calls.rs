@@ -2,20 +2,10 @@
 //! records, and SQLite in memory with an index for each attribute.
 use crate::inputs::{sum, vectors};
 use crate::measure::{Named, Step, Table, PLAIN, PROVED};
-use crate::sqlite::{Database, Statement};
-use crate::store::Store;
-use mdeh_tests::host::{self, Shape};
+use crate::records::{pack, packed, payload, stored_keys, Forms, RECORDS, WIDTHS};
+use crate::sqlite::Statement;
+use mdeh_tests::host;
 use mdeh_tests::random::Random;
-
-const WIDTHS: [u32; 3] = [8, 8, 10];
-const RECORDS: usize = 20_000;
-
-/// How many more are inserted and deleted again.
-const DELETED: usize = 2_000;
-
-/// The lent memory: the words of a directory of depth 12, and 4,096 pages.
-const WORDS: usize = 1 << 12;
-const PAGES: usize = 4096;
 
 /// How many lookups, and how many queries, make a pass.
 const LOOKUPS: usize = 256;
@@ -24,25 +14,13 @@ const QUERIES: usize = 16;
 const SCAN: &str = "scan";
 const SQLITE: &str = "SQLite";
 
-/// The same records in every form, kept as long as the program runs.
-#[derive(Clone, Copy)]
-struct Forms {
-    plain: &'static Store,
-    state: &'static [u32],
-    dir: &'static [u32],
-    pages: &'static [u8],
-    /// packed, in split order
-    records: &'static [[u8; 12]],
-    database: Option<&'static Database>,
-}
-
 pub fn rows(table: &mut Table, random: &mut Random) {
     table.section("Calls");
     if !["lookup, hit", "lookup, miss", "query", "check"].iter().any(|name| table.has(name)) {
         return;
     }
     let forms = Forms::new(random);
-    let stored = stored_keys(random, forms.records);
+    let stored = stored_keys(random, forms.records, LOOKUPS);
     let absent: Vec<[u32; 4]> = vectors(random, &WIDTHS, LOOKUPS).to_vec();
     let absent =
         absent.into_iter().filter(|&key| forms.plain.lookup(key).is_err()).collect::<Vec<_>>().leak();
@@ -53,89 +31,6 @@ pub fn rows(table: &mut Table, random: &mut Random) {
     }
     check(table, forms);
 }
-
-impl Forms {
-    /// Random records, some of them deleted again: the plain store is filled by its inserts, the proved store is lent a copy of its memory.
-    fn new(random: &mut Random) -> Forms {
-        let shape = Shape { capacity: 16, ..Shape::new(&WIDTHS) };
-        let mut plain = Store::new(shape, WORDS, PAGES * (2 + 12 * 16));
-        let mut keys = Vec::new();
-        let mut refused = 0;
-        while keys.len() < RECORDS + DELETED {
-            let key = WIDTHS.map(|width| random.below(1 << width) as u32);
-            let key = [key[0], key[1], key[2], 0];
-            match plain.insert(key, random.number() as u32) {
-                Ok(()) => keys.push(key),
-                Err(4) => {}
-                Err(_) => refused += 1,
-            }
-        }
-        random.shuffle(&mut keys);
-        keys[RECORDS..].iter().for_each(|&key| plain.delete(key).expect("the key is stored"));
-        let (pages, depth) = plain.extent();
-        println!("{RECORDS} records on {pages} of {PAGES} pages, T = {depth}, {refused} inserts refused");
-        let mut records = vec![[0; 12]; RECORDS];
-        let all = plain.query([None; 4], records.as_flattened_mut());
-        assert_eq!(all, Ok((RECORDS, RECORDS, pages)));
-        let (state, dir, bytes) = plain.image();
-        assert_eq!(host::check(&state, &dir, &bytes), Ok(true));
-        Forms {
-            plain: Box::leak(Box::new(plain)),
-            state: state.leak(),
-            dir: dir.leak(),
-            pages: bytes.leak(),
-            database: fill_database(&records),
-            records: records.leak(),
-        }
-    }
-}
-
-/// A database of the records, numbered in split order; none where SQLite is not installed.
-fn fill_database(records: &[[u8; 12]]) -> Option<&'static Database> {
-    let Some(database) = Database::open() else {
-        println!("SQLite is skipped: libsqlite3.so.0 is not installed");
-        return None;
-    };
-    println!("SQLite {}", database.version());
-    database.run("CREATE TABLE r (n INTEGER PRIMARY KEY, a0 INT, a1 INT, a2 INT, payload INT); BEGIN");
-    let insert = database.prepare("INSERT INTO r VALUES (?, ?, ?, ?, ?)");
-    for (n, record) in records.iter().enumerate() {
-        let [a0, a1, a2, _] = values(record);
-        insert.run([n as i64, a0, a1, a2, payload(record).into()], |_| {});
-    }
-    database.run(
-        "CREATE INDEX i0 ON r (a0); CREATE INDEX i1 ON r (a1); CREATE INDEX i2 ON r (a2); COMMIT; ANALYZE",
-    );
-    Some(Box::leak(Box::new(database)))
-}
-
-/// The keys of random records.
-fn stored_keys(random: &mut Random, records: &[[u8; 12]]) -> &'static [[u32; 4]] {
-    let key = |record| values(record).map(|value| value as u32);
-    let keys: Vec<[u32; 4]> = (0..LOOKUPS).map(|_| key(&records[random.below(RECORDS)])).collect();
-    keys.leak()
-}
-
-/// The four values of a packed record.
-fn values(record: &[u8; 12]) -> [i64; 4] {
-    [0, 1, 2, 3].map(|j| u16::from_le_bytes([record[2 * j], record[2 * j + 1]]).into())
-}
-
-fn payload(record: &[u8; 12]) -> u32 {
-    u32::from_le_bytes(record[8..].try_into().expect("four bytes"))
-}
-
-/// The first eight bytes of a record.
-fn packed(record: &[u8; 12]) -> u64 {
-    u64::from_le_bytes(record[..8].try_into().expect("eight bytes"))
-}
-
-/// Values as a record packs them.
-fn pack(values: [u32; 4]) -> u64 {
-    (0..4).fold(0, |packed, j| packed | u64::from(values[j]) << (16 * j))
-}
-
-// ---- rows
 
 /// The payloads of keys; 5 for an absent one.
 fn lookup(table: &mut Table, forms: Forms, name: &str, keys: &'static [[u32; 4]]) {
@@ -200,13 +95,17 @@ fn query(table: &mut Table, forms: Forms, subset: usize, keys: &'static [[u32; 4
         let select = database.prepare(&text);
         named.push((SQLITE, Box::new(move |out| sum(queries, |&query| sqlite_query(&select, query, out)))));
     }
-    let given = given.iter().map(|j| format!("w = {}", WIDTHS[*j])).collect::<Vec<_>>().join(" and ");
-    let given = if subset == 0 { "nothing".into() } else { given };
+    let given: Vec<String> = given.iter().map(usize::to_string).collect();
+    let name = match given.len() {
+        0 => "query, nothing given".into(),
+        1 => format!("query, attribute {} given", given[0]),
+        _ => format!("query, attributes {} given", given.join(", ")),
+    };
     let found = queries.iter().map(|&query| plain.query(query, &mut []).expect("accepted"));
     let (total, reads) = found.fold((0, 0), |(t, r), (_, total, reads)| (t + total, r + reads));
     let input =
         format!("{:.1} records on {:.1} pages", total as f64 / count as f64, reads as f64 / count as f64);
-    let step = Step { name: format!("query, {given} given"), input, unit: "call", units: count };
+    let step = Step { name, input, unit: "call", units: count };
     table.forms(step, vec![0; 12 * RECORDS], named);
 }
 

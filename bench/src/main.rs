@@ -6,6 +6,7 @@ mod directory;
 mod inputs;
 mod measure;
 mod plain;
+mod records;
 mod sqlite;
 mod store;
 

@@ -4,11 +4,14 @@ use std::fmt::Debug;
 use std::hint::black_box;
 use std::time::Instant;
 
-/// How often each form is timed.
+/// How many turns each form has.
 const RUNS: usize = 1001;
 
 /// How long one run lasts at least, in nanoseconds: much less than a turn of the system's scheduler.
 const RUN: f64 = 250_000.0;
+
+/// A form whose pass lasts up to n times as long is timed in every nth turn.
+const LONG_RUN: f64 = 1_000_000.0;
 
 /// The names of the two forms of most steps. The first form of a step is what the others are compared with.
 pub const PROVED: &str = "proved";
@@ -43,11 +46,13 @@ struct Row {
     forms: Vec<Form>,
 }
 
-/// One form of a step: its name, a pass over the inputs, how many passes make a run, and the times of a unit.
+/// One form of a step: its name, a pass over the inputs, how many passes make a run, in which turns it runs, and the
+/// times of a unit.
 struct Form {
     name: &'static str,
     pass: Box<dyn FnMut() -> u64>,
     passes: u32,
+    every: usize,
     times: Vec<f64>,
 }
 
@@ -106,9 +111,11 @@ impl Table {
     pub fn measure(mut self) {
         self.sections.retain(|section| !section.rows.is_empty());
         assert!(!self.sections.is_empty(), "no step's name has one of the words {:?}", self.chosen);
-        for _ in 0..RUNS {
+        for turn in 0..RUNS {
             for Row { step, forms } in self.sections.iter_mut().flat_map(|section| &mut section.rows) {
-                forms.iter_mut().for_each(|form| form.run(step.units));
+                for form in forms.iter_mut().filter(|form| turn % form.every == 0) {
+                    form.run(step.units);
+                }
             }
         }
         self.sections.into_iter().for_each(Section::print);
@@ -147,8 +154,8 @@ impl Row {
         for (i, name) in names.iter().enumerate() {
             match times.iter().find(|time| time.0 == *name) {
                 None => print!(" – | – | – |"),
-                Some((_, (best, spread))) if i == 0 => print!(" {best:.1} | {spread} |"),
-                Some((_, (best, spread))) => print!(" {best:.1} | {spread} | {:.2} |", first / best),
+                Some((_, (best, spread))) if i == 0 => print!(" {} | {spread} |", shown(*best)),
+                Some((_, (best, spread))) => print!(" {} | {spread} | {:.2} |", shown(*best), first / best),
             }
         }
         println!();
@@ -158,7 +165,9 @@ impl Row {
 impl Form {
     fn new(name: &'static str, mut pass: impl FnMut() -> u64 + 'static) -> Form {
         let one = (0..10).map(|_| time(&mut pass, 1)).fold(f64::INFINITY, f64::min);
-        Form { name, pass: Box::new(pass), passes: (RUN / one).ceil() as u32, times: Vec::new() }
+        let passes = (RUN / one).ceil() as u32;
+        let every = (one / LONG_RUN).ceil() as usize;
+        Form { name, pass: Box::new(pass), passes, every, times: Vec::new() }
     }
 
     /// Times one run.
@@ -169,8 +178,17 @@ impl Form {
     /// The best time, and how far the median is above it.
     fn best(mut self) -> (f64, String) {
         self.times.sort_by(f64::total_cmp);
-        let (best, median) = (self.times[0], self.times[RUNS / 2]);
+        let (best, median) = (self.times[0], self.times[self.times.len() / 2]);
         (best, format!("+{:.0} %", (median / best - 1.0) * 100.0))
+    }
+}
+
+/// Nanoseconds, with a decimal place below 1,000.
+fn shown(time: f64) -> String {
+    if time < 1000.0 {
+        format!("{time:.1}")
+    } else {
+        format!("{time:.0}")
     }
 }
 

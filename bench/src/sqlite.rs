@@ -1,5 +1,6 @@
 //! SQLite in memory, with an index for each attribute. The library is looked for when the program runs.
 use std::ffi::{c_char, c_int, c_void, CStr, CString};
+use std::mem::transmute_copy;
 use std::ptr::null_mut;
 
 extern "C" {
@@ -42,41 +43,37 @@ pub struct Statement {
 
 impl Library {
     fn load() -> Option<Library> {
-        // SAFETY: the names are C strings; each symbol, where it is found, has the type that SQLite's header gives it.
+        // SAFETY: the name is a C string; each symbol has the type that SQLite's header gives it.
         unsafe {
             let library = dlopen(c"libsqlite3.so.0".as_ptr(), RTLD_NOW);
             if library.is_null() {
                 return None;
             }
-            let symbol = |name: &CStr| Some(dlsym(library, name.as_ptr())).filter(|found| !found.is_null());
-            use std::mem::transmute;
             Some(Library {
-                version: transmute::<Raw, unsafe extern "C" fn() -> *const c_char>(symbol(
-                    c"sqlite3_libversion",
-                )?),
-                open: transmute::<Raw, unsafe extern "C" fn(*const c_char, *mut Raw) -> c_int>(symbol(
-                    c"sqlite3_open",
-                )?),
-                exec: transmute::<Raw, unsafe extern "C" fn(Raw, *const c_char, Raw, Raw, Raw) -> c_int>(
-                    symbol(c"sqlite3_exec")?,
-                ),
-                prepare: transmute::<
-                    Raw,
-                    unsafe extern "C" fn(Raw, *const c_char, c_int, *mut Raw, Raw) -> c_int,
-                >(symbol(c"sqlite3_prepare_v2")?),
-                bind: transmute::<Raw, unsafe extern "C" fn(Raw, c_int, i64) -> c_int>(symbol(
-                    c"sqlite3_bind_int64",
-                )?),
-                step: transmute::<Raw, unsafe extern "C" fn(Raw) -> c_int>(symbol(c"sqlite3_step")?),
-                column: transmute::<Raw, unsafe extern "C" fn(Raw, c_int) -> i64>(symbol(
-                    c"sqlite3_column_int64",
-                )?),
-                text: transmute::<Raw, unsafe extern "C" fn(Raw, c_int) -> *const c_char>(symbol(
-                    c"sqlite3_column_text",
-                )?),
-                reset: transmute::<Raw, unsafe extern "C" fn(Raw) -> c_int>(symbol(c"sqlite3_reset")?),
+                version: symbol(library, c"sqlite3_libversion")?,
+                open: symbol(library, c"sqlite3_open")?,
+                exec: symbol(library, c"sqlite3_exec")?,
+                prepare: symbol(library, c"sqlite3_prepare_v2")?,
+                bind: symbol(library, c"sqlite3_bind_int64")?,
+                step: symbol(library, c"sqlite3_step")?,
+                column: symbol(library, c"sqlite3_column_int64")?,
+                text: symbol(library, c"sqlite3_column_text")?,
+                reset: symbol(library, c"sqlite3_reset")?,
             })
         }
+    }
+}
+
+/// A function of a library, by its name.
+///
+/// # Safety
+/// F is the function's type.
+unsafe fn symbol<F: Copy>(library: Raw, name: &CStr) -> Option<F> {
+    const { assert!(size_of::<F>() == size_of::<Raw>()) };
+    // SAFETY: the library is open and the name is a C string; a pointer to a function has a pointer's size.
+    unsafe {
+        let found = dlsym(library, name.as_ptr());
+        (!found.is_null()).then(|| transmute_copy(&found))
     }
 }
 

@@ -51,10 +51,8 @@ fn query_is_ordinary(
         (Some(number), _) => found == Err(number) && out.unchanged(),
         (None, Err(number)) => number == 9 && out.unchanged(),
         (None, Ok((written, total, reads))) => {
-            let end = 12 * written as usize;
-            let pages = u64::from(image.state[PAGE_LIMIT]).max(4096);
-            let room = content.len() / 12;
-            written == total.min(room as u64) && reads <= pages && out.slice()[end..] == content[end..]
+            let fits = written <= total && written <= content.len() as u64 / 12;
+            fits && reads <= 4096 && out.slice()[12 * written as usize..] == content[12 * written as usize..]
         }
     };
     count.same((right, found), (true, found), format_args!("state {:?}, {query:?}", image.state));
