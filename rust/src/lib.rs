@@ -2,7 +2,9 @@
 pub mod cells;
 pub mod compare;
 pub mod host;
+pub mod lent;
 pub mod pages;
+pub mod plain;
 pub mod probe;
 pub mod random;
 pub mod reference;
