@@ -1,26 +1,30 @@
+-- `text::put_field` meets its contract: the byte stands behind the number's digits. Assumes nothing.
+use native.Mathlib.Omega.{arith}
 use borrow.Author.Needs.{needs}
+use Rattle.text.specs.Text.{fieldText}
+use Rattle.text.proofs.DecimalLaws.{length-decimal-le}
+use Rattle.text.proofs.GrownLaws.{Grown-then}
 use Rattle.text.proofs.put_field.Statement.{statement}
 use Rattle.text.proofs.put_field.Tie as tie
-use Rattle.text.proofs.put_field.Reads as reads
-use Rattle.text.proofs.put_field.Lts as lts
-use Rattle.text.proofs.put_byte.Reads as put-byte-reads
-use Rattle.text.proofs.put_decimal.Reads as put-decimal-reads
 
--- src/lib.rt:137:9
 put-decimal-requires : tie.Need-put-decimal-requires
 put-decimal-requires c κs = search needs
 
--- src/lib.rt:138:5
 put-byte-requires : tie.Need-put-byte-requires
-put-byte-requires c κs = ?
+put-byte-requires c κs =
+    let s = c .before .before .before .before .before .before in
+    let number = c .before .before .before .put-decimal .ensures in
+    let most = length-decimal-le 19 (s .args .n) (omega (arith, s .fits .n .fits)) in
+    omega (arith, s .pre, number .end-is, number .length-is, most)
 
--- src/lib.rt:133:1
 same-length : tie.Need-same-length
 same-length c = search needs
 
--- src/lib.rt:133:1
 returns : tie.Need-returns
-returns c = ?
+unfolding fieldText
+returns c =
+    let call = c .before .before in
+    Grown-then _ _ _ _ _ _ _ _ (call .before .before .before .before .put-decimal .ensures) (call .put-byte .ensures)
 
 pub put-field-spec : {M : Type 1} → statement M
 put-field-spec = tie.close (tie.spec put-decimal-requires put-byte-requires same-length returns)
