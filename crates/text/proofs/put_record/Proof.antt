@@ -1,39 +1,43 @@
+-- `text::put_record` meets its contract: the payload stands behind the values. Assumes nothing.
+use Prim.Native.Nat.{_*_}
+use native.Mathlib.Omega.{arith}
 use borrow.Author.Needs.{needs}
+use Rattle.record.specs.Bytes.{recordSize}
+use Rattle.text.specs.Text.{newline}
+use Rattle.text.proofs.TextLaws.{Grown-payload, length-fieldText-le}
 use Rattle.text.proofs.put_record.Statement.{statement}
 use Rattle.text.proofs.put_record.Tie as tie
-use Rattle.text.proofs.put_record.Reads as reads
-use Rattle.text.proofs.put_record.Lts as lts
-use Rattle.record.proofs.numbers.read32.Reads as read32-reads
-use Rattle.text.proofs.put_field.Reads as put-field-reads
-use Rattle.text.proofs.put_values.Reads as put-values-reads
 
--- src/lib.rt:67:17
 mul-start : tie.Need-mul-start
 mul-start c = search needs
 
--- src/lib.rt:68:9
 put-values-requires : tie.Need-put-values-requires
 put-values-requires c κs = search needs
 
--- src/lib.rt:69:38
 add-read32 : tie.Need-add-read32
 add-read32 c = search needs
 
--- src/lib.rt:69:26
 read32-requires : tie.Need-read32-requires
 read32-requires c κs = search needs
 
--- src/lib.rt:69:5
 put-field-requires : tie.Need-put-field-requires
 put-field-requires c κs = search needs
 
--- src/lib.rt:60:1
 same-length : tie.Need-same-length
 same-length c = search needs
 
--- src/lib.rt:60:1
 returns : tie.Need-returns
-returns c = ?
+returns c =
+    let call = c .before .before in
+    let read = call .before .read32 in
+    let values = call .before .before .before .before .before .put-values .ensures in
+    let s = call .before .before .before .before .before .before .before .before .before in
+    let most = length-fieldText-le 9 (read .result) newline (omega (arith, read .ensures .1)) in (
+      Grown-payload _ _ _ (s .args .out .now) _ _ _ (recordSize * s .args .i) (s .args .d) (read .result)
+          (read .ensures .0)
+          (values .0) (call .put-field .ensures),
+      omega (arith, s .pre .0, values .1, call .put-field .ensures .end-is, most),
+    )
 
 pub put-record-spec : {M : Type 1} → statement M
 put-record-spec =
