@@ -71,7 +71,7 @@ pub fn put_record(text: &mut [u8], at: usize, out: &[u8], i: usize, d: usize) ->
 
 // Writes `=`, and how many records match and how many pages were read.
 pub fn put_sum(text: &mut [u8], at: usize, total: u64, reads: u64) -> usize
-    requires { ⌜ at + 48 ≤ length (now text) ⌝ }
+    requires { ⌜ at + 44 ≤ length (now text) ⌝ }
     ensures { λ r. ⌜ Grown (now (text .entry)) at (sumText total reads) (now (text .exit)) r ⌝ }
 {
     let start = put_bytes(text, at, b"= ");
@@ -133,6 +133,7 @@ fn put_values(text: &mut [u8], at: usize, out: &[u8], start: usize, d: usize) ->
 fn put_field(text: &mut [u8], at: usize, n: u64, behind: u8) -> usize
     requires { ⌜ at + 21 ≤ length (now text) ⌝ }
     ensures { λ r. ⌜ Grown (now (text .entry)) at (fieldText n behind) (now (text .exit)) r ⌝ }
+    ensures { λ r. ⌜ r ≤ at + 21 ⌝ }
 {
     let end = put_decimal(text, at, n);
     put_byte(text, end, behind)

@@ -50,7 +50,7 @@ put-decimal-same-length t c = c .before .before .put-byte .ensures .length-is
 put-decimal-returns : (t : ℕ) → put-decimal-lts.Need-returns (near t) (put-decimal-at t) put-decimal.Post
 put-decimal-returns t c =
     let test = c .before .before .before .before in
-    rw (decimal-one (test .before .before .args .n) (test .if1 .taken)) (c .before .before .put-byte .ensures)
+    rw (decimal-one (test .before .before .args .n) (omega (arith, test .if1 .taken))) (c .before .before .put-byte .ensures)
 
 put-decimal-put-decimal-requires : (t : ℕ)
     → put-decimal-lts.Need-put-decimal-requires (near t) (put-decimal-at t) put-decimal.Post
@@ -83,7 +83,7 @@ put-decimal-returns-2 t c =
     let tenth = call .before .before .before .before in
     let test = tenth .before .before in
     let s = test .before .before in
-    rw (decimal-more (s .args .n) (test .if1 .left) (s .fits .n .fits))
+    rw (decimal-more (s .args .n) (omega (arith, test .if1 .left)) (s .fits .n .fits))
     (Grown-then _ _ _ _ _ _ _ _ (tenth .put-decimal .ensures) (call .put-byte2 .ensures))
 
 pub +put-decimal-spec : {M : Type 1} → statement M

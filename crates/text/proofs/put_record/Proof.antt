@@ -35,8 +35,8 @@ returns c =
     let most = length-fieldText-le 9 (read .result) newline (omega (arith, read .ensures .1)) in (
       Grown-payload _ _ _ (s .args .out .now) _ _ _ (recordSize * s .args .i) (s .args .d) (read .result)
           (read .ensures .0)
-          (values .0) (call .put-field .ensures),
-      omega (arith, s .pre .0, values .1, call .put-field .ensures .end-is, most),
+          (values .0) (call .put-field .ensures .0),
+      omega (arith, s .pre .0, values .1, call .put-field .ensures .0 .end-is, most),
     )
 
 pub put-record-spec : {M : Type 1} → statement M

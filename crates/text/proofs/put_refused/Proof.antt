@@ -21,7 +21,7 @@ returns : tie.Need-returns
 unfolding refusedText
 returns c =
     let call = c .before .before in
-    Grown-then _ _ _ _ _ _ _ _ (call .before .before .before .before .put-bytes .ensures) (call .put-field .ensures)
+    Grown-then _ _ _ _ _ _ _ _ (call .before .before .before .before .put-bytes .ensures) (call .put-field .ensures .0)
 
 pub put-refused-spec : {M : Type 1} → statement M
 put-refused-spec =

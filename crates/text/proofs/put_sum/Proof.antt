@@ -1,11 +1,7 @@
 -- `text::put_sum` meets its contract: the total, then the reads. Assumes nothing.
-use Prim.Native.Nat.{_+_}
-use mathlib.Core.Path.{_≡_}
-use native.Mathlib.Omega.{arith}
 use borrow.Author.Needs.{needs}
-use Rattle.text.specs.Text.{space, sumText}
+use Rattle.text.specs.Text.{sumText}
 use Rattle.text.proofs.GrownLaws.{Grown-then}
-use Rattle.text.proofs.TextLaws.{length-fieldText-le}
 use Rattle.text.proofs.put_sum.Statement.{statement}
 use Rattle.text.proofs.put_sum.Tie as tie
 
@@ -19,20 +15,7 @@ put-field-requires : tie.Need-put-field-requires
 put-field-requires c κs = search needs
 
 put-field-requires-2 : tie.Need-put-field-requires-2
-put-field-requires-2 c κs =
-    let total = c .before .before .before in
-    let first = total .before .before .before .before in
-    let s = first .before .before .before .before in
-    let two : first .put-bytes .result ≡ s .args .at + 2 = first .put-bytes .ensures .end-is in
-    omega (
-      arith,
-      s .pre,
-      two,
-      first .put-bytes .ensures .length-is,
-      total .put-field .ensures .end-is,
-      total .put-field .ensures .length-is,
-      length-fieldText-le 19 (s .args .total) space (omega (arith, s .fits .total .fits)),
-    )
+put-field-requires-2 c κs = search needs
 
 same-length : tie.Need-same-length
 same-length c = search needs
@@ -44,7 +27,7 @@ returns c =
     let total = reads .before .before .before .before in
     let first = total .before .before .before .before in
     Grown-then _ _ _ _ _ _ _ _ (first .put-bytes .ensures)
-    (Grown-then _ _ _ _ _ _ _ _ (total .put-field .ensures) (reads .put-field2 .ensures))
+    (Grown-then _ _ _ _ _ _ _ _ (total .put-field .ensures .0) (reads .put-field2 .ensures .0))
 
 pub put-sum-spec : {M : Type 1} → statement M
 put-sum-spec =

@@ -50,10 +50,10 @@ loop-again c =
     let s = test .before .before .before .before in
     let most = length-fieldText-le 4 (read .result) space (omega (arith, read .ensures .1)) in (
       omega arith,
-      omega (arith, loop .inv .1, call .put-field .ensures .end-is, most),
+      omega (arith, loop .inv .1, call .put-field .ensures .0 .end-is, most),
       Grown-value _ _ _ (s .args .out .now) _ _ _ (s .args .start) (loop .j) (read .result)
           (omega (arith, test .loop-test .taken, s .pre .0))
-          (read .ensures .0) (loop .inv .2) (call .put-field .ensures),
+          (read .ensures .0) (loop .inv .2) (call .put-field .ensures .0),
     )
 
 same-length : tie.Need-same-length Inv-loop μ-loop
