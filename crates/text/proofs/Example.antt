@@ -1,7 +1,7 @@
 -- The replies of document 01's printed run, computed: `ok`, a record, the last line; and numbers in decimal.
 -- Assumes nothing.
 use mathlib.Core.Path.{_≡_, refl}
-use mathlib.Core.List.{List, [], _∷_}
+use mathlib.Core.List.{[], _∷_}
 use Rattle.text.specs.Text.{places, decimal, fieldText, valuesText, recordText, recordsText, refusedText, sumText}
 
 -- 0, 10 and 2^32 - 1

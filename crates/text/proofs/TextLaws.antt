@@ -1,7 +1,7 @@
--- Laws of the replies: a record's text from the output it stands in, one piece more, and what room each reply takes.
--- Assumes nothing.
+-- Laws of the replies: a text with one more value, payload or record; records from the first on; the room that each
+-- reply takes. Assumes nothing.
 use Prim.Native.Nat.{ℕ, zero, suc, _+_, _*_, _^_, _≤_, _<_}
-use mathlib.Core.Path.{_≡_, refl, sym, ap, _∙_}
+use mathlib.Core.Path.{_≡_, sym, ap, _∙_}
 use mathlib.Core.List.{List, [], _∷_, _++_, append-nil, append-assoc}
 use native.Mathlib.Omega.{arith}
 use native.Mathlib.Numerals.{add-one}

@@ -4,7 +4,6 @@
 use record::RECORD_SIZE;
 use record::numbers::read16;
 use record::numbers::read32;
-ghost use mathlib.Core.Path.{_≡_};
 ghost use mathlib.Core.List.{[], _∷_};
 ghost use Prim.Native.Nat.{_+_, _*_, _≤_};
 ghost use lib.ListN.{length};

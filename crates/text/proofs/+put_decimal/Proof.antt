@@ -49,8 +49,9 @@ put-decimal-same-length t c = c .before .before .put-byte .ensures .length-is
 
 put-decimal-returns : (t : ℕ) → put-decimal-lts.Need-returns (near t) (put-decimal-at t) put-decimal.Post
 put-decimal-returns t c =
-    let test = c .before .before .before .before in
-    rw (decimal-one (test .before .before .args .n) (omega (arith, test .if1 .taken))) (c .before .before .put-byte .ensures)
+    let call = c .before .before in
+    let test = call .before .before in
+    rw (decimal-one (test .before .before .args .n) (omega (arith, test .if1 .taken))) (call .put-byte .ensures)
 
 put-decimal-put-decimal-requires : (t : ℕ)
     → put-decimal-lts.Need-put-decimal-requires (near t) (put-decimal-at t) put-decimal.Post
