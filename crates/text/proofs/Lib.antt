@@ -1,0 +1,4 @@
+pub mod DecimalLaws
+pub mod Example
+pub mod GrownLaws
+pub mod TextLaws
