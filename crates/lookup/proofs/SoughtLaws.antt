@@ -144,6 +144,6 @@ module _ (store : Store) (values : List ℕ) (S : List Record)
 
   pub soughtAnswer-stored : keyFits s values ≡ true → soughtAnswer store values ≡ storedAnswer (stored key S)
   soughtAnswer-stored f =
-      sym (soughtAnswer-word store values (limits-of-sound whole S sound) (keyWord whole key) (packedKey values) word-key
-      refl)
+      let limits = limits-of-sound whole S sound in
+      sym (soughtAnswer-word store values limits (keyWord whole key) (packedKey values) word-key refl)
       ∙ wordAnswer-sound f (keyWord whole key % 2 ^ 16) refl
