@@ -103,8 +103,8 @@ fn query(table: &mut Table, forms: Forms, subset: usize, keys: &'static [[u32; 4
     };
     let found = queries.iter().map(|&query| plain.query(query, &mut []).expect("accepted"));
     let (total, reads) = found.fold((0, 0), |(t, r), (_, total, reads)| (t + total, r + reads));
-    let input =
-        format!("{:.1} records on {:.1} pages", total as f64 / count as f64, reads as f64 / count as f64);
+    let each = |sum: usize| sum as f64 / count as f64;
+    let input = format!("{:.1} records on {:.1} pages", each(total), each(reads));
     let step = Step { name, input, unit: "call", units: count };
     table.forms(step, vec![0; 12 * RECORDS], named);
 }
