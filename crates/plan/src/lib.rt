@@ -1,0 +1,1 @@
+// What an insert is to do, found without a write (document 01, "Calls").
