@@ -1,2 +1,3 @@
 pub mod CutLaws
 pub mod EndLaws
+pub mod MetLaws
