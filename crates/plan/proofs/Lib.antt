@@ -1,3 +1,4 @@
 pub mod CutLaws
 pub mod EndLaws
+pub mod FullLaws
 pub mod MetLaws
