@@ -1,4 +1,5 @@
 pub mod CutLaws
 pub mod EndLaws
 pub mod FullLaws
+pub mod HalfLaws
 pub mod MetLaws
