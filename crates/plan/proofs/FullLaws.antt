@@ -11,8 +11,7 @@ use lib.ListN.{length, getD}
 use Rattle.lists.specs.Filter.{all}
 use Rattle.lists.proofs.Bools.{beq-of-eq}
 use Rattle.lists.proofs.FilterLaws.{all-imp}
-use Rattle.shape.specs.Shape.{widthsOf, total, shapeNumber, Fit}
-use Rattle.shape.specs.Key.{keyFits}
+use Rattle.shape.specs.Shape.{widthsOf, total, Fit}
 use Rattle.shape.specs.declared.Shape.{Shape}
 use Rattle.shape.proofs.ShapeLaws.{widthsOf-fit, capacity-bounds}
 use Rattle.split.specs.Steps.{steps, stepsBelow}
@@ -38,7 +37,7 @@ use Rattle.model.specs.Model.{recordFor}
 use Rattle.store.specs.Store.{Store}
 use Rattle.store.specs.Sound.{Sound}
 use Rattle.change.proofs.MeetLaws.{allHave, recordsOn, shared-page}
-use Rattle.plan.specs.Private.{firstKey, lastKey, EndsMet}
+use Rattle.plan.specs.Private.{firstKey, lastKey, Asked, EndsMet}
 use Rattle.plan.proofs.EndLaws.{firstWith, lastWith, alike-of-ends, ends-of-alike, ends-apart}
 use Rattle.plan.proofs.MetLaws.{unpacked-recordFor, page-bytes, meets, records-met, sorted-met}
 
@@ -48,8 +47,7 @@ chosen-key : (β : Bool) (k k′ : ℕ) (q q′ : Record) → unpackedKey k ≡ 
 chosen-key true k k′ q q′ d e = d
 chosen-key false k k′ q q′ d e = e
 
-module _ (before : Store) (values : List ℕ) (content : Content) (good : shapeNumber (before .state .shape) ≡ 0)
-    (fits : keyFits (before .state .shape) values ≡ true) (four : length values ≡ 4) (g x i pair m : ℕ)
+module _ (before : Store) (values : List ℕ) (content : Content) (a : Asked before values) (g x i pair m : ℕ)
     (e : EndsMet before values g x i pair m) (S : List Record) (sound : Sound before S) where
   abbrev s : Shape
   s = before .state .shape
@@ -70,21 +68,21 @@ module _ (before : Store) (values : List ℕ) (content : Content) (good : shapeN
   rs = recordsFrom s b 2 page
 
   pub key-is : r .key ≡ unpackedKey (packedKey values)
-  key-is = unpacked-recordFor s values content good fits four
+  key-is = unpacked-recordFor s values content (a .shape) (a .fits) (a .four)
 
   pub order : sorted (recordBit s) (total ws) 0 rs ≡ true
-  order = sorted-met before values content good fits four g x b (e .met) S sound
+  order = sorted-met before values content a g x b (e .met) S sound
 
   pub between : Between (recordBit s) (total ws) 0 r r rs i
   between =
-      placed-between s r (packedKey values) key-is page (page-bytes before values content good fits four g x b (e .met))
+      placed-between s r (packedKey values) key-is page (page-bytes before values content a g x b (e .met))
       b order i (e .place)
 
   pub size : length rs ≡ b
   size = length-recordsFrom s b 2 page
 
   some : 1 ≤ length rs
-  some = omega (arith, size, capacity-bounds s good .0)
+  some = omega (arith, size, capacity-bounds s (a .shape) .0)
 
   -- ---- the first and the last key
 
@@ -96,7 +94,7 @@ module _ (before : Store) (values : List ℕ) (content : Content) (good : shapeN
 
   key-there : (k : ℕ) → k < b → unpackedKey (keyAt page k) ≡ getD rs k r .key
   key-there k l =
-      let bytes = page-bytes before values content good fits four g x b (e .met) in
+      let bytes = page-bytes before values content a g x b (e .met) in
       unpackedKey-keyIn s (recordField page k) (AreBytes-field page (recordOffset k) recordSize bytes)
       ∙ ap (λ q. q .key) (sym (record-at s r (packedKey values) key-is page bytes b order k l))
 
@@ -119,10 +117,10 @@ module _ (before : Store) (values : List ℕ) (content : Content) (good : shapeN
       (subst (λ k. FirstPair ws (unpackedKey (firstKey page (packedKey values) i)) k pair) last-key (e .ends))
 
   pub fit : Fit ws
-  fit = widthsOf-fit s good
+  fit = widthsOf-fit s (a .shape)
 
   all-steps : length (steps ws) ≡ total ws
-  all-steps = length-steps-widthsOf s good
+  all-steps = length-steps-widthsOf s (a .shape)
 
   -- they are two
   pub ends-differ : 64 ≤ pair → ⊥
@@ -173,6 +171,6 @@ module _ (before : Store) (values : List ℕ) (content : Content) (good : shapeN
     -- the leaf's own bits are alike, so that its depth is no greater
     pub below-step : m < x → ⊥
     below-step h =
-        let own = shared-page before r S sound g x (meets before values content good fits four g x b (e .met)) in
-        let theirs = rw (records-met before values content good fits four g x b (e .met)) at own in
+        let own = shared-page before r S sound g x (meets before values content a g x b (e .met)) in
+        let theirs = rw (records-met before values content a g x b (e .met)) at own in
         true≢false (sym (have-below x m h theirs) ∙ differ)

@@ -7,8 +7,7 @@ use mathlib.Core.List.{List}
 use native.Mathlib.Omega.{arith}
 use native.Mathlib.Nat.{zero-add}
 use lib.ListN.{length, getD, take, drop, length-take, length-drop}
-use Rattle.shape.specs.Shape.{widthsOf, total, shapeNumber}
-use Rattle.shape.specs.Key.{keyFits}
+use Rattle.shape.specs.Shape.{widthsOf, total}
 use Rattle.shape.specs.declared.Shape.{Shape}
 use Rattle.split.specs.Steps.{stepsBelow}
 use Rattle.split.specs.Bits.{splitBit}
@@ -26,13 +25,12 @@ use Rattle.model.specs.Model.{recordFor}
 use Rattle.store.specs.Store.{Store}
 use Rattle.store.specs.Sound.{Sound}
 use Rattle.change.proofs.SharedLaws.{sorted-shared}
-use Rattle.plan.specs.Private.{EndsMet}
+use Rattle.plan.specs.Private.{Asked, EndsMet}
 use Rattle.plan.proofs.CutLaws.{length-filter-lt, place-low, place-high}
 use Rattle.plan.proofs.MetLaws.{page-bytes}
 use Rattle.plan.proofs.FullLaws.{rs, key-is, order, between, size, fit, step-lt, shared-bits, differ}
 
-module _ (before : Store) (values : List ℕ) (content : Content) (good : shapeNumber (before .state .shape) ≡ 0)
-    (fits : keyFits (before .state .shape) values ≡ true) (four : length values ≡ 4) (g x i pair m : ℕ)
+module _ (before : Store) (values : List ℕ) (content : Content) (a : Asked before values) (g x i pair m : ℕ)
     (e : EndsMet before values g x i pair m) (split : pair < 64) (cut : ℕ)
     (cut-at : cut
     ≡ firstOne (widthsOf (before .state .shape)) pair
@@ -58,7 +56,7 @@ module _ (before : Store) (values : List ℕ) (content : Content) (good : shapeN
 
   module _ (S : List Record) (sound : Sound before S) where
     abbrev records : List Record
-    records = rs before values content good fits four g x i pair m e S sound
+    records = rs before values content a g x i pair m e S sound
 
     abbrev t : ℕ
     t = length (stepsBelow ws pair)
@@ -67,7 +65,7 @@ module _ (before : Store) (values : List ℕ) (content : Content) (good : shapeN
     live = e .ends .step-there split
 
     m-lt : m < total ws
-    m-lt = step-lt before values content good fits four g x i pair m e S sound split
+    m-lt = step-lt before values content a g x i pair m e S sound split
 
     -- from the step on the records are in split order
     order-there : sorted (recordBit s) (suc (total ws - suc m)) t records ≡ true
@@ -75,48 +73,48 @@ module _ (before : Store) (values : List ℕ) (content : Content) (good : shapeN
         let rest : m + suc (total ws - suc m) ≡ total ws = omega (arith, m-lt) in
         subst (λ u. sorted (recordBit s) (suc (total ws - suc m)) u records ≡ true) (e .step)
         (sorted-shared (recordBit s) m (suc (total ws - suc m)) 0 m (zero-add m) (recordBit s r) records
-        (shared-bits before values content good fits four g x i pair m e S sound split)
+        (shared-bits before values content a g x i pair m e S sound split)
         (ap (λ n. sorted (recordBit s) n 0 records) rest
-        ∙ order before values content good fits four g x i pair m e S sound))
+        ∙ order before values content a g x i pair m e S sound))
 
     pub take-cut : take cut records ≡ side (recordBit s) false m records
     take-cut =
         rw (cut-at, e .step)
-        (take-firstOne s (fit before values content good fits four g x i pair m e S sound) pair live page
-        (page-bytes before values content good fits four g x b (e .met)) (total ws - suc m) b order-there)
+        (take-firstOne s (fit before values content a g x i pair m e S sound) pair live page
+        (page-bytes before values content a g x b (e .met)) (total ws - suc m) b order-there)
 
     pub drop-cut : drop cut records ≡ side (recordBit s) true m records
     drop-cut =
         rw (cut-at, e .step)
-        (drop-firstOne s (fit before values content good fits four g x i pair m e S sound) pair live page
-        (page-bytes before values content good fits four g x b (e .met)) (total ws - suc m) b order-there)
+        (drop-firstOne s (fit before values content a g x i pair m e S sound) pair live page
+        (page-bytes before values content a g x b (e .met)) (total ws - suc m) b order-there)
 
     pub cut-within : cut ≤ length records
-    cut-within = omega (arith, cut-le, size before values content good fits four g x i pair m e S sound)
+    cut-within = omega (arith, cut-le, size before values content a g x i pair m e S sound)
 
     module _ (bit : Bool) (bit-there : bit ≡ pairBit ws (unpackedKey (packedKey values)) pair) where
       -- the key's bit
       pub bit-is : recordBit s r m ≡ bit
       bit-is =
           ap (recordBit s r) (e .step)
-          ∙ ap (λ k. splitBit ws k t) (key-is before values content good fits four g x i pair m e S sound)
-          ∙ splitBit-place ws (fit before values content good fits four g x i pair m e S sound)
+          ∙ ap (λ k. splitBit ws k t) (key-is before values content a g x i pair m e S sound)
+          ∙ splitBit-place ws (fit before values content a g x i pair m e S sound)
           (unpackedKey (packedKey values)) pair live
           ∙ sym bit-there
 
       pub falls-low : bit ≡ false → i ≤ cut
       falls-low c =
           place-low (recordBit s) (total ws) r r records i
-          (order before values content good fits four g x i pair m e S sound)
-          (between before values content good fits four g x i pair m e S sound) m m-lt cut cut-within take-cut drop-cut
-          (shared-bits before values content good fits four g x i pair m e S sound split) (bit-is ∙ c)
+          (order before values content a g x i pair m e S sound)
+          (between before values content a g x i pair m e S sound) m m-lt cut cut-within take-cut drop-cut
+          (shared-bits before values content a g x i pair m e S sound split) (bit-is ∙ c)
 
       pub falls-high : bit ≡ true → cut ≤ i
       falls-high c =
           place-high (recordBit s) (total ws) r r records i
-          (order before values content good fits four g x i pair m e S sound)
-          (between before values content good fits four g x i pair m e S sound) m m-lt cut cut-within take-cut drop-cut
-          (shared-bits before values content good fits four g x i pair m e S sound split) (bit-is ∙ c)
+          (order before values content a g x i pair m e S sound)
+          (between before values content a g x i pair m e S sound) m m-lt cut cut-within take-cut drop-cut
+          (shared-bits before values content a g x i pair m e S sound split) (bit-is ∙ c)
 
       -- not all records have it
       pub half-room : cond bit (b - cut) cut < b
@@ -124,11 +122,11 @@ module _ (before : Store) (values : List ℕ) (content : Content) (good : shapeN
         where
           fewer : (β : Bool) → recordBit s r m ≡ β → length (side (recordBit s) β m records) < b
           fewer β c =
-              let none = differ before values content good fits four g x i pair m e S sound split in
+              let none = differ before values content a g x i pair m e S sound split in
               omega (
                 arith,
                 length-filter-lt _ records (rw c at none),
-                size before values content good fits four g x i pair m e S sound,
+                size before values content a g x i pair m e S sound,
               )
 
           go : (β : Bool) → recordBit s r m ≡ β → cond β (b - cut) cut < b
@@ -138,7 +136,7 @@ module _ (before : Store) (values : List ℕ) (content : Content) (good : shapeN
                 fewer true c,
                 ap length drop-cut,
                 length-drop cut records,
-                size before values content good fits four g x i pair m e S sound,
+                size before values content a g x i pair m e S sound,
               )
           go false c =
               omega (
@@ -146,5 +144,5 @@ module _ (before : Store) (values : List ℕ) (content : Content) (good : shapeN
                 fewer false c,
                 ap length take-cut,
                 length-take cut records,
-                size before values content good fits four g x i pair m e S sound,
+                size before values content a g x i pair m e S sound,
               )

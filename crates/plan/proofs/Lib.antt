@@ -3,3 +3,5 @@ pub mod EndLaws
 pub mod FullLaws
 pub mod HalfLaws
 pub mod MetLaws
+pub mod RefusalLaws
+pub mod SplitLaws

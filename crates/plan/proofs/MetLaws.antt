@@ -34,7 +34,7 @@ use Rattle.store.specs.Store.{Store, wordAt}
 use Rattle.store.specs.Sound.{Sound}
 use Rattle.store.proofs.DividedLaws.{leafRecords-divisionOf}
 use Rattle.change.proofs.MeetLaws.{recordsOn, MeetsPage, sorted-page, records-of-page}
-use Rattle.plan.specs.Private.{PageMet, FallsBefore}
+use Rattle.plan.specs.Private.{Asked, PageMet, FallsBefore}
 
 -- ---- a key's record
 
@@ -64,8 +64,7 @@ module _ (s : Shape) (values : List ℕ) (content : Content) (good : shapeNumber
 
 -- ---- the page
 
-module _ (before : Store) (values : List ℕ) (content : Content) (good : shapeNumber (before .state .shape) ≡ 0)
-    (fits : keyFits (before .state .shape) values ≡ true) (four : length values ≡ 4) (g x n : ℕ)
+module _ (before : Store) (values : List ℕ) (content : Content) (a : Asked before values) (g x n : ℕ)
     (met : PageMet before values g x n) where
   abbrev s : Shape
   s = before .state .shape
@@ -85,7 +84,7 @@ module _ (before : Store) (values : List ℕ) (content : Content) (good : shapeN
         within = met .within;
         word =
             ap (λ k. wordAt s (before .state .depth) (before .memory .words) (splitBit (widthsOf s) k))
-            (key-recordFor s values content good fits four)
+            (key-recordFor s values content (a .shape) (a .fits) (a .four))
             ∙ met .own;
       }
 
@@ -100,23 +99,23 @@ module _ (before : Store) (values : List ℕ) (content : Content) (good : shapeN
     set-met =
         isSet-of-parts s (recordsOn before g) (sorted-page before r S sound g x meets)
         (rw (sym (records-of-page before r S sound g x meets), leafRecords-divisionOf s S (recordBit s r))
-        (all-filter (inShape s) _ (inShape s) (λ q a b. a) S (inShape-of-isSet s S (sound .set))))
+        (all-filter (inShape s) _ (inShape s) (λ q c d. c) S (inShape-of-isSet s S (sound .set))))
 
     inside : inShape s r ≡ true
-    inside = inShape-recordFor s values content fits
+    inside = inShape-recordFor s values content (a .fits)
 
     -- a place between two records: the key is not stored
     pub absent-met : (i : ℕ) → FallsBefore before values g n i → nonEmpty (stored (r .key) (recordsOn before g)) ≡ false
     absent-met i p =
-        let none = absent-placed s r (packedKey values) (unpacked-recordFor s values content good fits four) page
+        let none = absent-placed s r (packedKey values) (unpacked-recordFor s values content (a .shape) (a .fits) (a .four)) page
         page-bytes n sorted-met i p in
-        not-true _ (sym (absent-stored s good (recordsOn before g) set-met r inside) ∙ rw records-met none)
+        not-true _ (sym (absent-stored s (a .shape) (recordsOn before g) set-met r inside) ∙ rw records-met none)
 
     -- at a record: it is
     pub stored-met : (i : ℕ) → Placed (widthsOf s) (unpackedKey (packedKey values)) page n (At i)
         → nonEmpty (stored (r .key) (recordsOn before g)) ≡ true
     stored-met i p =
-        let one = withPrefix-placed s r (packedKey values) (unpacked-recordFor s values content good fits four) page
+        let one = withPrefix-placed s r (packedKey values) (unpacked-recordFor s values content (a .shape) (a .fits) (a .four)) page
         page-bytes n sorted-met i p in
-        ap nonEmpty (stored-withPrefix s good (recordsOn before g) set-met (r .key) (fits-of-inShape s r inside))
+        ap nonEmpty (stored-withPrefix s (a .shape) (recordsOn before g) set-met (r .key) (fits-of-inShape s r inside))
         ∙ rw (records-met, one)
