@@ -30,6 +30,7 @@ use Rattle.change.proofs.InsertPromiseLaws.{OnSound, insert-unsound, insert-ali
 use Rattle.plan.specs.Private.{firstKey, lastKey, HalfMet, Halved, Asked, FullMet, EndsMet, SplitMet, DividingMet, Planned}
 use Rattle.plan.specs.declared.Split.{Split}
 use Rattle.plan.specs.declared.Cut.{Cut}
+use Rattle.plan.specs.declared.Half.{Half}
 use Rattle.plan.specs.declared.Half.the-variants.{Damaged, Own}
 use Rattle.plan.specs.declared.Plan.the-variants.{Refused, Divide}
 use Rattle.plan.proofs.MetLaws.{meets, records-met, absent-met}
@@ -126,8 +127,9 @@ module _ (before : Store) (values : List ℕ) where
     abbrev met : SplitMet before values split
     met = d .split-met
 
-    pub nine-half : Halved ws′ page′ b key (split .behind) (split .pair) Damaged → Planned before values (Refused 9)
-    nine-half h content =
+    pub nine-half : (half : Half) → Halved ws′ page′ b key (split .behind) (split .pair) half → half ≡ Damaged
+        → Planned before values (Refused 9)
+    nine-half half h q content =
         insert-unsound before values content (d .asked .early)
         (λ S sound.
         let e = met .ends-met in
@@ -144,7 +146,9 @@ module _ (before : Store) (values : List ℕ) where
         there : damaged (packedKey values) (page (split .page)) (widthsOf s)
         there =
             subst (λ k. damaged k (page (split .page)) (widthsOf s)) (d .key-is)
-            (subst (λ pg. damaged key pg (widthsOf s)) ep (subst (λ ws. damaged key page′ ws) ew h))
+            (subst (λ pg. damaged key pg (widthsOf s)) ep
+            (subst (λ ws. damaged key page′ ws) ew
+            (subst (Halved ws′ page′ b key (split .behind) (split .pair)) q h)))
 
     module _ (free : ℕ) (ef : free ≡ firstFree b (before .memory .bytes) (before .state .limits .pages) 0) where
       pub seven-full : free ≡ before .state .limits .pages → Planned before values (Refused 7)
@@ -153,9 +157,9 @@ module _ (before : Store) (values : List ℕ) where
           (meets-full (d .asked) _ _ _ _ _ (met .ends-met) (met .differ) (met .below) (met .deep) content)
           (λ S sound. no-free-page before values free ef f)
 
-      pub divide-planned : (cut : Cut) → HalfMet ws′ page′ b key (split .behind) (split .pair) cut
-          → (free ≡ before .state .limits .pages → ⊥) → Planned before values (Divide split cut free)
-      divide-planned cut h n =
+      pub divide-planned : (half : Half) → Halved ws′ page′ b key (split .behind) (split .pair) half → (cut : Cut)
+          → half ≡ Own cut → (free ≡ before .state .limits .pages → ⊥) → Planned before values (Divide split cut free)
+      divide-planned half h cut q n =
           let f = free-page before values free ef n in
           let halves : ℕ → List ℕ → List ℕ → Type 0 =
           λ k pg ws. HalfMet ws pg b k (split .behind) (split .pair) cut in
@@ -163,7 +167,9 @@ module _ (before : Store) (values : List ℕ) where
             met = met;
             half =
                 subst (λ k. halves k (page (split .page)) (widthsOf s)) (d .key-is)
-                (subst (λ pg. halves key pg (widthsOf s)) ep (subst (λ ws. halves key page′ ws) ew h));
+                (subst (λ pg. halves key pg (widthsOf s)) ep
+                (subst (λ ws. halves key page′ ws) ew
+                (subst (Halved ws′ page′ b key (split .behind) (split .pair)) q h)));
             free-within = f .0;
             free-none = f .1;
           }

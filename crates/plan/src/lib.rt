@@ -1,4 +1,39 @@
 // What an insert is to do, found without a write (document 01, "Calls"). Damage that it meets is 9.
+use find::Place;
+use find::find;
+use find::first_one;
+use lent::limits_hold;
+use packed::first_pair;
+use packed::pair_bit;
+use packed::step_number;
+use page::key_at;
+use pages::count_at;
+use pages::first_free;
+use record::RECORD_SIZE;
+use record::pack_key;
+use seek::key_word;
+use seek::word_holds;
+use shape::Key;
+use shape::Widths;
+use shape::widths_of;
+use store::State;
+use tally::tally_holds;
+use word::Leaf;
+use word::unpack;
+ghost use mathlib.Core.Path.{_≡_};
+ghost use mathlib.Core.Bool.{true};
+ghost use Prim.Native.Nat.{_/_, _%_, _≤_, _<_};
+ghost use lib.ListN.{getD, length};
+ghost use Rattle.shape.specs.Shape.{Fit, widthsOf, widthList};
+ghost use Rattle.record.specs.Packed.{unpackedKey};
+ghost use Rattle.page.specs.Fields.{recordOffset};
+ghost use Rattle.pages.specs.Pages.{PageLent};
+ghost use Rattle.packed.specs.Order.{FirstPair};
+ghost use Rattle.store.specs.Store.{store};
+ghost use Rattle.store.specs.Promises.{keyNumber};
+ghost use Rattle.seek.specs.Hold.{wordHolds};
+ghost use Rattle.plan.specs.Private.{PagesLent, firstKey, lastKey, Halved, Planned, PlannedFrom};
+ghost use Rattle.plan.specs.Private.{WordMet, EmptyMet, LeafMet, FullMet, DividingMet};
 
 // What is to be done: nothing, with the number of a refusal; a page takes the record at a place among
 // the records that it has; an empty leaf, of a depth, gets a free page; a full leaf is divided, and a
@@ -33,3 +68,182 @@ pub enum Half {
     Own(Cut),
 }
 
+// What an insert of a key is to do, after 1, 2 and 3.
+pub fn plan_insert(state: State, dir: &[u32], pages: &[u8], key: Key) -> Plan
+    requires { ⌜ keyNumber (store state (now dir) (now pages)) (key .values) ≡ 0 ⌝ }
+    ensures { λ r. ⌜ Planned (store state (now (dir .entry)) (now (pages .entry))) (key .values) r ⌝ }
+{
+    if !limits_hold(state) {
+        return Plan::Refused(9);
+    }
+    let values = key.values;
+    let word = key_word(state, dir, values);
+    if !word_holds(state, word) {
+        return Plan::Refused(9);
+    }
+    plan_leaf(state, pages, pack_key(key), word)
+}
+
+// In the leaf that the word of a packed key's cell names.
+fn plan_leaf(state: State, pages: &[u8], key: u64, word: u32) -> Plan
+    requires { ⌜ PagesLent state (now pages) × (wordHolds state word ≡ true) ⌝ }
+    ensures { λ r. ⌜ PlannedFrom state (now (pages .entry)) (λ before values. WordMet before values key word) r ⌝ }
+{
+    let leaf = unpack(word);
+    match leaf {
+        Leaf::Empty(depth) => plan_empty(state, pages, depth),
+        Leaf::Page(page, depth) => plan_page(state, pages, key, page, depth),
+    }
+}
+
+// In a leaf without a page: 7 where no page is free.
+fn plan_empty(state: State, pages: &[u8], depth: u32) -> Plan
+    requires { ⌜ PagesLent state (now pages) ⌝ }
+    ensures { λ r. ⌜ PlannedFrom state (now (pages .entry)) (λ before values. EmptyMet before values depth) r ⌝ }
+{
+    let shape = state.shape;
+    let limits = state.limits;
+    let free = first_free(pages, shape.capacity as usize, limits.pages as usize) as u32;
+    if free == limits.pages {
+        return Plan::Refused(7);
+    }
+    Plan::Get(free, depth)
+}
+
+// In a leaf with a page: 9 for a count of 0 or above b, 4 where the key is there.
+fn plan_page(state: State, pages: &[u8], key: u64, page: u32, depth: u32) -> Plan
+    requires { ⌜ PagesLent state (now pages) × PageLent (state .shape .capacity) page (now pages) ⌝ }
+    ensures { λ r. ⌜ PlannedFrom state (now (pages .entry)) (λ before values. LeafMet before values key page depth)
+        r ⌝ }
+{
+    let shape = state.shape;
+    let capacity = shape.capacity as usize;
+    let n = count_at(pages, capacity, page as usize);
+    if n == 0 {
+        return Plan::Refused(9);
+    }
+    if capacity < n {
+        return Plan::Refused(9);
+    }
+    let size = 2 + RECORD_SIZE * capacity;
+    let start = (page as usize) * size;
+    let end = start + size;
+    let found = find(&pages[start..end], n, widths_of(shape), key);
+    let Place::Before(i) = found else {
+        return Plan::Refused(4);
+    };
+    if n < capacity {
+        return Plan::Take(page, i, n);
+    }
+    plan_split(state, pages, key, page, depth, i)
+}
+
+// In a full leaf, where the key falls before record i: 6 where its keys and the new one share their
+// first L split bits, 9 where two have one key, where they differ above the leaf or the tally is none
+// of a sound store.
+fn plan_split(state: State, pages: &[u8], key: u64, page: u32, depth: u32, i: usize) -> Plan
+    requires { ⌜ PagesLent state (now pages) × PageLent (state .shape .capacity) page (now pages) ⌝ }
+    ensures { λ r. ⌜ PlannedFrom state (now (pages .entry)) (λ before values. FullMet before values key page depth i)
+        r ⌝ }
+{
+    let shape = state.shape;
+    let limits = state.limits;
+    let capacity = shape.capacity as usize;
+    let widths = widths_of(shape);
+    let size = 2 + RECORD_SIZE * capacity;
+    let start = (page as usize) * size;
+    let end = start + size;
+    let pair = ends_pair(&pages[start..end], capacity, widths, key, i);
+    if pair == 64 {
+        return Plan::Refused(9);
+    }
+    let step = step_number(widths, pair);
+    if (limits.depth as u64) <= step {
+        return Plan::Refused(6);
+    }
+    if step < (depth as u64) {
+        return Plan::Refused(9);
+    }
+    if !tally_holds(state.tally) {
+        return Plan::Refused(9);
+    }
+    let behind = i;
+    plan_cut(state, pages, key, Split { page, depth, behind, pair, step })
+}
+
+// Where a full leaf is cut: 9 where the key does not fall into its half, 7 where no page is free.
+fn plan_cut(state: State, pages: &[u8], key: u64, split: Split) -> Plan
+    requires { ⌜ PagesLent state (now pages) × PageLent (state .shape .capacity) (split .page) (now pages) ⌝ }
+    requires { ⌜ (split .pair < 64)
+        × (split .pair / 4 < getD (widthsOf (state .shape)) (split .pair % 4) 0) ⌝ }
+    ensures { λ r. ⌜ PlannedFrom state (now (pages .entry)) (λ before values. DividingMet before values key split)
+        r ⌝ }
+{
+    let shape = state.shape;
+    let limits = state.limits;
+    let capacity = shape.capacity as usize;
+    let size = 2 + RECORD_SIZE * capacity;
+    let start = (split.page as usize) * size;
+    let end = start + size;
+    let half = half_of(&pages[start..end], capacity, widths_of(shape), key, split.behind, split.pair);
+    let Half::Own(cut) = half else {
+        return Plan::Refused(9);
+    };
+    let free = first_free(pages, capacity, limits.pages as usize) as u32;
+    if free == limits.pages {
+        return Plan::Refused(7);
+    }
+    Plan::Divide(split, cut, free)
+}
+
+// The place of the first pair in which the first and the last differ of the n keys of a page and one
+// more, which falls before record i; 64 where they do not.
+fn ends_pair(page: &[u8], n: usize, widths: Widths, key: u64, i: usize) -> u64
+    requires { ⌜ (1 ≤ n) × (n ≤ 16) × (recordOffset n ≤ length (now page)) × Fit (widthList widths) ⌝ }
+    ensures { λ r. ⌜ FirstPair (widthList widths) (unpackedKey (firstKey (now (page .entry)) key i))
+        (unpackedKey (lastKey (now (page .entry)) n key i)) r ⌝ }
+{
+    let first = first_key(page, key, i);
+    let last = last_key(page, n, key, i);
+    first_pair(widths, first, last)
+}
+
+fn first_key(page: &[u8], key: u64, i: usize) -> u64
+    requires { ⌜ recordOffset 1 ≤ length (now page) ⌝ }
+    ensures { λ r. ⌜ r ≡ firstKey (now (page .entry)) key i ⌝ }
+{
+    if i == 0 { key } else { key_at(page, 0) }
+}
+
+fn last_key(page: &[u8], n: usize, key: u64, i: usize) -> u64
+    requires { ⌜ (1 ≤ n) × (n ≤ 16) × (recordOffset n ≤ length (now page)) ⌝ }
+    ensures { λ r. ⌜ r ≡ lastKey (now (page .entry)) n key i ⌝ }
+{
+    if i == n { key } else { key_at(page, n - 1) }
+}
+
+// Cuts a page of n records at its first record with bit 1 at the place of a split step, where a key
+// falls before record i.
+fn half_of(page: &[u8], n: usize, widths: Widths, key: u64, i: usize, pair: u64) -> Half
+    requires { ⌜ (1 ≤ n) × (n ≤ 16) × (recordOffset n ≤ length (now page)) × Fit (widthList widths) ⌝ }
+    requires { ⌜ (pair < 64) × (pair / 4 < getD (widthList widths) (pair % 4) 0) ⌝ }
+    ensures { λ r. ⌜ Halved (widthList widths) (now (page .entry)) n key i pair r ⌝ }
+{
+    let start = first_one(page, n, widths, pair);
+    if pair_bit(widths, key, pair) {
+        if i < start {
+            return Half::Damaged;
+        }
+        if start == 0 {
+            return Half::Damaged;
+        }
+        return Half::Own(Cut { start, bit: true, place: i - start });
+    }
+    if start < i {
+        return Half::Damaged;
+    }
+    if start == n {
+        return Half::Damaged;
+    }
+    Half::Own(Cut { start, bit: false, place: i })
+}

@@ -1,0 +1,4 @@
+pub mod DividedLaws
+pub mod InsertedLaws
+pub mod SplitLaws
+pub mod TakeLaws
