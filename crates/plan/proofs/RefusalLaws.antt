@@ -118,7 +118,7 @@ module _ (before : Store) (values : List ℕ) where
       pub get-planned : (free ≡ P → ⊥) → Planned before values (Get free x)
       get-planned n =
           let f = free-page n in
-          record { within = f .0; depth-le = m .depth-le; own = m .own; free = f .1 }
+          record { asked = m .asked; within = f .0; depth-le = m .depth-le; own = m .own; free = f .1 }
 
   -- ---- a leaf with a page
 
@@ -157,7 +157,7 @@ module _ (before : Store) (values : List ℕ) where
         falls = subst (λ k. Placed (widthsOf s) (unpackedKey k) (page g) n (Before i)) (m .key-is) p
 
         pub take-planned : n < b → Planned before values (Take g i n)
-        take-planned l = record { depth = x; met = page-met; room = l; place = falls }
+        take-planned l = record { asked = m .asked; depth = x; met = page-met; room = l; place = falls }
 
         pub full-met : b ≤ n → FullMet before values key g x i
         full-met l =

@@ -164,6 +164,7 @@ module _ (before : Store) (values : List ℕ) where
           let halves : ℕ → List ℕ → List ℕ → Type 0 =
           λ k pg ws. HalfMet ws pg b k (split .behind) (split .pair) cut in
           record {
+            asked = d .asked;
             met = met;
             half =
                 subst (λ k. halves k (page (split .page)) (widthsOf s)) (d .key-is)

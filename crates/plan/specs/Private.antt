@@ -106,6 +106,7 @@ module _ (before : Store) (values : List ℕ) where
 
   -- page g has room, and takes the key before record i of n
   pub record TakePlanned (g i n : ℕ) : Type 0 where
+    pub asked : Asked before values
     pub depth : ℕ
     pub met : PageMet g depth n
     pub room : n < before .state .shape .capacity
@@ -113,6 +114,7 @@ module _ (before : Store) (values : List ℕ) where
 
   -- the key's leaf, of depth x, is empty, and page g is free
   pub record GetPlanned (g x : ℕ) : Type 0 where
+    pub asked : Asked before values
     pub within : g < before .state .limits .pages
     pub depth-le : x ≤ before .state .depth
     pub own : word ≡ wordOf (Empty x)
@@ -137,6 +139,7 @@ module _ (before : Store) (values : List ℕ) where
 
   -- page `free` is free, and the key falls into its own half
   pub record DividePlanned (split : Split) (cut : Cut) (free : ℕ) : Type 0 where
+    pub asked : Asked before values
     pub met : SplitMet split
     pub half : HalfMet ws (page (split .page)) (before .state .shape .capacity) (packedKey values) (split .behind)
         (split .pair) cut
