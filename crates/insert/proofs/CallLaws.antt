@@ -107,9 +107,10 @@ module _ (before : Store) (values : List ℕ) (content : Content) where
             deep = le-trans (a .within-limit) (a .bits);
             short = le-trans (a .within-limit) (a .short);
             room = le-trans (pow-mono (a .within-limit)) (a .words-lent);
-          } in
-          (subst (λ v. DirectoryFits v (before .state .depth) (length (before .memory .words))) (sym ew) fits,
-              got .depth-le)
+          } in (
+            subst (λ v. DirectoryFits v (before .state .depth) (length (before .memory .words))) (sym ew) fits,
+            got .depth-le,
+          )
 
       pub by-got : (bytes′ : List ℕ) → bytes′ ≡ insertedPages b g 0 0 (packedBytes key content) bytes
           → (ws : List ℕ) → ws ≡ widthsOf s → (word : ℕ) → word ≡ wordOf (Page g x) → (words′ : List ℕ)

@@ -43,22 +43,48 @@ pub fn insert(state: State, dir: &mut [u32], pages: &mut [u8], key: Key, content
             return Change { answer, state };
         }
         Plan::Take(page, place, count) => {
-            insert_record(pages, capacity, page as usize, place, count, packed, content);
+            insert_record(
+                pages,
+                capacity,
+                page as usize,
+                place,
+                count,
+                packed,
+                content,
+            );
             let answer = Changed::Done;
             return Change { answer, state };
         }
         Plan::Get(page, depth) => {
             insert_record(pages, capacity, page as usize, 0, 0, packed, content);
             let word = pack_page(page, depth);
-            fill(widths_of(shape), values, depth as u64, state.depth as u64, word, dir);
+            fill(
+                widths_of(shape),
+                values,
+                depth as u64,
+                state.depth as u64,
+                word,
+                dir,
+            );
             let answer = Changed::Done;
             return Change { answer, state };
         }
         Plan::Divide(split, cut, free) => {
             let divided = divide_words(state, dir, values, split, cut.bit, free);
-            divide_pages(pages, capacity, split.page as usize, free as usize, cut, packed, content);
+            divide_pages(
+                pages,
+                capacity,
+                split.page as usize,
+                free as usize,
+                cut,
+                packed,
+                content,
+            );
             let answer = Changed::Done;
-            return Change { answer, state: divided };
+            return Change {
+                answer,
+                state: divided,
+            };
         }
     }
 }

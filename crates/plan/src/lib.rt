@@ -168,7 +168,18 @@ fn plan_split(state: State, pages: &[u8], key: u64, page: u32, depth: u32, i: us
         return Plan::Refused(9);
     }
     let behind = i;
-    plan_cut(state, pages, key, Split { page, depth, behind, pair, step })
+    plan_cut(
+        state,
+        pages,
+        key,
+        Split {
+            page,
+            depth,
+            behind,
+            pair,
+            step,
+        },
+    )
 }
 
 // Where a full leaf is cut: 9 where the key does not fall into its half, 7 where no page is free.
@@ -185,7 +196,14 @@ fn plan_cut(state: State, pages: &[u8], key: u64, split: Split) -> Plan
     let size = 2 + RECORD_SIZE * capacity;
     let start = (split.page as usize) * size;
     let end = start + size;
-    let half = half_of(&pages[start..end], capacity, widths_of(shape), key, split.behind, split.pair);
+    let half = half_of(
+        &pages[start..end],
+        capacity,
+        widths_of(shape),
+        key,
+        split.behind,
+        split.pair,
+    );
     let Half::Own(cut) = half else {
         return Plan::Refused(9);
     };
@@ -237,7 +255,11 @@ fn half_of(page: &[u8], n: usize, widths: Widths, key: u64, i: usize, pair: u64)
         if start == 0 {
             return Half::Damaged;
         }
-        return Half::Own(Cut { start, bit: true, place: i - start });
+        return Half::Own(Cut {
+            start,
+            bit: true,
+            place: i - start,
+        });
     }
     if start < i {
         return Half::Damaged;
@@ -245,5 +267,9 @@ fn half_of(page: &[u8], n: usize, widths: Widths, key: u64, i: usize, pair: u64)
     if start == n {
         return Half::Damaged;
     }
-    Half::Own(Cut { start, bit: false, place: i })
+    Half::Own(Cut {
+        start,
+        bit: false,
+        place: i,
+    })
 }

@@ -188,9 +188,9 @@ divide-pages-requires c κs =
     let s = q .before .before .before .before .before .before .before in
     let told = c .before .before .before .before .before .before .before .step4 .given .1 in (
       pages-lent (given s) (s .args .key .values) (s .args .content) (small s) _ (q .plan-insert .ensures) _
-    (k .pack-key .ensures) _ _ _ told,
+          (k .pack-key .ensures) _ _ _ told,
       cut-fits (given s) (s .args .key .values) (s .args .content) (small s) _ (q .plan-insert .ensures) _
-    (k .pack-key .ensures) _ _ _ told,
+          (k .pack-key .ensures) _ _ _ told,
     )
 
 same-length-7 : tie.Need-same-length-7

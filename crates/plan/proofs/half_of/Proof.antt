@@ -67,8 +67,12 @@ returns-6 c =
     let a = p .before .before .before .args in
     own-low (widthList (a .widths)) (a .page .now) (a .n) (a .key) (a .i) (a .pair) _ (p .before .first-one .ensures)
     (bit p ∙ c .before .before .if1 .left) (omega (arith, c .before .if4 .left))
-    (omega (arith, c .if5 .left, p .before .first-one .ensures,
-    firstOne-le (widthList (a .widths)) (a .pair) (a .page .now) (a .n) 0))
+    (omega (
+      arith,
+      c .if5 .left,
+      p .before .first-one .ensures,
+      firstOne-le (widthList (a .widths)) (a .pair) (a .page .now) (a .n) 0,
+    ))
 
 pub half-of-spec : {M : Type 1} → statement M
 half-of-spec =
