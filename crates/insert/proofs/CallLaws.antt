@@ -1,6 +1,6 @@
 -- Laws of the call insert, one for each plan: what the steps ask holds, and what they leave keeps the promise. Assumes
 -- nothing.
-use Prim.Native.Nat.{ℕ, zero, suc, _-_, _^_, _≤_, _<_}
+use Prim.Native.Nat.{ℕ, zero, suc, _^_, _≤_, _<_}
 use mathlib.Core.Path.{_≡_, refl, sym, ap, _∙_, subst}
 use mathlib.Core.List.{List}
 use native.Mathlib.Omega.{arith}
@@ -34,7 +34,7 @@ use Rattle.plan.specs.declared.Cut.{Cut}
 use Rattle.plan.proofs.MetLaws.{key-recordFor, unpacked-recordFor}
 use Rattle.insert.specs.Private.{insertedPages, CutFits, dividedPages, WordsLent, WordsDivided}
 use Rattle.insert.proofs.TakeLaws.{page-lent, promise-taken, promise-got}
-use Rattle.insert.proofs.DividedLaws.{lent-own, lent-free, start-le, place-le}
+use Rattle.insert.proofs.CarriedLaws.{lent-own, lent-free, start-le, place-le}
 use Rattle.insert.proofs.SplitLaws.{promise-divided}
 
 module _ (before : Store) (values : List ℕ) (content : Content) where
@@ -69,7 +69,8 @@ module _ (before : Store) (values : List ℕ) (content : Content) where
       lent-taken = (page-lent before values (taken .asked) g (taken .met .within), taken .place .0, taken .room)
 
       pub by-taken : (bytes′ : List ℕ) → bytes′ ≡ insertedPages b g i n (packedBytes key content) bytes
-          → InsertPromise before values content (accepted changed) (store (before .state) (before .memory .words) bytes′)
+          → InsertPromise before values content (accepted changed)
+          (store (before .state) (before .memory .words) bytes′)
       by-taken bytes′ d =
           subst
           (λ bs. InsertPromise before values content (accepted changed)
@@ -122,7 +123,8 @@ module _ (before : Store) (values : List ℕ) (content : Content) where
           (sym (d ∙ ap (λ k. insertedPages b g 0 0 (packedBytes k content) bytes) ek))
           (promise-got before values content (got .asked) small g x got words′
           (subst
-          (λ v. Filled v (before .state .depth) x (splitBit v values) (wordOf (Page g x)) (before .memory .words) words′)
+          (λ v. Filled v (before .state .depth) x (splitBit v values) (wordOf (Page g x)) (before .memory .words)
+          words′)
           ew
           (subst
           (λ w. Filled ws (before .state .depth) x (splitBit ws values) w (before .memory .words) words′) e′ f)))
@@ -177,7 +179,8 @@ module _ (before : Store) (values : List ℕ) (content : Content) where
             room = dividing .half .room;
           }
 
-      pub by-divided : (bytes′ : List ℕ) → bytes′ ≡ dividedPages b (split .page) free cut (packedBytes key content) bytes
+      pub by-divided : (bytes′ : List ℕ)
+          → bytes′ ≡ dividedPages b (split .page) free cut (packedBytes key content) bytes
           → (after : State) (words′ : List ℕ) → WordsDivided (before .state) values split free (before .memory .words)
           after words′
           → InsertPromise before values content (accepted changed) (store after words′ bytes′)

@@ -1,7 +1,7 @@
 -- Laws of the lent bytes with one record more on page g: that page, the others, and the bytes past them. Assumes
 -- nothing.
-use Prim.Native.Nat.{ℕ, _+_, _*_, _^_, _≤_, _<_}
-use mathlib.Core.Path.{_≡_, sym, ap, _∙_}
+use Prim.Native.Nat.{ℕ, _*_, _≤_, _<_}
+use mathlib.Core.Path.{_≡_, ap, _∙_}
 use mathlib.Core.List.{List}
 use native.Mathlib.Omega.{arith}
 use lib.ListN.{length, drop}
@@ -45,7 +45,8 @@ module _ (b g i n : ℕ) (new bytes : List ℕ) (lent : PageLent b g bytes) (h :
 
   -- its records
   pub recordsOf-insertedPages : (s : Shape)
-      → recordsOf s (pageAt b (insertedPages b g i n new bytes) g) ≡ insertAt i (recordOf s new) (recordsFrom s n 2 page)
+      → recordsOf s (pageAt b (insertedPages b g i n new bytes) g) ≡ insertAt i (recordOf s new)
+      (recordsFrom s n 2 page)
   unfolding insertedPages
   recordsOf-insertedPages s =
       let few = lent .capacity-le in

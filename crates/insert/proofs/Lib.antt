@@ -1,4 +1,5 @@
 pub mod CallLaws
+pub mod CarriedLaws
 pub mod DividedLaws
 pub mod InsertedLaws
 pub mod SplitLaws

@@ -8,7 +8,7 @@ use Rattle.shape.specs.Shape.{widthsOf}
 use Rattle.shape.specs.declared.Shape.{Shape}
 use Rattle.split.specs.Bits.{splitBit}
 use Rattle.record.specs.declared.Content.{Content}
-use Rattle.record.specs.Record.{Record, recordBit}
+use Rattle.record.specs.Record.{Record}
 use Rattle.record.specs.Packed.{packedKey, packedBytes}
 use Rattle.model.specs.Model.{recordFor, changed}
 use Rattle.store.specs.Store.{Store, memory}
@@ -26,7 +26,8 @@ use Rattle.plan.specs.declared.Cut.{Cut}
 use Rattle.plan.proofs.MetLaws.{key-recordFor}
 use Rattle.plan.proofs.SplitLaws.{meets-full}
 use Rattle.insert.specs.Private.{dividedPages}
-use Rattle.insert.proofs.DividedLaws.{length-divided, drop-divided, others-divided, shows-divided}
+use Rattle.insert.proofs.CarriedLaws.{length-divided, drop-divided, others-divided}
+use Rattle.insert.proofs.DividedLaws.{shows-divided}
 
 module _ (before : Store) (values : List ℕ) (content : Content) (a : Asked before values)
     (small : content .payload < 2 ^ 32) (split : Split) (cut : Cut) (free : ℕ)

@@ -1,6 +1,7 @@
--- Laws of the steps of an accepted insert: pages after records were carried, and the directory's depth. Assumes nothing.
-use Prim.Native.Nat.{ℕ, suc, _+_, _-_, _^_, max, _≤_, _<_}
-use mathlib.Core.Path.{_≡_, refl, sym, _∙_, subst}
+-- Laws of the steps of an accepted insert: pages after records were carried, and the directory's depth. Assumes
+-- nothing.
+use Prim.Native.Nat.{ℕ, _+_, max, _≤_, _<_}
+use mathlib.Core.Path.{_≡_, sym, subst}
 use mathlib.Core.Bool.{Bool, true, false, cond}
 use mathlib.Core.List.{List}
 use native.Mathlib.Omega.{arith}

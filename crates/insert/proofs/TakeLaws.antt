@@ -1,37 +1,36 @@
 -- Laws of an insert that a page takes, and of one that gives an empty leaf a page: what was planned and done keeps the
 -- call's promise. Assumes nothing.
-use Prim.Native.Nat.{ℕ, _+_, _*_, _^_, _≤_, _<_}
+use Prim.Native.Nat.{ℕ, _^_, _<_}
 use mathlib.Core.Path.{_≡_, refl, sym, ap, _∙_, subst}
 use mathlib.Core.List.{List, [], _∷_}
 use native.Mathlib.Omega.{arith}
-use native.Mathlib.Nat.{le-trans}
-use lib.ListN.{length, getD}
+use lib.ListN.{length}
 use Rattle.shape.specs.Refusal.{accepted}
-use Rattle.shape.specs.Shape.{widthsOf, total}
+use Rattle.shape.specs.Shape.{widthsOf}
 use Rattle.shape.specs.declared.Shape.{Shape}
 use Rattle.shape.proofs.ShapeLaws.{capacity-bounds}
 use Rattle.split.specs.Bits.{splitBit}
 use Rattle.directory.specs.Directory.{Filled}
 use Rattle.record.specs.declared.Content.{Content}
-use Rattle.record.specs.Record.{Record, recordBit}
+use Rattle.record.specs.Record.{Record}
 use Rattle.record.specs.Packed.{packedKey, packedBytes}
 use Rattle.record.proofs.CodecLaws.{length-packedBytes}
-use Rattle.page.specs.Page.{recordsOf, recordsFrom, pageSize, pageAt}
+use Rattle.page.specs.Page.{recordsOf, recordsFrom, pageAt}
 use Rattle.page.specs.Changes.{insertAt}
 use Rattle.page.proofs.FieldLaws.{length-recordsFrom}
 use Rattle.pages.specs.Pages.{PageLent}
 use Rattle.pages.proofs.PageLaws.{page-end-le}
 use Rattle.find.proofs.FoundLaws.{insertAt-placed}
 use Rattle.word.specs.Word.{wordOf}
-use Rattle.word.specs.declared.Leaf.the-variants.{Empty, Page}
+use Rattle.word.specs.declared.Leaf.the-variants.{Page}
 use Rattle.model.specs.Model.{recordFor, changed}
 use Rattle.model.specs.Sets.{withRecord}
 use Rattle.store.specs.Store.{Store, memory, store, wordAt}
 use Rattle.store.specs.Promises.{InsertPromise}
-use Rattle.change.proofs.PromiseLaws.{KeepsPast, drop-of-past}
+use Rattle.change.proofs.PromiseLaws.{drop-of-past}
 use Rattle.change.proofs.InsertLaws.{TookRecord, GotPage}
 use Rattle.change.proofs.InsertPromiseLaws.{OnSound, insert-taken, insert-got}
-use Rattle.plan.specs.Private.{Asked, PageMet, TakePlanned, GetPlanned}
+use Rattle.plan.specs.Private.{Asked, TakePlanned, GetPlanned}
 use Rattle.plan.proofs.MetLaws.{key-recordFor, unpacked-recordFor, recordOf-recordFor, page-bytes, meets, records-met}
 use Rattle.plan.proofs.MetLaws.{sorted-met, absent-met}
 use Rattle.insert.specs.Private.{insertedPages}

@@ -2,10 +2,10 @@
 -- the leaf is divided. Assumes nothing.
 use Prim.Native.Nat.{ℕ, _+_, _-_, _≤_, _<_}
 use mathlib.Core.Path.{_≡_, refl, sym, ap, _∙_, subst}
-use mathlib.Core.Bool.{Bool, true, false, cond, Bool·beq, false≢true, true≢false}
+use mathlib.Core.Bool.{Bool, true, false, cond, Bool·beq, true≢false}
 use mathlib.Core.List.{List}
 use native.Mathlib.Omega.{arith}
-use native.Mathlib.Nat.{zero-add, le-refl}
+use native.Mathlib.Nat.{zero-add}
 use lib.Dec.{eqb}
 use lib.ListN.{length, getD}
 use Rattle.lists.specs.Filter.{all}
@@ -36,7 +36,7 @@ use Rattle.find.proofs.FoundLaws.{placed-between, record-at, same-of-compared}
 use Rattle.model.specs.Model.{recordFor}
 use Rattle.store.specs.Store.{Store}
 use Rattle.store.specs.Sound.{Sound}
-use Rattle.change.proofs.MeetLaws.{allHave, recordsOn, shared-page}
+use Rattle.change.proofs.MeetLaws.{allHave, shared-page}
 use Rattle.plan.specs.Private.{firstKey, lastKey, Asked, EndsMet}
 use Rattle.plan.proofs.EndLaws.{firstWith, lastWith, alike-of-ends, ends-of-alike, ends-apart}
 use Rattle.plan.proofs.MetLaws.{unpacked-recordFor, page-bytes, meets, records-met, sorted-met}

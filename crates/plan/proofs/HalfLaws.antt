@@ -1,7 +1,7 @@
--- Laws of the halves of a full page, on a sound store: the cut parts the records by their bit at the step, and a new key
--- falls into its own half, which has room. Assumes nothing.
+-- Laws of the halves of a full page, on a sound store: the cut parts the records by their bit at the step, and a new
+-- key falls into its own half, which has room. Assumes nothing.
 use Prim.Native.Nat.{ℕ, suc, _+_, _-_, _/_, _%_, _≤_, _<_}
-use mathlib.Core.Path.{_≡_, refl, sym, ap, _∙_, subst}
+use mathlib.Core.Path.{_≡_, sym, ap, _∙_, subst}
 use mathlib.Core.Bool.{Bool, true, false, cond}
 use mathlib.Core.List.{List}
 use native.Mathlib.Omega.{arith}
@@ -16,7 +16,7 @@ use Rattle.region.specs.Division.{side}
 use Rattle.record.specs.declared.Content.{Content}
 use Rattle.record.specs.Record.{Record, recordBit}
 use Rattle.record.specs.Packed.{packedKey, unpackedKey}
-use Rattle.page.specs.Page.{recordsFrom, pageAt}
+use Rattle.page.specs.Page.{pageAt}
 use Rattle.packed.specs.Order.{pairBit}
 use Rattle.packed.proofs.StepLaws.{splitBit-place}
 use Rattle.find.specs.Find.{firstOne}

@@ -1,18 +1,17 @@
--- Laws of the page that a plan met, on a sound store: it is that of the key's leaf, in split order, and a key's place on
--- it says whether the key is stored. Assumes nothing.
+-- Laws of the page that a plan met, on a sound store: it is that of the key's leaf, in split order, and a key's place
+-- on it says whether the key is stored. Assumes nothing.
 use Prim.Native.Nat.{ℕ, _*_, _^_, _<_}
 use mathlib.Core.Path.{_≡_, sym, ap, _∙_}
-use mathlib.Core.Bool.{true, false, not}
-use mathlib.Core.List.{List, _∷_, []}
-use lib.ListN.{length, getD}
+use mathlib.Core.Bool.{true, false}
+use mathlib.Core.List.{List}
+use lib.ListN.{length}
 use borrow.Author.Tests.{not-true}
-use Rattle.lists.specs.Filter.{all, nonEmpty}
+use Rattle.lists.specs.Filter.{nonEmpty}
 use Rattle.lists.proofs.FilterLaws.{all-filter}
 use Rattle.shape.specs.Shape.{widthsOf, total, shapeNumber}
 use Rattle.shape.specs.Key.{keyFits, encodings}
 use Rattle.shape.specs.declared.Shape.{Shape}
 use Rattle.split.specs.Bits.{splitBit}
-use Rattle.region.specs.Strings.{sameBits}
 use Rattle.region.specs.Sets.{sorted}
 use Rattle.record.specs.declared.Content.{Content}
 use Rattle.record.specs.Record.{Record, recordBit}
@@ -107,7 +106,8 @@ module _ (before : Store) (values : List ℕ) (content : Content) (a : Asked bef
     -- a place between two records: the key is not stored
     pub absent-met : (i : ℕ) → FallsBefore before values g n i → nonEmpty (stored (r .key) (recordsOn before g)) ≡ false
     absent-met i p =
-        let none = absent-placed s r (packedKey values) (unpacked-recordFor s values content (a .shape) (a .fits) (a .four)) page
+        let none = absent-placed s r (packedKey values) (unpacked-recordFor s values content (a .shape) (a .fits)
+        (a .four)) page
         page-bytes n sorted-met i p in
         not-true _ (sym (absent-stored s (a .shape) (recordsOn before g) set-met r inside) ∙ rw records-met none)
 
@@ -115,7 +115,8 @@ module _ (before : Store) (values : List ℕ) (content : Content) (a : Asked bef
     pub stored-met : (i : ℕ) → Placed (widthsOf s) (unpackedKey (packedKey values)) page n (At i)
         → nonEmpty (stored (r .key) (recordsOn before g)) ≡ true
     stored-met i p =
-        let one = withPrefix-placed s r (packedKey values) (unpacked-recordFor s values content (a .shape) (a .fits) (a .four)) page
+        let one = withPrefix-placed s r (packedKey values) (unpacked-recordFor s values content (a .shape) (a .fits)
+        (a .four)) page
         page-bytes n sorted-met i p in
         ap nonEmpty (stored-withPrefix s (a .shape) (recordsOn before g) set-met (r .key) (fits-of-inShape s r inside))
         ∙ rw (records-met, one)

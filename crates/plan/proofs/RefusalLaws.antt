@@ -1,6 +1,6 @@
 -- Laws of a plan up to the page of the key's leaf, one for each way that it ends: what it refuses is what the call
 -- promises, and what it tells else. Assumes nothing.
-use Prim.Native.Nat.{ℕ, _+_, _-_, _^_, _≤_, _<_}
+use Prim.Native.Nat.{ℕ, _-_, _^_, _≤_, _<_}
 use mathlib.Core.Path.{_≡_, sym, ap, _∙_, subst}
 use mathlib.Core.Bool.{true, false, false≢true}
 use mathlib.Core.List.{List}

@@ -1,33 +1,31 @@
--- Laws of a plan in a full leaf, one for each way that it ends; on a sound store the leaf is met as the call's laws ask.
--- Assumes nothing.
-use Prim.Native.Nat.{ℕ, _-_, _≤_, _<_}
+-- Laws of a plan in a full leaf, one for each way that it ends; on a sound store the leaf is met as the call's laws
+-- ask. Assumes nothing.
+use Prim.Native.Nat.{ℕ, _≤_, _<_}
 use mathlib.Core.Path.{_≡_, refl, sym, ap, _∙_, subst}
-use mathlib.Core.Bool.{Bool, true, false, cond, false≢true}
+use mathlib.Core.Bool.{true, false, false≢true}
 use mathlib.Core.List.{List}
 use native.Mathlib.Omega.{arith}
 use lib.ListN.{length}
-use Rattle.lists.specs.Filter.{nonEmpty}
 use Rattle.shape.specs.Shape.{widthsOf}
 use Rattle.shape.specs.declared.Shape.{Shape}
 use Rattle.split.specs.Steps.{stepsBelow}
 use Rattle.record.specs.declared.Content.{Content}
-use Rattle.record.specs.Record.{Record, recordBit}
+use Rattle.record.specs.Record.{recordBit}
 use Rattle.record.specs.Packed.{packedKey, unpackedKey}
-use Rattle.page.specs.Page.{countOf, pageAt}
+use Rattle.page.specs.Page.{pageAt}
 use Rattle.page.proofs.FieldLaws.{length-recordsFrom}
 use Rattle.pages.specs.Pages.{firstFree}
 use Rattle.packed.specs.Order.{FirstPair, pairBit}
 use Rattle.find.specs.Find.{firstOne}
 use Rattle.model.specs.Model.{recordFor}
-use Rattle.model.specs.Sets.{stored}
 use Rattle.store.specs.Store.{Store}
 use Rattle.tally.specs.Tally.{tallyHolds}
 use Rattle.tally.proofs.CountLaws.{tallyHolds-of-sound}
 use Rattle.change.proofs.MeetLaws.{allHave, recordsOn}
-use Rattle.change.proofs.NumberLaws.{NoFreePage}
 use Rattle.change.proofs.InsertLaws.{MeetsFull}
 use Rattle.change.proofs.InsertPromiseLaws.{OnSound, insert-unsound, insert-alike, insert-full-none}
-use Rattle.plan.specs.Private.{firstKey, lastKey, HalfMet, Halved, Asked, FullMet, EndsMet, SplitMet, DividingMet, Planned}
+use Rattle.plan.specs.Private.{firstKey, lastKey, HalfMet, Halved, Asked}
+use Rattle.plan.specs.Private.{FullMet, EndsMet, SplitMet, DividingMet, Planned}
 use Rattle.plan.specs.declared.Split.{Split}
 use Rattle.plan.specs.declared.Cut.{Cut}
 use Rattle.plan.specs.declared.Half.{Half}

@@ -1,12 +1,12 @@
 // What an insert is to do, found without a write (document 01, "Calls"). Damage that it meets is 9.
+pub mod halves;
+
 use find::Place;
 use find::find;
-use find::first_one;
+use halves::ends_pair;
+use halves::half_of;
 use lent::limits_hold;
-use packed::first_pair;
-use packed::pair_bit;
 use packed::step_number;
-use page::key_at;
 use pages::count_at;
 use pages::first_free;
 use record::RECORD_SIZE;
@@ -14,7 +14,6 @@ use record::pack_key;
 use seek::key_word;
 use seek::word_holds;
 use shape::Key;
-use shape::Widths;
 use shape::widths_of;
 use store::State;
 use tally::tally_holds;
@@ -22,17 +21,14 @@ use word::Leaf;
 use word::unpack;
 ghost use mathlib.Core.Path.{_≡_};
 ghost use mathlib.Core.Bool.{true};
-ghost use Prim.Native.Nat.{_/_, _%_, _≤_, _<_};
-ghost use lib.ListN.{getD, length};
-ghost use Rattle.shape.specs.Shape.{Fit, widthsOf, widthList};
-ghost use Rattle.record.specs.Packed.{unpackedKey};
-ghost use Rattle.page.specs.Fields.{recordOffset};
+ghost use Prim.Native.Nat.{_/_, _%_, _<_};
+ghost use lib.ListN.{getD};
+ghost use Rattle.shape.specs.Shape.{widthsOf};
 ghost use Rattle.pages.specs.Pages.{PageLent};
-ghost use Rattle.packed.specs.Order.{FirstPair};
 ghost use Rattle.store.specs.Store.{store};
 ghost use Rattle.store.specs.Promises.{keyNumber};
 ghost use Rattle.seek.specs.Hold.{wordHolds};
-ghost use Rattle.plan.specs.Private.{PagesLent, firstKey, lastKey, Halved, Planned, PlannedFrom};
+ghost use Rattle.plan.specs.Private.{PagesLent, Planned, PlannedFrom};
 ghost use Rattle.plan.specs.Private.{WordMet, EmptyMet, LeafMet, FullMet, DividingMet};
 
 // What is to be done: nothing, with the number of a refusal; a page takes the record at a place among
@@ -212,64 +208,4 @@ fn plan_cut(state: State, pages: &[u8], key: u64, split: Split) -> Plan
         return Plan::Refused(7);
     }
     Plan::Divide(split, cut, free)
-}
-
-// The place of the first pair in which the first and the last differ of the n keys of a page and one
-// more, which falls before record i; 64 where they do not.
-fn ends_pair(page: &[u8], n: usize, widths: Widths, key: u64, i: usize) -> u64
-    requires { ⌜ (1 ≤ n) × (n ≤ 16) × (recordOffset n ≤ length (now page)) × Fit (widthList widths) ⌝ }
-    ensures { λ r. ⌜ FirstPair (widthList widths) (unpackedKey (firstKey (now (page .entry)) key i))
-        (unpackedKey (lastKey (now (page .entry)) n key i)) r ⌝ }
-{
-    let first = first_key(page, key, i);
-    let last = last_key(page, n, key, i);
-    first_pair(widths, first, last)
-}
-
-fn first_key(page: &[u8], key: u64, i: usize) -> u64
-    requires { ⌜ recordOffset 1 ≤ length (now page) ⌝ }
-    ensures { λ r. ⌜ r ≡ firstKey (now (page .entry)) key i ⌝ }
-{
-    if i == 0 { key } else { key_at(page, 0) }
-}
-
-fn last_key(page: &[u8], n: usize, key: u64, i: usize) -> u64
-    requires { ⌜ (1 ≤ n) × (n ≤ 16) × (recordOffset n ≤ length (now page)) ⌝ }
-    ensures { λ r. ⌜ r ≡ lastKey (now (page .entry)) n key i ⌝ }
-{
-    if i == n { key } else { key_at(page, n - 1) }
-}
-
-// Cuts a page of n records at its first record with bit 1 at the place of a split step, where a key
-// falls before record i.
-fn half_of(page: &[u8], n: usize, widths: Widths, key: u64, i: usize, pair: u64) -> Half
-    requires { ⌜ (1 ≤ n) × (n ≤ 16) × (recordOffset n ≤ length (now page)) × Fit (widthList widths) ⌝ }
-    requires { ⌜ (pair < 64) × (pair / 4 < getD (widthList widths) (pair % 4) 0) ⌝ }
-    ensures { λ r. ⌜ Halved (widthList widths) (now (page .entry)) n key i pair r ⌝ }
-{
-    let start = first_one(page, n, widths, pair);
-    if pair_bit(widths, key, pair) {
-        if i < start {
-            return Half::Damaged;
-        }
-        if start == 0 {
-            return Half::Damaged;
-        }
-        return Half::Own(Cut {
-            start,
-            bit: true,
-            place: i - start,
-        });
-    }
-    if start < i {
-        return Half::Damaged;
-    }
-    if start == n {
-        return Half::Damaged;
-    }
-    Half::Own(Cut {
-        start,
-        bit: false,
-        place: i,
-    })
 }

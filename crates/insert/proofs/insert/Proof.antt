@@ -1,5 +1,5 @@
--- `insert::insert` meets its contract: the promise is kept by an early refusal, and by each plan once it is carried out.
--- Assumes nothing.
+-- `insert::insert` meets its contract: the promise is kept by an early refusal, and by each plan once it is carried
+-- out. Assumes nothing.
 use Prim.Native.Nat.{_^_, _<_}
 use mathlib.Core.Path.{_≡_, sym, _∙_}
 use lib.ListN.{length, length-map}
@@ -140,11 +140,13 @@ cast-fill-2 c = search needs
 
 fill-requires : tie.Need-fill-requires
 fill-requires c κs =
-    let k = c .before .before .before .before .before .before .before .before .before .before .before .before .before .before in
+    let k = c .before .before .before .before .before .before .before .before .before .before .before .before .before
+    .before in
     let q = k .before in
     let s = q .before .before .before .before .before .before .before in
     fill-fits (given s) (s .args .key .values) (s .args .content) (small s) _ (q .plan-insert .ensures) _
-    (k .pack-key .ensures) _ _ (c .before .before .before .before .before .before .before .before .before .step3 .given .1) _
+    (k .pack-key .ensures) _ _
+    (c .before .before .before .before .before .before .before .before .before .step3 .given .1) _
     (c .before .before .widths-of .ensures)
 
 same-length-5 : tie.Need-same-length-5
@@ -156,12 +158,16 @@ same-length-6 c = search needs
 returns-4 : tie.Need-returns-4
 unfolding changedAnswer
 returns-4 c =
-    let k = c .before .before .before .before .before .before .before .before .before .before .before .before .before .before .before .before .before in
+    let k = c .before .before .before .before .before .before .before .before .before .before .before .before .before
+    .before .before .before .before in
     let q = k .before in
     let s = q .before .before .before .before .before .before .before in
     by-got (given s) (s .args .key .values) (s .args .content) (small s) _ (q .plan-insert .ensures) _
-    (k .pack-key .ensures) _ _ (c .before .before .before .before .before .before .before .before .before .before .before .before .step3 .given .1) _
-    (c .before .before .before .before .before .before .before .before .before .insert-record2 .ensures) _ (c .before .before .before .before .before .widths-of .ensures) _
+    (k .pack-key .ensures) _ _
+    (c .before .before .before .before .before .before .before .before .before .before .before .before .step3 .given
+    .1) _
+    (c .before .before .before .before .before .before .before .before .before .insert-record2 .ensures) _
+    (c .before .before .before .before .before .widths-of .ensures) _
     (c .before .before .before .before .before .before .pack-page .ensures) _ (c .before .before .fill .ensures)
 
 enum-known-step-4 : tie.Need-enum-known-step-4
@@ -202,12 +208,15 @@ same-length-8 c = search needs
 returns-5 : tie.Need-returns-5
 unfolding changedAnswer
 returns-5 c =
-    let k = c .before .before .before .before .before .before .before .before .before .before .before .before .before .before .before in
+    let k = c .before .before .before .before .before .before .before .before .before .before .before .before .before
+    .before .before in
     let q = k .before in
     let s = q .before .before .before .before .before .before .before in
     by-divided (given s) (s .args .key .values) (s .args .content) (small s) _ (q .plan-insert .ensures) _
-    (k .pack-key .ensures) _ _ _ (c .before .before .before .before .before .before .before .before .before .before .step4 .given .1) _
-    (c .before .before .divide-pages .ensures) _ _ (c .before .before .before .before .before .before .before .divide-words .ensures)
+    (k .pack-key .ensures) _ _ _
+    (c .before .before .before .before .before .before .before .before .before .before .step4 .given .1) _
+    (c .before .before .divide-pages .ensures) _ _
+    (c .before .before .before .before .before .before .before .divide-words .ensures)
 
 pub insert-spec : {M : Type 1} → statement M
 insert-spec =

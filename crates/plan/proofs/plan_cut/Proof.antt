@@ -1,7 +1,7 @@
 -- `plan::plan_cut` meets its contract: the part that is lent is the leaf's page, and each way that it ends is a law of
 -- the cut or of the first free page. Assumes nothing.
-use Prim.Native.Nat.{_/_, _%_, _<_, _≤_}
-use mathlib.Core.Path.{_≡_, sym, ap, _∙_, subst}
+use Prim.Native.Nat.{_/_, _%_, _<_}
+use mathlib.Core.Path.{sym, ap, _∙_, subst}
 use native.Mathlib.Omega.{arith}
 use lib.ListN.{length, getD}
 use borrow.Author.Needs.{needs}

@@ -1,6 +1,4 @@
 -- `plan::plan_empty` meets its contract: the first free page, or none. Assumes nothing.
-use Prim.Native.Nat.{_≤_}
-use mathlib.Core.Path.{_≡_}
 use native.Mathlib.Omega.{arith}
 use borrow.Author.Needs.{needs}
 use Rattle.shape.proofs.ShapeLaws.{capacity-bounds}

@@ -1,5 +1,4 @@
 -- `plan::plan_insert` meets its contract: the early refusals and the limits leave what each step asks. Assumes nothing.
-use Prim.Native.Nat.{_≤_}
 use mathlib.Core.Path.{_≡_, sym, _∙_}
 use native.Mathlib.Nat.{le-trans}
 use lib.ListN.{length, length-map}

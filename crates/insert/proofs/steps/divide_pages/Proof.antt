@@ -1,7 +1,7 @@
--- `insert::steps::divide_pages` meets its contract: the records are carried, then the half of the record's bit takes it.
--- Assumes nothing.
+-- `insert::steps::divide_pages` meets its contract: the records are carried, then the half of the record's bit takes
+-- it. Assumes nothing.
 use Prim.Native.Nat.{_≤_, _<_}
-use mathlib.Core.Path.{_≡_, sym, _∙_, subst}
+use mathlib.Core.Path.{sym, _∙_, subst}
 use native.Mathlib.Omega.{arith}
 use borrow.Author.Needs.{needs}
 use Rattle.record.specs.Packed.{packedBytes}
@@ -33,7 +33,8 @@ insert-record-requires c κs =
     let fits = s .pre .1 in
     let count = c .before .either2 in (
       lent-carried (a .capacity) (a .page) (a .free) (a .cut) (a .pages .now) _ (s .pre .0 .0) (s .pre .0 .1) fits
-          (c .before .before .before .before .before .before .carry .ensures) _ (c .before .before .before .either .ensures),
+          (c .before .before .before .before .before .before .carry .ensures) _
+          (c .before .before .before .either .ensures),
       subst (λ k. a .cut .place ≤ k) (sym (count .ensures)) (fits .place-le),
       subst (λ k. k < a .capacity) (sym (count .ensures)) (fits .room),
     )

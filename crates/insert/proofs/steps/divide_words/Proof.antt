@@ -1,11 +1,9 @@
--- `insert::steps::divide_words` meets its contract: the directory doubled, then the leaves set, at the new depth. Assumes
--- nothing.
-use Prim.Native.Nat.{suc, _+_, _-_, max, _≤_, _<_}
+-- `insert::steps::divide_words` meets its contract: the directory doubled, then the leaves set, at the new depth.
+-- Assumes nothing.
+use Prim.Native.Nat.{suc, _+_, _-_, _≤_}
 use mathlib.Core.Path.{_≡_, refl, sym, ap, _∙_, subst}
 use native.Mathlib.Omega.{arith}
-use lib.ListN.{length}
 use borrow.Author.Needs.{needs}
-use Rattle.shape.specs.Shape.{widthsOf, widthList}
 use Rattle.split.specs.Bits.{splitBit}
 use Rattle.change.specs.Private.{Deepened, LeavesSet, dividedTally}
 use Rattle.insert.proofs.StepLaws.{depth-short, depth-ge, step-lt, directory-fits}

@@ -1,6 +1,5 @@
 -- `insert::steps::insert_record` meets its contract: what is lent is the page, and what comes back stands in its place.
 -- Assumes nothing.
-use mathlib.Core.Path.{_≡_}
 use borrow.Author.Needs.{needs}
 use Rattle.record.specs.Packed.{packedBytes}
 use Rattle.record.proofs.CodecLaws.{length-packedBytes}
