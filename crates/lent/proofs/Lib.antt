@@ -1,1 +1,2 @@
 pub mod LentLaws
+pub mod LimitsLaws

@@ -55,38 +55,6 @@ fn seek(state: State, dir: &[u32], pages: &[u8], key: Key) -> Found
     seek_in_leaf(state, pages, word, pack_key(key))
 }
 
-// Whether P is 1 to 4,096, L at most 12 and at most W, and T at most L.
-pub fn limits_hold(state: State) -> bool
-    requires { ⌜ shapeNumber (state .shape) ≡ 0 ⌝ }
-    ensures { λ r. ⌜ r ≡ limitsHold state ⌝ }
-{
-    let limits = state.limits;
-    if limits.pages < 1 {
-        return false;
-    }
-    if 4096 < limits.pages {
-        return false;
-    }
-    if 12 < limits.depth {
-        return false;
-    }
-    if total_of(widths_of(state.shape)) < (limits.depth as u64) {
-        return false;
-    }
-    state.depth <= limits.depth
-}
-
-// The word at the cell of a key.
-pub fn key_word(state: State, dir: &[u32], values: [u32; 4]) -> u32
-    requires { ⌜ (shapeNumber (state .shape) ≡ 0) × (state .depth ≤ total (widthsOf (state .shape))) ⌝ }
-    requires { ⌜ 2 ^ state .depth ≤ length (now dir) ⌝ }
-    ensures { λ r. ⌜ r ≡ wordAt (state .shape) (state .depth) (now (dir .entry))
-        (splitBit (widthsOf (state .shape)) values) ⌝ }
-{
-    let cell = find_cell(widths_of(state.shape), values, state.depth as u64);
-    dir[cell as usize]
-}
-
 // The record of a packed key in the leaf that a word names: 5 for a leaf without a page, 9 for a
 // depth above T or a page number of P or more.
 fn seek_in_leaf(state: State, pages: &[u8], word: u32, key: u64) -> Found

@@ -1,4 +1,4 @@
--- `lookup::key_word` meets its contract: a cell lies below 2^T, so within the words. Assumes nothing.
+-- `seek::key_word` meets its contract: a cell lies below 2^T, so within the words. Assumes nothing.
 use Prim.Native.Nat.{_^_, _<_}
 use mathlib.Core.Path.{_≡_, ap, _∙_}
 use native.Mathlib.Omega.{arith}
@@ -9,8 +9,8 @@ use Rattle.split.specs.Bits.{splitBit}
 use Rattle.cell.specs.Cell.{cellAddress}
 use Rattle.store.proofs.AgreeLaws.{cells}
 use borrow.Author.Needs.{needs}
-use Rattle.lookup.proofs.key_word.Statement.{statement}
-use Rattle.lookup.proofs.key_word.Tie as tie
+use Rattle.seek.proofs.key_word.Statement.{statement}
+use Rattle.seek.proofs.key_word.Tie as tie
 
 -- what is computed is the address of the key's cell
 cell-of-key : (c : tie.After-find-cell)

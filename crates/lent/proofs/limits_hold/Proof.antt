@@ -1,13 +1,13 @@
--- `lookup::limits_hold` meets its contract: each test that fails decides, and the last one otherwise. Assumes nothing.
+-- `lent::limits_hold` meets its contract: each test that fails decides, and the last one otherwise. Assumes nothing.
 use mathlib.Core.Path.{_≡_, ap, _∙_}
 use native.Mathlib.Omega.{arith}
 use Rattle.shape.specs.Shape.{widthsOf, widthList, total}
 use Rattle.address.proofs.AnswerLaws.{widths-fit}
-use Rattle.lookup.proofs.CaseLaws.{limitsHold-no-page, limitsHold-pages, limitsHold-deep, limitsHold-bits}
-use Rattle.lookup.proofs.CaseLaws.{limitsHold-depth}
+use Rattle.lent.proofs.LimitsLaws.{limitsHold-no-page, limitsHold-pages, limitsHold-deep, limitsHold-bits}
+use Rattle.lent.proofs.LimitsLaws.{limitsHold-depth}
 use borrow.Author.Needs.{needs}
-use Rattle.lookup.proofs.limits_hold.Statement.{statement}
-use Rattle.lookup.proofs.limits_hold.Tie as tie
+use Rattle.lent.proofs.limits_hold.Statement.{statement}
+use Rattle.lent.proofs.limits_hold.Tie as tie
 
 -- what is computed is W
 bits : (c : tie.After-total-of)
