@@ -17,7 +17,7 @@ use Rattle.store.specs.Store.{Store, wordAt}
 use Rattle.store.specs.Sound.{Sound}
 use Rattle.store.specs.Promises.{keyNumber, DeletePromise}
 use Rattle.change.specs.Delete.{keyString, AtSibling, JoinFound, joinedTally, tallyDepth}
-use Rattle.lookup.specs.Private.{limitsHold}
+use Rattle.lent.specs.Limits.{limitsHold}
 use Rattle.removal.specs.declared.Stored.{Stored}
 use Rattle.removal.specs.declared.Join.{Join}
 use Rattle.removal.specs.declared.Plan.{Plan}
