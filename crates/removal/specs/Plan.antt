@@ -1,6 +1,6 @@
 -- What the plan of a delete says of a store, sound or not: each case holds the facts that the steps and the promise
 -- of delete need. Assumes nothing.
-use Prim.Native.Nat.{ℕ, suc, _+_, _-_, _≤_, _<_}
+use Prim.Native.Nat.{ℕ, suc, _+_, _≤_, _<_}
 use mathlib.Core.Path.{_≡_}
 use mathlib.Core.Bool.{Bool, true}
 use mathlib.Core.List.{List}
@@ -16,8 +16,9 @@ use Rattle.model.specs.Sets.{stored, withoutKey}
 use Rattle.store.specs.Store.{Store, wordAt}
 use Rattle.store.specs.Sound.{Sound}
 use Rattle.store.specs.Promises.{keyNumber, DeletePromise}
-use Rattle.change.specs.Delete.{keyString, AtSibling, JoinFound, joinedTally, tallyDepth}
+use Rattle.change.specs.Delete.{keyString, AtSibling, JoinFound}
 use Rattle.lent.specs.Limits.{limitsHold}
+use Rattle.tally.specs.Tally.{tallyHolds}
 use Rattle.removal.specs.declared.Stored.{Stored}
 use Rattle.removal.specs.declared.Join.{Join}
 use Rattle.removal.specs.declared.Plan.{Plan}
@@ -75,9 +76,7 @@ module _ (before : Store) (values : List ℕ) where
     pub counted : j .count ≡ countBefore (j .other)
     pub few : j .count ≤ b
     pub bit : j .bit ≡ keyString before values (j .step)
-    pub tally : j .tally .leaves ≡ joinedTally (j .top) (suc (j .step) - j .top) (before .state .tally .leaves)
-    pub depth : j .depth ≡ tallyDepth T (j .tally .leaves)
-    pub top-le : j .top ≤ j .depth
+    pub tally : tallyHolds (before .state .tally .leaves) ≡ true
 
   abbrev pub Planned : Plan → Type 0
   Planned (plan.Refused n) = DeletePromise before values (refused n) before

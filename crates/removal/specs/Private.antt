@@ -2,7 +2,6 @@
 -- contracts cite these. Assumes nothing.
 use Prim.Native.Nat.{ℕ, suc, _-_, _^_, _≤_, _<_}
 use mathlib.Core.Path.{_≡_}
-use mathlib.Core.Bool.{true}
 use mathlib.Core.List.{List, []}
 use Rattle.shape.specs.Shape.{shapeNumber, widthsOf, total}
 use Rattle.split.specs.Bits.{splitBit}
@@ -11,8 +10,7 @@ use Rattle.word.specs.Word.{wordOf}
 use Rattle.word.specs.declared.Leaf.the-variants.{Empty, Page}
 use Rattle.store.specs.Store.{Store, store}
 use Rattle.store.specs.declared.State.{State}
-use Rattle.change.specs.Delete.{AtSibling, joinedTally, tallyDepth}
-use Rattle.tally.specs.Tally.{tallyHolds}
+use Rattle.change.specs.Delete.{AtSibling}
 use Rattle.removal.specs.declared.Stored.{Stored}
 use Rattle.removal.specs.declared.Join.{Join}
 
@@ -48,6 +46,3 @@ module _ (st : State) (words values : List ℕ) where
     pub depth-step : x ≡ suc (j .step)
     pub bit : j .bit ≡ splitBit (widthsOf (st .shape)) values (j .step)
     pub climbed : Climbed (j .step) (j .top)
-    pub tally : j .tally .leaves ≡ joinedTally (j .top) (suc (j .step) - j .top) (st .tally .leaves)
-    pub depth : j .depth ≡ tallyDepth (st .depth) (j .tally .leaves)
-    pub top-le : j .top ≤ j .depth

@@ -1,0 +1,95 @@
+// The siblings of a key's regions, and what a join makes of them: the key's leaf and its sibling give
+// way to one leaf, which takes in the empty siblings above.
+use super::Join;
+use address::pairs::pair_of_step;
+use packed::pair_bit;
+use record::pack_key;
+use shape::Key;
+use shape::Shape;
+use shape::Widths;
+use shape::widths_of;
+use store::State;
+use word::pack_empty;
+ghost use mathlib.Core.Path.{_≡_};
+ghost use mathlib.Core.Bool.{Bool, true};
+ghost use mathlib.Core.List.{[]};
+ghost use Prim.Native.Nat.{ℕ, suc, _^_, _<_, _≤_};
+ghost use lib.ListN.{getD, length};
+ghost use Rattle.shape.specs.Shape.{Fit, widthList, shapeNumber, widthsOf, total};
+ghost use Rattle.split.specs.Bits.{splitBit};
+ghost use Rattle.cell.specs.Cell.{cellAddress, Agree};
+ghost use Rattle.region.specs.Strings.{sibling};
+ghost use Rattle.record.specs.Packed.{SixteenBits};
+ghost use Rattle.store.specs.Store.{store};
+ghost use Rattle.change.specs.Delete.{AtSibling};
+ghost use Rattle.removal.specs.Private.{KeyFits, Climbed, JoinMade};
+
+// The join of a leaf of depth x with its sibling, which has page `other` and so many records.
+pub fn plan_join(
+    state: State,
+    dir: &[u32],
+    key: Key,
+    x: u32,
+    other: u32,
+    count: usize,
+) -> Join
+    requires { ⌜ KeyFits state (key .values) (length (now dir)) × (0 < x) × (x ≤ state .depth) ⌝ }
+    ensures { λ r. ⌜ JoinMade state (now (dir .entry)) (key .values) x other count r ⌝ }
+{
+    let step = x - 1;
+    let values = key.values;
+    let bit = step_bit(state.shape, key, step);
+    let top = climb(state, dir, values, step);
+    Join {
+        other,
+        count,
+        step,
+        bit,
+        top,
+    }
+}
+
+// The least depth y such that from depth m up the siblings are empty leaves, those of depths y + 1
+// to m.
+fn climb(state: State, dir: &[u32], values: [u32; 4], m: u32) -> u32
+    requires { ⌜ KeyFits state values (length (now dir)) × (m < state .depth) ⌝ }
+    ensures { λ r. ⌜ Climbed state (now (dir .entry)) values m r ⌝ }
+{
+    let mut y = m;
+    while 0 < y {
+        let word = sibling_of(state, dir, values, y - 1);
+        if word != pack_empty(y) {
+            return y;
+        }
+        y -= 1;
+    }
+    y
+}
+
+// The word of a cell of the sibling of a key's region of z + 1 bits.
+pub fn sibling_of(state: State, dir: &[u32], values: [u32; 4], z: u32) -> u32
+    requires { ⌜ KeyFits state values (length (now dir)) × (z < state .depth) ⌝ }
+    ensures { λ r. ⌜ AtSibling (store state (now (dir .entry)) []) values z (λ w. r ≡ w) ⌝ }
+{
+    let widths = widths_of(state.shape);
+    sibling_word(widths, values, z as u64, state.depth as u64, dir)
+}
+
+// The split bit of a key at a step.
+fn step_bit(shape: Shape, key: Key, step: u32) -> bool
+    requires { ⌜ (shapeNumber shape ≡ 0) × (step < total (widthsOf shape)) × SixteenBits (key .values) ⌝ }
+    ensures { λ r. ⌜ r ≡ splitBit (widthsOf shape) (key .values) step ⌝ }
+{
+    let widths = widths_of(shape);
+    let pair = pair_of_step(widths, step as u64);
+    pair_bit(widths, pack_key(key), pair)
+}
+
+fn sibling_word(widths: Widths, key: [u32; 4], z: u64, t: u64, dir: &[u32]) -> u32
+    requires { ⌜ Fit (widthList widths) × (t ≤ total (widthList widths)) × (z < t) ⌝ }
+    requires { ⌜ 2 ^ t ≤ length (now dir) ⌝ }
+    ensures { λ r. ⌜ ((q : ℕ → Bool) × Agree (suc z) (sibling (splitBit (widthList widths) key) z) q
+        × (r ≡ getD (now (dir .entry)) (cellAddress (widthList widths) t q) 0)) ⌝ }
+{
+    0
+}
