@@ -1,54 +1,20 @@
--- Laws of what the early refusals leave: shape, key and lent slices of a store that they let pass. Assumes nothing.
-use Prim.Native.Nat.{ℕ, _^_, _≤_}
-use mathlib.Core.Path.{_≡_, refl, sym, subst, _∙_}
-use mathlib.Core.Bool.{Bool, true, false, not, _||_}
+-- Laws of a key that the early refusals let pass: its four values are its encodings. Assumes nothing.
+use Prim.Native.Nat.{ℕ}
+use mathlib.Core.Path.{_≡_, sym, ap, _∙_}
+use mathlib.Core.Bool.{true}
 use mathlib.Core.List.{List}
-use native.Mathlib.Omega.{arith}
 use lib.ListN.{length}
-use borrow.Author.Tests.{ltb-false, not-false}
-use Rattle.shape.specs.Shape.{inBounds, shapeConditions, shapeNumber}
+use Rattle.shape.specs.Shape.{widthsOf, indexFits}
 use Rattle.shape.specs.Key.{keyFits, encodings}
 use Rattle.shape.specs.declared.Shape.{Shape}
-use Rattle.shape.proofs.ShapeLaws.{shapeNumber-true}
-use Rattle.record.specs.Packed.{SixteenBits}
 use Rattle.record.proofs.ByteLaws.{perAttribute-getD}
-use Rattle.record.proofs.KeyLaws.{key-below-bytes}
-use Rattle.model.proofs.SetLaws.{firstNumber-zero, length-encodings, indexFits-encodings}
-use Rattle.store.specs.Store.{Store, pagesSize, lentConditions}
-use Rattle.store.specs.Promises.{keyNumber}
+use Rattle.model.proofs.SetLaws.{indexFits-encodings}
 
--- what holds of a store and a key where none of 1, 2, 3 does
-pub record Passed (store : Store) (values : List ℕ) : Type 0 where
-  pub shape : shapeNumber (store .state .shape) ≡ 0
-  pub words-lent : 2 ^ store .state .limits .depth ≤ length (store .memory .words)
-  pub pages-lent : pagesSize (store .state) ≤ length (store .memory .bytes)
-  pub fits : keyFits (store .state .shape) values ≡ true
-
-or-split : (a b : Bool) → (a || b) ≡ false → (a ≡ false) × (b ≡ false)
-or-split false b e = (refl, e)
-or-split true b e = absurd (let z : _≡_ {A = ℕ} 0 1 = cc in omega arith)
-
-pub passed : (store : Store) (values : List ℕ) → keyNumber store values ≡ 0 → Passed store values
-unfolding keyNumber lentConditions shapeConditions
-passed store values e =
-    let one = firstNumber-zero 0 _ _ e in
-    let two = firstNumber-zero 1 _ _ (one .1) in
-    let three = firstNumber-zero 2 _ _ (two .1) in
-    let lent = or-split _ _ (two .0) in
-    record {
-      shape = shapeNumber-true (store .state .shape) (not-false (inBounds (store .state .shape)) (one .0));
-      words-lent = ltb-false (length (store .memory .words)) (2 ^ store .state .limits .depth) (lent .0);
-      pages-lent = ltb-false (length (store .memory .bytes)) (pagesSize (store .state)) (lent .1);
-      fits = not-false (keyFits (store .state .shape) values) (three .0);
-    }
-
--- the four values of a key are its encodings, and fit a packed key
 pub encodings-values : (s : Shape) (values : List ℕ) → length values ≡ 4 → encodings s values ≡ values
 unfolding encodings
 encodings-values s values e = perAttribute-getD values e
 
-pub SixteenBits-of-keyFits : (s : Shape) (values : List ℕ) → shapeNumber s ≡ 0 → keyFits s values ≡ true
-    → length values ≡ 4 → SixteenBits values
-SixteenBits-of-keyFits s values n f e =
-    subst SixteenBits (encodings-values s values e)
-    (key-below-bytes s n (encodings s values) (length-encodings s values) (indexFits-encodings s values ∙ f))
+pub indexFits-values : (s : Shape) (values : List ℕ) → length values ≡ 4 → keyFits s values ≡ true
+    → indexFits (widthsOf s) values ≡ true
+indexFits-values s values e f =
+    ap (indexFits (widthsOf s)) (sym (encodings-values s values e)) ∙ indexFits-encodings s values ∙ f

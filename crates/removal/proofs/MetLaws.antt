@@ -1,48 +1,65 @@
 -- Laws of what the plan of a delete meets at the key's leaf: the refusals 5 and 9, and the key's record. Assumes
 -- nothing.
-use Prim.Native.Nat.{ℕ, _+_, _-_, _*_, _%_, _^_, _≤_, _<_}
+use Prim.Native.Nat.{ℕ, zero, suc, _+_, _-_, _*_, _%_, _^_, _≤_, _<_}
 use mathlib.Core.Path.{_≡_, refl, sym, ap, _∙_}
-use mathlib.Core.Bool.{Bool, true, false, not, true≢false}
-use mathlib.Core.List.{List, [], _∷_}
+use mathlib.Core.Bool.{Bool, true, false, cond, true≢false}
+use mathlib.Core.List.{List}
 use native.Mathlib.Omega.{arith}
-use lib.ListN.{getD, length}
-use Rattle.lists.specs.Filter.{filter, nonEmpty}
+use lib.Dec.{eqb}
+use lib.ListN.{length}
+use borrow.Author.Tests.{eqb-true}
+use Rattle.lists.specs.Filter.{nonEmpty}
 use Rattle.shape.specs.Refusal.{refused}
-use Rattle.shape.specs.Shape.{shapeNumber, widthsOf, total}
-use Rattle.shape.specs.Key.{keyFits, encodings}
+use Rattle.shape.specs.Key.{encodings}
 use Rattle.shape.specs.declared.Shape.{Shape}
-use Rattle.shape.proofs.ShapeLaws.{widthsOf-fit}
-use Rattle.split.specs.Bits.{splitBit}
-use Rattle.region.specs.Sets.{sorted}
-use Rattle.region.proofs.OrderLaws.{sorted-filter}
-use Rattle.record.specs.Record.{Record, recordBit, sameKey}
 use Rattle.record.specs.Packed.{packedKey, SixteenBits}
 use Rattle.record.proofs.CodecLaws.{AreBytes, AreBytes-field}
 use Rattle.page.specs.Page.{countOf, recordsOf, recordsFrom, pageSize, pageAt}
-use Rattle.page.specs.Changes.{removeAt}
+use Rattle.page.specs.Fields.{keyAt}
 use Rattle.select.specs.KeyPlace.{keyPlace}
-use Rattle.select.proofs.StoredLaws.{sameKey-absent, sameKey-found, sameKey-others}
-use Rattle.word.specs.Word.{wordOf, leafOf}
+use Rattle.select.proofs.StoredLaws.{sameKey-absent}
+use Rattle.word.specs.Word.{leafOf}
 use Rattle.word.specs.declared.Leaf.the-variants.{Empty, Page}
 use Rattle.word.proofs.WordLaws.{wordOf-page, wordOf-page-empty}
-use Rattle.model.specs.Sets.{stored, withoutKey}
-use Rattle.model.proofs.SetLaws.{sorted-of-isSet}
+use Rattle.model.specs.Sets.{stored}
 use Rattle.store.specs.Store.{Store}
-use Rattle.store.specs.Sound.{Sound}
 use Rattle.store.specs.Promises.{keyNumber, DeletePromise}
-use Rattle.store.proofs.ShownLaws.{wordOn, shape-of-Sound}
-use Rattle.store.proofs.DividedLaws.{leafRecords-divisionOf}
+use Rattle.store.proofs.ShownLaws.{wordOn}
 use Rattle.change.specs.Delete.{keyString}
 use Rattle.change.proofs.BoundLaws.{count-bounds}
 use Rattle.change.proofs.DeletePromiseLaws.{delete-unsound, delete-empty, delete-absent}
-use Rattle.change.proofs.DeleteWordLaws.{leaf-of-page-word}
 use Rattle.lent.specs.Limits.{limitsHold}
 use Rattle.lent.proofs.LimitsLaws.{limits-of-sound, limits-parts}
 use Rattle.seek.specs.Hold.{wordHolds}
 use Rattle.seek.proofs.HoldLaws.{word-of-sound, held-empty, held-page}
 use Rattle.removal.specs.Plan.{LeafMet, RecordFound}
-use Rattle.removal.specs.declared.Stored.{Stored}
-use Rattle.removal.proofs.EarlyLaws.{encodings-values, SixteenBits-of-keyFits, Passed, passed}
+use Rattle.lookup.proofs.EarlyLaws.{passed, SixteenBits-of-keyFits}
+use Rattle.removal.proofs.EarlyLaws.{encodings-values}
+
+-- ---- the place of a key
+
+module _ (key : ℕ) (page : List ℕ) where
+  keyPlace-le : (k i : ℕ) → keyPlace key page k i ≤ i + k
+  unfolding keyPlace
+  keyPlace-le zero i = omega arith
+  keyPlace-le (suc k) i = go (eqb (keyAt page i) key) (keyPlace-le k (suc i))
+    where
+      go : (β : Bool) → keyPlace key page k (suc i) ≤ suc i + k → cond β i (keyPlace key page k (suc i)) ≤ i + suc k
+      go true ih = omega arith
+      go false ih = omega arith
+
+  keyAt-keyPlace : (k i : ℕ) → keyPlace key page k i < i + k → keyAt page (keyPlace key page k i) ≡ key
+  unfolding keyPlace
+  keyAt-keyPlace zero i l = absurd (omega arith)
+  keyAt-keyPlace (suc k) i l = go (eqb (keyAt page i) key) refl l (keyAt-keyPlace k (suc i))
+    where
+      go : (β : Bool) → eqb (keyAt page i) key ≡ β → cond β i (keyPlace key page k (suc i)) < i + suc k
+          → (keyPlace key page k (suc i) < suc i + k → keyAt page (keyPlace key page k (suc i)) ≡ key)
+          → keyAt page (cond β i (keyPlace key page k (suc i))) ≡ key
+      go true e h ih = eqb-true (keyAt page i) key e
+      go false e h ih = ih (omega arith)
+
+-- ---- a store
 
 module _ (before : Store) (values : List ℕ) where
   abbrev s : Shape
@@ -128,28 +145,14 @@ module _ (before : Store) (values : List ℕ) where
           (λ S sound. rw (same (m .early) (m .four))
           (ap nonEmpty (ap (stored values) (sym counted) ∙ sameKey-absent s values six page page-are n (sym q ∙ h))))
 
-      module _ (S : List Record) (sound : Sound before S) where
-        in-order : sorted (recordBit s) (total (widthsOf s)) 0 (recordsFrom s n 2 page) ≡ true
-        in-order =
-            rw (counted ∙ leaf-of-page-word before S sound p g x (m .own-within) (m .own) .1, leafRecords-divisionOf s S p)
-            (sorted-filter (recordBit s) (total (widthsOf s)) 0 _ S (sorted-of-isSet s S (sound .set)))
-
-      pub recordFound : (i : ℕ) → i ≡ keyPlace (packedKey values) page n 0 → i < n → n ≤ s .capacity
-          → RecordFound before values (record { page = g; depth = x; place = i; count = n })
-      recordFound i q h few =
-          record {
-            leaf = m;
-            counted = e;
-            few = few;
-            place-lt = h;
-            found = λ S sound.
-                ap nonEmpty (ap (stored values) (sym counted)
-                ∙ sameKey-found s values six page page-are n (fit S sound) (in-order S sound) (rw q at h));
-            others = λ S sound.
-                ap (withoutKey values) (sym counted)
-                ∙ sameKey-others s values six page page-are n (fit S sound) (in-order S sound) (rw q at h)
-                ∙ rw (q, counted);
-          }
-        where
-          fit : (S : List Record) → Sound before S → (j : ℕ) → getD (widthsOf s) j 0 ≤ 16
-          fit S sound = widthsOf-fit s (shape-of-Sound before S sound)
+    pub recordFound : (n : ℕ) → n ≡ countOf page → n ≤ s .capacity → (i : ℕ) → i ≡ keyPlace (packedKey values) page n 0
+        → (i ≡ n → ⊥) → RecordFound before values (record { page = g; depth = x; place = i; count = n })
+    recordFound n e few i q h =
+        let l : i < n = omega (arith, keyPlace-le (packedKey values) page n 0) in
+        record {
+          leaf = m;
+          counted = e;
+          few = few;
+          place-lt = l;
+          here = ap (keyAt page) q ∙ keyAt-keyPlace (packedKey values) page n 0 (rw q at l);
+        }

@@ -2,19 +2,16 @@
 -- of delete need. Assumes nothing.
 use Prim.Native.Nat.{ℕ, suc, _+_, _≤_, _<_}
 use mathlib.Core.Path.{_≡_}
-use mathlib.Core.Bool.{Bool, true}
+use mathlib.Core.Bool.{true}
 use mathlib.Core.List.{List}
 use lib.ListN.{length}
-use Rattle.lists.specs.Filter.{nonEmpty}
 use Rattle.shape.specs.Refusal.{refused}
-use Rattle.record.specs.Record.{Record}
-use Rattle.page.specs.Page.{countOf, recordsOf, pageAt}
-use Rattle.page.specs.Changes.{removeAt}
+use Rattle.record.specs.Packed.{packedKey}
+use Rattle.page.specs.Page.{countOf, pageAt}
+use Rattle.page.specs.Fields.{keyAt}
 use Rattle.word.specs.Word.{wordOf}
 use Rattle.word.specs.declared.Leaf.the-variants.{Page}
-use Rattle.model.specs.Sets.{stored, withoutKey}
 use Rattle.store.specs.Store.{Store, wordAt}
-use Rattle.store.specs.Sound.{Sound}
 use Rattle.store.specs.Promises.{keyNumber, DeletePromise}
 use Rattle.change.specs.Delete.{keyString, AtSibling, JoinFound}
 use Rattle.lent.specs.Limits.{limitsHold}
@@ -25,10 +22,6 @@ use Rattle.removal.specs.declared.Plan.{Plan}
 use Rattle.removal.specs.declared.Plan.the-variants as plan
 
 module _ (before : Store) (values : List ℕ) where
-  -- what holds of the set that a sound store shows
-  abbrev OnSound : Type 0 → Type 0
-  OnSound X = (S : List Record) → Sound before S → X
-
   abbrev P : ℕ
   P = before .state .limits .pages
 
@@ -40,9 +33,6 @@ module _ (before : Store) (values : List ℕ) where
 
   abbrev countBefore : ℕ → ℕ
   countBefore g = countOf (pageAt b (before .memory .bytes) g)
-
-  abbrev recordsBefore : ℕ → List Record
-  recordsBefore g = recordsOf (before .state .shape) (pageAt b (before .memory .bytes) g)
 
   -- the key's leaf has page g and depth x, as the word of its cell says; 1, 2, 3 and the limits are passed
   pub record LeafMet (g x : ℕ) : Type 0 where
@@ -59,8 +49,7 @@ module _ (before : Store) (values : List ℕ) where
     pub counted : r .count ≡ countBefore (r .page)
     pub few : r .count ≤ b
     pub place-lt : r .place < r .count
-    pub found : OnSound (nonEmpty (stored values (recordsBefore (r .page))) ≡ true)
-    pub others : OnSound (withoutKey values (recordsBefore (r .page)) ≡ removeAt (r .place) (recordsBefore (r .page)))
+    pub here : keyAt (pageAt b (before .memory .bytes) (r .page)) (r .place) ≡ packedKey values
 
   -- its sibling is no leaf with a page, or both do not fit one page without the record
   abbrev pub StaysAlone : ℕ → ℕ → Type 0

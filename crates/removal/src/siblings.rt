@@ -6,19 +6,16 @@ use packed::pair_bit;
 use record::pack_key;
 use shape::Key;
 use shape::Shape;
-use shape::Widths;
 use shape::widths_of;
+use sibling::sibling_word;
 use store::State;
 use word::pack_empty;
 ghost use mathlib.Core.Path.{_≡_};
-ghost use mathlib.Core.Bool.{Bool, true};
 ghost use mathlib.Core.List.{[]};
-ghost use Prim.Native.Nat.{ℕ, suc, _^_, _<_, _≤_};
-ghost use lib.ListN.{getD, length};
-ghost use Rattle.shape.specs.Shape.{Fit, widthList, shapeNumber, widthsOf, total};
+ghost use Prim.Native.Nat.{_<_, _≤_};
+ghost use lib.ListN.{length};
+ghost use Rattle.shape.specs.Shape.{shapeNumber, widthsOf, total};
 ghost use Rattle.split.specs.Bits.{splitBit};
-ghost use Rattle.cell.specs.Cell.{cellAddress, Agree};
-ghost use Rattle.region.specs.Strings.{sibling};
 ghost use Rattle.record.specs.Packed.{SixteenBits};
 ghost use Rattle.store.specs.Store.{store};
 ghost use Rattle.change.specs.Delete.{AtSibling};
@@ -83,13 +80,4 @@ fn step_bit(shape: Shape, key: Key, step: u32) -> bool
     let widths = widths_of(shape);
     let pair = pair_of_step(widths, step as u64);
     pair_bit(widths, pack_key(key), pair)
-}
-
-fn sibling_word(widths: Widths, key: [u32; 4], z: u64, t: u64, dir: &[u32]) -> u32
-    requires { ⌜ Fit (widthList widths) × (t ≤ total (widthList widths)) × (z < t) ⌝ }
-    requires { ⌜ 2 ^ t ≤ length (now dir) ⌝ }
-    ensures { λ r. ⌜ ((q : ℕ → Bool) × Agree (suc z) (sibling (splitBit (widthList widths) key) z) q
-        × (r ≡ getD (now (dir .entry)) (cellAddress (widthList widths) t q) 0)) ⌝ }
-{
-    0
 }

@@ -1,4 +1,4 @@
--- `lookup::seek` meets its contract: the early refusals and the limits leave what each step asks. Assumes nothing.
+-- `lookup::seek_key` meets its contract: the early refusals and the limits leave what each step asks. Assumes nothing.
 use mathlib.Core.Path.{_≡_, sym, _∙_}
 use mathlib.Core.Bool.{true}
 use native.Mathlib.Nat.{le-trans}
@@ -8,11 +8,12 @@ use borrow.Author.Tests.{not-true, not-false}
 use Rattle.shape.proofs.ShapeLaws.{capacity-bounds}
 use Rattle.store.specs.Answers.{foundAnswer}
 use Rattle.store.specs.Store.{store}
-use Rattle.lookup.proofs.CaseLaws.{soughtAnswer-limits, soughtAnswer-leaf}
-use Rattle.lookup.proofs.EarlyLaws.{Passed, passed, limited, SixteenBits-of-keyFits}
-use Rattle.lookup.specs.Private.{limitsHold}
-use Rattle.lookup.proofs.seek.Statement.{statement}
-use Rattle.lookup.proofs.seek.Tie as tie
+use Rattle.lent.specs.Limits.{limitsHold}
+use Rattle.lent.proofs.LimitsLaws.{limits-parts}
+use Rattle.lookup.proofs.CaseLaws.{soughtAnswer-limits, soughtAnswer-word}
+use Rattle.lookup.proofs.EarlyLaws.{Passed, passed, SixteenBits-of-keyFits}
+use Rattle.lookup.proofs.seek_key.Statement.{statement}
+use Rattle.lookup.proofs.seek_key.Tie as tie
 
 -- the array of a key's values has four: what owning the key tells
 four : (c : tie.Start) → length (c .args .key .values) ≡ 4
@@ -40,8 +41,8 @@ returns c =
 key-word-requires : tie.Need-key-word-requires
 key-word-requires c κs =
     let p = early (c .before .before .before) in
-    let l = limited (c .before .before .before .before .before .args .state) (held (c .before)) in
-    ((p .shape, le-trans (l .within-limit) (l .bits)), le-trans (pow-mono (l .within-limit)) (p .words-lent))
+    let l = limits-parts (c .before .before .before .before .before .args .state) (held (c .before)) in
+    ((p .shape, le-trans (l .4) (l .3)), le-trans (pow-mono (l .4)) (p .words-lent))
 
 pack-key-requires : tie.Need-pack-key-requires
 pack-key-requires c κs =
@@ -49,27 +50,27 @@ pack-key-requires c κs =
     let p = early (c .before .before .before .before) in
     SixteenBits-of-keyFits (s .args .state .shape) (s .args .key .values) (p .shape) (p .fits) (four s)
 
-seek-in-leaf-requires : tie.Need-seek-in-leaf-requires
-seek-in-leaf-requires c κs =
+seek-by-word-requires : tie.Need-seek-by-word-requires
+seek-by-word-requires c κs =
     let st = c .before .before .before .before .before .before .before .args .state in
     let p = early (c .before .before .before .before .before) in
-    let l = limited st (held (c .before .before .before)) in
-    ((capacity-bounds (st .shape) (p .shape) .1, l .few), p .pages-lent)
+    let l = limits-parts st (held (c .before .before .before)) in
+    ((capacity-bounds (st .shape) (p .shape) .1, l .1), p .pages-lent)
 
 returns-2 : tie.Need-returns-2
 returns-2 c =
     let a = c .before .before .before .before .before .before .before .before .args in
-    c .seek-in-leaf .ensures
-    ∙ soughtAnswer-leaf (store (a .state) (a .dir .now) (a .pages .now)) (a .key .values)
+    c .seek-by-word .ensures
+    ∙ soughtAnswer-word (store (a .state) (a .dir .now) (a .pages .now)) (a .key .values)
     (held (c .before .before .before .before)) _ _ (c .before .before .key-word .ensures) (c .before .pack-key .ensures)
 
-pub seek-spec : {M : Type 1} → statement M
-seek-spec =
+pub seek-key-spec : {M : Type 1} → statement M
+seek-key-spec =
     tie.close
     (tie.spec
     limits-hold-requires
     returns
     key-word-requires
     pack-key-requires
-    seek-in-leaf-requires
+    seek-by-word-requires
     returns-2)
