@@ -4,18 +4,23 @@ use Prim.Native.Nat.{ℕ, zero, suc, _+_, _-_, _*_, _%_, _^_, _≤_, _<_}
 use mathlib.Core.Path.{_≡_, refl, sym, ap, _∙_}
 use mathlib.Core.Bool.{Bool, true, false, cond, true≢false}
 use mathlib.Core.List.{List}
+use native.Mathlib.Nat.{le-trans}
 use native.Mathlib.Omega.{arith}
 use lib.Dec.{eqb}
 use lib.ListN.{length}
+use lib.Pow.{pow-mono}
 use borrow.Author.Tests.{eqb-true}
 use Rattle.lists.specs.Filter.{nonEmpty}
 use Rattle.shape.specs.Refusal.{refused}
 use Rattle.shape.specs.Key.{encodings}
 use Rattle.shape.specs.declared.Shape.{Shape}
+use Rattle.shape.proofs.ShapeLaws.{capacity-bounds}
 use Rattle.record.specs.Packed.{packedKey, SixteenBits}
 use Rattle.record.proofs.CodecLaws.{AreBytes, AreBytes-field}
 use Rattle.page.specs.Page.{countOf, recordsOf, recordsFrom, pageSize, pageAt}
 use Rattle.page.specs.Fields.{keyAt}
+use Rattle.pages.specs.Pages.{PageLent}
+use Rattle.pages.proofs.PageLaws.{page-end-le}
 use Rattle.select.specs.KeyPlace.{keyPlace}
 use Rattle.select.proofs.StoredLaws.{sameKey-absent}
 use Rattle.word.specs.Word.{leafOf}
@@ -33,6 +38,7 @@ use Rattle.lent.proofs.LimitsLaws.{limits-of-sound, limits-parts}
 use Rattle.seek.specs.Hold.{wordHolds}
 use Rattle.seek.proofs.HoldLaws.{word-of-sound, held-empty, held-page}
 use Rattle.removal.specs.Plan.{LeafMet, RecordFound}
+use Rattle.removal.specs.Private.{DirectoryLent}
 use Rattle.lookup.proofs.EarlyLaws.{passed, SixteenBits-of-keyFits}
 use Rattle.removal.proofs.EarlyLaws.{encodings-values}
 
@@ -149,10 +155,34 @@ module _ (before : Store) (values : List ℕ) where
         → (i ≡ n → ⊥) → RecordFound before values (record { page = g; depth = x; place = i; count = n })
     recordFound n e few i q h =
         let l : i < n = omega (arith, keyPlace-le (packedKey values) page n 0) in
+        let within : keyPlace (packedKey values) page n 0 < 0 + n = omega arith in
         record {
           leaf = m;
           counted = e;
           few = few;
           place-lt = l;
-          here = ap (keyAt page) q ∙ keyAt-keyPlace (packedKey values) page n 0 (rw q at l);
+          here = ap (keyAt page) q ∙ keyAt-keyPlace (packedKey values) page n 0 within;
+        }
+
+    -- ---- bounds
+
+    pub directoryLent : DirectoryLent (before .state) (length (before .memory .words))
+    directoryLent =
+        let k = passed before values (m .early) in
+        let l = limits-parts (before .state) (m .limits) in
+        record {
+          shape = k .shape;
+          deep = omega (arith, l .3, l .4);
+          short = omega (arith, l .2, l .4);
+          room = le-trans (pow-mono (l .4)) (k .words-lent);
+        }
+
+    -- each of the P pages is lent
+    pub pageLent : (h : ℕ) → h < P → PageLent (s .capacity) h (before .memory .bytes)
+    pageLent h l =
+        let k = passed before values (m .early) in
+        record {
+          capacity-le = capacity-bounds s (k .shape) .1;
+          number-lt = omega (arith, most);
+          whole = le-trans (page-end-le (s .capacity) h P l) (k .pages-lent);
         }

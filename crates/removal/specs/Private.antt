@@ -5,7 +5,6 @@ use mathlib.Core.Path.{_≡_}
 use mathlib.Core.List.{List, []}
 use Rattle.shape.specs.Shape.{shapeNumber, widthsOf, total}
 use Rattle.split.specs.Bits.{splitBit}
-use Rattle.record.specs.Packed.{SixteenBits}
 use Rattle.word.specs.Word.{wordOf}
 use Rattle.word.specs.declared.Leaf.the-variants.{Empty, Page}
 use Rattle.store.specs.Store.{Store, store}
@@ -24,13 +23,12 @@ pub record SiblingMet (before : Store) (values : List ℕ) (r : Stored) (h : ℕ
 
 -- ---- siblings above
 
--- words and key of a directory of depth T, which is at most 12, in a slice of so many words
-pub record KeyFits (st : State) (values : List ℕ) (size : ℕ) : Type 0 where
+-- the directory of depth T fits the shape, the greatest depth 12, and a slice of so many words
+pub record DirectoryLent (st : State) (size : ℕ) : Type 0 where
   pub shape : shapeNumber (st .shape) ≡ 0
   pub deep : st .depth ≤ total (widthsOf (st .shape))
   pub short : st .depth ≤ 12
   pub room : 2 ^ st .depth ≤ size
-  pub six : SixteenBits values
 
 module _ (st : State) (words values : List ℕ) where
   -- from depth m up, the siblings are empty leaves from depth y + 1 on, and that at depth y is none

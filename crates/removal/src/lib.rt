@@ -169,6 +169,7 @@ fn plan_pair(
     if !tally_holds(state.tally) {
         return Plan::Refused(9);
     }
-    let join = plan_join(state, dir, key, found.depth, other, count);
+    let values = key.values;
+    let join = plan_join(state, dir, values, found.depth, other, count);
     Plan::Join(found, join)
 }

@@ -1,3 +1,7 @@
+-- `removal::place_on` meets its contract: what is lent is the page. Assumes nothing.
+use mathlib.Core.Path.{ap, _∙_}
+use Rattle.pages.proofs.PageLaws.{midOf-page}
+use Rattle.select.specs.KeyPlace.{keyPlace}
 use borrow.Author.Needs.{needs}
 use Rattle.removal.proofs.place_on.Statement.{statement}
 use Rattle.removal.proofs.place_on.Tie as tie
@@ -27,7 +31,10 @@ find-key-requires : tie.Need-find-key-requires
 find-key-requires c κs = search needs
 
 returns : tie.Need-returns
-returns c = ?
+returns c =
+    let a = c .before .before .before .args in
+    c .find-key .ensures
+    ∙ ap (λ page. keyPlace (a .key) page (a .n) 0) (midOf-page (a .capacity) (a .g) (a .pages .now))
 
 pub place-on-spec : {M : Type 1} → statement M
 place-on-spec =

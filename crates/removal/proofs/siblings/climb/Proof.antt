@@ -1,51 +1,63 @@
+-- `removal::siblings::climb` meets its contract: the siblings from depth m up to y are empty leaves. Falling number: y.
+-- Assumes nothing.
+use Prim.Native.Nat.{_-_}
+use mathlib.Core.Path.{sym, _∙_}
+use native.Mathlib.Omega.{arith}
+use Rattle.removal.proofs.ClimbLaws.{Rising, rising-start, rising-next, climbed-stop, climbed-end}
 use Rattle.removal.proofs.siblings.climb.Statement.{statement}
 use Rattle.removal.proofs.siblings.climb.Tie as tie
-use Rattle.removal.proofs.siblings.climb.Reads as reads
-use Rattle.removal.proofs.siblings.climb.Lts as lts
-use Rattle.removal.proofs.siblings.sibling_of.Reads as sibling-of-reads
-use Rattle.word.proofs.pack_empty.Reads as pack-empty-reads
 
 abbrev Inv-loop : tie.InvT-loop
-Inv-loop state dir values m y₀ y = ?
+Inv-loop state dir values m y₀ y = Rising state dir values m y
 
 abbrev μ-loop : tie.MeasureT-loop
-μ-loop state dir values m y₀ y = ?
+μ-loop state dir values m y₀ y = y
 
--- src/siblings.rt:59:5
 loop-holds : tie.Need-loop-holds Inv-loop μ-loop
-loop-holds c = ?
+loop-holds c = let a = c .before .args in rising-start (a .state) (a .dir .now) (a .values) (a .m)
 
--- src/siblings.rt:60:51
 sub-sibling-of : tie.Need-sub-sibling-of Inv-loop μ-loop
-sub-sibling-of c = ?
+sub-sibling-of c = omega (arith, c .loop-test .taken)
 
--- src/siblings.rt:60:13
 sibling-of-requires : tie.Need-sibling-of-requires Inv-loop μ-loop
-sibling-of-requires c κs = ?
+sibling-of-requires c κs =
+    let pre = c .before .before .before .pre in
+    (pre .0, omega (arith, pre .1, c .before .loop .inv .0, c .loop-test .taken))
 
--- src/siblings.rt:61:20
 pack-empty-requires : tie.Need-pack-empty-requires Inv-loop μ-loop
-pack-empty-requires c κs = ?
+pack-empty-requires c κs =
+    let pre = c .before .before .before .before .pre in
+    omega (arith, pre .0 .short, pre .1, c .before .before .loop .inv .0)
 
--- src/siblings.rt:62:13
 returns : tie.Need-returns Inv-loop μ-loop
-returns c = ?
+returns c =
+    let called = c .before .before in
+    let loop = called .before .before .loop in
+    let a = called .before .before .before .before .args in
+    climbed-stop (a .state) (a .dir .now) (a .values) (a .m) (loop .y) (loop .y - 1) (called .sibling-of .result)
+    (loop .inv) (omega (arith, called .before .loop-test .taken)) (called .sibling-of .ensures)
+    (λ h. c .if1 .taken (h ∙ sym (c .before .pack-empty .ensures)))
 
--- src/siblings.rt:64:9
 sub-y : tie.Need-sub-y Inv-loop μ-loop
-sub-y c = ?
+sub-y c = omega (arith, c .before .before .before .loop-test .taken)
 
--- src/siblings.rt:59:5
 loop-less : tie.Need-loop-less Inv-loop μ-loop
-loop-less c = ?
+loop-less c = omega (arith, c .before .before .before .loop-test .taken)
 
--- src/siblings.rt:59:5
 loop-again : tie.Need-loop-again Inv-loop μ-loop
-loop-again c = ?
+loop-again c =
+    let called = c .before .before in
+    let loop = called .before .before .loop in
+    let a = called .before .before .before .before .args in
+    rising-next (a .state) (a .dir .now) (a .values) (a .m) (loop .y) (loop .y - 1) (called .sibling-of .result)
+    (loop .inv) (omega (arith, called .before .loop-test .taken)) (called .sibling-of .ensures)
+    (c .if1 .left ∙ c .before .pack-empty .ensures)
 
--- src/siblings.rt:54:1
 returns-2 : tie.Need-returns-2 Inv-loop μ-loop
-returns-2 c = ?
+returns-2 c =
+    let loop = c .before .loop in
+    let a = c .before .before .before .args in
+    climbed-end (a .state) (a .dir .now) (a .values) (a .m) (loop .y) (loop .inv) (omega (arith, c .loop-test .left))
 
 pub climb-spec : {M : Type 1} → statement M
 climb-spec =
