@@ -1,5 +1,4 @@
 -- `delete::steps::join_pages` meets its contract: the bit says which page is carried. Assumes nothing.
-use mathlib.Core.Path.{refl}
 use Rattle.delete.specs.Private.{joinedPages}
 use borrow.Author.Needs.{needs}
 use Rattle.delete.proofs.steps.join_pages.Statement.{statement}

@@ -1,11 +1,11 @@
 -- `delete::steps::remove_record` meets its contract: what is lent is the page. Assumes nothing.
-use native.Mathlib.Omega.{arith}
 use mathlib.Core.Path.{_∙_}
+use native.Mathlib.Omega.{arith}
 use Rattle.page.specs.Page.{pageAt}
 use Rattle.page.specs.Changes.{removedPage}
 use Rattle.page.proofs.ChangeLaws.{length-removedPage}
 use Rattle.pages.proofs.PageLaws.{putMid-change, length-pageAt}
-use Rattle.delete.specs.Private.{removedPages}
+use Rattle.delete.specs.PageBytes.{removedBytes}
 use borrow.Author.Needs.{needs}
 use Rattle.delete.proofs.steps.remove_record.Statement.{statement}
 use Rattle.delete.proofs.steps.remove_record.Tie as tie
@@ -15,6 +15,9 @@ mul-size c = search needs
 
 add-size : tie.Need-add-size
 add-size c = search needs
+
+cast-start : tie.Need-cast-start
+cast-start c = search needs
 
 mul-start : tie.Need-mul-start
 mul-start c = search needs
@@ -38,14 +41,16 @@ same-length : tie.Need-same-length
 same-length c = search needs
 
 returns : tie.Need-returns
-unfolding removedPages
+unfolding removedBytes
 returns c =
-    let start = c .before .before .before .before .before in
+    let start = c .before .before .before .before .before .before in
     let a = start .args in
-    let page = pageAt (a .capacity) (a .pages .now) (a .g) in
-    let whole = length-pageAt (a .capacity) (a .g) (a .pages .now) (start .pre .0 .whole) in
-    putMid-change (a .capacity) (a .g) (a .pages .now) (removedPage (a .i) (a .n)) _ (c .before .before .remove-at .ensures)
-    (length-removedPage (a .i) (a .n) page (start .pre .1) (omega (arith, whole)) ∙ whole)
+    let r = a .found in
+    let page = pageAt (a .capacity) (a .pages .now) (r .page) in
+    let whole = length-pageAt (a .capacity) (r .page) (a .pages .now) (start .pre .page .whole) in
+    putMid-change (a .capacity) (r .page) (a .pages .now) (removedPage (r .place) (r .count)) _
+    (c .before .before .remove-at .ensures)
+    (length-removedPage (r .place) (r .count) page (start .pre .place-lt) (omega (arith, whole, start .pre .few)) ∙ whole)
 
 pub remove-record-spec : {M : Type 1} → statement M
 remove-record-spec =
@@ -53,6 +58,7 @@ remove-record-spec =
     (tie.spec
     mul-size
     add-size
+    cast-start
     mul-start
     add-end
     sub-remove-at
