@@ -1,7 +1,8 @@
 -- Laws of the words that the steps of a delete set: bounds of the directory, and regions filled by the widths of the
 -- shape; the new leaf lies within the directory. Assumes nothing.
-use Prim.Native.Nat.{ℕ, suc, _+_, _-_, _≤_}
+use Prim.Native.Nat.{ℕ, suc, _+_, _-_, _≤_, _<_}
 use mathlib.Core.Path.{_≡_, ap, subst}
+use mathlib.Core.Bool.{Bool, true, false}
 use mathlib.Core.List.{List}
 use native.Mathlib.Nat.{le-trans}
 use native.Mathlib.Omega.{arith}
@@ -17,6 +18,7 @@ use Rattle.change.proofs.DeleteTallyLaws.{getD-joinedTally-at, le-tallyDepth}
 use Rattle.removal.specs.Private.{DirectoryLent}
 use Rattle.removal.specs.declared.Stored.{Stored}
 use Rattle.removal.specs.declared.Join.{Join}
+use Rattle.delete.specs.PageBytes.{keptPage}
 use Rattle.delete.specs.Private.{LeavesLent}
 
 module _ (st : State) (ws : List ℕ) (e : ws ≡ widthsOf (st .shape)) where
@@ -48,3 +50,7 @@ top-le st r j l short leaves e =
     (getD-joinedTally-at (j .top) (j .step - j .top) (st .tally .leaves)
     (omega (arith, l .thirteen, l .above, l .deep, l .depth-step))) in
     le-tallyDepth leaves (st .depth) (j .top) (omega (arith, l .above, l .deep, l .depth-step)) (omega arith)
+
+pub keptPage-lt : (β : Bool) (g h n : ℕ) → g < n → h < n → keptPage β g h < n
+keptPage-lt true g h n u v = v
+keptPage-lt false g h n u v = u

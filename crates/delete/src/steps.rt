@@ -34,7 +34,14 @@ pub fn keep_leaf(state: State, dir: &mut [u32], pages: &mut [u8], values: [u32; 
         return;
     }
     let word = pack_empty(found.depth);
-    fill(widths_of(shape), values, found.depth as u64, state.depth as u64, word, dir);
+    fill(
+        widths_of(shape),
+        values,
+        found.depth as u64,
+        state.depth as u64,
+        word,
+        dir,
+    );
 }
 
 // The key's leaf and its sibling are joined: its record is removed, the others are put into one page,
@@ -59,7 +66,14 @@ pub fn join_leaves(
     let tally = join_tally(state, found, join);
     let depth = greatest_depth(tally, state.depth as usize);
     let word = pack_page(kept, join.top);
-    fill(widths_of(shape), values, join.top as u64, depth as u64, word, dir);
+    fill(
+        widths_of(shape),
+        values,
+        join.top as u64,
+        depth as u64,
+        word,
+        dir,
+    );
     State {
         shape,
         limits,
@@ -73,7 +87,11 @@ fn join_tally(state: State, found: Stored, join: Join) -> Tally
     requires { ⌜ (state .depth ≤ 12) × LeavesLent state found join ⌝ }
     ensures { λ r. ⌜ r .leaves ≡ joinedTally (join .top) (suc (join .step) - join .top) (state .tally .leaves) ⌝ }
 {
-    tally::join(state.tally, join.top as usize, (found.depth - join.top) as usize)
+    tally::join(
+        state.tally,
+        join.top as usize,
+        (found.depth - join.top) as usize,
+    )
 }
 
 // Removes the key's record from the page of its leaf.
@@ -111,7 +129,15 @@ fn join_records(pages: &mut [u8], capacity: usize, found: Stored, join: Join) ->
 // Puts the n records of page g and the k of page h into one of the two, and frees the other: those
 // with bit 1 go behind the others. The bit is that of the records of page g. Returns the page that
 // has the records.
-fn join_pages(pages: &mut [u8], capacity: usize, g: u32, n: usize, h: u32, k: usize, bit: bool) -> u32
+fn join_pages(
+    pages: &mut [u8],
+    capacity: usize,
+    g: u32,
+    n: usize,
+    h: u32,
+    k: usize,
+    bit: bool,
+) -> u32
     requires { ⌜ PageLent capacity g (now pages) × PageLent capacity h (now pages) × (n + k ≤ capacity) ⌝ }
     ensures { λ r. ⌜ r ≡ cond bit h g ⌝ }
     ensures { λ _. ⌜ now (pages .exit) ≡ joinedPages capacity g n h k bit (now (pages .entry)) ⌝ }

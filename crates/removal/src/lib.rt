@@ -1,6 +1,7 @@
 // The plan of a delete, made before anything is written (document 01, "Calls"): the key's record, and
 // whether its leaf stays or is joined.
 pub mod siblings;
+
 use lent::limits_hold;
 use pages::count_at;
 use record::RECORD_SIZE;
@@ -139,14 +140,7 @@ fn plan_sibling(state: State, dir: &[u32], pages: &[u8], key: Key, found: Stored
 
 // The plan for a leaf and its sibling of the same depth, with page `other`: they are joined where both
 // fit one page without the record. 9 for a page, a count or a tally that no sound store has.
-fn plan_pair(
-    state: State,
-    dir: &[u32],
-    pages: &[u8],
-    key: Key,
-    found: Stored,
-    other: u32,
-) -> Plan
+fn plan_pair(state: State, dir: &[u32], pages: &[u8], key: Key, found: Stored, other: u32) -> Plan
     requires { ⌜ RecordFound (store state (now dir) (now pages)) (key .values) found ⌝ }
     requires { ⌜ SiblingMet (store state (now dir) (now pages)) (key .values) found other ⌝ }
     ensures { λ r. ⌜ Planned (store state (now (dir .entry)) (now (pages .entry))) (key .values) r ⌝ }

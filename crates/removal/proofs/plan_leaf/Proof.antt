@@ -64,9 +64,10 @@ place-on-requires : tie.Need-place-on-requires
 place-on-requires c κs =
     let s = c .before .before .before .before .before .before .before .before in
     let a = s .args in
-    let before = store (a .state) (a .dir .now) (a .pages .now) in
-    (pageLent before (a .key .values) (a .page) (a .depth) (s .pre) (a .page) (s .pre .own-within),
-    omega (arith, c .before .if2 .left))
+    let before = store (a .state) (a .dir .now) (a .pages .now) in (
+      pageLent before (a .key .values) (a .page) (a .depth) (s .pre) (a .page) (s .pre .own-within),
+      omega (arith, c .before .if2 .left),
+    )
 
 returns-3 : tie.Need-returns-3
 returns-3 c =

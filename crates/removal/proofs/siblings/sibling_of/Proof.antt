@@ -23,9 +23,14 @@ sibling-word-requires : tie.Need-sibling-word-requires
 sibling-word-requires c κs =
     let s = c .before .before .before in
     let w = c .before .widths-of in
-    let fits = s .pre .0 in
-    ((widths-fit (s .args .state .shape) (widthList (w .result)) (fits .shape) (w .ensures),
-    omega (arith, ap total (w .ensures), fits .deep), s .pre .1), fits .room)
+    let fits = s .pre .0 in (
+      (
+        widths-fit (s .args .state .shape) (widthList (w .result)) (fits .shape) (w .ensures),
+        omega (arith, ap total (w .ensures), fits .deep),
+        s .pre .1,
+      ),
+      fits .room,
+    )
 
 returns : tie.Need-returns
 returns c =
