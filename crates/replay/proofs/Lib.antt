@@ -1,0 +1,4 @@
+pub mod EncodingLaws
+pub mod PartLaws
+pub mod RanLaws
+pub mod ReplayedLaws

@@ -1,12 +1,16 @@
 -- What the steps of a replay promise: one call, and the calls so far. Assumes nothing.
-use Prim.Native.Nat.{ℕ, _*_}
+use Prim.Native.Nat.{ℕ, _+_, _*_}
 use mathlib.Core.Path.{_≡_}
-use mathlib.Core.List.{List, _++_}
-use lib.ListN.{length, drop}
+use mathlib.Core.List.{List, [], _∷_, _++_}
+use lib.ListN.{length, drop, getD}
 use Rattle.model.specs.Model.{Call, Outcome}
 use Rattle.store.specs.Store.{Store}
 use Rattle.history.specs.History.{Promised, Run}
 use Rattle.replay.specs.Encoding.{callsIn, answerSize, answerWords, answersOf, outputsOf, outputStart}
+
+-- four elements of a list
+abbrev pub fourAt : List ℕ → ℕ → List ℕ
+fourAt l at = getD l at 0 ∷ getD l (at + 1) 0 ∷ getD l (at + 2) 0 ∷ getD l (at + 3) 0 ∷ []
 
 -- a call kept its promise, with the outcome that these words and this output give
 pub record Kept (before : Store) (c : Call) (words output : List ℕ) (after : Store) : Type 0 where

@@ -16,15 +16,15 @@ use store::Found;
 use store::Listed;
 use store::State;
 ghost use mathlib.Core.Path.{_≡_};
-ghost use mathlib.Core.List.{[], _∷_, _++_};
+ghost use mathlib.Core.List.{_++_};
 ghost use Prim.Native.Nat.{_+_, _*_, _<_, _≤_, min};
-ghost use lib.ListN.{length, take, drop, getD};
+ghost use lib.ListN.{length, take, drop};
 ghost use Rattle.shape.specs.Key.{wantedValues, wantedValue};
 ghost use Rattle.store.specs.Store.{memory, store};
 ghost use Rattle.store.specs.Answers.{changedAnswer, foundAnswer, listedAnswer};
 ghost use Rattle.store.specs.Promises.{InsertPromise, DeletePromise};
 ghost use Rattle.replay.specs.Encoding.{callSize, requestAt, valueIf, wantedIn, callOf, requestSize, answerSize, answerWords, callCount};
-ghost use Rattle.replay.specs.Private.{Kept, Ran};
+ghost use Rattle.replay.specs.Private.{fourAt, Kept, Ran};
 ghost use Rattle.replay.specs.Replayed.{Replayed};
 
 // The words of one call.
@@ -68,7 +68,8 @@ pub fn replay(
     let Changed::Done = answer else {
         return made;
     };
-    let state = run_calls(made.state, dir, pages, calls, answers, out);
+    let empty = made.state;
+    let state = run_calls(empty, dir, pages, calls, answers, out);
     Change {
         answer: Changed::Done,
         state,
@@ -97,7 +98,8 @@ fn run_calls(
         let request = read_request(calls, i);
         let end = start + request_size(request, out.len() - start);
         let step = run_call(current, dir, pages, request, &mut out[start..end]);
-        put_answer(answers, i, step.words);
+        let words = step.words;
+        put_answer(answers, i, words);
         current = step.state;
         start = end;
         i += 1;
@@ -118,31 +120,32 @@ fn run_call(
         (callOf request (now (out .entry))) (r .words) (now (out .exit))
         (store (r .state) (now (dir .exit)) (now (pages .exit))) ⌝ }
 {
-    let key = Key {
-        values: request.values,
-    };
+    let values = request.values;
+    let key = Key { values };
     if request.kind == 0 {
         let content = Content {
             payload: request.payload,
         };
-        let change = insert(state, dir, pages, key, content);
-        return Step {
-            state: change.state,
-            words: changed_words(change.answer),
-        };
+        return changed_step(insert(state, dir, pages, key, content));
     }
     if request.kind == 1 {
-        let change = delete(state, dir, pages, key);
-        return Step {
-            state: change.state,
-            words: changed_words(change.answer),
-        };
+        return changed_step(delete(state, dir, pages, key));
     }
     if request.kind == 2 {
         let words = found_words(lookup(state, dir, pages, key));
         return Step { state, words };
     }
     let words = listed_words(query(state, dir, pages, query_of(request), out));
+    Step { state, words }
+}
+
+// The state and the words of a call that may change the store.
+fn changed_step(change: Change) -> Step
+    ensures { λ r. ⌜ (r .state ≡ change .state) × (r .words ≡ answerWords (changedAnswer (change .answer))) ⌝ }
+{
+    let answer = change.answer;
+    let words = changed_words(answer);
+    let state = change.state;
     Step { state, words }
 }
 
@@ -164,8 +167,7 @@ fn read_request(calls: &[u32], i: usize) -> Request
 // The four words from a place on.
 fn four_words(words: &[u32], at: usize) -> [u32; 4]
     requires { ⌜ at + 4 ≤ length (now words) ⌝ }
-    ensures { λ r. ⌜ r ≡ getD (now (words .entry)) at 0 ∷ getD (now (words .entry)) (at + 1) 0
-        ∷ getD (now (words .entry)) (at + 2) 0 ∷ getD (now (words .entry)) (at + 3) 0 ∷ [] ⌝ }
+    ensures { λ r. ⌜ r ≡ fourAt (now (words .entry)) at ⌝ }
 {
     [words[at], words[at + 1], words[at + 2], words[at + 3]]
 }
@@ -243,7 +245,7 @@ fn listed_words(answer: Listed) -> [u64; 4]
 fn put_answer(answers: &mut [u64], i: usize, words: [u64; 4])
     requires { ⌜ answerSize * i + answerSize ≤ length (now answers) ⌝ }
     ensures { λ _. ⌜ now (answers .exit) ≡ take (answerSize * i) (now (answers .entry))
-        ++ words ++ drop (answerSize * i + answerSize) (now (answers .entry)) ⌝ }
+        ++ fourAt words 0 ++ drop (answerSize * i + answerSize) (now (answers .entry)) ⌝ }
 {
     let at = ANSWER_SIZE * i;
     answers[at] = words[0];

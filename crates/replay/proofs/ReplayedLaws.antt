@@ -1,0 +1,54 @@
+-- Laws of a replay: a refused Fresh, and the calls run on an accepted one. Assumes nothing.
+use Prim.Native.Nat.{ℕ, suc, _*_}
+use mathlib.Core.Path.{_≡_, refl, sym, ap, subst, _∙_}
+use mathlib.Core.List.{List, [], _++_}
+use native.Mathlib.Omega.{arith}
+use lib.ListN.{length, drop}
+use Rattle.shape.specs.Refusal.{Answer, accepted, refused, answered}
+use Rattle.shape.specs.declared.Shape.{Shape}
+use Rattle.model.specs.Model.{Outcome, Reply, changed, run}
+use Rattle.store.specs.Store.{Store, Memory}
+use Rattle.store.specs.Fresh.{FreshPromise, freshNumber}
+use Rattle.history.specs.History.{WithinBounds}
+use Rattle.history.proofs.HistoryLaws.{history}
+use Rattle.replay.specs.Encoding.{callCount, answerSize, answersOf, outputsOf, outputStart}
+use Rattle.replay.specs.Private.{Ran}
+use Rattle.replay.specs.Replayed.{modelFixed, modelCalls, Replayed}
+
+-- an accepted answer is no refused one
+accepted-refused : {C : Type 0} (n : ℕ) → _≡_ {A = Answer Reply} (accepted changed) (refused n) → C
+accepted-refused n e = let z : _≡_ {A = ℕ} 0 1 = cc in absurd (omega arith)
+
+module _ (s : Shape) (m : Memory) (words answers out : List ℕ) where
+  pub replayed-refused : (n : ℕ) (after : Store) → FreshPromise s m (refused n) after
+      → Replayed s m words answers out (refused n) after answers out
+  replayed-refused n after p =
+      let accepted-as : freshNumber s m ≡ 0 → accepted changed ≡ refused n =
+      λ e. sym (p .answered-as ∙ ap (λ k. answered k changed) e) in
+      record {
+        refused-as = λ k e. (p .answered-as ∙ ap (λ k. answered k changed) e, rw e at (p .memory-as), refl, refl);
+        accepted-as = λ e. sym (accepted-as e);
+        answers-as = λ e. accepted-refused n (accepted-as e);
+        outputs-as = λ e. accepted-refused n (accepted-as e);
+        bounded = λ e. accepted-refused n (accepted-as e);
+        shown = λ e. accepted-refused n (accepted-as e);
+      }
+
+  pub replayed-accepted : (fresh after : Store) (answers′ out′ : List ℕ) → FreshPromise s m (accepted changed) fresh
+      → Ran fresh words answers out (callCount words answers) after answers′ out′
+      → Replayed s m words answers out (accepted changed) after answers′ out′
+  replayed-accepted fresh after answers′ out′ p r =
+      let f = modelFixed s m words answers out in
+      let cs = modelCalls s m words answers out in
+      let model = history s m fresh p cs (r .outcomes) after (r .ran) in
+      record {
+        refused-as = λ n e. accepted-refused (suc n) (p .answered-as ∙ ap (λ k. answered k changed) e);
+        accepted-as = λ e. refl;
+        answers-as = λ e.
+            r .answers-as ∙ ap (λ os. answersOf os ++ drop (answerSize * callCount words answers) answers) (model .0);
+        outputs-as = λ e.
+            r .outputs-as
+            ∙ ap (λ os. outputsOf os ++ drop (outputStart words (length out) (callCount words answers)) out) (model .0);
+        bounded = λ e. subst (λ (os : List Outcome). WithinBounds f [] cs os) (model .0) (model .1);
+        shown = λ e. model .2;
+      }
