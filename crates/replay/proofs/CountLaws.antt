@@ -1,0 +1,48 @@
+-- Laws of the numbers of a replay: every call and its answer lie in the lent slices, and so does its output. Assumes
+-- nothing.
+use Prim.Native.Nat.{ℕ, zero, suc, _+_, _-_, _*_, _/_, _≤_, _<_, min}
+use mathlib.Core.Path.{_≡_, refl, sym, ap, _∙_}
+use mathlib.Core.List.{List}
+use native.Mathlib.Omega.{arith}
+use lib.ListN.{length}
+use borrow.Rule.Slice.PartMut.{midOf, mid-len}
+use Rattle.replay.specs.declared.Request.{Request}
+use Rattle.replay.specs.Encoding.{callSize, answerSize, sizeOfKind, requestSize, callCount}
+
+-- ---- calls and answers
+
+module _ (words answers : List ℕ) (n i : ℕ) (e : n ≡ min (length words / callSize) (length answers / answerSize)) (h : i < n) where
+  pub call-fits : callSize * i + callSize ≤ length words
+  call-fits = omega arith
+
+  pub answer-fits : answerSize * i + answerSize ≤ length answers
+  answer-fits = omega arith
+
+pub callCount-as : (words answers : List ℕ) (n i : ℕ) → n ≡ min (length words / callSize) (length answers / answerSize)
+    → i ≤ n → (i < n → ⊥) → i ≡ callCount words answers
+unfolding callCount
+callCount-as words answers n i e h h′ =
+    let all : i ≡ n = omega (arith, h, h′) in
+    all ∙ e
+
+-- ---- outputs
+
+-- a size that is taken from itself is the same
+requestSize-again : (r : Request) (room : ℕ) → requestSize r room ≡ requestSize r (requestSize r room)
+unfolding requestSize
+requestSize-again r room = of-kind (r .kind)
+  where
+    of-kind : (k : ℕ) → sizeOfKind k (r .size) room ≡ sizeOfKind k (r .size) (sizeOfKind k (r .size) room)
+    of-kind zero = refl
+    of-kind (suc zero) = refl
+    of-kind (suc (suc zero)) = refl
+    of-kind (suc (suc (suc n))) = omega arith
+
+-- the part that is lent to a call has the size that the call says
+pub part-lent : (r : Request) (start room : ℕ) (out : List ℕ) → start + requestSize r room ≤ length out
+    → length (midOf start (start + requestSize r room - start) out)
+    ≡ requestSize r (length (midOf start (start + requestSize r room - start) out))
+part-lent r start room out h =
+    let size : length (midOf start (start + requestSize r room - start) out) ≡ requestSize r room =
+    mid-len start (start + requestSize r room) out h ∙ omega arith in
+    size ∙ requestSize-again r room ∙ ap (requestSize r) (sym size)
