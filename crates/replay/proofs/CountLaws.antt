@@ -18,12 +18,10 @@ module _ (words answers : List ℕ) (n i : ℕ) (e : n ≡ min (length words / c
   pub answer-fits : answerSize * i + answerSize ≤ length answers
   answer-fits = omega arith
 
-pub callCount-as : (words answers : List ℕ) (n i : ℕ) → n ≡ min (length words / callSize) (length answers / answerSize)
-    → i ≤ n → (i < n → ⊥) → i ≡ callCount words answers
+pub callCount-as : (words answers : List ℕ) (n : ℕ) → n ≡ min (length words / callSize) (length answers / answerSize)
+    → n ≡ callCount words answers
 unfolding callCount
-callCount-as words answers n i e h h′ =
-    let all : i ≡ n = omega (arith, h, h′) in
-    all ∙ e
+callCount-as words answers n e = e
 
 -- ---- outputs
 
@@ -39,10 +37,9 @@ requestSize-again r room = of-kind (r .kind)
     of-kind (suc (suc (suc n))) = omega arith
 
 -- the part that is lent to a call has the size that the call says
-pub part-lent : (r : Request) (start room : ℕ) (out : List ℕ) → start + requestSize r room ≤ length out
-    → length (midOf start (start + requestSize r room - start) out)
-    ≡ requestSize r (length (midOf start (start + requestSize r room - start) out))
-part-lent r start room out h =
-    let size : length (midOf start (start + requestSize r room - start) out) ≡ requestSize r room =
-    mid-len start (start + requestSize r room) out h ∙ omega arith in
-    size ∙ requestSize-again r room ∙ ap (requestSize r) (sym size)
+pub part-lent : (r : Request) (start end room : ℕ) (out : List ℕ) → end ≡ start + requestSize r room → end ≤ length out
+    → length (midOf start (end - start) out) ≡ requestSize r (length (midOf start (end - start) out))
+part-lent r start end room out e h =
+    let size : end - start ≡ requestSize r room = omega (arith, e) in
+    let whole : length (midOf start (end - start) out) ≡ requestSize r room = mid-len start end out h ∙ size in
+    whole ∙ requestSize-again r room ∙ ap (requestSize r) (sym whole)

@@ -121,13 +121,13 @@ module _ (before between after : Store) (words answers out answers₁ out₁ ws 
         outputs-as = outputs-more;
       }
 
+  -- where the next output begins, and the calls so far with this one
   pub ran-more : (answers₂ : List ℕ)
       → answers₂ ≡ take (answerSize * i) answers₁ ++ fourAt ws 0 ++ drop (answerSize * i + answerSize) answers₁
-      → Ran before words answers out (i + 1) after answers₂ (putMid start (end - start) out₁ part)
-  ran-more answers₂ e =
-      subst (λ (k : ℕ). Ran before words answers out k after answers₂ (putMid start (end - start) out₁ part))
-      (sym (add-one i)) (ran-suc answers₂ e)
-
-  -- where the next output begins
-  pub start-more : end ≡ outputStart words (length out) (i + 1)
-  start-more = sym end-as ∙ ap (outputStart words (length out)) (sym (add-one i))
+      → (end ≡ outputStart words (length out) (i + 1))
+      × Ran before words answers out (i + 1) after answers₂ (putMid start (end - start) out₁ part)
+  ran-more answers₂ e = (
+    sym end-as ∙ ap (outputStart words (length out)) (sym (add-one i)),
+    subst (λ (k : ℕ). Ran before words answers out k after answers₂ (putMid start (end - start) out₁ part))
+    (sym (add-one i)) (ran-suc answers₂ e),
+  )

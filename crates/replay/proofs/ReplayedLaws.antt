@@ -19,30 +19,33 @@ use Rattle.replay.specs.Replayed.{modelFixed, modelCalls, Replayed}
 accepted-refused : {C : Type 0} (n : ℕ) → _≡_ {A = Answer Reply} (accepted changed) (refused n) → C
 accepted-refused n e = let z : _≡_ {A = ℕ} 0 1 = cc in absurd (omega arith)
 
-module _ (s : Shape) (m : Memory) (words answers out : List ℕ) where
-  pub replayed-refused : (n : ℕ) (after : Store) → FreshPromise s m (refused n) after
-      → Replayed s m words answers out (refused n) after answers out
-  replayed-refused n after p =
-      let accepted-as : freshNumber s m ≡ 0 → accepted changed ≡ refused n =
-      λ e. sym (p .answered-as ∙ ap (λ k. answered k changed) e) in
+module _ (s : Shape) (m : Memory) (words answers out : List ℕ) (answer : Answer Reply) where
+  number-answer : (fresh : Store) (k : ℕ) → FreshPromise s m answer fresh → freshNumber s m ≡ k → answer ≡ answered k changed
+  number-answer fresh k p e = p .answered-as ∙ ap (λ k. answered k changed) e
+
+  pub replayed-refused : (n : ℕ) (after : Store) → answer ≡ refused n → FreshPromise s m answer after
+      → Replayed s m words answers out answer after answers out
+  replayed-refused n after e-refused p =
+      let clash : freshNumber s m ≡ 0 → accepted changed ≡ refused n = λ e. sym (number-answer after 0 p e) ∙ e-refused in
       record {
-        refused-as = λ k e. (p .answered-as ∙ ap (λ k. answered k changed) e, rw e at (p .memory-as), refl, refl);
-        accepted-as = λ e. sym (accepted-as e);
-        answers-as = λ e. accepted-refused n (accepted-as e);
-        outputs-as = λ e. accepted-refused n (accepted-as e);
-        bounded = λ e. accepted-refused n (accepted-as e);
-        shown = λ e. accepted-refused n (accepted-as e);
+        refused-as = λ k e. (number-answer after (suc k) p e, rw e at (p .memory-as), refl, refl);
+        accepted-as = λ e. number-answer after 0 p e;
+        answers-as = λ e. accepted-refused n (clash e);
+        outputs-as = λ e. accepted-refused n (clash e);
+        bounded = λ e. accepted-refused n (clash e);
+        shown = λ e. accepted-refused n (clash e);
       }
 
-  pub replayed-accepted : (fresh after : Store) (answers′ out′ : List ℕ) → FreshPromise s m (accepted changed) fresh
-      → Ran fresh words answers out (callCount words answers) after answers′ out′
+  pub replayed-accepted : (fresh after : Store) (answers′ out′ : List ℕ) → answer ≡ accepted changed
+      → FreshPromise s m answer fresh → Ran fresh words answers out (callCount words answers) after answers′ out′
       → Replayed s m words answers out (accepted changed) after answers′ out′
-  replayed-accepted fresh after answers′ out′ p r =
+  replayed-accepted fresh after answers′ out′ e-accepted p r =
       let f = modelFixed s m words answers out in
       let cs = modelCalls s m words answers out in
-      let model = history s m fresh p cs (r .outcomes) after (r .ran) in
+      let accepted-fresh = subst (λ (x : Answer Reply). FreshPromise s m x fresh) e-accepted p in
+      let model = history s m fresh accepted-fresh cs (r .outcomes) after (r .ran) in
       record {
-        refused-as = λ n e. accepted-refused (suc n) (p .answered-as ∙ ap (λ k. answered k changed) e);
+        refused-as = λ n e. accepted-refused (suc n) (sym e-accepted ∙ number-answer fresh (suc n) p e);
         accepted-as = λ e. refl;
         answers-as = λ e.
             r .answers-as ∙ ap (λ os. answersOf os ++ drop (answerSize * callCount words answers) answers) (model .0);
