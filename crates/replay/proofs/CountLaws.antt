@@ -11,7 +11,8 @@ use Rattle.replay.specs.Encoding.{callSize, answerSize, sizeOfKind, requ
 
 -- ---- calls and answers
 
-module _ (words answers : List ℕ) (n i : ℕ) (e : n ≡ min (length words / callSize) (length answers / answerSize)) (h : i < n) where
+module _ (words answers : List ℕ) (n i : ℕ) (e : n ≡ min (length words / callSize) (length answers / answerSize))
+    (h : i < n) where
   pub call-fits : callSize * i + callSize ≤ length words
   call-fits = omega arith
 

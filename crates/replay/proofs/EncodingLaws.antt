@@ -1,5 +1,5 @@
--- Laws of calls and answers as numbers: a call read word by word, its kind, the bytes of its output; answers and outputs
--- of one call more. Assumes nothing.
+-- Laws of calls and answers as numbers: a call read word by word, its kind, the bytes of its output; the answers and
+-- outputs of one call more. Assumes nothing.
 use Prim.Native.Nat.{ℕ, zero, suc, _+_, _*_, _<_, min}
 use mathlib.Core.Path.{_≡_, refl, sym, ap, _∙_}
 use mathlib.Core.List.{List, [], _∷_, _++_, append-assoc, append-nil}
@@ -7,14 +7,15 @@ use mathlib.Core.Option.{some}
 use native.Mathlib.Omega.{arith}
 use lib.ListN.{length, getD}
 use Rattle.shape.specs.Refusal.{Answer, accepted, refused}
-use Rattle.model.specs.Model.{Call, insertCall, deleteCall, lookupCall, queryCall, Reply, changed, found, listed, Outcome}
+use Rattle.model.specs.Model.{insertCall, deleteCall, lookupCall, queryCall, Reply, changed, found, listed, Outcome}
 use Rattle.replay.specs.declared.Request.{Request}
-use Rattle.replay.specs.Encoding.{callSize, requestAt, valueIf, wantedIn, callOfKind, callOf, sizeOfKind, requestSize, replyWords, answerWords, answersOf, outputsOf}
+use Rattle.replay.specs.Encoding.{callSize, requestAt, valueIf, wantedIn, callOfKind, callOf, sizeOfKind, requestSize, answerWords, answersOf, outputsOf}
 use Rattle.replay.specs.Private.{fourAt}
 
 -- ---- calls
 
-pub requestAt-read : (words vs gs : List ℕ) (i : ℕ) → vs ≡ fourAt words (callSize * i + 1) → gs ≡ fourAt words (callSize * i + 5)
+pub requestAt-read : (words vs gs : List ℕ) (i : ℕ)
+    → vs ≡ fourAt words (callSize * i + 1) → gs ≡ fourAt words (callSize * i + 5)
     → _≡_ {A = Request}
     (record {
       kind = getD words (callSize * i) 0;

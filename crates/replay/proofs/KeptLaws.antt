@@ -1,12 +1,12 @@
 -- Laws of one call by its kind: the store's call kept its promise, so the call of the words did. Assumes nothing.
-use Prim.Native.Nat.{ℕ, _<_}
-use mathlib.Core.Path.{_≡_, refl, sym, ap, subst, _∙_}
-use mathlib.Core.List.{List, []}
+use Prim.Native.Nat.{ℕ}
+use mathlib.Core.Path.{_≡_, refl, sym, ap, subst}
+use mathlib.Core.List.{List}
 use mathlib.Core.Option.{Option}
 use native.Mathlib.Omega.{arith}
 use lib.ListN.{length}
 use Rattle.shape.specs.Refusal.{Answer}
-use Rattle.model.specs.Model.{Call, Reply, Outcome}
+use Rattle.model.specs.Model.{Call, Reply}
 use Rattle.store.specs.Store.{Store, store}
 use Rattle.store.specs.declared.State.{State}
 use Rattle.store.specs.Promises.{InsertPromise, DeletePromise, LookupPromise, QueryPromise}
@@ -34,9 +34,10 @@ module _ (before : Store) (r : Request) (out ws : List ℕ) (a : Answer Reply) (
         → Kept before (callOf r out) ws out (store st′ words bytes)
     kept-insert st st′ words bytes e s p =
         let same = sym (ap (λ (x : State). store x words bytes) s) in
-        kept-as _ out (store st′ words bytes) (callOf-insert r out e)
-        (subst (λ (x : Store). InsertPromise before (r .values) (record { payload = r .payload }) a x) same p,
-        no-output r out (omega arith) lent)
+        kept-as _ out (store st′ words bytes) (callOf-insert r out e) (
+          subst (λ (x : Store). InsertPromise before (r .values) (record { payload = r .payload }) a x) same p,
+          no-output r out (omega arith) lent,
+        )
 
     pub kept-delete : (st st′ : State) (words bytes : List ℕ) → r .kind ≡ 1 → st′ ≡ st
         → DeletePromise before (r .values) a (store st words bytes)

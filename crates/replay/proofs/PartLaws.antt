@@ -1,8 +1,8 @@
--- Laws of a list that begins with what is done, the rest as it came: the next part as it came, and the list with that part
--- done too. Assumes nothing.
+-- Laws of a list that begins with what is done, the rest as it came: the next part as it came, and the list with that
+-- part done too. Assumes nothing.
 use Prim.Native.Nat.{ℕ, suc, _+_, _-_, _≤_}
 use mathlib.Core.Path.{_≡_, sym, ap, _∙_}
-use mathlib.Core.List.{List, [], _∷_, _++_, append-assoc}
+use mathlib.Core.List.{List, _++_, append-assoc}
 use native.Mathlib.Omega.{arith}
 use lib.ListN.{length, take, drop, getD, set}
 use lib.Seq.{take-at, drop-at, drop-drop, sets-eq}
@@ -21,7 +21,8 @@ module _ (done came now : List ℕ) (at : ℕ) (l : length done ≡ at) (e : now
 
   pub putMid-done : (end : ℕ) (part : List ℕ) → at ≤ end → putMid at (end - at) now part ≡ done ++ part ++ drop end came
   putMid-done end part h =
-      let rest : drop (end - at) (drop at now) ≡ drop end came = ap (drop (end - at)) rest-came ∙ post-is at end came h in
+      let rest : drop (end - at) (drop at now) ≡ drop end came =
+      ap (drop (end - at)) rest-came ∙ post-is at end came h in
       (λ k. done-first k ++ (part ++ rest k)) ∙ sym (append-assoc done part (drop end came))
 
   pub put-done : (n : ℕ) (part : List ℕ) → take at now ++ part ++ drop (at + n) now ≡ done ++ part ++ drop (at + n) came
@@ -32,7 +33,8 @@ module _ (done came now : List ℕ) (at : ℕ) (l : length done ≡ at) (e : now
 
 -- four writes in a row
 pub four-sets : (l words : List ℕ) (at : ℕ) → at + 4 ≤ length l
-    → set (set (set (set l at (getD words 0 0)) (at + 1) (getD words 1 0)) (at + 2) (getD words 2 0)) (at + 3) (getD words 3 0)
+    → set (set (set (set l at (getD words 0 0)) (at + 1) (getD words 1 0)) (at + 2) (getD words 2 0)) (at + 3)
+    (getD words 3 0)
     ≡ take at l ++ fourAt words 0 ++ drop (at + 4) l
 four-sets l words at h =
     let a1 : at + 1 ≡ suc at = omega arith in

@@ -28,7 +28,8 @@ ran-none store words answers out =
       outputs-as = refl;
     }
 
-module _ (before between after : Store) (words answers out answers₁ out₁ ws part : List ℕ) (i start end : ℕ) (request : Request)
+module _ (before between after : Store) (words answers out answers₁ out₁ ws part : List ℕ) (i start end : ℕ)
+    (request : Request)
     (so-far : Ran before words answers out i between answers₁ out₁)
     (read : request ≡ requestAt words i)
     (e-start : start ≡ outputStart words (length out) i)
@@ -95,7 +96,8 @@ module _ (before between after : Store) (words answers out answers₁ out₁ ws 
   answers-more answers₂ e =
       let next : answerSize * i + answerSize ≡ answerSize * suc i = omega arith in
       e
-      ∙ put-done (answersOf os) answers answers₁ (answerSize * i) (so-far .answers-length) (so-far .answers-as) answerSize (fourAt ws 0)
+      ∙ put-done (answersOf os) answers answers₁ (answerSize * i) (so-far .answers-length) (so-far .answers-as)
+      answerSize (fourAt ws 0)
       ∙ (λ k. answersOf os ++ four .0 k ++ drop (next k) answers)
       ∙ ap (λ l. l ++ drop (answerSize * suc i) answers) (sym (answersOf-more os o))
 
@@ -129,5 +131,5 @@ module _ (before between after : Store) (words answers out answers₁ out₁ ws 
   ran-more answers₂ e = (
     sym end-as ∙ ap (outputStart words (length out)) (sym (add-one i)),
     subst (λ (k : ℕ). Ran before words answers out k after answers₂ (putMid start (end - start) out₁ part))
-    (sym (add-one i)) (ran-suc answers₂ e),
+        (sym (add-one i)) (ran-suc answers₂ e),
   )

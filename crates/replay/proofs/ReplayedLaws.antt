@@ -6,7 +6,7 @@ use native.Mathlib.Omega.{arith}
 use lib.ListN.{length, drop}
 use Rattle.shape.specs.Refusal.{Answer, accepted, refused, answered}
 use Rattle.shape.specs.declared.Shape.{Shape}
-use Rattle.model.specs.Model.{Outcome, Reply, changed, run}
+use Rattle.model.specs.Model.{Outcome, Reply, changed}
 use Rattle.store.specs.Store.{Store, Memory}
 use Rattle.store.specs.Fresh.{FreshPromise, freshNumber}
 use Rattle.history.specs.History.{WithinBounds}
@@ -20,13 +20,15 @@ accepted-refused : {C : Type 0} (n : ℕ) → _≡_ {A = Answer Reply} (accepted
 accepted-refused n e = let z : _≡_ {A = ℕ} 0 1 = cc in absurd (omega arith)
 
 module _ (s : Shape) (m : Memory) (words answers out : List ℕ) (answer : Answer Reply) where
-  number-answer : (fresh : Store) (k : ℕ) → FreshPromise s m answer fresh → freshNumber s m ≡ k → answer ≡ answered k changed
+  number-answer : (fresh : Store) (k : ℕ) → FreshPromise s m answer fresh → freshNumber s m ≡ k
+      → answer ≡ answered k changed
   number-answer fresh k p e = p .answered-as ∙ ap (λ k. answered k changed) e
 
   pub replayed-refused : (n : ℕ) (after : Store) → answer ≡ refused n → FreshPromise s m answer after
       → Replayed s m words answers out answer after answers out
   replayed-refused n after e-refused p =
-      let clash : freshNumber s m ≡ 0 → accepted changed ≡ refused n = λ e. sym (number-answer after 0 p e) ∙ e-refused in
+      let clash : freshNumber s m ≡ 0 → accepted changed ≡ refused n =
+      λ e. sym (number-answer after 0 p e) ∙ e-refused in
       record {
         refused-as = λ k e. (number-answer after (suc k) p e, rw e at (p .memory-as), refl, refl);
         accepted-as = λ e. number-answer after 0 p e;
@@ -40,8 +42,8 @@ module _ (s : Shape) (m : Memory) (words answers out : List ℕ) (answer : Answe
       → FreshPromise s m answer fresh → Ran fresh words answers out (callCount words answers) after answers′ out′
       → Replayed s m words answers out (accepted changed) after answers′ out′
   replayed-accepted fresh after answers′ out′ e-accepted p r =
-      let f = modelFixed s m words answers out in
-      let cs = modelCalls s m words answers out in
+      let f = modelFixed s m in
+      let cs = modelCalls words answers out in
       let accepted-fresh = subst (λ (x : Answer Reply). FreshPromise s m x fresh) e-accepted p in
       let model = history s m fresh accepted-fresh cs (r .outcomes) after (r .ran) in
       record {

@@ -18,7 +18,6 @@ use mathlib.Core.Option.{Option, none, some}
 use lib.ListN.{length, take, drop, getD}
 use Rattle.shape.specs.Refusal.{Answer, accepted, refused}
 use Rattle.shape.specs.Key.{perAttribute}
-use Rattle.record.specs.declared.Content.{Content}
 use Rattle.model.specs.Model.{Call, insertCall, deleteCall, lookupCall, queryCall, Reply, changed, found, listed, Outcome}
 use Rattle.replay.specs.declared.Request.{Request}
 

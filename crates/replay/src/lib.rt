@@ -254,6 +254,7 @@ fn put_answer(answers: &mut [u64], i: usize, words: [u64; 4])
     answers[at + 3] = words[3];
 }
 
+// The smaller of two numbers.
 fn smaller(a: usize, b: usize) -> usize
     ensures { λ r. ⌜ r ≡ min a b ⌝ }
 {

@@ -46,7 +46,8 @@ shared-slice-read-t18 c = search needs
 returns : tie.Need-returns
 returns c =
     let a = c .before .before .before .before .before .before .args in
-    requestAt-read (a .calls .now) _ _ (a .i) (c .before .before .before .four-words .ensures) (c .before .before .four-words2 .ensures)
+    requestAt-read (a .calls .now) _ _ (a .i) (c .before .before .before .four-words .ensures)
+    (c .before .before .four-words2 .ensures)
 
 pub read-request-spec : {M : Type 1} → statement M
 read-request-spec =

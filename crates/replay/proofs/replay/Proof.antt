@@ -2,7 +2,7 @@
 -- nothing.
 use mathlib.Core.Path.{ap}
 use Rattle.store.specs.Answers.{changedAnswer}
-use Rattle.store.specs.Store.{memory, store}
+use Rattle.store.specs.Store.{memory}
 use Rattle.replay.proofs.ReplayedLaws.{replayed-refused, replayed-accepted}
 use borrow.Author.Needs.{needs}
 use Rattle.replay.proofs.replay.Statement.{statement}
@@ -29,7 +29,8 @@ returns c =
     let call = c .before .before .before .before .before .before in
     let a = call .before .before .before .before .before .before .before .before .args in
     replayed-refused (a .shape) (memory (a .dir .now) (a .pages .now)) (a .calls .now) (a .answers .now) (a .out .now)
-    (changedAnswer (call .fresh .result .answer)) _ _ (ap changedAnswer (c .enum-told2 .given .1)) (call .fresh .ensures)
+    (changedAnswer (call .fresh .result .answer)) _ _ (ap changedAnswer (c .enum-told2 .given .1))
+    (call .fresh .ensures)
 
 run-calls-requires : tie.Need-run-calls-requires
 run-calls-requires c κs = search needs

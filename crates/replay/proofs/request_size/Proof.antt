@@ -1,4 +1,5 @@
 -- `replay::request_size` meets its contract. Assumes nothing.
+use Prim.Native.Nat.{_<_}
 use mathlib.Core.Path.{sym, _∙_}
 use native.Mathlib.Omega.{arith}
 use Rattle.replay.proofs.EncodingLaws.{requestSize-none, requestSize-query}
@@ -20,8 +21,8 @@ smaller-requires c κs = search needs
 returns-2 : tie.Need-returns-2
 returns-2 c =
     let a = c .before .before .before .before .args in
-    (
-      c .smaller .ensures ∙ sym (requestSize-query (a .request) (a .room) (λ h. omega (arith, h, c .before .before .if1 .left))),
+    let query : a .request .kind < 3 → ⊥ = λ h. omega (arith, h, c .before .before .if1 .left) in (
+      c .smaller .ensures ∙ sym (requestSize-query (a .request) (a .room) query),
       omega (arith, c .smaller .ensures),
     )
 

@@ -1,6 +1,5 @@
 -- `replay::run_call` meets its contract: each kind of call keeps its promise. Assumes nothing.
 use Rattle.shape.specs.Key.{wantedValues}
-use Rattle.store.specs.Answers.{changedAnswer, foundAnswer, listedAnswer}
 use Rattle.store.specs.Store.{store}
 use Rattle.replay.proofs.KeptLaws.{kept-insert, kept-delete, kept-lookup, kept-query}
 use borrow.Author.Needs.{needs}
@@ -25,8 +24,9 @@ returns c =
     let test = call .before .before .before in
     let s = test .before .before .before .before .before .before in
     let a = s .args in
-    kept-insert (store (a .state) (a .dir .now) (a .pages .now)) (a .request) (a .out .now) _ _ (c .changed-step .ensures .1)
-    (s .pre) _ _ _ _ (test .if1 .taken) (c .changed-step .ensures .0) (call .insert .ensures)
+    kept-insert (store (a .state) (a .dir .now) (a .pages .now)) (a .request) (a .out .now) _ _
+    (c .changed-step .ensures .1) (s .pre) _ _ _ _ (test .if1 .taken) (c .changed-step .ensures .0)
+    (call .insert .ensures)
 
 delete-requires : tie.Need-delete-requires
 delete-requires c κs = search needs
@@ -46,8 +46,9 @@ returns-2 c =
     let test = call .before .before .before in
     let s = test .before .before .before .before .before .before .before .before in
     let a = s .args in
-    kept-delete (store (a .state) (a .dir .now) (a .pages .now)) (a .request) (a .out .now) _ _ (c .changed-step2 .ensures .1)
-    (s .pre) _ _ _ _ (test .if2 .taken) (c .changed-step2 .ensures .0) (call .delete .ensures)
+    kept-delete (store (a .state) (a .dir .now) (a .pages .now)) (a .request) (a .out .now) _ _
+    (c .changed-step2 .ensures .1) (s .pre) _ _ _ _ (test .if2 .taken) (c .changed-step2 .ensures .0)
+    (call .delete .ensures)
 
 lookup-requires : tie.Need-lookup-requires
 lookup-requires c κs = search needs
@@ -66,8 +67,8 @@ returns-3 c =
     let test = c .before .before .before .before in
     let s = test .before .before .before .before .before .before .before .before .before .before in
     let a = s .args in
-    kept-lookup (store (a .state) (a .dir .now) (a .pages .now)) (a .request) (a .out .now) _ _ (c .found-words .ensures)
-    (s .pre) (test .if3 .taken) (c .before .lookup .ensures)
+    kept-lookup (store (a .state) (a .dir .now) (a .pages .now)) (a .request) (a .out .now) _ _
+    (c .found-words .ensures) (s .pre) (test .if3 .taken) (c .before .lookup .ensures)
 
 query-of-requires : tie.Need-query-of-requires
 query-of-requires c κs = search needs
@@ -94,9 +95,10 @@ returns-4 c =
     let test = asked .before .before .before in
     let s = test .before .before .before .before .before .before .before .before .before .before in
     let a = s .args in
-    kept-query (store (a .state) (a .dir .now) (a .pages .now)) (a .request) (a .out .now) _ _ (c .listed-words .ensures)
-    (wantedValues (asked .query-of .result)) _ (test .before .before .before .before .if1 .left) (test .before .before .if2 .left)
-    (test .if3 .left) (asked .query-of .ensures) (call .query .ensures)
+    kept-query (store (a .state) (a .dir .now) (a .pages .now)) (a .request) (a .out .now) _ _
+    (c .listed-words .ensures) (wantedValues (asked .query-of .result)) _
+    (test .before .before .before .before .if1 .left) (test .before .before .if2 .left) (test .if3 .left)
+    (asked .query-of .ensures) (call .query .ensures)
 
 pub run-call-spec : {M : Type 1} → statement M
 run-call-spec =

@@ -29,9 +29,16 @@ smaller-requires c κs = search needs
 loop-holds : tie.Need-loop-holds Inv-loop μ-loop
 unfolding outputStart
 loop-holds c =
-    let a = c .before .before .before .before .before .before .args in
-    (omega arith, refl, refl, refl, refl, omega arith, refl,
-    ran-none (store (a .state) (a .dir .now) (a .pages .now)) (a .calls .now) (a .answers .now) (a .out .now))
+    let a = c .before .before .before .before .before .before .args in (
+      omega arith,
+      refl,
+      refl,
+      refl,
+      refl,
+      omega arith,
+      refl,
+      ran-none (store (a .state) (a .dir .now) (a .pages .now)) (a .calls .now) (a .answers .now) (a .out .now),
+    )
 
 read-request-requires : tie.Need-read-request-requires Inv-loop μ-loop
 read-request-requires c κs =
@@ -46,7 +53,9 @@ request-size-requires : tie.Need-request-size-requires Inv-loop μ-loop
 request-size-requires c κs = search needs
 
 add-end : tie.Need-add-end Inv-loop μ-loop
-add-end c = let inv = c .before .before .before .loop .inv in record { fits = omega (arith, inv .4, inv .5, c .request-size .ensures .1) }
+add-end c =
+    let inv = c .before .before .before .loop .inv in
+    record { fits = omega (arith, inv .4, inv .5, c .request-size .ensures .1) }
 
 sub-run-call : tie.Need-sub-run-call Inv-loop μ-loop
 sub-run-call c = omega arith
@@ -55,7 +64,9 @@ part-run-call-start : tie.Need-part-run-call-start Inv-loop μ-loop
 part-run-call-start c = omega arith
 
 part-run-call-end : tie.Need-part-run-call-end Inv-loop μ-loop
-part-run-call-end c = let inv = c .before .before .before .before .before .loop .inv in omega (arith, inv .4, inv .5, c .before .before .request-size .ensures .1)
+part-run-call-end c =
+    let inv = c .before .before .before .before .before .loop .inv in
+    omega (arith, inv .4, inv .5, c .before .before .request-size .ensures .1)
 
 run-call-requires : tie.Need-run-call-requires Inv-loop μ-loop
 run-call-requires c κs =
@@ -72,7 +83,8 @@ put-answer-requires c κs =
     let loop = test .before .loop in
     let counted = test .before .before in
     let a = counted .before .before .before .before .before .before .args in
-    let fits = answer-fits (a .calls .now) (a .answers .now) _ (loop .i) (counted .smaller .ensures) (test .loop-test .taken) in
+    let fits = answer-fits (a .calls .now) (a .answers .now) _ (loop .i) (counted .smaller .ensures)
+    (test .loop-test .taken) in
     subst (λ (k : ℕ). answerSize * loop .i + answerSize ≤ k) (sym (loop .inv .3)) fits
 
 add-i : tie.Need-add-i Inv-loop μ-loop
@@ -80,7 +92,8 @@ add-i c = search needs
 
 loop-less : tie.Need-loop-less Inv-loop μ-loop
 loop-less c =
-    let test = c .before .before .before .before .before .before .before .before .before .before .before .before .before .before .before .before .before .before in
+    let call = c .before .before .before .before .before .before .before .before .before .before .before .before in
+    let test = call .before .before .before .before .before .before in
     omega (arith, test .loop-test .taken)
 
 loop-again : tie.Need-loop-again Inv-loop μ-loop
@@ -95,19 +108,20 @@ loop-again c =
     let request = sized .before .read-request in
     let size = sized .request-size .ensures in
     let kept = call .run-call .kept in
+    let part = call .run-call .last .1 .1 .1 .1 .0 in
     let end = loop .start + sized .request-size .result in
     let e-size = size .0 ∙ ap (λ n. requestSize (request .result) (n - loop .start)) (inv .4) in
     let within : end ≤ length (loop .out) = omega (arith, inv .4, inv .5, size .1) in
     let whole = kept .1 .1 .1 .1 .0 ∙ mid-len (loop .start) end (loop .out) within in
-    let more = ran-more (store (a .state) (a .dir .now) (a .pages .now)) (store (loop .current) (loop .dir) (loop .pages)) _
-    (a .calls .now) (a .answers .now) (a .out .now) (loop .answers) (loop .out) _ _ (loop .i) (loop .start) _ (request .result)
-    (inv .7) (request .ensures) (inv .6) (ap (λ n. loop .start + n) e-size) (call .run-call .ensures) whole _
-    (put .put-answer .ensures) in (
+    let more = ran-more (store (a .state) (a .dir .now) (a .pages .now))
+    (store (loop .current) (loop .dir) (loop .pages)) _ (a .calls .now) (a .answers .now) (a .out .now)
+    (loop .answers) (loop .out) _ _ (loop .i) (loop .start) _ (request .result) (inv .7) (request .ensures)
+    (inv .6) (ap (λ n. loop .start + n) e-size) (call .run-call .ensures) whole _ (put .put-answer .ensures) in (
       omega (arith, test .loop-test .taken),
       kept .1 .0 ∙ inv .1,
       kept .1 .1 .0 ∙ inv .2,
       put .put-answer .kept .0 ∙ inv .3,
-      same-len-mid (loop .start) (end - loop .start) (loop .out) (call .run-call .last .1 .1 .1 .1 .0) (kept .1 .1 .1 .1 .0) ∙ inv .4,
+      same-len-mid (loop .start) (end - loop .start) (loop .out) part (kept .1 .1 .1 .1 .0) ∙ inv .4,
       omega (arith, inv .4, within),
       more .0,
       more .1,
