@@ -1,7 +1,9 @@
 // Demand 3 on the running code: a list of calls, encoded in a lent slice, is run on a fresh store in
 // lent memory, and the answers and outputs are those of the plain model (document 01, "The plain
 // model of demand 3").
+use delete::delete;
 use fresh::fresh;
+use insert::insert;
 use lookup::lookup;
 use query::query;
 use record::Content;
@@ -22,7 +24,6 @@ ghost use lib.ListN.{length, take, drop};
 ghost use Rattle.shape.specs.Key.{wantedValues, wantedValue};
 ghost use Rattle.store.specs.Store.{memory, store};
 ghost use Rattle.store.specs.Answers.{changedAnswer, foundAnswer, listedAnswer};
-ghost use Rattle.store.specs.Promises.{InsertPromise, DeletePromise};
 ghost use Rattle.replay.specs.Encoding.{callSize, requestAt, valueIf, wantedIn, callOf, requestSize, answerSize, answerWords, callCount};
 ghost use Rattle.replay.specs.Private.{fourAt, Kept, Ran};
 ghost use Rattle.replay.specs.Replayed.{Replayed};
@@ -259,26 +260,4 @@ fn smaller(a: usize, b: usize) -> usize
     ensures { λ r. ⌜ r ≡ min a b ⌝ }
 {
     if a < b { a } else { b }
-}
-
-// TEMPORARY
-fn insert(state: State, dir: &mut [u32], pages: &mut [u8], key: Key, content: Content) -> Change
-    ensures { λ r. ⌜ InsertPromise (store state (now (dir .entry)) (now (pages .entry))) (key .values) content
-        (changedAnswer (r .answer)) (store (r .state) (now (dir .exit)) (now (pages .exit))) ⌝ }
-{
-    Change {
-        answer: Changed::Done,
-        state,
-    }
-}
-
-// TEMPORARY
-fn delete(state: State, dir: &mut [u32], pages: &mut [u8], key: Key) -> Change
-    ensures { λ r. ⌜ DeletePromise (store state (now (dir .entry)) (now (pages .entry))) (key .values)
-        (changedAnswer (r .answer)) (store (r .state) (now (dir .exit)) (now (pages .exit))) ⌝ }
-{
-    Change {
-        answer: Changed::Done,
-        state,
-    }
 }
