@@ -81,10 +81,11 @@ pub fn divide_words(
     set_leaves(widths, values, x, m, depth, split.page, free, bit, dir);
     let levels = m + 1 - x;
     let tally = tally::divide(state.tally, x as usize, levels as usize);
+    let top = depth as u32;
     State {
         shape,
         limits,
-        depth: depth as u32,
+        depth: top,
         tally,
     }
 }

@@ -1,4 +1,4 @@
--- `insert::insert` meets its contract: a refusal keeps the promise, and so does each plan, carried out. Assumes nothing.
+-- `insert::insert` meets its contract: a refusal keeps the promise, and so does each plan carried out. Assumes nothing.
 use Prim.Native.Nat.{_^_, _<_}
 use mathlib.Core.Path.{_≡_, sym, _∙_}
 use lib.ListN.{length, length-map}

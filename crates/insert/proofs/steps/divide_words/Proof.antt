@@ -83,8 +83,8 @@ divide-requires c κs =
     let s = g .before .before .before .before .before .before .before in
     (omega (arith, s .pre .below, s .pre .deep, s .pre .short), s .pre .tally)
 
-cast-t24 : tie.Need-cast-t24
-cast-t24 c =
+cast-top : tie.Need-cast-top
+cast-top c =
     let g = c .before .before .before .before .before .before .before .before .before in
     omega (arith, short g)
 
@@ -131,6 +131,6 @@ divide-words-spec =
     add-levels
     sub-levels
     divide-requires
-    cast-t24
+    cast-top
     same-length
     returns)
