@@ -73,25 +73,19 @@ pub fn divide_words(
     let shape = state.shape;
     let limits = state.limits;
     let widths = widths_of(shape);
-    let depth = greater(state.depth as u64, split.step + 1);
-    deepen(widths, state.depth as u64, depth, dir);
-    set_leaves(
-        widths,
-        values,
-        split.depth as u64,
-        split.step,
-        depth,
-        split.page,
-        free,
-        bit,
-        dir,
-    );
-    let levels = split.step + 1 - (split.depth as u64);
-    let tally = tally::divide(state.tally, split.depth as usize, levels as usize);
+    let old = state.depth as u64;
+    let x = split.depth as u64;
+    let m = split.step;
+    let depth = greater(old, m + 1);
+    deepen(widths, old, depth, dir);
+    set_leaves(widths, values, x, m, depth, split.page, free, bit, dir);
+    let levels = m + 1 - x;
+    let tally = tally::divide(state.tally, x as usize, levels as usize);
+    let top = depth as u32;
     State {
         shape,
         limits,
-        depth: depth as u32,
+        depth: top,
         tally,
     }
 }

@@ -1,5 +1,4 @@
--- `insert::insert` meets its contract: the promise is kept by an early refusal, and by each plan once it is carried
--- out. Assumes nothing.
+-- `insert::insert` meets its contract: a refusal keeps the promise, and so does each plan carried out. Assumes nothing.
 use Prim.Native.Nat.{_^_, _<_}
 use mathlib.Core.Path.{_≡_, sym, _∙_}
 use lib.ListN.{length, length-map}
@@ -15,7 +14,10 @@ use Rattle.insert.proofs.CallLaws.{by-got, words-lent, pages-lent, cut-
 use Rattle.insert.proofs.insert.Statement.{statement}
 use Rattle.insert.proofs.insert.Tie as tie
 
--- the store as it came
+-- where the call began, and the store as it came
+abbrev start : tie.After-pack-key → tie.Start
+start k = k .before .before .before .before .before .before .before .before
+
 abbrev given : tie.Start → Store
 given s = store (s .args .state) (s .args .dir .now) (s .args .pages .now)
 
@@ -72,9 +74,8 @@ returns-2 : tie.Need-returns-2
 unfolding changedAnswer
 returns-2 c =
     let k = c .before .before .before .before .before .before in
-    let q = k .before in
-    let s = q .before .before .before .before .before .before .before in
-    by-refused (given s) (s .args .key .values) (s .args .content) (small s) _ (q .plan-insert .ensures) _
+    let s = start k in
+    by-refused (given s) (s .args .key .values) (s .args .content) (small s) _ (k .before .plan-insert .ensures) _
     (k .pack-key .ensures) _ (c .before .step .given .1)
 
 enum-known-step-2 : tie.Need-enum-known-step-2
@@ -86,9 +87,8 @@ cast-insert-record c = search needs
 insert-record-requires : tie.Need-insert-record-requires
 insert-record-requires c κs =
     let k = c .before .before .before .before .before .before .before in
-    let q = k .before in
-    let s = q .before .before .before .before .before .before .before in
-    lent-taken (given s) (s .args .key .values) (s .args .content) (small s) _ (q .plan-insert .ensures) _
+    let s = start k in
+    lent-taken (given s) (s .args .key .values) (s .args .content) (small s) _ (k .before .plan-insert .ensures) _
     (k .pack-key .ensures) _ _ _ (c .before .before .step2 .given .1)
 
 same-length-3 : tie.Need-same-length-3
@@ -101,9 +101,8 @@ returns-3 : tie.Need-returns-3
 unfolding changedAnswer
 returns-3 c =
     let k = c .before .before .before .before .before .before .before .before .before .before in
-    let q = k .before in
-    let s = q .before .before .before .before .before .before .before in
-    by-taken (given s) (s .args .key .values) (s .args .content) (small s) _ (q .plan-insert .ensures) _
+    let s = start k in
+    by-taken (given s) (s .args .key .values) (s .args .content) (small s) _ (k .before .plan-insert .ensures) _
     (k .pack-key .ensures) _ _ _ (c .before .before .before .before .before .step2 .given .1) _
     (c .before .before .insert-record .ensures)
 
@@ -116,17 +115,15 @@ cast-insert-record-2 c = search needs
 insert-record-requires-2 : tie.Need-insert-record-requires-2
 insert-record-requires-2 c κs =
     let k = c .before .before .before .before .before .before .before in
-    let q = k .before in
-    let s = q .before .before .before .before .before .before .before in
-    lent-got (given s) (s .args .key .values) (s .args .content) (small s) _ (q .plan-insert .ensures) _
+    let s = start k in
+    lent-got (given s) (s .args .key .values) (s .args .content) (small s) _ (k .before .plan-insert .ensures) _
     (k .pack-key .ensures) _ _ (c .before .before .step3 .given .1)
 
 pack-page-requires : tie.Need-pack-page-requires
 pack-page-requires c κs =
     let k = c .before .before .before .before .before .before .before .before .before .before in
-    let q = k .before in
-    let s = q .before .before .before .before .before .before .before in
-    word-fits (given s) (s .args .key .values) (s .args .content) (small s) _ (q .plan-insert .ensures) _
+    let s = start k in
+    word-fits (given s) (s .args .key .values) (s .args .content) (small s) _ (k .before .plan-insert .ensures) _
     (k .pack-key .ensures) _ _ (c .before .before .before .before .before .step3 .given .1)
 
 widths-of-requires : tie.Need-widths-of-requires
@@ -142,9 +139,8 @@ fill-requires : tie.Need-fill-requires
 fill-requires c κs =
     let k = c .before .before .before .before .before .before .before .before .before .before .before .before .before
     .before in
-    let q = k .before in
-    let s = q .before .before .before .before .before .before .before in
-    fill-fits (given s) (s .args .key .values) (s .args .content) (small s) _ (q .plan-insert .ensures) _
+    let s = start k in
+    fill-fits (given s) (s .args .key .values) (s .args .content) (small s) _ (k .before .plan-insert .ensures) _
     (k .pack-key .ensures) _ _
     (c .before .before .before .before .before .before .before .before .before .step3 .given .1) _
     (c .before .before .widths-of .ensures)
@@ -160,9 +156,8 @@ unfolding changedAnswer
 returns-4 c =
     let k = c .before .before .before .before .before .before .before .before .before .before .before .before .before
     .before .before .before .before in
-    let q = k .before in
-    let s = q .before .before .before .before .before .before .before in
-    by-got (given s) (s .args .key .values) (s .args .content) (small s) _ (q .plan-insert .ensures) _
+    let s = start k in
+    by-got (given s) (s .args .key .values) (s .args .content) (small s) _ (k .before .plan-insert .ensures) _
     (k .pack-key .ensures) _ _
     (c .before .before .before .before .before .before .before .before .before .before .before .before .step3 .given
     .1) _
@@ -176,9 +171,8 @@ enum-known-step-4 c = search needs
 divide-words-requires : tie.Need-divide-words-requires
 divide-words-requires c κs =
     let k = c .before .before .before .before .before .before .before in
-    let q = k .before in
-    let s = q .before .before .before .before .before .before .before in
-    words-lent (given s) (s .args .key .values) (s .args .content) (small s) _ (q .plan-insert .ensures) _
+    let s = start k in
+    words-lent (given s) (s .args .key .values) (s .args .content) (small s) _ (k .before .plan-insert .ensures) _
     (k .pack-key .ensures) _ _ _ (c .before .before .step4 .given .1)
 
 cast-divide-pages : tie.Need-cast-divide-pages
@@ -190,12 +184,11 @@ cast-divide-pages-2 c = search needs
 divide-pages-requires : tie.Need-divide-pages-requires
 divide-pages-requires c κs =
     let k = c .before .before .before .before .before .before .before .before .before .before .before .before in
-    let q = k .before in
-    let s = q .before .before .before .before .before .before .before in
+    let s = start k in
     let told = c .before .before .before .before .before .before .before .step4 .given .1 in (
-      pages-lent (given s) (s .args .key .values) (s .args .content) (small s) _ (q .plan-insert .ensures) _
+      pages-lent (given s) (s .args .key .values) (s .args .content) (small s) _ (k .before .plan-insert .ensures) _
           (k .pack-key .ensures) _ _ _ told,
-      cut-fits (given s) (s .args .key .values) (s .args .content) (small s) _ (q .plan-insert .ensures) _
+      cut-fits (given s) (s .args .key .values) (s .args .content) (small s) _ (k .before .plan-insert .ensures) _
           (k .pack-key .ensures) _ _ _ told,
     )
 
@@ -210,9 +203,8 @@ unfolding changedAnswer
 returns-5 c =
     let k = c .before .before .before .before .before .before .before .before .before .before .before .before .before
     .before .before in
-    let q = k .before in
-    let s = q .before .before .before .before .before .before .before in
-    by-divided (given s) (s .args .key .values) (s .args .content) (small s) _ (q .plan-insert .ensures) _
+    let s = start k in
+    by-divided (given s) (s .args .key .values) (s .args .content) (small s) _ (k .before .plan-insert .ensures) _
     (k .pack-key .ensures) _ _ _
     (c .before .before .before .before .before .before .before .before .before .before .step4 .given .1) _
     (c .before .before .divide-pages .ensures) _ _

@@ -20,8 +20,11 @@ short c =
 widths-of-requires : tie.Need-widths-of-requires
 widths-of-requires c κs = search needs
 
-cast-greater : tie.Need-cast-greater
-cast-greater c = search needs
+cast-old : tie.Need-cast-old
+cast-old c = search needs
+
+cast-x : tie.Need-cast-x
+cast-x c = search needs
 
 add-greater : tie.Need-add-greater
 add-greater c =
@@ -31,12 +34,9 @@ add-greater c =
 greater-requires : tie.Need-greater-requires
 greater-requires c κs = search needs
 
-cast-deepen : tie.Need-cast-deepen
-cast-deepen c = search needs
-
 deepen-requires : tie.Need-deepen-requires
 deepen-requires c κs =
-    let g = c .before .before in
+    let g = c .before in
     let s = g .before .before .before .before .before .before .before in
     let a = s .args in
     let w = g .before .before .before .widths-of in (
@@ -45,16 +45,13 @@ deepen-requires c κs =
       depth-ge (a .state) (a .values) (a .split) (a .bit) (a .free) _ (s .pre) _ (g .greater .ensures),
     )
 
-cast-set-leaves : tie.Need-cast-set-leaves
-cast-set-leaves c = search needs
-
 set-leaves-requires : tie.Need-set-leaves-requires
 set-leaves-requires c κs =
-    let g = c .before .before .before .before .before .before .before in
+    let g = c .before .before .before .before .before in
     let s = g .before .before .before .before .before .before .before in
     let a = s .args in
     let w = g .before .before .before .widths-of in
-    let d = c .before .before .before .before .deepen .ensures in
+    let d = c .before .before .before .deepen .ensures in
     let fits = directory-fits (a .state) (a .values) (a .split) (a .bit) (a .free) _ (s .pre) _ (g .greater .ensures) _
     (w .ensures) in (
       (
@@ -70,32 +67,25 @@ set-leaves-requires c κs =
 
 add-levels : tie.Need-add-levels
 add-levels c =
-    let s = c .before .before .before .before .before .before .before .before .before .before .before .before .before
-    .before .before .before .before .before in
+    let g = c .before .before .before .before .before .before .before .before in
+    let s = g .before .before .before .before .before .before .before in
     omega (arith, s .pre .deep, s .pre .short)
-
-cast-levels : tie.Need-cast-levels
-cast-levels c = search needs
 
 sub-levels : tie.Need-sub-levels
 sub-levels c =
-    let s = c .before .before .before .before .before .before .before .before .before .before .before .before .before
-    .before .before .before .before .before .before in
+    let g = c .before .before .before .before .before .before .before .before in
+    let s = g .before .before .before .before .before .before .before in
     omega (arith, s .pre .below)
-
-cast-divide : tie.Need-cast-divide
-cast-divide c = search needs
 
 divide-requires : tie.Need-divide-requires
 divide-requires c κs =
-    let s = c .before .before .before .before .before .before .before .before .before .before .before .before .before
-    .before .before .before .before .before .before .before in
+    let g = c .before .before .before .before .before .before .before .before in
+    let s = g .before .before .before .before .before .before .before in
     (omega (arith, s .pre .below, s .pre .deep, s .pre .short), s .pre .tally)
 
-cast-t22 : tie.Need-cast-t22
-cast-t22 c =
-    let g = c .before .before .before .before .before .before .before .before .before .before .before .before .before
-    .before in
+cast-top : tie.Need-cast-top
+cast-top c =
+    let g = c .before .before .before .before .before .before .before .before .before in
     omega (arith, short g)
 
 same-length : tie.Need-same-length
@@ -103,10 +93,9 @@ same-length c = search needs
 
 returns : tie.Need-returns
 returns c =
-    let set = c .before .before .before .before .before .before .set-leaves in
-    let d = c .before .before .before .before .before .before .before .before .before .before .before .deepen in
-    let g = c .before .before .before .before .before .before .before .before .before .before .before .before .before
-    .before in
+    let set = c .before .before .before .set-leaves in
+    let d = c .before .before .before .before .before .before .before .deepen in
+    let g = c .before .before .before .before .before .before .before .before .before in
     let w = g .before .before .before .widths-of .ensures in
     let s = g .before .before .before .before .before .before .before in
     let a = s .args in
@@ -133,18 +122,15 @@ divide-words-spec =
     tie.close
     (tie.spec
     widths-of-requires
-    cast-greater
+    cast-old
+    cast-x
     add-greater
     greater-requires
-    cast-deepen
     deepen-requires
-    cast-set-leaves
     set-leaves-requires
     add-levels
-    cast-levels
     sub-levels
-    cast-divide
     divide-requires
-    cast-t22
+    cast-top
     same-length
     returns)
