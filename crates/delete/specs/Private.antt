@@ -12,13 +12,11 @@ use Rattle.pages.specs.Pages.{PageLent, carriedPages}
 use Rattle.word.specs.Word.{wordOf}
 use Rattle.word.specs.declared.Leaf.the-variants.{Empty, Page}
 use Rattle.store.specs.declared.State.{State}
-use Rattle.store.specs.declared.Tally.{Tally}
 use Rattle.change.specs.Delete.{joinedTally, tallyDepth}
 use Rattle.tally.specs.Tally.{tallyHolds}
-use Rattle.removal.specs.Private.{DirectoryLent}
 use Rattle.removal.specs.declared.Stored.{Stored}
 use Rattle.removal.specs.declared.Join.{Join}
-use Rattle.delete.specs.PageBytes.{removedBytes, keptPage, joinedBytes}
+use Rattle.delete.specs.PageBytes.{keptPage}
 
 -- the n records of page g and the k of page h in one page, those with bit 1 behind the others; `bit` is that of the
 -- records of g
@@ -51,7 +49,8 @@ pub record LeavesLent (st : State) (r : Stored) (j : Join) : Type 0 where
 
 module _ (st : State) (values : List ℕ) where
   abbrev filled : ℕ → ℕ → ℕ → List ℕ → List ℕ → Type 0
-  filled T x word words words′ = Filled (widthsOf (st .shape)) T x (splitBit (widthsOf (st .shape)) values) word words words′
+  filled T x word words words′ =
+      Filled (widthsOf (st .shape)) T x (splitBit (widthsOf (st .shape)) values) word words words′
 
   -- the words of a leaf that stays: without a page, if its page had one record
   pub record LeafWords (r : Stored) (words words′ : List ℕ) : Type 0 where
@@ -63,4 +62,5 @@ module _ (st : State) (values : List ℕ) where
     pub state : st′ ≡ record { shape = st .shape; limits = st .limits; depth = st′ .depth; tally = st′ .tally }
     pub tally : st′ .tally .leaves ≡ joinedTally (j .top) (suc (j .step) - j .top) (st .tally .leaves)
     pub depth : st′ .depth ≡ tallyDepth (st .depth) (st′ .tally .leaves)
-    pub new-leaf : filled (st′ .depth) (j .top) (wordOf (Page (keptPage (j .bit) (r .page) (j .other)) (j .top))) words words′
+    pub new-leaf : filled (st′ .depth) (j .top) (wordOf (Page (keptPage (j .bit) (r .page) (j .other)) (j .top))) words
+        words′

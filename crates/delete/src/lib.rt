@@ -15,9 +15,8 @@ ghost use Rattle.store.specs.Answers.{changedAnswer};
 ghost use Rattle.store.specs.Promises.{DeletePromise};
 ghost use Rattle.store.specs.Store.{store};
 
-// Removes the record with a key, and joins leaves until none is left that the set without it does not
-// have. Refused with 1, 2, 3, 5 or 9, the first that holds in this order; a refused call changes
-// nothing.
+// Removes the record with a key, and joins leaves until the leaves of the set without it stand.
+// Refused with 1, 2, 3, 5 or 9, the first that holds in this order; a refused call changes nothing.
 pub fn delete(state: State, dir: &mut [u32], pages: &mut [u8], key: Key) -> Change
     ensures { λ r. ⌜ DeletePromise (store state (now (dir .entry)) (now (pages .entry))) (key .values)
         (changedAnswer (r .answer)) (store (r .state) (now (dir .exit)) (now (pages .exit))) ⌝ }

@@ -12,7 +12,7 @@ use word::pack_empty;
 use word::pack_page;
 ghost use mathlib.Core.Path.{_≡_};
 ghost use mathlib.Core.Bool.{cond};
-ghost use Prim.Native.Nat.{suc, _+_, _-_, _<_, _≤_};
+ghost use Prim.Native.Nat.{suc, _+_, _-_, _≤_};
 ghost use lib.ListN.{length};
 ghost use Rattle.pages.specs.Pages.{PageLent};
 ghost use Rattle.change.specs.Delete.{joinedTally};
@@ -44,8 +44,8 @@ pub fn keep_leaf(state: State, dir: &mut [u32], pages: &mut [u8], values: [u32; 
     );
 }
 
-// The key's leaf and its sibling are joined: its record is removed, the others are put into one page,
-// and the region of the new leaf is set. Returns the state with the tally and T then.
+// The key's leaf and its sibling are joined: the record is removed, the others are put into one
+// page, and the region of the new leaf is set. Returns the state with the tally and T then.
 pub fn join_leaves(
     state: State,
     dir: &mut [u32],
@@ -106,7 +106,7 @@ fn remove_record(pages: &mut [u8], capacity: usize, found: Stored)
     page::remove_at(&mut pages[start..end], found.place, found.count);
 }
 
-// Removes the key's record, and puts the others and those of the sibling's page into one of the two.
+// Removes the key's record, and puts the others and those of the sibling's page into one page.
 // Returns that page; the other is free.
 fn join_records(pages: &mut [u8], capacity: usize, found: Stored, join: Join) -> u32
     requires { ⌜ PairLent capacity found join (now pages) ⌝ }

@@ -95,7 +95,8 @@ module _ (before : Store) (values : List ℕ) where
       same = encodings-values s values four
 
       -- the key's leaf is empty
-      pub refused-empty : (x : ℕ) → leafOf (wordOn before p) ≡ Empty x → wordHolds (before .state) (wordOn before p) ≡ true
+      pub refused-empty : (x : ℕ) → leafOf (wordOn before p) ≡ Empty x
+          → wordHolds (before .state) (wordOn before p) ≡ true
           → DeletePromise before values (refused 5) before
       refused-empty x e h =
           delete-empty before values early

@@ -1,6 +1,6 @@
 -- Laws of what the plan of a delete meets at the sibling of the key's leaf: the leaf stays, or both are joined; the
 -- refusal 9. Assumes nothing.
-use Prim.Native.Nat.{ℕ, suc, _+_, _-_, _^_, _≤_, _<_}
+use Prim.Native.Nat.{ℕ, suc, _+_, _-_, _≤_, _<_}
 use mathlib.Core.Path.{_≡_, refl, sym, ap, _∙_, subst}
 use mathlib.Core.Bool.{Bool, true, false, not, true≢false, false≢true}
 use mathlib.Core.List.{List}
@@ -112,7 +112,8 @@ module _ (before : Store) (values : List ℕ) (r : Stored) (f : RecordFound befo
         pub stays-deep : (y ≡ x → ⊥) → StaysAlone before values g x
         stays-deep n =
             stays (λ i l d.
-            absurd (n (wordOf-one-to-one h i y x (omega (arith, most, leaf .0)) (omega (arith, most)) (sym (leaf .2) ∙ d) .1)))
+            absurd
+            (n (wordOf-one-to-one h i y x (omega (arith, most, leaf .0)) (omega (arith, most)) (sym (leaf .2) ∙ d) .1)))
 
         pub siblingMet : y ≡ x → SiblingMet before values r h
         siblingMet d =
@@ -146,7 +147,8 @@ module _ (before : Store) (values : List ℕ) (r : Stored) (f : RecordFound befo
         let n = count-bounds before S sound (c .0) h x (omega (arith, most, s .other-within)) (c .2) in
         none (omega (arith, n .0)) (omega (arith, n .1)))
 
-    pub refused-tally : tallyHolds (before .state .tally .leaves) ≡ false → DeletePromise before values (refused 9) before
+    pub refused-tally : tallyHolds (before .state .tally .leaves) ≡ false
+        → DeletePromise before values (refused 9) before
     refused-tally e = unsound (λ S sound. true≢false (sym (tallyHolds-of-sound before S sound) ∙ e))
 
     module _ (k : ℕ) (e : k ≡ countBefore h) where
@@ -185,7 +187,9 @@ module _ (before : Store) (values : List ℕ) (r : Stored) (f : RecordFound befo
                 let c = s .other in (
                   c .0,
                   subst (λ z. Agree (suc z) (sibling p z) (c .0)) here (c .1),
-                  c .2 ∙ ap (λ i. wordOf (Page i x)) (sym (made .other)) ∙ ap (λ y. wordOf (Page (j .other) y)) (made .depth-step),
+                  c .2
+                      ∙ ap (λ i. wordOf (Page i x)) (sym (made .other))
+                      ∙ ap (λ y. wordOf (Page (j .other) y)) (made .depth-step),
                 );
             fit = rw (made .other) (omega (arith, e, f .counted));
             above = made .climbed .above;

@@ -1,5 +1,5 @@
-// The plan of a delete, made before anything is written (document 01, "Calls"): the key's record, and
-// whether its leaf stays or is joined.
+// The plan of a delete, made before anything is written (document 01, "Calls"): the key's record,
+// and whether its leaf stays or is joined.
 pub mod siblings;
 
 use lent::limits_hold;
@@ -45,8 +45,8 @@ pub struct Join {
     pub top: u32,
 }
 
-// What a delete is to do: nothing but refuse, or take the record out of a leaf that stays, or of one
-// that is joined.
+// What a delete is to do: refuse, or take the record out of a leaf that stays, or of one that is
+// joined.
 pub enum Plan {
     Refused(u32),
     Keep(Stored),
@@ -116,8 +116,8 @@ fn place_on(pages: &[u8], capacity: usize, g: usize, n: usize, key: u64) -> usiz
     find_key(&pages[start..end], n, key)
 }
 
-// The plan for a leaf below depth 0: it stays where its sibling is divided or empty. 9 for a word of
-// the sibling that no sound store has.
+// The plan for a leaf below depth 0: it stays where its sibling is divided or empty. 9 for a word
+// of the sibling that no sound store has.
 fn plan_sibling(state: State, dir: &[u32], pages: &[u8], key: Key, found: Stored) -> Plan
     requires { ⌜ RecordFound (store state (now dir) (now pages)) (key .values) found ⌝ }
     requires { ⌜ 0 < found .depth ⌝ }
@@ -138,8 +138,8 @@ fn plan_sibling(state: State, dir: &[u32], pages: &[u8], key: Key, found: Stored
     plan_pair(state, dir, pages, key, found, other)
 }
 
-// The plan for a leaf and its sibling of the same depth, with page `other`: they are joined where both
-// fit one page without the record. 9 for a page, a count or a tally that no sound store has.
+// The plan for a leaf and its sibling of the same depth, with page `other`: they are joined where
+// both fit one page without the record. 9 for a page, a count or a tally that no sound store has.
 fn plan_pair(state: State, dir: &[u32], pages: &[u8], key: Key, found: Stored, other: u32) -> Plan
     requires { ⌜ RecordFound (store state (now dir) (now pages)) (key .values) found ⌝ }
     requires { ⌜ SiblingMet (store state (now dir) (now pages)) (key .values) found other ⌝ }

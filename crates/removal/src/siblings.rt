@@ -1,5 +1,5 @@
-// The siblings of a key's regions, and what a join makes of them: the key's leaf and its sibling give
-// way to one leaf, which takes in the empty siblings above.
+// The siblings of a key's regions, and what a join makes of them: the key's leaf and its sibling
+// give way to one leaf, which takes in the empty siblings above.
 use super::Join;
 use address::pairs::pair_of_step;
 use shape::Shape;

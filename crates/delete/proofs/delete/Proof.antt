@@ -1,5 +1,5 @@
--- `delete::delete` meets its contract: the promise is kept by an early refusal, by a refusal of the plan, and by what the
--- planned steps leave. Assumes nothing.
+-- `delete::delete` meets its contract: the promise is kept by an early refusal, by a refusal of the plan, and by what
+-- the planned steps leave. Assumes nothing.
 use mathlib.Core.Path.{_≡_, sym, subst, _∙_}
 use lib.ListN.{length, length-map}
 use Rattle.store.specs.Answers.{changedAnswer}
@@ -8,7 +8,9 @@ use Rattle.store.specs.Store.{store}
 use Rattle.lent.proofs.LentLaws.{keyNumber-by}
 use Rattle.removal.specs.Plan.{RecordFound, StaysAlone, JoinPlanned, Planned}
 use Rattle.removal.proofs.MetLaws.{directoryLent}
-use Rattle.delete.proofs.DeletedLaws.{promise-early, recordLent, promise-kept, leavesLent, pairLent, promise-joined}
+use Rattle.delete.proofs.FoundLaws.{promise-early, recordLent}
+use Rattle.delete.proofs.KeptLaws.{promise-kept}
+use Rattle.delete.proofs.JoinedLaws.{leavesLent, pairLent, promise-joined}
 use borrow.Author.Needs.{needs}
 use Rattle.delete.proofs.delete.Statement.{statement}
 use Rattle.delete.proofs.delete.Tie as tie
@@ -115,7 +117,8 @@ same-length-4 c = search needs
 returns-3 : tie.Need-returns-3
 unfolding changedAnswer
 returns-3 c =
-    let s = c .before .before .before .before .before .before .before .before .before .before .before .before .before .before .before .before .before .before in
+    let earlier = c .before .before .before .before .before .before .before .before .before in
+    let s = earlier .before .before .before .before .before .before .before .before .before in
     let a = s .args in
     let before = store (a .state) (a .dir .now) (a .pages .now) in
     let k = kept (c .before .before .before .before .before .before .before .before) in
@@ -131,7 +134,8 @@ same-length-6 c = search needs
 returns-4 : tie.Need-returns-4
 unfolding changedAnswer
 returns-4 c =
-    let s = c .before .before .before .before .before .before .before .before .before .before .before .before .before .before .before .before .before .before in
+    let earlier = c .before .before .before .before .before .before .before .before .before in
+    let s = earlier .before .before .before .before .before .before .before .before .before in
     let a = s .args in
     let before = store (a .state) (a .dir .now) (a .pages .now) in
     let k = joined (c .before .before .before .before .before .before .before .before) in

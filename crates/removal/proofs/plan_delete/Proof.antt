@@ -46,7 +46,9 @@ named : (c : tie.After-found)
     leafOf (wordOn before (keyString before (a .key .values)))
     ≡ Page (c .found .given .0 .0) (c .found .given .0 .1 .0)
 named c =
-    ap leafOf (sym (c .before .before .before .before .before .key-word .ensures)) ∙ sym (c .before .before .unpack .ensures) ∙ c .found .given .1
+    ap leafOf (sym (c .before .before .before .before .before .key-word .ensures))
+    ∙ sym (c .before .before .unpack .ensures)
+    ∙ c .found .given .1
 
 limits-hold-requires : tie.Need-limits-hold-requires
 limits-hold-requires c κs =
@@ -112,7 +114,9 @@ plan-leaf-requires c κs =
     let s = c .before .before .before .before .before .before .before .before .before .before .before .before in
     let a = s .args in
     let before = store (a .state) (a .dir .now) (a .pages .now) in
-    leafMet before (a .key .values) (s .pre) (four s) (limited (c .before .before .before .before .before .before .before .before)) _ _ (named (c .before)) (held (c .before .before .before .before))
+    leafMet before (a .key .values) (s .pre) (four s)
+    (limited (c .before .before .before .before .before .before .before .before)) _
+    _ (named (c .before)) (held (c .before .before .before .before))
 
 returns-4 : tie.Need-returns-4
 returns-4 c = c .plan-leaf .ensures

@@ -20,8 +20,9 @@ placed : (c : tie.After-place-on)
     (c .before .before .before .before .count-at .result) 0
 placed c =
     let a = c .before .before .before .before .before .before .before .before .before .args in
+    let n = c .before .before .before .before .count-at .result in
     c .place-on .ensures
-    ∙ ap (λ key. keyPlace key (pageAt (a .state .shape .capacity) (a .pages .now) (a .page)) (c .before .before .before .before .count-at .result) 0)
+    ∙ ap (λ key. keyPlace key (pageAt (a .state .shape .capacity) (a .pages .now) (a .page)) n 0)
     (c .before .pack-key .ensures)
 
 cast-capacity : tie.Need-cast-capacity
@@ -75,7 +76,8 @@ returns-3 c =
     let a = s .args in
     let before = store (a .state) (a .dir .now) (a .pages .now) in
     let count = c .before .before .before .before .before .count-at in
-    refused-absent before (a .key .values) (a .page) (a .depth) (s .pre) (λ i. c .before .before .before .before .before .before .before .before .shared-slice-known2 .given i .fits)
+    let known = c .before .before .before .before .before .before .before .before .shared-slice-known2 .given in
+    refused-absent before (a .key .values) (a .page) (a .depth) (s .pre) (λ i. known i .fits)
     (count .result) (count .ensures .0) _ (placed (c .before)) (c .if3 .taken)
 
 returns-4 : tie.Need-returns-4
@@ -86,7 +88,8 @@ returns-4 c =
     let count = c .before .before .before .before .before .before .count-at in
     let found =
     recordFound before (a .key .values) (a .page) (a .depth) (s .pre) (count .result) (count .ensures .0)
-    (omega (arith, c .before .before .before .before .if2 .left)) _ (placed (c .before .before)) (c .before .if3 .left) in
+    (omega (arith, c .before .before .before .before .if2 .left)) _ (placed (c .before .before))
+    (c .before .if3 .left) in
     (found, stays-root before (a .key .values) _ found (c .if4 .taken))
 
 plan-sibling-requires : tie.Need-plan-sibling-requires
@@ -96,7 +99,8 @@ plan-sibling-requires c κs =
     let before = store (a .state) (a .dir .now) (a .pages .now) in
     let count = c .before .before .before .before .before .before .count-at in (
       recordFound before (a .key .values) (a .page) (a .depth) (s .pre) (count .result) (count .ensures .0)
-          (omega (arith, c .before .before .before .before .if2 .left)) _ (placed (c .before .before)) (c .before .if3 .left),
+          (omega (arith, c .before .before .before .before .if2 .left)) _ (placed (c .before .before))
+          (c .before .if3 .left),
       omega (arith, c .if4 .left),
     )
 

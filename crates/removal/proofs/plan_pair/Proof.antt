@@ -78,7 +78,8 @@ returns-5 c =
 
 plan-join-requires : tie.Need-plan-join-requires
 plan-join-requires c κs =
-    let s = c .before .before .before .before .before .before .before .before .before .before .before .before .before .before in
+    let earlier = c .before .before .before .before .before .before .before .before .before in
+    let s = earlier .before .before .before .before .before in
     let a = s .args in
     let before = store (a .state) (a .dir .now) (a .pages .now) in
     let found = s .pre .0 in (
@@ -89,15 +90,17 @@ plan-join-requires c κs =
 
 returns-6 : tie.Need-returns-6
 returns-6 c =
-    let s = c .before .before .before .before .before .before .before .before .before .before .before .before .before .before .before in
+    let earlier = c .before .before .before .before .before .before .before .before .before in
+    let s = earlier .before .before .before .before .before .before in
     let a = s .args in
     let before = store (a .state) (a .dir .now) (a .pages .now) in
     let count = c .before .before .before .before .before .before .before .before .count-at in
     let holds = c .before .before .before .tally-holds in (
       s .pre .0,
       joinPlanned before (a .key .values) (a .found) (s .pre .0) (a .other) (s .pre .1) (count .result)
-          (count .ensures .0) (omega (arith, c .before .before .before .before .if4 .left)) (omega (arith, c .before .before .before .before .before .before .if3 .left))
-          (c .before .before .before .before .before .before .before .before .before .if1 .left) (sym (holds .ensures) ∙ not-false (holds .result) (c .before .before .if5 .left)) _
+          (count .ensures .0) (omega (arith, c .before .before .before .before .if4 .left))
+          (omega (arith, c .before .before .before .before .before .before .if3 .left))
+          (earlier .if1 .left) (sym (holds .ensures) ∙ not-false (holds .result) (c .before .before .if5 .left)) _
           (c .plan-join .ensures),
     )
 

@@ -1,6 +1,5 @@
 -- `removal::plan_sibling` meets its contract: each way that it ends is a law of the word of the sibling's cell. Assumes
 -- nothing.
-use Prim.Native.Nat.{_-_}
 use mathlib.Core.Path.{_≡_, sym, _∙_}
 use mathlib.Core.Bool.{true}
 use native.Mathlib.Omega.{arith}
@@ -17,12 +16,14 @@ use Rattle.removal.proofs.plan_sibling.Tie as tie
 
 -- the word holds
 held : (c : tie.Else1)
-    → wordHolds (c .before .before .before .before .before .before .before .args .state) (c .before .before .sibling-of .result) ≡ true
+    → let a = c .before .before .before .before .before .before .before .args in
+    wordHolds (a .state) (c .before .before .sibling-of .result) ≡ true
 held c = sym (c .before .word-holds .ensures) ∙ not-false (c .before .word-holds .result) (c .if1 .left)
 
 -- the leaf with a page that it names
 named : (c : tie.After-sibling)
-    → leafOf (c .before .before .before .before .before .sibling-of .result) ≡ Page (c .sibling .given .0 .0) (c .sibling .given .0 .1 .0)
+    → leafOf (c .before .before .before .before .before .sibling-of .result)
+    ≡ Page (c .sibling .given .0 .0) (c .sibling .given .0 .1 .0)
 named c = sym (c .before .before .unpack .ensures) ∙ c .sibling .given .1
 
 sub-sibling-of : tie.Need-sub-sibling-of
@@ -79,7 +80,8 @@ returns-3 c =
     let word = c .before .before .before .before .before .before .before .before .sibling-of in (
       s .pre .0,
       stays-deep before (a .key .values) (a .found) (s .pre .0) (s .pre .1) (word .result) (word .ensures)
-          (held (c .before .before .before .before .before .before)) _ _ (named (c .before .before .before)) (c .if2 .taken),
+          (held (c .before .before .before .before .before .before)) _ _ (named (c .before .before .before))
+          (c .if2 .taken),
     )
 
 plan-pair-requires : tie.Need-plan-pair-requires
@@ -90,7 +92,8 @@ plan-pair-requires c κs =
     let word = c .before .before .before .before .before .before .before .before .sibling-of in (
       s .pre .0,
       siblingMet before (a .key .values) (a .found) (s .pre .0) (s .pre .1) (word .result) (word .ensures)
-          (held (c .before .before .before .before .before .before)) _ _ (named (c .before .before .before)) (c .if2 .left),
+          (held (c .before .before .before .before .before .before)) _ _ (named (c .before .before .before))
+          (c .if2 .left),
     )
 
 returns-4 : tie.Need-returns-4

@@ -1,5 +1,5 @@
--- `delete::steps::join_leaves` meets its contract: the new leaf lies within the directory, whose depth is that of the new
--- tally. Assumes nothing.
+-- `delete::steps::join_leaves` meets its contract: the new leaf lies within the directory, whose depth is that of the
+-- new tally. Assumes nothing.
 use mathlib.Core.Path.{refl, ap, _∙_}
 use native.Mathlib.Omega.{arith}
 use Rattle.shape.specs.Shape.{widthList}
@@ -46,7 +46,8 @@ cast-fill c = search needs
 
 fill-requires : tie.Need-fill-requires
 fill-requires c κs =
-    let s = c .before .before .before .before .before .before .before .before .before .before .before .before .before .before .before .before in
+    let earlier = c .before .before .before .before .before .before .before .before .before in
+    let s = earlier .before .before .before .before .before .before .before in
     let a = s .args in
     let w = c .before .before .widths-of in
     let depth = c .before .before .before .before .greatest-depth in
@@ -63,12 +64,13 @@ fill-requires c κs =
 
 cast-t22 : tie.Need-cast-t22
 cast-t22 c =
-    let a = c .before .before .before .before .before .before .before .before .before .before .before .before .before .before .before .before .before .before .before .args in
+    let earlier = c .before .before .before .before .before .before .before .before .before in
+    let a = earlier .before .before .before .before .before .before .before .before .before .before .args in
     omega (
       arith,
       c .before .before .before .before .before .before .before .greatest-depth .ensures,
-      tallyDepth-le (c .before .before .before .before .before .before .before .before .before .join-tally .result .leaves) (a .state .depth),
-      c .before .before .before .before .before .before .before .before .before .before .before .before .before .before .before .before .before .before .before .pre .0 .0 .short,
+      tallyDepth-le (earlier .join-tally .result .leaves) (a .state .depth),
+      earlier .before .before .before .before .before .before .before .before .before .before .pre .0 .0 .short,
     )
 
 same-length : tie.Need-same-length
@@ -79,18 +81,20 @@ same-length-2 c = search needs
 
 returns : tie.Need-returns
 returns c =
-    let a = c .before .before .before .before .before .before .before .before .before .before .before .before .before .before .before .before .before .before .before .args in
+    let earlier = c .before .before .before .before .before .before .before .before .before in
+    let a = earlier .before .before .before .before .before .before .before .before .before .before .args in
     let w = c .before .before .before .before .before .widths-of in
     let depth = c .before .before .before .before .before .before .before .greatest-depth in
-    let kept = c .before .before .before .before .before .before .before .before .before .before .before .before .join-records .ensures in (
+    let kept = earlier .before .before .before .join-records .ensures in (
       record {
         state = refl;
-        tally = c .before .before .before .before .before .before .before .before .before .join-tally .ensures;
+        tally = earlier .join-tally .ensures;
         depth = depth .ensures;
         new-leaf =
             filled-shape (a .state) (widthList (w .result)) (w .ensures) (depth .result) (a .join .top) (a .values) _ _
             (a .dir .now) _
-            (c .before .before .before .before .before .before .pack-page .ensures ∙ ap (λ k. wordOf (Page k (a .join .top))) (kept .0))
+            (c .before .before .before .before .before .before .pack-page .ensures
+            ∙ ap (λ k. wordOf (Page k (a .join .top))) (kept .0))
             (c .before .before .fill .ensures);
       },
       kept .1,

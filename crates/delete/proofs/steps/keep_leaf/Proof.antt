@@ -19,7 +19,8 @@ same-length c = search needs
 
 returns : tie.Need-returns
 returns c =
-    (record { emptied = λ e. absurd (c .if1 .taken e); same = λ n. refl }, c .before .before .before .before .remove-record .ensures)
+    let removed = c .before .before .before .before .remove-record in
+    (record { emptied = λ e. absurd (c .if1 .taken e); same = λ n. refl }, removed .ensures)
 
 pack-empty-requires : tie.Need-pack-empty-requires
 pack-empty-requires c κs =
@@ -37,7 +38,8 @@ cast-fill-2 c = search needs
 
 fill-requires : tie.Need-fill-requires
 fill-requires c κs =
-    let s = c .before .before .before .before .before .before .before .before .before .before .before .before .before .before .before in
+    let earlier = c .before .before .before .before .before .before .before .before .before in
+    let s = earlier .before .before .before .before .before .before in
     let w = c .before .before .before .widths-of in
     (directoryFits (s .args .state) (widthList (w .result)) (w .ensures) _ _ (s .pre .0 .0) (omega arith), s .pre .0 .1)
 
@@ -49,7 +51,8 @@ same-length-3 c = search needs
 
 returns-2 : tie.Need-returns-2
 returns-2 c =
-    let s = c .before .before .before .before .before .before .before .before .before .before .before .before .before .before .before .before .before .before in
+    let earlier = c .before .before .before .before .before .before .before .before .before in
+    let s = earlier .before .before .before .before .before .before .before .before .before in
     let a = s .args in
     let filled = c .before .before .fill .ensures in
     let word = c .before .before .before .before .before .before .before .pack-empty .ensures in
@@ -59,7 +62,7 @@ returns-2 c =
             (a .values) _ _ (a .dir .now) _ word filled;
         same = λ n. absurd (n (c .before .before .before .before .before .before .before .before .if1 .left));
       },
-      c .before .before .before .before .before .before .before .before .before .before .before .before .remove-record .ensures,
+      earlier .before .before .before .remove-record .ensures,
     )
 
 pub keep-leaf-spec : {M : Type 1} → statement M

@@ -50,7 +50,8 @@ returns c =
     let whole = length-pageAt (a .capacity) (r .page) (a .pages .now) (start .pre .page .whole) in
     putMid-change (a .capacity) (r .page) (a .pages .now) (removedPage (r .place) (r .count)) _
     (c .before .before .remove-at .ensures)
-    (length-removedPage (r .place) (r .count) page (start .pre .place-lt) (omega (arith, whole, start .pre .few)) ∙ whole)
+    (length-removedPage (r .place) (r .count) page (start .pre .place-lt) (omega (arith, whole, start .pre .few))
+    ∙ whole)
 
 pub remove-record-spec : {M : Type 1} → statement M
 remove-record-spec =
