@@ -8,3 +8,4 @@ pub mod leaves;
 pub mod model;
 pub mod refusal;
 pub mod samples;
+pub mod shown;
