@@ -33,11 +33,6 @@ fn random_key(random: &mut Random, widths: &[u32]) -> [u32; 4] {
     key
 }
 
-/// Random words.
-fn random_words(random: &mut Random, count: usize) -> Vec<u32> {
-    (0..count).map(|_| random.number() as u32).collect()
-}
-
 // ---- the cell of a key
 
 #[test]
@@ -90,7 +85,7 @@ fn doubling_gives_each_cell_the_word_of_the_cell_that_it_halves() {
     for widths in widths_of_shapes(&mut random) {
         let cells = Cells::new(&widths, greatest_depth(&widths));
         for t in 0..greatest_depth(&widths) {
-            let before = random_words(&mut random, (2 << t) + GUARDS);
+            let before = random.words((2 << t) + GUARDS);
             let mut after = before.clone();
             double(&fitting(&widths), t as u64, &mut after).expect("the directory fits");
             for Cell { bits, address } in cells.all(t + 1) {
@@ -123,7 +118,7 @@ fn setting_a_region_changes_its_cells_and_no_other_word() {
                 let key = random_key(&mut random, &widths);
                 let region = &cells.split_bits(key)[..x];
                 let word = random.number() as u32;
-                let before = random_words(&mut random, (1 << t) + GUARDS);
+                let before = random.words((1 << t) + GUARDS);
                 let mut after = before.clone();
                 fill(&fitting(&widths), key, x as u64, t as u64, word, &mut after)
                     .expect("the directory fits");
@@ -164,7 +159,7 @@ fn unused_attributes_between_others_are_passed_over() {
                     closed_key[j] = key[place];
                 }
                 let word = random.number() as u32;
-                let words = random_words(&mut random, 2 << t);
+                let words = random.words(2 << t);
                 let steps = |widths, key| {
                     let mut dir = words.clone();
                     fill(widths, key, x, t, word, &mut dir).expect("the directory fits");

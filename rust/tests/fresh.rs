@@ -174,21 +174,20 @@ fn slices_that_are_too_short_are_refused_with_2() {
     count.end(20 * (22 + 5) * 3);
 }
 
-/// Two lent stores that differ in what Fresh does not look at come out alike where it writes.
+/// The state is the same, whatever words and bytes are lent.
 #[test]
 fn fresh_looks_at_no_content() {
     let mut count = Comparisons::default();
     let mut random = Random::new(SEED);
     for _ in 0..100 {
         let shape = random_shape(&mut random);
-        let mut states = [(); 2].map(|_| {
+        let states = [(); 2].map(|_| {
             let state = random.words(STATE);
             let mut state = lend_words(&mut random, &state);
             let (mut dir, mut pages) = (random.words(40), random.bytes(3 * page_size(shape)));
             let answer = host::fresh(shape, state.slice_mut(), &mut dir, &mut pages);
             (answer, state.slice().to_vec())
         });
-        states[0].1.truncate(STATE);
         count.same(&states[0], &states[1], format_args!("{shape:?}"));
     }
     count.end(100);

@@ -2,7 +2,7 @@
 -- with its sibling's, the page that is kept has the records of both in split order. Assumes nothing.
 use Prim.Native.Nat.{ℕ, suc, _+_, _-_, _%_, _^_, _≤_, _<_}
 use mathlib.Core.Path.{_≡_, sym, ap, _∙_}
-use mathlib.Core.Bool.{Bool, true, false, not, false≢true, true≢false}
+use mathlib.Core.Bool.{Bool, true}
 use mathlib.Core.List.{List}
 use native.Mathlib.Nat.{le-trans}
 use native.Mathlib.Omega.{arith}
@@ -12,10 +12,7 @@ use Rattle.lists.specs.Filter.{all, nonEmpty}
 use Rattle.shape.specs.Shape.{widthsOf, total, indexFits, shapeNumber}
 use Rattle.shape.specs.declared.Shape.{Shape}
 use Rattle.shape.proofs.ShapeLaws.{capacity-bounds}
-use Rattle.cell.specs.Cell.{Agree}
 use Rattle.region.specs.Sets.{inOrder}
-use Rattle.region.specs.Division.{leafDepth}
-use Rattle.region.proofs.StringLaws.{withBit-same}
 use Rattle.region.proofs.StringLeafLaws.{all-leafRecords}
 use Rattle.record.specs.Record.{Record, recordBit, sameKey}
 use Rattle.record.specs.Bytes.{recordOf}
@@ -36,13 +33,14 @@ use Rattle.model.specs.Sets.{inShape, stored, withoutKey, divisionOf}
 use Rattle.model.proofs.SetLaws.{length-of-inShape, fits-of-inShape, inShape-of-isSet}
 use Rattle.store.specs.Store.{Store}
 use Rattle.store.specs.Sound.{Sound}
-use Rattle.store.proofs.ShownLaws.{pageRecords, wordOn, divisionOn, shape-of-Sound}
+use Rattle.store.proofs.ShownLaws.{pageRecords, wordOn, shape-of-Sound}
 use Rattle.store.proofs.KeyLaws.{keyWord}
-use Rattle.change.specs.Delete.{keyString, AtSibling, JoinFound}
+use Rattle.change.specs.Delete.{keyString, JoinFound}
 use Rattle.change.proofs.BoundLaws.{count-bounds}
 use Rattle.change.proofs.DeleteWordLaws.{length-pageRecords, leaf-of-page-word}
 use Rattle.change.proofs.DeletePlaceLaws.{nonEmpty-filter, withoutKey-place}
 use Rattle.lookup.proofs.StoredLaws.{sameKey-packed}
+use Rattle.removal.proofs.PairLaws.{siblings-apart}
 use Rattle.delete.specs.PageBytes.{removedBytes, keptPage, freedPage, joinedBytes}
 use Rattle.delete.proofs.PageLaws.{recordsOf-removedBytes, pageAt-removedBytes-other}
 use Rattle.delete.proofs.PageLaws.{countOf-joinedBytes-freed, recordsOf-joinedBytes-kept}
@@ -81,27 +79,6 @@ module _ (before : Store) (S : List Record) (sound : Sound before S) where
   count-le q g x l e = count-bounds before S sound q g x (omega (arith, sound .most-pages)) e .1
 
   module _ (key : List ℕ) where
-    -- a leaf and its sibling have two pages
-    pub siblings-apart : (g h m : ℕ) → g < P → wordOn before (keyString before key) ≡ wordOf (Page g (suc m))
-        → AtSibling before key m (λ w. w ≡ wordOf (Page h (suc m))) → h ≡ g → ⊥
-    siblings-apart g h m l own c e =
-        sound .shown .own-page p (c .0) parted g (suc m) (suc m) l own (c .2 ∙ ap (λ i. wordOf (Page i (suc m))) e)
-      where
-        p : ℕ → Bool
-        p = keyString before key
-
-        two : (β : Bool) → β ≡ not β → ⊥
-        two true d = true≢false d
-        two false d = false≢true d
-
-        depth : leafDepth p 0 (divisionOn before S) ≡ suc m
-        depth = leaf-of-page-word before S sound p g (suc m) l own .0
-
-        parted : Agree (leafDepth p 0 (divisionOn before S)) p (c .0) → ⊥
-        parted a =
-            let here : Agree (suc m) p (c .0) = rw depth at a in
-            two (p m) (here m (omega arith) ∙ sym (c .1 m (omega arith)) ∙ withBit-same p m (not (p m)))
-
     module _ (four : length key ≡ 4) (fits : indexFits (widthsOf s) key ≡ true) (g x : ℕ) (within : g < P)
         (own : wordOn before (keyString before key) ≡ wordOf (Page g x)) (i n : ℕ)
         (count : countOf (pageAt b bytes g) ≡ n) (l : i < n)
@@ -186,7 +163,7 @@ module _ (before : Store) (S : List Record) (sound : Sound before S) where
       fit = omega (arith, found .fit, count, count-h)
 
       apart : h ≡ g → ⊥
-      apart = siblings-apart g h m (found .own-within) (found .own) (found .other)
+      apart = siblings-apart before S sound key g h m (found .own-within) (found .own) (found .other)
 
       pub records-joined : pageRecords s (joinedBytes (keyString before key m) b g i n h k bytes)
           (keptPage (keyString before key m) g h)

@@ -2,10 +2,10 @@
 //!
 //! In a sound store a page is free or has the records of a leaf, so that the set can only be that of all records in
 //! pages that are not free. The judge reads it there and then compares the store with the set's leaves.
-use super::image::{word_of, Image, DEPTH, DEPTH_LIMIT, PAGE_LIMIT, TALLY};
+use super::image::{word_of, Image, DEPTH, DEPTH_LIMIT, PAGE_LIMIT, STATE, TALLY};
 use super::leaves::{greatest_depth, leaf_of, leaves, tally, Record};
 use super::model::Model;
-use super::refusal::{key_refused, memory_refused, shape_refused};
+use super::refusal::{key_refused, memory_refused, page_size, shape_refused};
 use crate::cells::Cells;
 
 /// The number of the refusal, 1 or 2; else whether the store is sound.
@@ -46,7 +46,7 @@ fn is_sound(image: &Image) -> bool {
         return false;
     }
     let leaves = leaves(image.shape().capacity as usize, &set);
-    if greatest_depth(&leaves) != t || tally(&leaves) != image.state[TALLY..] {
+    if greatest_depth(&leaves) != t || tally(&leaves) != image.state[TALLY..STATE] {
         return false;
     }
     // "no two leaves share a page, every page without a leaf is free" follow: no key stands twice
@@ -64,15 +64,15 @@ fn is_sound(image: &Image) -> bool {
 
 /// The records of page g: none of a free page; `None` for a count above b or a value out of range.
 fn records_of(image: &Image, model: &Model, g: usize) -> Option<Vec<Record>> {
-    let mut image = PageReader { bytes: &image.pages[g * super::refusal::page_size(model.shape)..] };
-    let count = image.number();
+    let mut page = PageReader { bytes: &image.pages[g * page_size(model.shape)..] };
+    let count = page.number();
     if count > model.shape.capacity {
         return None;
     }
     let mut records = Vec::new();
     for _ in 0..count {
-        let key = [0; 4].map(|_: u32| image.number());
-        let payload = image.number() | image.number() << 16;
+        let key = [0; 4].map(|_: u32| page.number());
+        let payload = page.number() | page.number() << 16;
         if key_refused(model.shape, key) {
             return None;
         }
