@@ -5,9 +5,9 @@ use mathlib.Core.Path.{_≡_, refl, sym, ap, subst, _∙_}
 use mathlib.Core.Bool.{false≢true, true, false}
 use mathlib.Core.List.{List}
 use mathlib.Core.Logic.{⊎-elim}
+use native.Mathlib.Decide.{decLt}
 use native.Mathlib.Omega.{arith}
 use lib.ListN.{length, drop}
-use lib.Dec.{Dec, yes, no}
 use Rattle.lists.specs.Members.{Member}
 use Rattle.shape.specs.Refusal.{Answer, accepted, refused, answered, firstNumber}
 use Rattle.shape.specs.Shape.{inBounds, shapeConditions}
@@ -20,8 +20,8 @@ use Rattle.store.specs.declared.Change.{Change}
 use Rattle.store.specs.declared.Changed.{Changed}
 use Rattle.store.specs.declared.Changed.the-variants.{Done, Refused}
 use Rattle.store.specs.declared.State.{State}
-use Rattle.image.specs.Image.{stateSize, stateIn}
-use Rattle.image.proofs.ImageLaws.{stateIn-short}
+use Rattle.image.specs.Image.{stateSize, stateIn, statePut}
+use Rattle.image.proofs.ImageLaws.{stateIn-short, drop-statePut, stateIn-statePut}
 use Rattle.host.specs.Changes.{LentChangePromise}
 use Rattle.host.specs.Private.{Settled}
 
@@ -51,6 +51,31 @@ change-not-zero c early numbers before after none p = go early refl
         let z : 0 ≡ suc n = refused-same 0 (suc n) (p .early-refused n e) in
         omega arith
 
+-- ---- the words after a change
+
+module _ (change : Change) (words : List ℕ) where
+  pub settled-done : changedAnswer (change .answer) ≡ accepted changed
+      → length (change .state .shape .widths) ≡ 4 → length (change .state .tally .leaves) ≡ 13
+      → (words′ : List ℕ) → words′ ≡ statePut (change .state) words → Settled change words 0 words′
+  settled-done done four thirteen words′ e =
+      record {
+        number-done = λ _. refl;
+        state-done = λ _. ap stateIn e ∙ stateIn-statePut (change .state) words four thirteen;
+        past-done = λ _. ap (drop stateSize) e ∙ drop-statePut (change .state) words;
+        number-refused = λ n f. absurd (accepted-refused n (sym done ∙ f));
+        words-refused = λ n f. absurd (accepted-refused n (sym done ∙ f));
+      }
+
+  pub settled-refused : (n : ℕ) → changedAnswer (change .answer) ≡ refused n → Settled change words n words
+  settled-refused n e =
+      record {
+        number-done = λ f. absurd (accepted-refused n (sym f ∙ e));
+        state-done = λ f. absurd (accepted-refused n (sym f ∙ e));
+        past-done = λ f. absurd (accepted-refused n (sym f ∙ e));
+        number-refused = λ m f. refused-same n m (sym e ∙ f);
+        words-refused = λ _ _. refl;
+      }
+
 -- ---- a call on the state that the words show
 
 module _ (c : Call) (values numbers words ds bs ds′ bs′ : List ℕ) where
@@ -65,11 +90,11 @@ module _ (c : Call) (values numbers words ds bs ds′ bs′ : List ℕ) where
     pub words-of-done : changedAnswer (change .answer) ≡ accepted changed → stateSize ≤ length words
     words-of-done done = go (decLt (length words) stateSize)
       where
-        go : _ → stateSize ≤ length words
+        go : Dec (length words < stateSize) → stateSize ≤ length words
         go (yes short) =
             let none : state ≡ noState = read ∙ stateIn-short words short in
             let number : keyNumber (store state ds bs) values ≡ 1 =
-                ap (λ s. keyNumber (store s ds bs) values) none ∙ keyNumber-noState ds bs values in
+            ap (λ s. keyNumber (store s ds bs) values) none ∙ keyNumber-noState ds bs values in
             absurd (accepted-refused 1 (sym done ∙ p .early-refused 0 number))
         go (no long) = omega arith
 
@@ -98,8 +123,8 @@ module _ (c : Call) (values numbers words ds bs ds′ bs′ : List ℕ) where
             let known : number ≡ suc n = s .number-refused (suc n) e in
             record {
               promise-kept =
-                subst (λ k. Promise (stateIn words) (answered k changed) (stateIn words′)) (sym known)
-                (kept (refused (suc n)) (stateIn words′) e (state-of-refused (suc n) e ∙ sym (ap stateIn same)));
+                  subst (λ k. Promise (stateIn words) (answered k changed) (stateIn words′)) (sym known)
+                  (kept (refused (suc n)) (stateIn words′) e (state-of-refused (suc n) e ∙ sym (ap stateIn same)));
               words-kept = λ _ _. same;
               words-past = ap (drop stateSize) same;
             }
@@ -109,8 +134,8 @@ module _ (c : Call) (values numbers words ds bs ds′ bs′ : List ℕ) where
             let known : number ≡ 0 = s .number-done e in
             record {
               promise-kept =
-                subst (λ k. Promise (stateIn words) (answered k changed) (stateIn words′)) (sym known)
-                (kept (accepted changed) (stateIn words′) e (sym (s .state-done e)));
+                  subst (λ k. Promise (stateIn words) (answered k changed) (stateIn words′)) (sym known)
+                  (kept (accepted changed) (stateIn words′) e (sym (s .state-done e)));
               words-kept = λ n f. absurd (omega arith);
               words-past = s .past-done e;
             }

@@ -41,12 +41,7 @@ pub extern "C" fn mdeh_insert(
 // Removes the record of a key, and joins leaves until the set's own leaves stand. Refused with 1, 2, 3,
 // 5 or 9, the first that holds in this order; a refused call changes nothing.
 #[no_mangle]
-pub extern "C" fn mdeh_delete(
-    state: &mut [u32],
-    dir: &mut [u32],
-    pages: &mut [u8],
-    key: Key,
-) -> u32
+pub extern "C" fn mdeh_delete(state: &mut [u32], dir: &mut [u32], pages: &mut [u8], key: Key) -> u32
     ensures { λ r. ⌜ LentChangePromise (λ before answer after. DeletePromise
         (store before (now (dir .entry)) (now (pages .entry))) (key .values) answer
         (store after (now (dir .exit)) (now (pages .exit)))) (now (state .entry)) r (now (state .exit)) ⌝ }
