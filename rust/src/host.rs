@@ -1,6 +1,9 @@
-//! The calls of the static library behind safe functions: the address map here, the store in `store`.
+//! The calls of the static library behind safe functions: the address map here, the store's in `store` and
+//! `changes`.
+mod changes;
 mod store;
 
+pub use changes::*;
 pub use store::*;
 
 /// The attribute count d, a width in bits for each attribute, and the page capacity b. Widths past d

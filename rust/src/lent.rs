@@ -1,6 +1,6 @@
 //! Slices lent to calls, between guards that no call may change.
 use crate::host::{self, CheckResult, HostQuery, LookupResult, QueryResult};
-use crate::plain::image::{Image, Laid};
+use crate::plain::image::{Image, Laid, DEPTH, DEPTH_LIMIT, PAGE_LIMIT, STATE};
 use crate::plain::model::Model;
 use crate::random::Random;
 use std::fmt::Debug;
@@ -34,6 +34,22 @@ impl<T: Copy + Debug + PartialEq> Lent<T> {
         black_box(&self.all) == &self.before
     }
 
+    /// Whether the content from this place on is as it was lent, and so are the guards.
+    pub fn unchanged_from(&self, place: usize) -> bool {
+        let place = self.part.end.min(self.part.start + place);
+        self.guards_stay() && black_box(&self.all)[place..] == self.before[place..]
+    }
+
+    /// The content as it was lent.
+    pub fn before(&self) -> &[T] {
+        &self.before[self.part.clone()]
+    }
+
+    /// Lends the content as it is now.
+    pub fn lend_again(&mut self) {
+        self.before.copy_from_slice(&self.all);
+    }
+
     /// Whether the guards are as they were lent.
     pub fn guards_stay(&self) -> bool {
         let Range { start, end } = self.part;
@@ -54,7 +70,7 @@ pub fn lend_bytes(random: &mut Random, content: &[u8]) -> Lent<u8> {
     Lent::new(random.bytes(before), content, random.bytes(after))
 }
 
-/// A store lent to calls that write nothing in it.
+/// A store lent to calls.
 pub struct LentStore {
     pub state: Lent<u32>,
     pub dir: Lent<u32>,
@@ -107,7 +123,50 @@ impl LentStore {
         answer(number, sound == 1, false)
     }
 
-    /// "Query, lookup and check write nothing in the store, sound or not."
+    /// Adds a record, or returns the number of the refusal.
+    pub fn insert(&mut self, key: [u32; 4], payload: u32) -> Result<(), u32> {
+        let (state, dir, pages) = (self.state.slice_mut(), self.dir.slice_mut(), self.pages.slice_mut());
+        let answer = host::insert(state, dir, pages, key, payload);
+        self.settle(answer)
+    }
+
+    /// Removes the record of a key, or returns the number of the refusal.
+    pub fn delete(&mut self, key: [u32; 4]) -> Result<(), u32> {
+        let (state, dir, pages) = (self.state.slice_mut(), self.dir.slice_mut(), self.pages.slice_mut());
+        let answer = host::delete(state, dir, pages, key);
+        self.settle(answer)
+    }
+
+    /// The lent store as it is now.
+    pub fn image(&self) -> Image {
+        Image {
+            state: self.state.slice().to_vec(),
+            dir: self.dir.slice().to_vec(),
+            pages: self.pages.slice().to_vec(),
+        }
+    }
+
+    /// After a change: "All of them return the number and change nothing"; "Words past the first 2^L and bytes past the
+    /// P pages are never changed", and neither are shape, P, L and what lies past the state.
+    fn settle(&mut self, answer: Result<(), u32>) -> Result<(), u32> {
+        if answer.is_err() {
+            self.assert_unchanged();
+            return answer;
+        }
+        let state = self.state.before();
+        let (p, l) = (state[PAGE_LIMIT] as usize, state[DEPTH_LIMIT]);
+        let size = 2 + 12 * state[5] as usize;
+        assert_eq!(self.state.slice()[..DEPTH], state[..DEPTH], "shape, P and L");
+        assert!(self.state.unchanged_from(STATE), "what lies past the state is changed");
+        assert!(self.dir.unchanged_from(1 << l), "words past 2^L are changed");
+        assert!(self.pages.unchanged_from(p * size), "bytes past the P pages are changed");
+        self.state.lend_again();
+        self.dir.lend_again();
+        self.pages.lend_again();
+        answer
+    }
+
+    /// "Query, lookup and check write nothing in the store, sound or not", and no refused call does.
     fn assert_unchanged(&self) {
         assert!(self.state.unchanged(), "the state is changed");
         assert!(self.dir.unchanged(), "the directory is changed");

@@ -1,6 +1,7 @@
 //! What the tests compare: the functions of the static libraries, and references built from document 01.
 pub mod cells;
 pub mod compare;
+pub mod followed;
 pub mod host;
 pub mod lent;
 pub mod pages;

@@ -3,7 +3,7 @@ use mdeh_tests::compare::Comparisons;
 use mdeh_tests::lent::LentStore;
 use mdeh_tests::plain::image::{word_of, Image, Laid, DEPTH, PAGE_LIMIT};
 use mdeh_tests::plain::model::Model;
-use mdeh_tests::plain::samples::{random_key, random_model};
+use mdeh_tests::plain::samples::{early_refused, random_key, random_model};
 use mdeh_tests::random::Random;
 
 const SEED: u64 = 0x6d64_6568_2d30_3035;
@@ -113,27 +113,6 @@ fn refusals_1_and_2_come_before_3() {
         }
     }
     count.end(200 * 8 * 2);
-}
-
-/// The store with a bad shape, too few state words, words or pages, or both.
-fn early_refused(image: &Image, model: &Model) -> Vec<(Image, u32)> {
-    let changed = |change: &dyn Fn(&mut Image), number| {
-        let mut image = image.clone();
-        change(&mut image);
-        (image, number)
-    };
-    let words = (1 << model.depth_limit) - 1;
-    let bytes = image.clone().page(0).len() * model.page_limit - 1;
-    vec![
-        changed(&|image| image.state[0] = 5, 1),
-        changed(&|image| image.state[1] = 17, 1),
-        changed(&|image| image.state[5] = 0, 1),
-        changed(&|image| image.state.truncate(21), 1),
-        changed(&|image| image.state.clear(), 1),
-        changed(&|image| image.dir.truncate(words), 2),
-        changed(&|image| image.pages.truncate(bytes), 2),
-        changed(&|image| (image.dir, image.pages, image.state[5]) = (vec![], vec![], 17), 1),
-    ]
 }
 
 // ---- damage that a lookup meets

@@ -1,4 +1,5 @@
-//! The store's calls over lent memory. The state lies in 32-bit words, the directory too, the pages in bytes.
+//! Fresh and the calls that read, over lent memory. The state lies in 32-bit words, the directory too, the pages in
+//! bytes.
 use super::Shape;
 
 /// The words of a state: d, the four widths, b, P, L, T and the tally of depths 0 to 12.

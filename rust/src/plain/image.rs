@@ -72,10 +72,11 @@ impl Laid {
         assert!(t <= model.depth_limit);
         let mut free_pages: Vec<usize> = (0..model.page_limit).collect();
         random.shuffle(&mut free_pages);
+        let state = state_words(model, &leaves);
         let places = place(model, leaves, t, &mut free_pages);
         let more = random.between(0, 9) as usize;
         let mut image = Image {
-            state: state_words(model, &places, t),
+            state,
             dir: random.words((1 << model.depth_limit) + more),
             pages: random.bytes(model.page_limit * page_size(model.shape) + 7 * more),
         };
@@ -107,11 +108,11 @@ pub fn word_of(page: Option<usize>, depth: usize) -> u32 {
     (depth as u32) << 16 | page.map_or(0, |g| g as u32 + 1)
 }
 
-fn state_words(model: &Model, places: &[Placed], t: usize) -> Vec<u32> {
+/// The state of a store that shows these leaves.
+pub fn state_words(model: &Model, leaves: &[Leaf]) -> Vec<u32> {
     let Shape { attributes, widths, capacity } = model.shape;
-    let leaves: Vec<Leaf> = places.iter().map(|placed| placed.leaf.clone()).collect();
-    let limits = [model.page_limit as u32, model.depth_limit as u32, t as u32];
-    [&[attributes][..], &widths, &[capacity], &limits, &tally(&leaves)].concat()
+    let limits = [model.page_limit as u32, model.depth_limit as u32, greatest_depth(leaves) as u32];
+    [&[attributes][..], &widths, &[capacity], &limits, &tally(leaves)].concat()
 }
 
 /// "count (2), then records in split order".

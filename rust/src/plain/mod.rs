@@ -6,5 +6,7 @@ pub mod image;
 pub mod judge;
 pub mod leaves;
 pub mod model;
+pub mod ordered;
 pub mod refusal;
 pub mod samples;
+pub mod shown;

@@ -1,4 +1,5 @@
 //! Random models and keys.
+use super::image::Image;
 use super::model::Model;
 use crate::host::Shape;
 use crate::random::Random;
@@ -42,4 +43,25 @@ pub fn random_key(random: &mut Random, model: &Model) -> [u32; 4] {
 /// A query that gives the attributes of a subset (bit j for attribute j) the values of a key.
 pub fn query_of(subset: usize, key: [u32; 4]) -> [Option<u32>; 4] {
     [0, 1, 2, 3].map(|j| (subset >> j & 1 == 1).then_some(key[j]))
+}
+
+/// A store with a bad shape, too few state words, words or pages, or both, and the number that refuses each.
+pub fn early_refused(image: &Image, model: &Model) -> Vec<(Image, u32)> {
+    let changed = |change: &dyn Fn(&mut Image), number| {
+        let mut image = image.clone();
+        change(&mut image);
+        (image, number)
+    };
+    let words = (1 << model.depth_limit) - 1;
+    let bytes = image.clone().page(0).len() * model.page_limit - 1;
+    vec![
+        changed(&|image| image.state[0] = 5, 1),
+        changed(&|image| image.state[1] = 17, 1),
+        changed(&|image| image.state[5] = 0, 1),
+        changed(&|image| image.state.truncate(21), 1),
+        changed(&|image| image.state.clear(), 1),
+        changed(&|image| image.dir.truncate(words), 2),
+        changed(&|image| image.pages.truncate(bytes), 2),
+        changed(&|image| (image.dir, image.pages, image.state[5]) = (vec![], vec![], 17), 1),
+    ]
 }

@@ -1,0 +1,20 @@
+-- What insert and delete promise of a state that lies in lent words (document 01, "Calls", "Refused calls"). Assumes
+-- nothing.
+use Prim.Native.Nat.{ℕ, suc}
+use mathlib.Core.Path.{_≡_}
+use mathlib.Core.List.{List}
+use lib.ListN.{drop}
+use Rattle.shape.specs.Refusal.{Answer, answered}
+use Rattle.model.specs.Model.{Reply, changed}
+use Rattle.store.specs.declared.State.{State}
+use Rattle.image.specs.Image.{stateSize, stateIn}
+
+-- a call gave a number, and took the state that the words showed to the one that they show then, as it promises. Shut
+-- out: a call that leaves the new state unwritten; a refused one that writes a state
+pub record LentChangePromise (Promise : State → Answer Reply → State → Type 0) (words : List ℕ) (number : ℕ)
+    (words′ : List ℕ) : Type 0 where
+  pub promise-kept : Promise (stateIn words) (answered number changed) (stateIn words′)
+  -- "All of them return the number and change nothing."
+  pub words-kept : (n : ℕ) → number ≡ suc n → words′ ≡ words
+  -- whatever lies past the state stays
+  pub words-past : drop stateSize words′ ≡ drop stateSize words

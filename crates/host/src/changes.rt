@@ -1,0 +1,66 @@
+// The calls that change a store, on a state that lies in lent words (crate `image`), a directory and
+// pages. Fewer than 22 state words show no shape, so that the call is refused with 1.
+use delete::delete;
+use image::put_state;
+use image::state_in;
+use insert::insert;
+use record::Content;
+use shape::Key;
+use store::Change;
+use store::Changed;
+ghost use mathlib.Core.Path.{_≡_};
+ghost use Prim.Native.Nat.{_≤_};
+ghost use lib.ListN.{length};
+ghost use Rattle.shape.specs.Refusal.{accepted};
+ghost use Rattle.model.specs.Model.{changed};
+ghost use Rattle.store.specs.Answers.{changedAnswer};
+ghost use Rattle.store.specs.Store.{store};
+ghost use Rattle.store.specs.Promises.{InsertPromise, DeletePromise};
+ghost use Rattle.host.specs.Changes.{LentChangePromise};
+ghost use Rattle.host.specs.Private.{Settled};
+
+// Adds a record, and divides regions until no leaf has more than b. Refused with 1, 2, 3, 4, 6, 7 or
+// 9, the first that holds in this order; a refused call changes nothing.
+#[no_mangle]
+pub extern "C" fn mdeh_insert(
+    state: &mut [u32],
+    dir: &mut [u32],
+    pages: &mut [u8],
+    key: Key,
+    payload: u32,
+) -> u32
+    ensures { λ r. ⌜ LentChangePromise (λ before answer after. InsertPromise
+        (store before (now (dir .entry)) (now (pages .entry))) (key .values) (record { payload = payload }) answer
+        (store after (now (dir .exit)) (now (pages .exit)))) (now (state .entry)) r (now (state .exit)) ⌝ }
+{
+    let content = Content { payload };
+    let change = insert(state_in(state), dir, pages, key, content);
+    settle(state, change)
+}
+
+// Removes the record of a key, and joins leaves until the set's own leaves stand. Refused with 1, 2, 3,
+// 5 or 9, the first that holds in this order; a refused call changes nothing.
+#[no_mangle]
+pub extern "C" fn mdeh_delete(state: &mut [u32], dir: &mut [u32], pages: &mut [u8], key: Key) -> u32
+    ensures { λ r. ⌜ LentChangePromise (λ before answer after. DeletePromise
+        (store before (now (dir .entry)) (now (pages .entry))) (key .values) answer
+        (store after (now (dir .exit)) (now (pages .exit)))) (now (state .entry)) r (now (state .exit)) ⌝ }
+{
+    let change = delete(state_in(state), dir, pages, key);
+    settle(state, change)
+}
+
+// Writes the state of an accepted change into its words, and returns the number of the change.
+fn settle(words: &mut [u32], change: Change) -> u32
+    requires { ⌜ (changedAnswer (change .answer) ≡ accepted changed → 22 ≤ length (now words)) ⌝ }
+    ensures { λ r. ⌜ Settled change (now (words .entry)) r (now (words .exit)) ⌝ }
+{
+    let answer = change.answer;
+    match answer {
+        Changed::Done => {
+            put_state(words, change.state);
+            0
+        }
+        Changed::Refused(number) => number,
+    }
+}

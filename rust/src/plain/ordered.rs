@@ -1,0 +1,176 @@
+//! The plain model for long runs: a list in split order, with a key's split bits as one number. The leaves are counted
+//! from the whole list for every answer.
+use super::image::STATE;
+use super::leaves::Record;
+use super::model::Model;
+use super::refusal::{key_refused, query_refused};
+
+/// The model's shape, P and L; its own list of records is not used.
+pub struct Ordered {
+    pub model: Model,
+    /// the split bits, the first one highest, with key and payload, in split order
+    records: Vec<(u64, [u32; 4], u32)>,
+}
+
+/// The leaves of a set: how many at each depth, and how many that are not empty.
+#[derive(Default)]
+pub struct Extent {
+    pub tally: [u32; 13],
+    pub pages: usize,
+}
+
+impl Ordered {
+    /// The model without records.
+    pub fn new(model: Model) -> Ordered {
+        Ordered { model, records: vec![] }
+    }
+
+    pub fn len(&self) -> usize {
+        self.records.len()
+    }
+
+    pub fn is_empty(&self) -> bool {
+        self.records.is_empty()
+    }
+
+    /// The key at a place of the list.
+    pub fn key(&self, i: usize) -> [u32; 4] {
+        self.records[i].1
+    }
+
+    /// A key's split bits, the first one highest.
+    pub fn code(&self, key: [u32; 4]) -> u64 {
+        let bits = self.model.split_bits(key);
+        bits.iter().enumerate().fold(0, |code, (t, &bit)| code | u64::from(bit) << (63 - t))
+    }
+
+    /// The key of some split bits; those past the last are ignored.
+    pub fn key_of(&self, code: u64) -> [u32; 4] {
+        let total = self.model.widths().iter().sum::<u32>();
+        let bits: Vec<bool> = (0..total).map(|t| code >> (63 - t) & 1 == 1).collect();
+        self.model.key_of(&bits)
+    }
+
+    /// The leaves of the set.
+    pub fn extent(&self) -> Extent {
+        let mut extent = Extent::default();
+        self.add_leaves(&self.records, 0, &mut extent);
+        extent
+    }
+
+    /// The state's words.
+    pub fn state(&self) -> [u32; STATE] {
+        let Extent { tally, .. } = self.extent();
+        let depth = tally.iter().rposition(|&leaves| leaves > 0).expect("there is always a leaf");
+        let shape = self.model.shape;
+        let mut state = [0; STATE];
+        state[0] = shape.attributes;
+        state[1..5].copy_from_slice(&shape.widths);
+        let limits = [self.model.page_limit as u32, self.model.depth_limit as u32, depth as u32];
+        state[5] = shape.capacity;
+        state[6..9].copy_from_slice(&limits);
+        state[9..].copy_from_slice(&tally);
+        state
+    }
+
+    /// Adds the leaves of a region of depth x with these records.
+    fn add_leaves(&self, records: &[(u64, [u32; 4], u32)], x: usize, extent: &mut Extent) {
+        if records.len() <= self.model.shape.capacity as usize {
+            // deeper leaves than the tally has come with a set that no store holds
+            if let Some(leaves) = extent.tally.get_mut(x) {
+                *leaves += 1;
+            }
+            extent.pages += usize::from(!records.is_empty());
+            return;
+        }
+        let (zeros, ones) = records.split_at(records.partition_point(|record| record.0 >> (63 - x) & 1 == 0));
+        self.add_leaves(zeros, x + 1, extent);
+        self.add_leaves(ones, x + 1, extent);
+    }
+
+    // ---- calls
+
+    pub fn insert(&mut self, key: [u32; 4], payload: u32) -> Result<(), u32> {
+        if key_refused(self.model.shape, key) {
+            return Err(3);
+        }
+        let code = self.code(key);
+        let Err(place) = self.find(code) else {
+            return Err(4);
+        };
+        let first = |code: u64| code.checked_shr(64 - self.model.depth_limit as u32).unwrap_or(0);
+        let sharing = self.records.iter().filter(|record| first(record.0) == first(code)).count();
+        if sharing >= self.model.shape.capacity as usize {
+            return Err(6);
+        }
+        self.records.insert(place, (code, key, payload));
+        if self.extent().pages > self.model.page_limit {
+            self.records.remove(place);
+            return Err(7);
+        }
+        Ok(())
+    }
+
+    pub fn delete(&mut self, key: [u32; 4]) -> Result<(), u32> {
+        if key_refused(self.model.shape, key) {
+            return Err(3);
+        }
+        let place = self.find(self.code(key)).map_err(|_| 5u32)?;
+        self.records.remove(place);
+        Ok(())
+    }
+
+    /// The payload, and 1 page read.
+    pub fn lookup(&self, key: [u32; 4]) -> Result<(u32, u32), u32> {
+        if key_refused(self.model.shape, key) {
+            return Err(3);
+        }
+        let place = self.find(self.code(key)).map_err(|_| 5u32)?;
+        Ok((self.records[place].2, 1))
+    }
+
+    /// Written, total and reads.
+    pub fn query(&self, query: [Option<u32>; 4], out: &mut [u8]) -> Result<(u64, u64, u64), u32> {
+        if let Some(number) = query_refused(self.model.shape, query) {
+            return Err(number);
+        }
+        let mut total = 0;
+        for &(_, key, payload) in &self.records {
+            let record = Record { bits: vec![], key, payload };
+            if record.matches(query) {
+                if let Some(place) = out.get_mut(12 * total..12 * total + 12) {
+                    place.copy_from_slice(&record.bytes());
+                }
+                total += 1;
+            }
+        }
+        let written = total.min(out.len() / 12);
+        Ok((written as u64, total as u64, self.reads(query)))
+    }
+
+    /// The leaves that are not empty and agree with a query.
+    fn reads(&self, query: [Option<u32>; 4]) -> u64 {
+        let given = self.code(query.map(|wanted| if wanted.is_some() { u32::MAX } else { 0 }));
+        let wanted = self.code(query.map(|wanted| wanted.unwrap_or(0)));
+        self.reads_below(&self.records, 0, given, wanted)
+    }
+
+    /// The same below a region of depth x that agrees, with the bits that are given and what they are.
+    fn reads_below(&self, records: &[(u64, [u32; 4], u32)], x: usize, given: u64, wanted: u64) -> u64 {
+        if records.len() <= self.model.shape.capacity as usize {
+            return u64::from(!records.is_empty());
+        }
+        let bit = |code: u64| code >> (63 - x) & 1 == 1;
+        let (zeros, ones) = records.split_at(records.partition_point(|record| !bit(record.0)));
+        let side = |records, value| match bit(given) && bit(wanted) != value {
+            true => 0,
+            false => self.reads_below(records, x + 1, given, wanted),
+        };
+        side(zeros, false) + side(ones, true)
+    }
+
+    /// Where some split bits are, or would be.
+    fn find(&self, code: u64) -> Result<usize, usize> {
+        self.records.binary_search_by_key(&code, |record| record.0)
+    }
+}

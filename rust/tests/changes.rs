@@ -1,0 +1,249 @@
+//! Insert and delete where they are refused early, on unsound stores and on random memory: they end, answer 9 or what is
+//! ordinary for the call, and with any number nothing is changed (`LentStore` compares it, and the guards).
+use mdeh_tests::compare::Comparisons;
+use mdeh_tests::lent::LentStore;
+use mdeh_tests::plain::damage::WAYS;
+use mdeh_tests::plain::image::{word_of, Image, Laid, DEPTH, DEPTH_LIMIT, PAGE_LIMIT};
+use mdeh_tests::plain::judge::early_number;
+use mdeh_tests::plain::model::Model;
+use mdeh_tests::plain::refusal::key_refused;
+use mdeh_tests::plain::samples::{early_refused, random_key, random_model};
+use mdeh_tests::random::Random;
+
+const SEED: u64 = 0x6d64_6568_2d30_3132;
+
+/// An insert and a delete, each by its name.
+const CALLS: [(&str, fn(&mut LentStore, [u32; 4]) -> Result<(), u32>); 2] =
+    [("insert", |store, key| store.insert(key, 0x1234_5678)), ("delete", |store, key| store.delete(key))];
+
+// ---- 1, 2, 3
+
+#[test]
+fn values_out_of_range_are_refused_with_3() {
+    let mut count = Comparisons::default();
+    let mut random = Random::new(SEED);
+    for _ in 0..500 {
+        let model = random_model(&mut random);
+        let mut store = LentStore::of(&mut random, &model);
+        for j in 0..4 {
+            let least = 1u32 << model.shape.widths[j];
+            for value in [least, least + 1, 1 << 16, 1 << 31, u32::MAX] {
+                let mut key = random_key(&mut random, &model);
+                key[j] = value;
+                for (name, call) in CALLS {
+                    let about = format_args!("{name}: {:?}, {key:?}", model.shape);
+                    count.same(call(&mut store, key), Err(3), about);
+                }
+            }
+        }
+    }
+    count.end(500 * 4 * 5 * 2);
+}
+
+#[test]
+fn refusals_1_and_2_come_before_3() {
+    let mut count = Comparisons::default();
+    let mut random = Random::new(SEED);
+    for _ in 0..200 {
+        let model = random_model(&mut random);
+        let laid = Laid::new(&mut random, &model);
+        for (image, number) in early_refused(&laid.image, &model) {
+            let mut store = LentStore::new(&mut random, &image);
+            for key in [random_key(&mut random, &model), [u32::MAX; 4]] {
+                for (name, call) in CALLS {
+                    count.same(call(&mut store, key), Err(number), format_args!("{name}: {:?}", image.state));
+                }
+            }
+        }
+    }
+    count.end(200 * 8 * 2 * 2);
+}
+
+// ---- damage that a call meets
+
+/// Compares the calls on keys of a leaf with 9.
+fn all_damaged(count: &mut Comparisons, random: &mut Random, model: &Model, bits: &[bool], image: &Image) {
+    let mut store = LentStore::new(random, image);
+    for _ in 0..5 {
+        let mut all = model.split_bits(random_key(random, model));
+        all[..bits.len()].copy_from_slice(bits);
+        let key = model.key_of(&all);
+        for (name, call) in CALLS {
+            let about = format_args!("{name}: {:?}, {key:?} in leaf {bits:?}", image.state);
+            count.same(call(&mut store, key), Err(9), about);
+        }
+    }
+}
+
+#[test]
+fn a_damaged_word_gives_9() {
+    let mut count = Comparisons::default();
+    let mut random = Random::new(SEED);
+    for _ in 0..500 {
+        let model = random_model(&mut random);
+        let laid = Laid::new(&mut random, &model);
+        let placed = &laid.leaves[random.below(laid.leaves.len())];
+        let (t, p) = (laid.image.state[DEPTH] as usize, laid.image.state[PAGE_LIMIT] as usize);
+        let past = p + random.below(65_535 - p);
+        for word in [
+            placed.word | 1 << random.between(20, 31),
+            word_of(placed.page, t + 1),
+            word_of(None, t + 1 + random.below(15 - t)),
+            word_of(Some(p), placed.leaf.depth()),
+            word_of(Some(past), placed.leaf.depth()),
+            u32::MAX,
+        ] {
+            let mut image = laid.image.clone();
+            placed.cells.iter().for_each(|&a| image.dir[a] = word);
+            all_damaged(&mut count, &mut random, &model, &placed.leaf.bits, &image);
+        }
+    }
+    count.end(500 * 6 * 5 * 2);
+}
+
+#[test]
+fn a_damaged_count_gives_9() {
+    let mut count = Comparisons::default();
+    let mut random = Random::new(SEED);
+    let mut stores = 0;
+    while stores < 500 {
+        let model = random_model(&mut random);
+        let laid = Laid::new(&mut random, &model);
+        let placed = &laid.leaves[random.below(laid.leaves.len())];
+        let Some(page) = placed.page else { continue };
+        stores += 1;
+        let b = model.shape.capacity as u16;
+        for damaged in [0, b + 1, b + 256, 1 << 15, u16::MAX] {
+            let mut image = laid.image.clone();
+            image.set_count(page, damaged);
+            all_damaged(&mut count, &mut random, &model, &placed.leaf.bits, &image);
+        }
+    }
+    count.end(500 * 5 * 5 * 2);
+}
+
+// ---- any store
+
+/// The comparisons of `ordinary_calls`.
+const COMPARED: u64 = 8;
+
+/// Some calls on any store, one after the other, with keys near those of a model: refused early as the table says,
+/// otherwise accepted, or refused with 9 or another of the call's numbers.
+fn ordinary_calls(count: &mut Comparisons, random: &mut Random, model: &Model, image: &Image) {
+    let mut store = LentStore::new(random, image);
+    let early = early_number(image);
+    for turn in 0..COMPARED {
+        let key = random_key(random, model);
+        let (name, call) = CALLS[random.below(2)];
+        let found = call(&mut store, key);
+        let right = match early.or_else(|| key_refused(image.shape(), key).then_some(3)) {
+            Some(number) => found == Err(number),
+            None if name == "insert" => matches!(found, Ok(()) | Err(4 | 6 | 7 | 9)),
+            None => matches!(found, Ok(()) | Err(5 | 9)),
+        };
+        let about = format_args!("{name} {key:?}, turn {turn}: {model:?}, state {:?}", image.state);
+        count.same((right, found), (true, found), about);
+    }
+}
+
+#[test]
+fn each_clause_broken_in_turn() {
+    let mut count = Comparisons::default();
+    let mut random = Random::new(SEED);
+    for (_, break_clause) in WAYS {
+        let mut stores = 0;
+        while stores < 100 {
+            let model = random_model(&mut random);
+            let laid = Laid::new(&mut random, &model);
+            let Some(image) = break_clause(&mut random, &laid) else { continue };
+            stores += 1;
+            ordinary_calls(&mut count, &mut random, &model, &image);
+        }
+    }
+    count.end(25 * 100 * COMPARED);
+}
+
+#[test]
+fn several_clauses_broken_at_once() {
+    let mut count = Comparisons::default();
+    let mut random = Random::new(SEED);
+    for _ in 0..1500 {
+        let model = random_model(&mut random);
+        let mut laid = Laid::new(&mut random, &model);
+        for _ in 0..random.between(2, 5) {
+            let (_, break_clause) = WAYS[random.below(15)];
+            if let Some(image) = break_clause(&mut random, &laid) {
+                laid.image = image;
+            }
+        }
+        ordinary_calls(&mut count, &mut random, &model, &laid.image);
+    }
+    count.end(1500 * COMPARED);
+}
+
+#[test]
+fn random_words_and_pages() {
+    let mut count = Comparisons::default();
+    let mut random = Random::new(SEED);
+    for turn in 0..2000 {
+        let model = random_model(&mut random);
+        let mut image = Laid::new(&mut random, &model).image;
+        if turn % 3 != 0 {
+            let words = random.words(image.dir.len());
+            // words of small depths and page numbers, or of any bits
+            let mask = if turn % 2 == 0 { 0x0003_000f } else { u32::MAX };
+            image.dir = words.iter().map(|word| word & mask).collect();
+            image.state[DEPTH] = random.below(model.depth_limit + 1) as u32;
+        }
+        if turn % 3 != 1 {
+            image.pages = random.bytes(image.pages.len());
+            for g in 0..model.page_limit {
+                let most = u64::from(model.shape.capacity);
+                let count = random.between(0, most + 1) as u16;
+                image.set_count(g, count);
+            }
+        }
+        ordinary_calls(&mut count, &mut random, &model, &image);
+    }
+    count.end(2000 * COMPARED);
+}
+
+#[test]
+fn random_states() {
+    let mut count = Comparisons::default();
+    let mut random = Random::new(SEED);
+    for _ in 0..2000 {
+        let model = random_model(&mut random);
+        let mut image = Laid::new(&mut random, &model).image;
+        image.dir.resize(random.between(0, 70) as usize, 0x1_0001);
+        for word in &mut image.state {
+            if random.below(8) == 0 {
+                *word = [random.short(32) as u32, random.short(4) as u32][random.below(2)];
+            }
+        }
+        ordinary_calls(&mut count, &mut random, &model, &image);
+    }
+    count.end(2000 * COMPARED);
+}
+
+/// Every P, L and T of these, also with slices that are long enough for them.
+#[test]
+fn wild_limits() {
+    let mut count = Comparisons::default();
+    let mut random = Random::new(SEED);
+    let wild = [0, 1, 2, 11, 12, 13, 14, 31, 32, 33, 63, 64, 65, 127, 4096, 4097, 1 << 16, 1 << 31, u32::MAX];
+    for place in [PAGE_LIMIT, DEPTH_LIMIT, DEPTH] {
+        for value in wild {
+            for _ in 0..8 {
+                let model = random_model(&mut random);
+                let mut image = Laid::new(&mut random, &model).image;
+                image.state[place] = value;
+                ordinary_calls(&mut count, &mut random, &model, &image);
+                image.dir.resize(1 << 14, random.number() as u32);
+                image.pages.resize(4100 * 194, random.number() as u8);
+                ordinary_calls(&mut count, &mut random, &model, &image);
+            }
+        }
+    }
+    count.end(3 * 19 * 8 * 2 * COMPARED);
+}
