@@ -5,12 +5,12 @@ use mathlib.Core.Bool.{Bool, true, false, _&&_, cond}
 use mathlib.Core.List.{List, [], _∷_}
 use mathlib.Core.Option.{Option, none, some}
 use native.Mathlib.Omega.{arith}
-use native.Mathlib.Nat.{zero-add, le-of-lt}
+use native.Mathlib.Nat.{zero-add}
 use lib.Dec.{eqb, leb, ltb}
 use borrow.Author.Tests.{lt-ltb, le-ltb, ltb-true, ltb-false, le-leb, lt-leb, ne-eqb, eqb-true, eqb-false, leb-true}
 use Rattle.lists.specs.Filter.{all, nonEmpty}
 use Rattle.lists.proofs.Bools.{and-split}
-use Rattle.line.specs.Line.{isDigit, valueFrom, numberIn, isStar, itemIn, codeOf}
+use Rattle.line.specs.Line.{isDigit, valueFrom, numberIn, isStar, itemIn}
 use Rattle.line.specs.Private.{firstOf, digitWith, fieldWith}
 
 -- a field of another form
@@ -76,7 +76,8 @@ codeFrom-number v (c ∷ cs) l =
 
 -- codes of items, and of fields of another form
 pub data CodeFor : Option (Option ℕ) → ℕ → Type 0 where
-  for-item : {item : Option ℕ} → codeOf item ≤ 4294967296 → CodeFor (some item) (codeOf item)
+  for-star : CodeFor (some none) 4294967296
+  for-number : {v : ℕ} → v < 4294967296 → CodeFor (some (some v)) v
   for-none : {code : ℕ} → 4294967296 < code → CodeFor none code
 
 codeFor-number : (c : ℕ) (cs : List ℕ) → isDigit c ≡ true
@@ -89,8 +90,8 @@ codeFor-number c cs e = rw (zero-add (c - 48)) (by-test (all isDigit cs && ltb (
         (some (some (valueFrom (c - 48) cs))) none) (cond β (valueFrom (c - 48) cs) wrong)
     by-test true d =
         rw (e, d)
-        (for-item {item = some (valueFrom (c - 48) cs)}
-        (le-of-lt (ltb-true _ _ (and-split (all isDigit cs) (ltb (valueFrom (c - 48) cs) 4294967296) d .1))))
+        (for-number {v = valueFrom (c - 48) cs}
+        (ltb-true _ _ (and-split (all isDigit cs) (ltb (valueFrom (c - 48) cs) 4294967296) d .1)))
     by-test false d = rw (e, d) (for-none {code = wrong} (omega arith))
 
 isStar-no : (c : ℕ) (cs : List ℕ) → (c ≡ 42 → ⊥) → isStar (c ∷ cs) ≡ false
@@ -104,7 +105,7 @@ codeFor-field [] = for-none {code = 4294967297} (omega arith)
 codeFor-field (c ∷ cs) = by-star (eqb c 42) refl
   where
     star : (cs : List ℕ) → CodeFor (itemIn (42 ∷ cs)) (codeFrom 4294967296 cs)
-    star [] = for-item {item = none} (omega arith)
+    star [] = for-star
     star (d ∷ cs) =
         rw (codeFrom-wrong 4294967296 (d ∷ cs) (omega arith) (λ e. omega arith) refl) (for-none {code = wrong} (omega arith))
 

@@ -1,7 +1,7 @@
 -- A line that is read byte by byte shows its fields. Assumes nothing.
 use Prim.Native.Nat.{ℕ, suc, _+_, _-_, min, _≤_, _<_}
 use mathlib.Core.Path.{_≡_, refl, sym, ap, _∙_}
-use mathlib.Core.Bool.{Bool, true, false, cond}
+use mathlib.Core.Bool.{Bool, true, false, _||_, cond}
 use mathlib.Core.List.{List, [], _∷_}
 use mathlib.Core.Logic.{_⊎_, inl, inr}
 use mathlib.Core.Option.{Option, none, some}
@@ -11,10 +11,10 @@ use lib.Seq.{getD-set-same, getD-set-other}
 use lib.Dec.{ltb}
 use borrow.Author.Tests.{ne-eqb, lt-ltb, le-ltb}
 use Rattle.lists.proofs.Numbers.{lt-or-le, eq-or-ne}
-use Rattle.line.specs.Line.{itemIn, withItem, itemsIn, codeOf}
+use Rattle.line.specs.Line.{itemIn, withItem, itemsIn, codeOf, hasStar}
 use Rattle.line.specs.declared.Reading.{Reading}
-use Rattle.line.specs.Private.{closed, opened, keptWord}
-use Rattle.line.proofs.FieldLaws.{codeFrom, CodeFor, for-item, for-none, codeFor-field}
+use Rattle.line.specs.Private.{closed, opened, keptWord, starWith}
+use Rattle.line.proofs.FieldLaws.{codeFrom, CodeFor, for-star, for-number, for-none, codeFor-field}
 use Rattle.line.proofs.ReadingLaws.{addedAll, took, tookAll, addedAll-field}
 
 -- ---- one field
@@ -29,6 +29,7 @@ behind r code = record {
   word = keptWord (r .word) code;
   fields = min 7 (suc (r .fields));
   field = code;
+  star = starWith (r .star) code;
   codes = codesWith (r .codes) (r .fields) code;
 }
 
@@ -71,6 +72,7 @@ module _ (codes : List ℕ) (size : length codes ≡ 6) (k code : ℕ) where
 -- what is kept of items behind those that r has
 pub record Kept (r : Reading) (items : List (Option ℕ)) (q : Reading) : Type 0 where
   pub word : q .word ≡ r .word
+  pub star : q .star ≡ (r .star || hasStar items)
   pub fields : q .fields ≡ min 7 (r .fields + length items)
   pub earlier : (j : ℕ) → j < 6 → j < r .fields → getD (q .codes) j 0 ≡ getD (r .codes) j 0
   pub later : (j : ℕ) → j < 6 → r .fields ≤ j → j < r .fields + length items
@@ -101,12 +103,28 @@ tookAll-zero r (f ∷ fs) e =
     ∙ ap (λ w. keptWord w (codeFrom 4294967297 f)) e
     ∙ keptWord-zero (codeFrom 4294967297 f))
 
+or-false : (β : Bool) → (β || false) ≡ β
+or-false true = refl
+or-false false = refl
+
+codeOf-le : (item : Option ℕ) → CodeFor (some item) (codeOf item) → codeOf item ≤ 4294967296
+codeOf-le none c = omega arith
+codeOf-le (some v) (for-number l) = omega arith
+
+starWith-item : (β : Bool) (item : Option ℕ) (items : List (Option ℕ)) → CodeFor (some item) (codeOf item)
+    → (starWith β (codeOf item) || hasStar items) ≡ (β || hasStar (item ∷ items))
+unfolding starWith
+starWith-item true item items c = refl
+starWith-item false none items c = refl
+starWith-item false (some v) items (for-number l) = rw (ne-eqb v 4294967296 (λ e. omega arith))
+
 -- the items of the others are kept
 kept-suc : (r : Reading) (item : Option ℕ) (items : List (Option ℕ)) (q : Reading) → length (r .codes) ≡ 6
-    → r .fields ≤ 7 → codeOf item ≤ 4294967296 → Kept (behind r (codeOf item)) items q → Kept r (item ∷ items) q
+    → r .fields ≤ 7 → CodeFor (some item) (codeOf item) → Kept (behind r (codeOf item)) items q → Kept r (item ∷ items) q
 kept-suc r item items q size l bound kept =
     record {
-      word = kept .word ∙ keptWord-item (r .word) (codeOf item) bound;
+      word = kept .word ∙ keptWord-item (r .word) (codeOf item) (codeOf-le item bound);
+      star = kept .star ∙ starWith-item (r .star) item items bound;
       fields = kept .fields ∙ (omega arith);
       earlier = λ j a b.
           kept .earlier j a (omega arith) ∙ codesWith-earlier (r .codes) size (r .fields) (codeOf item) j b;
@@ -139,13 +157,15 @@ keptAs-suc : (r : Reading) (i : Option (Option ℕ)) (code : ℕ) → CodeFor i 
 keptAs-suc r none code (for-none l) size m items fs h =
     tookAll-zero (behind r code) fs (keptWord-none (r .word) code l)
 keptAs-suc r (some item) code c size m none fs h = h
-keptAs-suc r (some item) code (for-item l) size m (some items) fs h =
-    kept-suc r item items (tookAll (behind r code) fs) size m l h
+keptAs-suc r (some none) code for-star size m (some items) fs h =
+    kept-suc r none items (tookAll (behind r code) fs) size m for-star h
+keptAs-suc r (some (some v)) code (for-number l) size m (some items) fs h =
+    kept-suc r (some v) items (tookAll (behind r code) fs) size m (for-number l) h
 
 pub tookAll-items : (r : Reading) (fs : List (List ℕ)) → length (r .codes) ≡ 6 → r .fields ≤ 7
     → KeptAs r (itemsIn fs) (tookAll r fs)
 tookAll-items r [] size l =
-    record { word = refl; fields = omega arith; earlier = λ j a b. refl; later = λ j a b c. absurd (omega arith) }
+    record { word = refl; star = sym (or-false (r .star)); fields = omega arith; earlier = λ j a b. refl; later = λ j a b c. absurd (omega arith) }
 tookAll-items r (f ∷ fs) size l =
     let code = codeFrom 4294967297 f in
     rw (took-field r f)

@@ -45,7 +45,7 @@ first-bytes (c ∷ cs) h =
 
 -- the reading behind a word
 abbrev wordRead : List ℕ → Reading
-wordRead w = record { word = wordFrom 1 w; fields = 0; field = 4294967297; codes = 0 ∷ 0 ∷ 0 ∷ 0 ∷ 0 ∷ 0 ∷ [] }
+wordRead w = record { word = wordFrom 1 w; fields = 0; field = 4294967297; star = false; codes = 0 ∷ 0 ∷ 0 ∷ 0 ∷ 0 ∷ 0 ∷ [] }
 
 closed-fields-read : (w : List ℕ) (fs : List (List ℕ)) → closed (readFields start (w ∷ fs)) ≡ tookAll (wordRead w) fs
 unfolding start closed
@@ -54,7 +54,7 @@ closed-fields-read w fs =
 
 -- the line of a reading
 abbrev lineOf : Reading → Line
-lineOf r = record { kind = kindOf (r .word); count = r .fields; codes = r .codes }
+lineOf r = record { kind = kindOf (r .word); count = r .fields; star = r .star; codes = r .codes }
 
 shown-fields : (w : List ℕ) (fs : List (List ℕ)) → all isByte w ≡ true → (items : Option (List (Option ℕ))) (q : Reading)
     → KeptAs (wordRead w) items q → ShowsFields (w ∷ fs) items (lineOf q)
@@ -64,6 +64,7 @@ shown-fields w fs h (some items) q k =
     record {
       kind = ap kindOf (k .word) ∙ kind-of-word w h;
       count = k .fields ∙ ap (min 7) (zero-add (length items));
+      star = k .star;
       codes = λ j a b.
           k .later j a (omega arith) (omega arith) ∙ ap (λ i. codeOf (getD items i none)) (sub-zero j);
     }

@@ -81,10 +81,17 @@ abbrev pub codeOf : Option ℕ → ℕ
 codeOf none = 2 ^ 32
 codeOf (some v) = v
 
--- the command, how many fields it has, at most 7, and the codes of the first six
+-- whether an item is `*`
+abbrev pub hasStar : List (Option ℕ) → Bool
+hasStar [] = false
+hasStar (none ∷ items) = true
+hasStar (some v ∷ items) = hasStar items
+
+-- the command, how many fields it has, at most 7, whether one is `*`, and the codes of the first six
 pub record Shows (word : List ℕ) (items : List (Option ℕ)) (line : Line) : Type 0 where
   pub kind : line .kind ≡ kindIn word
   pub count : line .count ≡ min 7 (length items)
+  pub star : line .star ≡ hasStar items
   pub codes : (j : ℕ) → j < 6 → j < length items → getD (line .codes) j 0 ≡ codeOf (getD items j none)
 
 -- a word and fields; "A line of another form .. is a bad line"

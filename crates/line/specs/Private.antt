@@ -1,6 +1,6 @@
 -- A line as it is read, byte by byte. Only the code's contracts cite these. Assumes nothing.
 use Prim.Native.Nat.{ℕ, suc, _+_, _-_, _*_, min}
-use mathlib.Core.Bool.{cond}
+use mathlib.Core.Bool.{Bool, false, _||_, cond}
 use mathlib.Core.List.{List, [], _∷_}
 use lib.Dec.{eqb, leb, ltb}
 use lib.ListN.{set}
@@ -35,10 +35,14 @@ kindOf word =
 unfoldable pub keptWord : ℕ → ℕ → ℕ
 keptWord word field = cond (ltb 4294967296 field) 0 word
 
+-- one of some fields is `*`
+unfoldable pub starWith : Bool → ℕ → Bool
+starWith star field = star || eqb field 4294967296
+
 -- ---- a line
 
 unfoldable pub start : Reading
-start = record { word = 1; fields = 0; field = 4294967297; codes = 0 ∷ 0 ∷ 0 ∷ 0 ∷ 0 ∷ 0 ∷ [] }
+start = record { word = 1; fields = 0; field = 4294967297; star = false; codes = 0 ∷ 0 ∷ 0 ∷ 0 ∷ 0 ∷ 0 ∷ [] }
 
 -- the code of the last field is kept
 unfoldable pub closed : Reading → Reading
@@ -48,25 +52,26 @@ closed r =
       word = keptWord (r .word) (r .field);
       fields = r .fields;
       field = r .field;
+      star = starWith (r .star) (r .field);
       codes = cond (ltb (r .fields) 7) (set (r .codes) (r .fields - 1) (r .field)) (r .codes);
     })
 
 -- a space ends a field
 unfoldable pub opened : Reading → Reading
-opened r = record { word = r .word; fields = min 7 (suc (r .fields)); field = 4294967297; codes = r .codes }
+opened r = record { word = r .word; fields = min 7 (suc (r .fields)); field = 4294967297; star = r .star; codes = r .codes }
 
 -- any other byte belongs to the word or to the last field
 unfoldable pub added : Reading → ℕ → Reading
 added r c =
     cond (eqb (r .fields) 0)
-    (record { word = wordWith (r .word) c; fields = 0; field = r .field; codes = r .codes })
-    (record { word = r .word; fields = r .fields; field = fieldWith (r .field) c; codes = r .codes })
+    (record { word = wordWith (r .word) c; fields = 0; field = r .field; star = r .star; codes = r .codes })
+    (record { word = r .word; fields = r .fields; field = fieldWith (r .field) c; star = r .star; codes = r .codes })
 
 unfoldable pub fed : Reading → ℕ → Reading
 fed r c = cond (eqb c 32) (opened (closed r)) (added r c)
 
 unfoldable pub ended : Reading → Line
-ended r = record { kind = kindOf (closed r .word); count = closed r .fields; codes = closed r .codes }
+ended r = record { kind = kindOf (closed r .word); count = closed r .fields; star = closed r .star; codes = closed r .codes }
 
 -- bytes one after the other
 abbrev pub readFrom : Reading → List ℕ → Reading

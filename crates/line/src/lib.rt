@@ -3,7 +3,7 @@
 ghost use mathlib.Core.Path.{_≡_};
 ghost use Prim.Native.Nat.{_≤_};
 ghost use Rattle.line.specs.Line.{isDigit};
-ghost use Rattle.line.specs.Private.{start, fed, ended, opened, closed, keptWord, wordWith, fieldWith, firstOf, kindOf};
+ghost use Rattle.line.specs.Private.{start, fed, ended, opened, closed, keptWord, starWith, wordWith, fieldWith, firstOf, kindOf};
 
 // A field that is `*`; lesser codes are numbers. Greater ones are of a field that is still empty, and
 // of one that is no number below 2^32.
@@ -14,11 +14,13 @@ const EMPTY: u64 = 4294967297;
 const WRONG: u64 = 4294967298;
 
 // What was read of a line: its word as a number in base 256 behind a 1 (0 once a field is wrong),
-// how many fields have begun behind it (7 for more), the code of the last one, and those before it.
+// how many fields have begun behind it (7 for more), the code of the last one, and of those before it
+// whether one is `*`, and their codes.
 pub struct Reading {
     pub word: u64,
     pub fields: usize,
     pub field: u64,
+    pub star: bool,
     pub codes: [u64; 6],
 }
 
@@ -31,10 +33,11 @@ pub enum Kind {
     List,
 }
 
-// A command, how many fields it has (7 for more), and the codes of the first six.
+// A command, how many fields it has (7 for more), whether one is `*`, and the codes of the first six.
 pub struct Line {
     pub kind: Kind,
     pub count: usize,
+    pub star: bool,
     pub codes: [u64; 6],
 }
 
@@ -46,6 +49,7 @@ pub fn begin() -> Reading
         word: 1,
         fields: 0,
         field: EMPTY,
+        star: false,
         codes: [0; 6],
     }
 }
@@ -64,6 +68,7 @@ pub fn feed(reading: Reading, byte: u8) -> Reading
             word: word_with(reading.word, byte),
             fields: 0,
             field: reading.field,
+            star: reading.star,
             codes,
         };
     }
@@ -71,6 +76,7 @@ pub fn feed(reading: Reading, byte: u8) -> Reading
         word: reading.word,
         fields: reading.fields,
         field: field_with(reading.field, byte),
+        star: reading.star,
         codes,
     }
 }
@@ -85,6 +91,7 @@ pub fn end(reading: Reading) -> Line
     Line {
         kind: kind_of(last.word),
         count: last.fields,
+        star: last.star,
         codes,
     }
 }
@@ -104,6 +111,7 @@ fn open(reading: Reading) -> Reading
         word: reading.word,
         fields,
         field: EMPTY,
+        star: reading.star,
         codes,
     }
 }
@@ -117,6 +125,7 @@ fn close(reading: Reading) -> Reading
         return reading;
     }
     let word = kept_word(reading.word, reading.field);
+    let star = is_any(reading.star, reading.field);
     let mut codes = reading.codes;
     if reading.fields < 7 {
         codes[reading.fields - 1] = reading.field;
@@ -125,6 +134,7 @@ fn close(reading: Reading) -> Reading
         word,
         fields: reading.fields,
         field: reading.field,
+        star,
         codes,
     }
 }
@@ -134,6 +144,16 @@ fn kept_word(word: u64, field: u64) -> u64
     ensures { λ r. ⌜ r ≡ keptWord word field ⌝ }
 {
     if ANY < field { 0 } else { word }
+}
+
+// Whether one of some fields is `*`, with one more field.
+fn is_any(star: bool, field: u64) -> bool
+    ensures { λ r. ⌜ r ≡ starWith star field ⌝ }
+{
+    if star {
+        return true;
+    }
+    field == ANY
 }
 
 // The word with one more byte; one of more than five bytes is no command's.
