@@ -1,5 +1,5 @@
 -- Laws of texts that grow: by nothing, by one byte, by a run of bytes, by one piece behind another. Assumes nothing.
-use Prim.Native.Nat.{ℕ, suc, _+_, _≤_}
+use Prim.Native.Nat.{ℕ, _+_, _≤_}
 use mathlib.Core.Path.{_≡_, refl, sym, ap, _∙_}
 use mathlib.Core.List.{List, [], _∷_, _++_, append-nil, append-assoc}
 use native.Mathlib.Omega.{arith}
@@ -41,8 +41,3 @@ Grown-then entry middle exit at between end xs ys g h =
       length-is = h .length-is ∙ g .length-is;
       text-is = h .text-is ∙ ap (λ l. l ++ ys) (g .text-is) ∙ append-assoc (take at entry) xs ys;
     }
-
--- a longer text that fits has room for its last piece
-pub Grown-same : (entry exit : List ℕ) (at end : ℕ) (xs ys : List ℕ) → xs ≡ ys → Grown entry at xs exit end
-    → Grown entry at ys exit end
-Grown-same entry exit at end xs ys e g = rw (← e) g

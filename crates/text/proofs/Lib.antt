@@ -1,3 +1,4 @@
 pub mod DecimalLaws
+pub mod Example
 pub mod GrownLaws
 pub mod TextLaws

@@ -1,7 +1,7 @@
--- Laws of the replies: a record's text from the output it stands in, one piece more, and what room each reply takes.
--- Assumes nothing.
+-- Laws of the replies: a text with one more value, payload or record; records from the first on; the room that each
+-- reply takes. Assumes nothing.
 use Prim.Native.Nat.{ℕ, zero, suc, _+_, _*_, _^_, _≤_, _<_}
-use mathlib.Core.Path.{_≡_, refl, sym, ap, _∙_}
+use mathlib.Core.Path.{_≡_, sym, ap, _∙_}
 use mathlib.Core.List.{List, [], _∷_, _++_, append-nil, append-assoc}
 use native.Mathlib.Omega.{arith}
 use native.Mathlib.Numerals.{add-one}
@@ -11,44 +11,48 @@ use Rattle.record.specs.Bytes.{recordSize, numberOf, field}
 use Rattle.record.proofs.ByteLaws.{Bytes, bytes-field, numberOf-field-lt}
 use Rattle.record.proofs.PackedLaws.{field-field}
 use Rattle.text.specs.Text.{space, newline, decimal, fieldText, refusedText, sumText}
-use Rattle.text.specs.Text.{valuesText, recordText, recordsText}
+use Rattle.text.specs.Text.{valuesText, recordText, recordsText, Grown}
 use Rattle.text.proofs.DecimalLaws.{length-decimal-le}
+use Rattle.text.proofs.GrownLaws.{Grown-none, Grown-then}
 
--- ---- one piece more
+-- ---- the text of one more value, payload or record
 
-pub valuesText-zero : (bytes : List ℕ) → valuesText 0 bytes ≡ []
+module _ (entry text exit out : List ℕ) (at between end : ℕ) where
+  -- the next value, read where the record stands
+  pub Grown-value : (start j v : ℕ) → j < 4 → v ≡ numberOf (field out (start + 2 * j) 2)
+      → Grown entry at (valuesText j (field out start recordSize)) text between
+      → Grown text between (fieldText v space) exit end
+      → Grown entry at (valuesText (j + 1) (field out start recordSize)) exit end
+  unfolding valuesText
+  Grown-value start j v l e g h =
+      rw (add-one j, field-field out start recordSize (2 * j) 2 (omega arith), ← e)
+      (Grown-then entry text exit at between end _ _ g h)
+
+  -- the payload, read where the record stands
+  pub Grown-payload : (start d v : ℕ) → v ≡ numberOf (field out (start + 8) 4)
+      → Grown entry at (valuesText d (field out start recordSize)) text between
+      → Grown text between (fieldText v newline) exit end
+      → Grown entry at (recordText d (field out start recordSize)) exit end
+  unfolding recordText
+  Grown-payload start d v e g h =
+      rw (field-field out start recordSize 8 4 (omega arith), ← e) (Grown-then entry text exit at between end _ _ g h)
+
+  pub Grown-record : (d i : ℕ) → Grown entry at (recordsText d i out) text between
+      → Grown text between (recordText d (field out (recordSize * i) recordSize)) exit end
+      → Grown entry at (recordsText d (i + 1) out) exit end
+  unfolding recordsText
+  Grown-record d i g h = rw (add-one i) (Grown-then entry text exit at between end _ _ g h)
+
+-- none written yet
+pub Grown-no-values : (entry : List ℕ) (at : ℕ) (bytes : List ℕ) → Grown entry at (valuesText 0 bytes) entry at
 unfolding valuesText
-valuesText-zero bytes = refl
+Grown-no-values entry at bytes = Grown-none entry at
 
--- the next value, read where the record stands
-pub valuesText-next : (bytes : List ℕ) (start j : ℕ) → j < 4
-    → valuesText (j + 1) (field bytes start recordSize)
-    ≡ valuesText j (field bytes start recordSize) ++ fieldText (numberOf (field bytes (start + 2 * j) 2)) space
-unfolding valuesText
-valuesText-next bytes start j h =
-    let piece = field bytes start recordSize in
-    ap (λ k. valuesText k piece) (add-one j)
-    ∙ ap (λ l. valuesText j piece ++ fieldText (numberOf l) space)
-    (field-field bytes start recordSize (2 * j) 2 (omega arith))
-
--- the payload, read where the record stands
-pub recordText-field : (bytes : List ℕ) (start d : ℕ)
-    → recordText d (field bytes start recordSize)
-    ≡ valuesText d (field bytes start recordSize) ++ fieldText (numberOf (field bytes (start + 8) 4)) newline
-unfolding recordText
-recordText-field bytes start d =
-    ap (λ l. valuesText d (field bytes start recordSize) ++ fieldText (numberOf l) newline)
-    (field-field bytes start recordSize 8 4 (omega arith))
-
-pub recordsText-zero : (d : ℕ) (bytes : List ℕ) → recordsText d 0 bytes ≡ []
+pub Grown-no-records : (entry : List ℕ) (at d : ℕ) (bytes : List ℕ) → Grown entry at (recordsText d 0 bytes) entry at
 unfolding recordsText
-recordsText-zero d bytes = refl
+Grown-no-records entry at d bytes = Grown-none entry at
 
-pub recordsText-next : (d i : ℕ) (bytes : List ℕ)
-    → recordsText d (i + 1) bytes
-    ≡ recordsText d i bytes ++ recordText d (field bytes (recordSize * i) recordSize)
-unfolding recordsText
-recordsText-next d i bytes = ap (λ k. recordsText d k bytes) (add-one i)
+-- ---- the records of an output
 
 -- the first record, then those of the rest
 pub recordsText-first : (d n : ℕ) (bytes : List ℕ)

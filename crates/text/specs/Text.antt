@@ -1,6 +1,6 @@
--- The replies of the program `stock` as bytes (document 01, "Proof table and the printed run"): "It prints `ok`, `no` and
--- the number, or `bad line`; for `list`, the records (values, payload), then `=`, total, reads. .. Fields are decimal, one
--- space apart." Each reply, and each record, is a line of its own. Assumes nothing.
+-- The replies of the program `stock` as bytes (document 01, "Proof table and the printed run"): "It prints `ok`, `no`
+-- and the number, or `bad line`; for `list`, the records (values, payload), then `=`, total, reads. .. Fields are
+-- decimal, one space apart." Each reply, and each record, is a line of its own. Assumes nothing.
 use Prim.Native.Nat.{ℕ, zero, suc, _+_, _-_, _*_, _/_, _%_, _^_, _≤_, _<_}
 use mathlib.Core.Path.{_≡_}
 use mathlib.Core.Bool.{cond}
@@ -28,7 +28,7 @@ places n = placesFrom 20 n
 unfoldable pub decimal : ℕ → List ℕ
 decimal n = digits (places n) n
 
--- k digits hold n, and no fewer do
+-- k is the fewest digits that hold n, at least one: 1 for 0, 2 for 10
 abbrev pub Fewest : ℕ → ℕ → Type 0
 Fewest n k = (1 ≤ k) × (n < 10 ^ k) × (1 < k → 10 ^ (k - 1) ≤ n)
 
@@ -76,7 +76,8 @@ sumText total reads = (61 ∷ space ∷ []) ++ (fieldText total space ++ fieldTe
 
 -- ---- a text that grows
 
--- `bytes` were written into `entry` from offset `at` on, and `end` is the offset behind them; what stands past it is free
+-- `bytes` were written into `entry` from offset `at` on, and `end` is the offset behind them; what stands past it is
+-- free
 pub record Grown (entry : List ℕ) (at : ℕ) (bytes : List ℕ) (exit : List ℕ) (end : ℕ) : Type 0 where
   pub end-is : end ≡ at + length bytes
   pub length-is : length exit ≡ length entry

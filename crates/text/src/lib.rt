@@ -4,7 +4,6 @@
 use record::RECORD_SIZE;
 use record::numbers::read16;
 use record::numbers::read32;
-ghost use mathlib.Core.Path.{_≡_};
 ghost use mathlib.Core.List.{[], _∷_};
 ghost use Prim.Native.Nat.{_+_, _*_, _≤_};
 ghost use lib.ListN.{length};
@@ -71,7 +70,7 @@ pub fn put_record(text: &mut [u8], at: usize, out: &[u8], i: usize, d: usize) ->
 
 // Writes `=`, and how many records match and how many pages were read.
 pub fn put_sum(text: &mut [u8], at: usize, total: u64, reads: u64) -> usize
-    requires { ⌜ at + 48 ≤ length (now text) ⌝ }
+    requires { ⌜ at + 44 ≤ length (now text) ⌝ }
     ensures { λ r. ⌜ Grown (now (text .entry)) at (sumText total reads) (now (text .exit)) r ⌝ }
 {
     let start = put_bytes(text, at, b"= ");
@@ -133,6 +132,7 @@ fn put_values(text: &mut [u8], at: usize, out: &[u8], start: usize, d: usize) ->
 fn put_field(text: &mut [u8], at: usize, n: u64, behind: u8) -> usize
     requires { ⌜ at + 21 ≤ length (now text) ⌝ }
     ensures { λ r. ⌜ Grown (now (text .entry)) at (fieldText n behind) (now (text .exit)) r ⌝ }
+    ensures { λ r. ⌜ r ≤ at + 21 ⌝ }
 {
     let end = put_decimal(text, at, n);
     put_byte(text, end, behind)
