@@ -12,14 +12,16 @@ use Rattle.shape.specs.Key.{perAttribute}
 use Rattle.shape.specs.declared.Shape.{Shape}
 use Rattle.record.specs.declared.Content.{Content}
 use Rattle.model.specs.Model.{Reply, changed, found, listed}
-use Rattle.store.specs.Store.{Store, Memory, store, memory}
+use Rattle.store.specs.Store.{store, memory}
+use Rattle.store.specs.declared.State.{State}
 use Rattle.store.specs.Fresh.{FreshPromise}
 use Rattle.store.specs.Promises.{InsertPromise, DeletePromise, QueryPromise}
 use Rattle.line.specs.declared.Line.{Line}
 use Rattle.line.specs.declared.Kind.{Kind}
 use Rattle.line.specs.declared.Kind.the-variants as kind
-use Rattle.text.specs.Text.{okText, badText, refusedText, recordsText, sumText}
+use Rattle.text.specs.Text.{Grown, okText, badText, refusedText, recordsText, sumText}
 use Rattle.console.specs.declared.Session.{Session}
+use Rattle.console.specs.declared.Next.{Next}
 
 -- ---- what a line asks
 
@@ -49,19 +51,25 @@ module _ (line : Line) where
   unfoldable pub itemsOf : ℕ → List (Option ℕ)
   itemsOf d = perAttribute (λ j. cond (ltb j d) (itemAt j) none)
 
+  -- "d, widths, b"
+  unfoldable pub shapeIn : Shape
+  shapeIn = record { attributes = numberAt 0; widths = valuesFrom (numberAt 0) 1; capacity = numberAt (numberAt 0 + 1) }
+
+  -- "payload", behind d values
+  unfoldable pub contentIn : ℕ → Content
+  contentIn d = record { payload = numberAt d }
+
   -- "`shape` d, widths, b", with as many widths as its d says
   unfoldable pub askedShape : Asked
   askedShape =
-      let d = numberAt 0 in
-      cond (eqb (line .count) 0 || line .star) nothing
-      (cond (not (within 1 4 d)) noShape
-      (cond (eqb (line .count) (d + 2))
-      (newShape (record { attributes = d; widths = valuesFrom d 1; capacity = numberAt (d + 1) })) nothing))
+      cond (line .star || eqb (line .count) 0) nothing
+      (cond (not (within 1 4 (numberAt 0))) noShape
+      (cond (eqb (line .count) (numberAt 0 + 2)) (newShape shapeIn) nothing))
 
   -- "`put` values, payload"
   unfoldable pub askedPut : ℕ → Asked
   askedPut d =
-      cond (not (line .star) && eqb (line .count) (d + 1)) (put (valuesFrom d 0) (record { payload = numberAt d })) nothing
+      cond (not (line .star) && eqb (line .count) (d + 1)) (put (valuesFrom d 0) (contentIn d)) nothing
 
   -- "`cut` values"
   unfoldable pub askedCut : ℕ → Asked
@@ -97,8 +105,8 @@ listedText d (accepted changed) out = okText
 listedText d (accepted (found content reads)) out = okText
 
 -- "Each accepted one starts a fresh store": a refused one leaves the store that there was
-abbrev pub Begun : Session → Answer Reply → Store → Session → Type 0
-Begun before (accepted reply) fresh after = (after .open ≡ true) × (after .state ≡ fresh .state)
+abbrev pub Begun : Session → Answer Reply → State → Session → Type 0
+Begun before (accepted reply) fresh after = after ≡ record { open = true; state = fresh }
 Begun before (refused n) fresh after = after ≡ before
 
 -- the memory that the program lends: words, pages, output
@@ -107,14 +115,17 @@ pub record Lent : Type 0 where
   pub bytes : List ℕ
   pub output : List ℕ
 
+abbrev pub lent : List ℕ → List ℕ → List ℕ → Lent
+lent words bytes output = record { words = words; bytes = bytes; output = output }
+
 -- what a line asked was done, and replied to with a text
 abbrev pub Replied : Asked → Session → Lent → List ℕ → Session → Lent → Type 0
 Replied nothing before m text after m′ = (text ≡ badText) × (after ≡ before) × (m′ ≡ m)
 Replied noShape before m text after m′ = (text ≡ refusedText 1) × (after ≡ before) × (m′ ≡ m)
 Replied (newShape s) before m text after m′ =
-    (answer : Answer Reply) × (fresh : Store) × FreshPromise s (memory (m .words) (m .bytes)) answer fresh
-    × (fresh .memory ≡ memory (m′ .words) (m′ .bytes)) × Begun before answer fresh after
-    × (text ≡ changedText answer) × (m′ .output ≡ m .output)
+    (answer : Answer Reply) × (fresh : State)
+    × FreshPromise s (memory (m .words) (m .bytes)) answer (store fresh (m′ .words) (m′ .bytes))
+    × Begun before answer fresh after × (text ≡ changedText answer) × (m′ .output ≡ m .output)
 Replied (put values content) before m text after m′ =
     (answer : Answer Reply)
     × InsertPromise (store (before .state) (m .words) (m .bytes)) values content answer
@@ -130,3 +141,9 @@ Replied (list q) before m text after m′ =
     × QueryPromise (store (before .state) (m .words) (m .bytes)) q (m .output) answer (m′ .output)
     × (text ≡ listedText (before .state .shape .attributes) answer (m′ .output)) × (after ≡ before)
     × (m′ .words ≡ m .words) × (m′ .bytes ≡ m .bytes)
+
+-- the reply was written into a text from offset `at` on
+pub record ReplyPromise (asks : Asked) (before : Session) (m : Lent) (text : List ℕ) (at : ℕ) (next : Next) (m′ : Lent) (text′ : List ℕ) : Type 0 where
+  pub bytes : List ℕ
+  pub grown : Grown text at bytes text′ (next .end)
+  pub replied : Replied asks before m bytes (next .session) m′

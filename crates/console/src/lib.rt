@@ -1,26 +1,37 @@
-// A command line on a store that the program holds (document 01, "Proof table and the printed run"):
+// A command line on the store that a program holds (document 01, "Proof table and the printed run"):
 // what it asks, the call, and the reply.
-use delete::delete;
+pub mod commands;
+pub mod fields;
+pub mod replies;
+pub mod stub;
+
+use commands::Command;
+use commands::command_of;
+use fields::content_of;
+use fields::key_of;
+use fields::query_of;
+use fields::shape_of;
 use fresh::fresh;
-use insert::insert;
-use line::ANY;
-use line::Kind;
 use line::Line;
 use query::query;
-use record::Content;
-use shape::Attribute;
-use shape::Key;
-use shape::Query;
+use replies::put_changed;
+use replies::put_listed;
 use shape::Shape;
-use shape::Wanted;
+use store::Change;
 use store::Changed;
-use store::Listed;
 use store::State;
+use stub::delete;
+use stub::insert;
 use text::put_bad;
-use text::put_ok;
-use text::put_records;
 use text::put_refused;
-use text::put_sum;
+ghost use mathlib.Core.Path.{_≡_};
+ghost use mathlib.Core.List.{List};
+ghost use Prim.Native.Nat.{ℕ, _+_, _≤_};
+ghost use lib.ListN.{length};
+ghost use Rattle.store.specs.Answers.{changedAnswer};
+ghost use Rattle.console.specs.Console.{Lent, Begun, ReplyPromise, asked, lent, nothing, noShape, newShape};
+ghost use Rattle.console.specs.Private.{askedAs};
+ghost use Rattle.console.specs.declared.Command.the-variants as command;
 
 // The longest reply: 256 records and the sum.
 pub const REPLY_SIZE: usize = 12352;
@@ -32,95 +43,184 @@ pub struct Session {
 }
 
 // The session to go on with, and the end of the text.
-pub struct Reply {
+pub struct Next {
     pub session: Session,
     pub end: usize,
 }
 
 // Does what a line asks, and writes the reply into the text from an offset on.
-pub fn reply(session: Session, line: Line, dir: &mut [u32], pages: &mut [u8], out: &mut [u8], text: &mut [u8], at: usize) -> Reply
+pub fn reply(
+    session: Session,
+    line: Line,
+    dir: &mut [u32],
+    pages: &mut [u8],
+    out: &mut [u8],
+    text: &mut [u8],
+    at: usize,
+) -> Next
     requires { ⌜ (at + 12352 ≤ length (now text)) × (length (now out) ≤ 3072) ⌝ }
-    ensures { λ r. ⌜ ((bytes : List ℕ) × Grown (now (text .entry)) at bytes (now (text .exit)) (r .end)
-        × Replied (asked session line) session (lent (now (dir .entry)) (now (pages .entry)) (now (out .entry))) bytes
-        (r .session) (lent (now (dir .exit)) (now (pages .exit)) (now (out .exit)))) ⌝ }
+    ensures { λ r. ⌜ ReplyPromise (asked session line) session
+        (lent (now (dir .entry)) (now (pages .entry)) (now (out .entry)))
+        (now (text .entry)) at r
+        (lent (now (dir .exit)) (now (pages .exit)) (now (out .exit)))
+        (now (text .exit)) ⌝ }
 {
-    let kind = line.kind;
-    match kind {
-        Kind::Bad => reply_bad(session, text, at),
-        Kind::Shape => reply_shape(session, line, dir, pages, text, at),
-        Kind::Put => reply_put(session, line, dir, pages, text, at),
-        Kind::Cut => reply_cut(session, line, dir, pages, text, at),
-        Kind::List => reply_list(session, line, dir, pages, out, text, at),
+    let command = command_of(session, line);
+    match command {
+        Command::Nothing => reply_bad(session, text, at),
+        Command::NoShape => reply_outside(session, text, at),
+        Command::NewShape => reply_shape(session, shape_of(line), dir, pages, text, at),
+        Command::Put => reply_put(session, line, dir, pages, text, at),
+        Command::Cut => reply_cut(session, line, dir, pages, text, at),
+        Command::List => reply_list(session, line, dir, pages, out, text, at),
     }
 }
 
-fn reply_bad(session: Session, text: &mut [u8], at: usize) -> Reply {
+// The reply to a line that asks nothing.
+fn reply_bad(session: Session, text: &mut [u8], at: usize) -> Next
+    requires { ⌜ at + 12352 ≤ length (now text) ⌝ }
+    ensures { λ r. ⌜ (m : Lent) → ReplyPromise nothing session m (now (text .entry)) at r m (now (text .exit)) ⌝ }
+{
     let end = put_bad(text, at);
-    Reply { session, end }
+    Next { session, end }
 }
 
-// `shape` d, widths, b: an accepted one starts a fresh store.
-fn reply_shape(session: Session, line: Line, dir: &mut [u32], pages: &mut [u8], text: &mut [u8], at: usize) -> Reply {
-    if line.count == 0 || line.star {
-        return reply_bad(session, text, at);
-    }
-    let d = number_at(line, 0);
-    if d < 1 || 4 < d {
-        let end = put_refused(text, at, 1);
-        return Reply { session, end };
-    }
-    if line.count != (d as usize) + 2 {
-        return reply_bad(session, text, at);
-    }
-    begin(session, shape_of(line, d), dir, pages, text, at)
+// The reply to a shape with d outside 1 to 4.
+fn reply_outside(session: Session, text: &mut [u8], at: usize) -> Next
+    requires { ⌜ at + 12352 ≤ length (now text) ⌝ }
+    ensures { λ r. ⌜ (m : Lent) → ReplyPromise noShape session m (now (text .entry)) at r m (now (text .exit)) ⌝ }
+{
+    let end = put_refused(text, at, 1);
+    Next { session, end }
 }
 
-fn begin(session: Session, shape: Shape, dir: &mut [u32], pages: &mut [u8], text: &mut [u8], at: usize) -> Reply {
+// A shape: an accepted one starts a fresh store.
+fn reply_shape(
+    session: Session,
+    shape: Shape,
+    dir: &mut [u32],
+    pages: &mut [u8],
+    text: &mut [u8],
+    at: usize,
+) -> Next
+    requires { ⌜ at + 12352 ≤ length (now text) ⌝ }
+    ensures { λ r. ⌜ (out : List ℕ) → ReplyPromise (newShape shape) session
+        (lent (now (dir .entry)) (now (pages .entry)) out)
+        (now (text .entry)) at r
+        (lent (now (dir .exit)) (now (pages .exit)) out)
+        (now (text .exit)) ⌝ }
+{
     let change = fresh(shape, dir, pages);
+    let begun = begin(session, change);
+    let end = put_changed(text, at, change.answer);
+    Next {
+        session: begun,
+        end,
+    }
+}
+
+// The session after Fresh: the new store if it was accepted, otherwise the one that there was.
+fn begin(session: Session, change: Change) -> Session
+    ensures { λ r. ⌜ Begun session (changedAnswer (change .answer)) (change .state) r ⌝ }
+{
     let answer = change.answer;
     match answer {
-        Changed::Done => {
-            let end = put_ok(text, at);
-            let session = Session { open: true, state: change.state };
-            Reply { session, end }
-        }
-        Changed::Refused(number) => {
-            let end = put_refused(text, at, number);
-            Reply { session, end }
-        }
+        Changed::Done => Session {
+            open: true,
+            state: change.state,
+        },
+        Changed::Refused(_) => session,
     }
 }
 
-// `put` values, payload.
-fn reply_put(session: Session, line: Line, dir: &mut [u32], pages: &mut [u8], text: &mut [u8], at: usize) -> Reply {
+// A record that is put.
+fn reply_put(
+    session: Session,
+    line: Line,
+    dir: &mut [u32],
+    pages: &mut [u8],
+    text: &mut [u8],
+    at: usize,
+) -> Next
+    requires { ⌜ at + 12352 ≤ length (now text) ⌝ }
+    ensures { λ r. ⌜ (out : List ℕ)
+        → ReplyPromise (askedAs line (session .state .shape .attributes) command.Put) session
+        (lent (now (dir .entry)) (now (pages .entry)) out)
+        (now (text .entry)) at r
+        (lent (now (dir .exit)) (now (pages .exit)) out)
+        (now (text .exit)) ⌝ }
+{
     let state = session.state;
     let shape = state.shape;
     let d = shape.attributes as usize;
-    if !session.open || line.star || line.count != d + 1 {
-        return reply_bad(session, text, at);
-    }
-    let key = Key { values: values_from(line, d, 0) };
-    let content = Content { payload: number_at(line, d) };
+    let key = key_of(line, d);
+    let content = content_of(line, d);
     let change = insert(state, dir, pages, key, content);
     let end = put_changed(text, at, change.answer);
-    let session = Session { open: true, state: change.state };
-    Reply { session, end }
+    let after = Session {
+        open: true,
+        state: change.state,
+    };
+    Next {
+        session: after,
+        end,
+    }
 }
 
-// `cut` values.
-fn reply_cut(..)   // the same with delete and line.count != d
-
-// `list` values or `*`.
-fn reply_list(session: Session, line: Line, dir: &[u32], pages: &[u8], out: &mut [u8], text: &mut [u8], at: usize) -> Reply {
+// A key that is cut.
+fn reply_cut(
+    session: Session,
+    line: Line,
+    dir: &mut [u32],
+    pages: &mut [u8],
+    text: &mut [u8],
+    at: usize,
+) -> Next
+    requires { ⌜ at + 12352 ≤ length (now text) ⌝ }
+    ensures { λ r. ⌜ (out : List ℕ)
+        → ReplyPromise (askedAs line (session .state .shape .attributes) command.Cut) session
+        (lent (now (dir .entry)) (now (pages .entry)) out)
+        (now (text .entry)) at r
+        (lent (now (dir .exit)) (now (pages .exit)) out)
+        (now (text .exit)) ⌝ }
+{
     let state = session.state;
     let shape = state.shape;
     let d = shape.attributes as usize;
-    if !session.open || line.count != d {
-        return reply_bad(session, text, at);
+    let key = key_of(line, d);
+    let change = delete(state, dir, pages, key);
+    let end = put_changed(text, at, change.answer);
+    let after = Session {
+        open: true,
+        state: change.state,
+    };
+    Next {
+        session: after,
+        end,
     }
+}
+
+// The records that match a query.
+fn reply_list(
+    session: Session,
+    line: Line,
+    dir: &[u32],
+    pages: &[u8],
+    out: &mut [u8],
+    text: &mut [u8],
+    at: usize,
+) -> Next
+    requires { ⌜ (at + 12352 ≤ length (now text)) × (length (now out) ≤ 3072) ⌝ }
+    ensures { λ r. ⌜ ReplyPromise (askedAs line (session .state .shape .attributes) command.List) session
+        (lent (now (dir .entry)) (now (pages .entry)) (now (out .entry)))
+        (now (text .entry)) at r
+        (lent (now (dir .entry)) (now (pages .entry)) (now (out .exit)))
+        (now (text .exit)) ⌝ }
+{
+    let state = session.state;
+    let shape = state.shape;
+    let d = shape.attributes as usize;
     let listed = query(state, dir, pages, query_of(line, d), out);
-    match listed {
-        Listed::Refused(number) => put_refused
-        Listed::Records(counts) => put_records(text, at, out, counts.written as usize, d) then put_sum(text, end, counts.total, counts.reads)
-    }
+    let end = put_listed(text, at, out, listed, d);
+    Next { session, end }
 }
