@@ -81,14 +81,14 @@ module _ (line : Line) where
 
   -- "one before an accepted `shape`" asks nothing
   abbrev pub askedBy : Kind → Bool → ℕ → Asked
-  askedBy kind.Bad open d = nothing
-  askedBy kind.Shape open d = askedShape
-  askedBy kind.Put open d = cond open (askedPut d) nothing
-  askedBy kind.Cut open d = cond open (askedCut d) nothing
-  askedBy kind.List open d = cond open (askedList d) nothing
+  askedBy kind.Bad begun d = nothing
+  askedBy kind.Shape begun d = askedShape
+  askedBy kind.Put begun d = cond begun (askedPut d) nothing
+  askedBy kind.Cut begun d = cond begun (askedCut d) nothing
+  askedBy kind.List begun d = cond begun (askedList d) nothing
 
 unfoldable pub asked : Session → Line → Asked
-asked session line = askedBy line (line .kind) (session .open) (session .state .shape .attributes)
+asked session line = askedBy line (line .kind) (session .begun) (session .state .shape .attributes)
 
 -- ---- the reply
 
@@ -106,7 +106,7 @@ listedText d (accepted (found content reads)) out = okText
 
 -- "Each accepted one starts a fresh store": a refused one leaves the store that there was
 abbrev pub Begun : Session → Answer Reply → State → Session → Type 0
-Begun before (accepted reply) fresh after = after ≡ record { open = true; state = fresh }
+Begun before (accepted reply) fresh after = after ≡ record { begun = true; state = fresh }
 Begun before (refused n) fresh after = after ≡ before
 
 -- the memory that the program lends: words, pages, output
@@ -130,12 +130,12 @@ Replied (put values content) before m text after m′ =
     (answer : Answer Reply)
     × InsertPromise (store (before .state) (m .words) (m .bytes)) values content answer
     (store (after .state) (m′ .words) (m′ .bytes))
-    × (text ≡ changedText answer) × (after .open ≡ true) × (m′ .output ≡ m .output)
+    × (text ≡ changedText answer) × (after .begun ≡ true) × (m′ .output ≡ m .output)
 Replied (cut values) before m text after m′ =
     (answer : Answer Reply)
     × DeletePromise (store (before .state) (m .words) (m .bytes)) values answer
     (store (after .state) (m′ .words) (m′ .bytes))
-    × (text ≡ changedText answer) × (after .open ≡ true) × (m′ .output ≡ m .output)
+    × (text ≡ changedText answer) × (after .begun ≡ true) × (m′ .output ≡ m .output)
 Replied (list q) before m text after m′ =
     (answer : Answer Reply)
     × QueryPromise (store (before .state) (m .words) (m .bytes)) q (m .output) answer (m′ .output)

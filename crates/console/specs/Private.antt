@@ -8,8 +8,8 @@ use Rattle.record.specs.Bytes.{recordSize}
 use Rattle.model.specs.Model.{Reply, changed, found, listed}
 use Rattle.line.specs.declared.Line.{Line}
 use Rattle.console.specs.Console.{Asked, nothing, noShape, newShape, put, cut, list, valuesFrom, itemsOf, shapeIn, contentIn}
-use Rattle.console.specs.declared.Command.{Command}
-use Rattle.console.specs.declared.Command.the-variants as command
+use Rattle.console.specs.declared.commands.Command.{Command}
+use Rattle.console.specs.declared.commands.Command.the-variants as command
 
 -- what a line asks, by its command, of a store with d attributes
 abbrev pub askedAs : Line → ℕ → Command → Asked
@@ -22,8 +22,8 @@ askedAs line d command.List = list (itemsOf line d)
 
 -- the records that were written are within the output, and at most 256
 abbrev pub Printable : ℕ → Answer Reply → List ℕ → Type 0
-Printable d (refused n) out = ⊤
-Printable d (accepted changed) out = ⊤
-Printable d (accepted (found content reads)) out = ⊤
+Printable d (refused n) out = Unit {0}
+Printable d (accepted changed) out = Unit {0}
+Printable d (accepted (found content reads)) out = Unit {0}
 Printable d (accepted (listed written total reads)) out =
     (d ≤ 4) × (written ≤ 256) × (recordSize * written ≤ length out)

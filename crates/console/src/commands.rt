@@ -32,32 +32,32 @@ pub fn command_of(session: Session, line: Line) -> Command
         Kind::Bad => Command::Nothing,
         Kind::Shape => shape_command(line),
         Kind::Put => {
-            if has_numbers(session.open, line, d + 1) { Command::Put } else { Command::Nothing }
+            if has_numbers(session.begun, line, d + 1) { Command::Put } else { Command::Nothing }
         }
         Kind::Cut => {
-            if has_numbers(session.open, line, d) { Command::Cut } else { Command::Nothing }
+            if has_numbers(session.begun, line, d) { Command::Cut } else { Command::Nothing }
         }
         Kind::List => {
-            if has_fields(session.open, line, d) { Command::List } else { Command::Nothing }
+            if has_fields(session.begun, line, d) { Command::List } else { Command::Nothing }
         }
     }
 }
 
 // Whether a line has n fields, and none is `*`; false in a session without a store.
-fn has_numbers(open: bool, line: Line, n: usize) -> bool
-    ensures { λ r. ⌜ r ≡ (open && (not (line .star) && eqb (line .count) n)) ⌝ }
+fn has_numbers(begun: bool, line: Line, n: usize) -> bool
+    ensures { λ r. ⌜ r ≡ (begun && (not (line .star) && eqb (line .count) n)) ⌝ }
 {
     if line.star {
         return false;
     }
-    has_fields(open, line, n)
+    has_fields(begun, line, n)
 }
 
 // The same where fields may be `*`.
-fn has_fields(open: bool, line: Line, n: usize) -> bool
-    ensures { λ r. ⌜ r ≡ (open && eqb (line .count) n) ⌝ }
+fn has_fields(begun: bool, line: Line, n: usize) -> bool
+    ensures { λ r. ⌜ r ≡ (begun && eqb (line .count) n) ⌝ }
 {
-    if !open {
+    if !begun {
         return false;
     }
     line.count == n
@@ -65,7 +65,7 @@ fn has_fields(open: bool, line: Line, n: usize) -> bool
 
 // The command of a line `shape`.
 fn shape_command(line: Line) -> Command
-    ensures { λ r. ⌜ (d : ℕ) → askedAs line d r ≡ askedShape line ⌝ }
+    ensures { λ r. ⌜ ((d : ℕ) → askedAs line d r ≡ askedShape line) ⌝ }
 {
     if line.star {
         return Command::Nothing;

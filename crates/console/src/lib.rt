@@ -31,14 +31,14 @@ ghost use lib.ListN.{length};
 ghost use Rattle.store.specs.Answers.{changedAnswer};
 ghost use Rattle.console.specs.Console.{Lent, Begun, ReplyPromise, asked, lent, nothing, noShape, newShape};
 ghost use Rattle.console.specs.Private.{askedAs};
-ghost use Rattle.console.specs.declared.Command.the-variants as command;
+ghost use Rattle.console.specs.declared.commands.Command.the-variants as command;
 
 // The longest reply: 256 records and the sum.
 pub const REPLY_SIZE: usize = 12352;
 
 // The state of the store, if a shape was accepted.
 pub struct Session {
-    pub open: bool,
+    pub begun: bool,
     pub state: State,
 }
 
@@ -79,7 +79,7 @@ pub fn reply(
 // The reply to a line that asks nothing.
 fn reply_bad(session: Session, text: &mut [u8], at: usize) -> Next
     requires { ⌜ at + 12352 ≤ length (now text) ⌝ }
-    ensures { λ r. ⌜ (m : Lent) → ReplyPromise nothing session m (now (text .entry)) at r m (now (text .exit)) ⌝ }
+    ensures { λ r. ⌜ ((m : Lent) → ReplyPromise nothing session m (now (text .entry)) at r m (now (text .exit))) ⌝ }
 {
     let end = put_bad(text, at);
     Next { session, end }
@@ -88,7 +88,7 @@ fn reply_bad(session: Session, text: &mut [u8], at: usize) -> Next
 // The reply to a shape with d outside 1 to 4.
 fn reply_outside(session: Session, text: &mut [u8], at: usize) -> Next
     requires { ⌜ at + 12352 ≤ length (now text) ⌝ }
-    ensures { λ r. ⌜ (m : Lent) → ReplyPromise noShape session m (now (text .entry)) at r m (now (text .exit)) ⌝ }
+    ensures { λ r. ⌜ ((m : Lent) → ReplyPromise noShape session m (now (text .entry)) at r m (now (text .exit))) ⌝ }
 {
     let end = put_refused(text, at, 1);
     Next { session, end }
@@ -104,17 +104,18 @@ fn reply_shape(
     at: usize,
 ) -> Next
     requires { ⌜ at + 12352 ≤ length (now text) ⌝ }
-    ensures { λ r. ⌜ (out : List ℕ) → ReplyPromise (newShape shape) session
+    ensures { λ r. ⌜ ((out : List ℕ) → ReplyPromise (newShape shape) session
         (lent (now (dir .entry)) (now (pages .entry)) out)
         (now (text .entry)) at r
         (lent (now (dir .exit)) (now (pages .exit)) out)
-        (now (text .exit)) ⌝ }
+        (now (text .exit))) ⌝ }
 {
     let change = fresh(shape, dir, pages);
-    let begun = begin(session, change);
-    let end = put_changed(text, at, change.answer);
+    let after = begin(session, change);
+    let answer = change.answer;
+    let end = put_changed(text, at, answer);
     Next {
-        session: begun,
+        session: after,
         end,
     }
 }
@@ -124,10 +125,11 @@ fn begin(session: Session, change: Change) -> Session
     ensures { λ r. ⌜ Begun session (changedAnswer (change .answer)) (change .state) r ⌝ }
 {
     let answer = change.answer;
+    let state = change.state;
     match answer {
         Changed::Done => Session {
-            open: true,
-            state: change.state,
+            begun: true,
+            state,
         },
         Changed::Refused(_) => session,
     }
@@ -143,12 +145,12 @@ fn reply_put(
     at: usize,
 ) -> Next
     requires { ⌜ at + 12352 ≤ length (now text) ⌝ }
-    ensures { λ r. ⌜ (out : List ℕ)
+    ensures { λ r. ⌜ ((out : List ℕ)
         → ReplyPromise (askedAs line (session .state .shape .attributes) command.Put) session
         (lent (now (dir .entry)) (now (pages .entry)) out)
         (now (text .entry)) at r
         (lent (now (dir .exit)) (now (pages .exit)) out)
-        (now (text .exit)) ⌝ }
+        (now (text .exit))) ⌝ }
 {
     let state = session.state;
     let shape = state.shape;
@@ -156,10 +158,12 @@ fn reply_put(
     let key = key_of(line, d);
     let content = content_of(line, d);
     let change = insert(state, dir, pages, key, content);
-    let end = put_changed(text, at, change.answer);
+    let answer = change.answer;
+    let end = put_changed(text, at, answer);
+    let changed = change.state;
     let after = Session {
-        open: true,
-        state: change.state,
+        begun: true,
+        state: changed,
     };
     Next {
         session: after,
@@ -177,22 +181,24 @@ fn reply_cut(
     at: usize,
 ) -> Next
     requires { ⌜ at + 12352 ≤ length (now text) ⌝ }
-    ensures { λ r. ⌜ (out : List ℕ)
+    ensures { λ r. ⌜ ((out : List ℕ)
         → ReplyPromise (askedAs line (session .state .shape .attributes) command.Cut) session
         (lent (now (dir .entry)) (now (pages .entry)) out)
         (now (text .entry)) at r
         (lent (now (dir .exit)) (now (pages .exit)) out)
-        (now (text .exit)) ⌝ }
+        (now (text .exit))) ⌝ }
 {
     let state = session.state;
     let shape = state.shape;
     let d = shape.attributes as usize;
     let key = key_of(line, d);
     let change = delete(state, dir, pages, key);
-    let end = put_changed(text, at, change.answer);
+    let answer = change.answer;
+    let end = put_changed(text, at, answer);
+    let changed = change.state;
     let after = Session {
-        open: true,
-        state: change.state,
+        begun: true,
+        state: changed,
     };
     Next {
         session: after,
