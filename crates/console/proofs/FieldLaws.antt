@@ -1,11 +1,10 @@
 -- Laws of a line's fields as numbers and as values of a query, one for each way that the code ends. Assumes nothing.
 use Prim.Native.Nat.{ℕ, _≤_, _<_}
 use mathlib.Core.Path.{_≡_, sym, ap, _∙_}
-use mathlib.Core.Bool.{cond}
+use mathlib.Core.Bool.{_&&_, cond}
 use mathlib.Core.Option.{Option, none, some}
-use native.Mathlib.Omega.{arith}
 use lib.Dec.{ltb}
-use lib.ListN.{getD, length, List·getD-eq-default}
+use lib.ListN.{getD}
 use borrow.Author.Tests.{lt-ltb, le-ltb}
 use Rattle.line.specs.declared.Line.{Line}
 use Rattle.console.specs.Console.{numberAt, itemAt}
@@ -16,14 +15,20 @@ module _ (line : Line) (j : ℕ) where
 
   -- ---- numbers
 
-  pub numberAt-past : length (line .codes) ≤ j → _≡_ {A = ℕ} 0 (numberAt line j)
-  numberAt-past h = rw (List·getD-eq-default (line .codes) 0 {n = j} h)
+  pub numberAt-past : 6 ≤ j → _≡_ {A = ℕ} 0 (numberAt line j)
+  numberAt-past h = sym (ap (λ β. cond (β && ltb code 4294967296) code 0) (le-ltb j 6 h))
 
-  pub numberAt-number : code < 4294967296 → code ≡ numberAt line j
-  numberAt-number h = sym (ap (λ β. cond β code 0) (lt-ltb code 4294967296 h))
+  pub numberAt-number : j < 6 → code < 4294967296 → code ≡ numberAt line j
+  numberAt-number l h =
+      sym
+      (ap (λ β. cond (β && ltb code 4294967296) code 0) (lt-ltb j 6 l)
+      ∙ ap (λ β. cond β code 0) (lt-ltb code 4294967296 h))
 
-  pub numberAt-star : 4294967296 ≤ code → _≡_ {A = ℕ} 0 (numberAt line j)
-  numberAt-star h = sym (ap (λ β. cond β code 0) (le-ltb code 4294967296 h))
+  pub numberAt-star : j < 6 → 4294967296 ≤ code → _≡_ {A = ℕ} 0 (numberAt line j)
+  numberAt-star l h =
+      sym
+      (ap (λ β. cond (β && ltb code 4294967296) code 0) (lt-ltb j 6 l)
+      ∙ ap (λ β. cond β code 0) (le-ltb code 4294967296 h))
 
   -- ---- values of a query
 

@@ -36,9 +36,9 @@ pub data Asked : Type 0 where
   list : List (Option ℕ) → Asked
 
 module _ (line : Line) where
-  -- field j as a number
+  -- field j as a number, of the six that are kept
   abbrev pub numberAt : ℕ → ℕ
-  numberAt j = cond (ltb (getD (line .codes) j 0) 4294967296) (getD (line .codes) j 0) 0
+  numberAt j = cond (ltb j 6 && ltb (getD (line .codes) j 0) 4294967296) (getD (line .codes) j 0) 0
 
   -- "values or `*` for free"
   abbrev pub itemAt : ℕ → Option ℕ

@@ -6,10 +6,7 @@ use Rattle.console.proofs.fields.number_at.Statement.{statement}
 use Rattle.console.proofs.fields.number_at.Tie as tie
 
 returns : tie.Need-returns
-returns c =
-    let s = c .before .before in
-    let good = s .good in
-    numberAt-past (s .args .line) (s .args .j) ?
+returns c = let a = c .before .before .args in numberAt-past (a .line) (a .j) (c .if1 .taken)
 
 mul-code : tie.Need-mul-code
 mul-code c = search needs
@@ -21,10 +18,14 @@ cast-result : tie.Need-cast-result
 cast-result c = search needs
 
 returns-2 : tie.Need-returns-2
-returns-2 c = let a = c .before .before .before .args in numberAt-number (a .line) (a .j) (c .if2 .taken)
+returns-2 c =
+    let a = c .before .before .before .args in
+    numberAt-number (a .line) (a .j) (omega (arith, c .before .if1 .left)) (c .if2 .taken)
 
 returns-3 : tie.Need-returns-3
-returns-3 c = let a = c .before .before .before .args in numberAt-star (a .line) (a .j) (omega (arith, c .if2 .left))
+returns-3 c =
+    let a = c .before .before .before .args in
+    numberAt-star (a .line) (a .j) (omega (arith, c .before .if1 .left)) (omega (arith, c .if2 .left))
 
 pub number-at-spec : {M : Type 1} → statement M
 number-at-spec =

@@ -21,7 +21,7 @@ number-at-requires-2 c κs = search needs
 
 returns : tie.Need-returns
 unfolding shapeIn
-returns c =     rw (c .number-at2 .ensures, c .before .values-from .ensures, c .before .before .number-at .ensures)
+returns c = rw (c .number-at2 .ensures, c .before .values-from .ensures, c .before .before .number-at .ensures)
 
 pub shape-of-spec : {M : Type 1} → statement M
 shape-of-spec =

@@ -1,42 +1,38 @@
+-- `console::replies::put_listed` meets its contract, variant by variant. Assumes nothing.
+use Rattle.store.specs.Answers.{listedAnswer}
 use borrow.Author.Needs.{needs}
 use Rattle.console.proofs.replies.put_listed.Statement.{statement}
 use Rattle.console.proofs.replies.put_listed.Tie as tie
-use Rattle.console.proofs.replies.put_listed.Reads as reads
-use Rattle.console.proofs.replies.put_listed.Lts as lts
-use Rattle.console.proofs.replies.put_found.Reads as put-found-reads
-use Rattle.text.proofs.put_refused.Reads as put-refused-reads
 
--- src/replies.rt:36:25
 enum-known-listed : tie.Need-enum-known-listed
 enum-known-listed c = search needs
 
--- src/replies.rt:36:36
 put-found-requires : tie.Need-put-found-requires
-put-found-requires c κs = ?
+unfolding listedAnswer
+put-found-requires c κs =
+    let pre = c .before .before .before .before .before .before .pre in
+    let fits = rw (c .before .before .listed .given .1) at (pre .1) in
+    (pre .0, fits .0, fits .1, fits .2)
 
--- src/replies.rt:37:25
 enum-known-listed-2 : tie.Need-enum-known-listed-2
 enum-known-listed-2 c = search needs
 
--- src/replies.rt:37:36
 put-refused-requires : tie.Need-put-refused-requires
 put-refused-requires c κs = search needs
 
--- src/replies.rt:31:1
 same-length : tie.Need-same-length
 same-length c = search needs
 
--- src/replies.rt:31:1
 returns : tie.Need-returns
-returns c = ?
+unfolding listedAnswer
+returns c = rw (c .before .before .before .before .before .listed .given .1) (c .before .before .put-found .ensures)
 
--- src/replies.rt:31:1
 same-length-2 : tie.Need-same-length-2
 same-length-2 c = search needs
 
--- src/replies.rt:31:1
 returns-2 : tie.Need-returns-2
-returns-2 c = ?
+unfolding listedAnswer
+returns-2 c = rw (c .before .before .before .before .before .listed2 .given .1) (c .before .before .put-refused .ensures)
 
 pub put-listed-spec : {M : Type 1} → statement M
 put-listed-spec =
