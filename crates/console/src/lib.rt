@@ -2,6 +2,7 @@
 // what it asks, the call, and the reply.
 pub mod commands;
 pub mod fields;
+pub mod input;
 pub mod replies;
 pub mod stub;
 

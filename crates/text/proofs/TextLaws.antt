@@ -1,14 +1,16 @@
 -- Laws of the replies: a text with one more value, payload or record; records from the first on; the room that each
 -- reply takes. Assumes nothing.
 use Prim.Native.Nat.{ℕ, zero, suc, _+_, _*_, _^_, _≤_, _<_}
-use mathlib.Core.Path.{_≡_, sym, ap, _∙_}
-use mathlib.Core.List.{List, [], _∷_, _++_, append-nil, append-assoc}
+use mathlib.Core.Path.{_≡_, refl, sym, ap, _∙_}
+use mathlib.Core.List.{List, [], _∷_, _++_, flatMap, append-nil, append-assoc}
 use native.Mathlib.Omega.{arith}
 use native.Mathlib.Numerals.{add-one}
 use lib.ListN.{length, length-append, take, drop}
-use lib.Seq.{drop-drop}
-use Rattle.record.specs.Bytes.{recordSize, numberOf, field}
-use Rattle.record.proofs.ByteLaws.{Bytes, bytes-field, numberOf-field-lt}
+use lib.Seq.{drop-drop, take-at, drop-at}
+use Rattle.shape.specs.declared.Shape.{Shape}
+use Rattle.record.specs.Record.{Record}
+use Rattle.record.specs.Bytes.{recordSize, numberOf, field, recordBytes, recordsBytes}
+use Rattle.record.proofs.ByteLaws.{Bytes, bytes-field, numberOf-field-lt, length-recordBytes}
 use Rattle.record.proofs.PackedLaws.{field-field}
 use Rattle.text.specs.Text.{space, newline, decimal, fieldText, refusedText, sumText}
 use Rattle.text.specs.Text.{valuesText, recordText, recordsText, Grown}
@@ -68,6 +70,22 @@ recordsText-first d (suc n) bytes =
     ap (λ l. l ++ recordText d (field bytes (recordSize * suc n) recordSize)) (recordsText-first d n bytes)
     ∙ append-assoc first (recordsText d n rest) (recordText d (field bytes (recordSize * suc n) recordSize))
     ∙ ap (λ l. first ++ (recordsText d n rest ++ recordText d l)) (sym same)
+
+-- the records that a query puts into its output, each on its line; what stands behind them is not looked at
+pub recordsText-recordsBytes : (s : Shape) (d : ℕ) (rs : List Record) (tail : List ℕ)
+    → recordsText d (length rs) (recordsBytes s rs ++ tail) ≡ flatMap (λ r. recordText d (recordBytes s r)) rs
+unfolding recordsText flatMap
+recordsText-recordsBytes s d [] tail = refl
+recordsText-recordsBytes s d (r ∷ rs) tail =
+    let first = recordBytes s r in
+    let rest = recordsBytes s rs ++ tail in
+    let head : take recordSize (first ++ rest) ≡ first = take-at first rest recordSize (length-recordBytes s r) in
+    let behind : drop recordSize (first ++ rest) ≡ rest = drop-at first rest recordSize (length-recordBytes s r) in
+    ap (recordsText d (suc (length rs))) (append-assoc first (recordsBytes s rs) tail)
+    ∙ recordsText-first d (length rs) (first ++ rest)
+    ∙ ap (λ l. recordText d l ++ recordsText d (length rs) (drop recordSize (first ++ rest))) head
+    ∙ ap (λ l. recordText d first ++ recordsText d (length rs) l) behind
+    ∙ ap (λ l. recordText d first ++ l) (recordsText-recordsBytes s d rs tail)
 
 -- ---- the room that a reply takes
 
