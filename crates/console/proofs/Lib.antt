@@ -1,3 +1,4 @@
 pub mod CommandLaws
 pub mod FieldLaws
+pub mod InputLaws
 pub mod ReplyLaws

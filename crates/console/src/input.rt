@@ -30,7 +30,7 @@ pub struct Progress {
 }
 
 // How far a run over a piece came.
-pub struct Run {
+pub struct Reach {
     pub progress: Progress,
     pub next: usize,
 }
@@ -76,7 +76,7 @@ pub fn run(
     pages: &mut [u8],
     out: &mut [u8],
     text: &mut [u8],
-) -> Run
+) -> Reach
     requires { ⌜ Standable progress (now text) × (from ≤ length (now piece)) × (length (now out) ≤ 3072) ⌝ }
     ensures { λ r. ⌜ RunPromise (now (piece .entry)) from progress
         (lent (now (dir .entry)) (now (pages .entry)) (now (out .entry)))
@@ -88,7 +88,7 @@ pub fn run(
     let mut next = from;
     while next < piece.len() {
         if text.len() - here.end < REPLY_SIZE {
-            return Run {
+            return Reach {
                 progress: here,
                 next,
             };
@@ -96,7 +96,7 @@ pub fn run(
         here = step(here, piece[next], dir, pages, out, text);
         next += 1;
     }
-    Run {
+    Reach {
         progress: here,
         next,
     }
