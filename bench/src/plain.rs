@@ -3,6 +3,7 @@
 //!
 //! The pair (bit k, attribute j) has place 4k + j.
 use mdeh_tests::host::Shape;
+use std::cmp::Ordering;
 
 /// Widths of at most 16 bits: how many, the width of each attribute, 0 past them, and the sum.
 pub struct Widths {
@@ -165,4 +166,78 @@ fn fill_from(bits: &[usize; 4], index: [u64; 4], a: u64, g: usize, left: usize, 
     let b = address_before(bits, &upper, g);
     fill_from(bits, index, a, g + 1, left - 1, word, dir);
     fill_from(bits, upper, b, g + 1, left - 1, word, dir);
+}
+
+// ---- pages
+
+/// The first n records of a page, each as its bytes.
+fn records(page: &[u8], n: usize) -> Option<&[[u8; 12]]> {
+    let (records, _) = page.get(2..)?.as_chunks();
+    records.get(..n)
+}
+
+/// The packed key of a record.
+fn key_of(record: &[u8; 12]) -> u64 {
+    let (key, _) = record.split_first_chunk().expect("8 of 12 bytes");
+    u64::from_le_bytes(*key)
+}
+
+/// The place of a packed key among the n records of a page.
+#[inline(never)]
+pub fn find(page: &[u8], n: usize, widths: &Widths, key: u64) -> Option<Result<usize, usize>> {
+    let records = records(page, n)?;
+    Some(records.binary_search_by(|record| compare(widths, key_of(record), key)))
+}
+
+/// Split order of packed keys: the attribute whose values differ first decides, of several the first one.
+fn compare(widths: &Widths, x: u64, y: u64) -> Ordering {
+    let mut order = Ordering::Equal;
+    let mut first = 0;
+    for (j, &width) in widths.bits[..widths.used].iter().enumerate() {
+        // the value's bits at the top
+        let [a, b] = [x, y].map(|key| ((key >> (16 * j)) as u16) << (16 - width));
+        let differ = a ^ b;
+        // whether the highest bit of `differ` is above that of `first`
+        if first < differ && first < (first ^ differ) {
+            first = differ;
+            order = a.cmp(&b);
+        }
+    }
+    order
+}
+
+/// The bits that a query gives, and what they are.
+pub struct Pattern {
+    mask: u64,
+    value: u64,
+}
+
+impl Pattern {
+    pub fn new(query: [Option<u32>; 4]) -> Option<Pattern> {
+        let mut pattern = Pattern { mask: 0, value: 0 };
+        for (j, wanted) in query.into_iter().enumerate() {
+            if let Some(value) = wanted {
+                pattern.mask |= 0xffff << (16 * j);
+                pattern.value |= u64::from(u16::try_from(value).ok()?) << (16 * j);
+            }
+        }
+        Some(pattern)
+    }
+}
+
+/// Writes the records that match, of the n of a page, into the output from its record `total` on, while whole
+/// ones fit. Returns how many match, with the `total` before.
+#[inline(never)]
+pub fn put_matches(page: &[u8], n: usize, pattern: &Pattern, out: &mut [u8], total: usize) -> Option<usize> {
+    let (out, _) = out.as_chunks_mut();
+    let mut found = total;
+    for record in records(page, n)? {
+        if key_of(record) & pattern.mask == pattern.value {
+            if let Some(place) = out.get_mut(found) {
+                *place = *record;
+            }
+            found += 1;
+        }
+    }
+    Some(found)
 }

@@ -1,4 +1,7 @@
-//! The calls of the static library behind safe functions.
+//! The calls of the static library behind safe functions: the address map here, the store in `store`.
+mod store;
+
+pub use store::*;
 
 /// The attribute count d, a width in bits for each attribute, and the page capacity b. Widths past d
 /// are ignored.

@@ -2,7 +2,11 @@
 pub mod cells;
 pub mod compare;
 pub mod host;
+pub mod lent;
+pub mod pages;
+pub mod plain;
 pub mod probe;
 pub mod random;
 pub mod reference;
+pub mod samples;
 pub mod shapes;

@@ -1,5 +1,11 @@
 //! The inner steps of the store behind safe functions. Each tests what the step's `requires` asks, then
 //! calls; where it does not hold, the answer is `None` and nothing is called.
+//!
+//! Here are the steps on the directory; the modules have those on words, keys, pages and queries.
+pub mod keys;
+pub mod matching;
+pub mod records;
+pub mod words;
 
 /// The widths of the four attributes in bits, 0 for an unused one.
 #[repr(C)]
@@ -39,6 +45,13 @@ impl Widths {
         let width = |j: usize| widths.get(j).map_or(0, |&width| u64::from(width));
         let raw = RawWidths { w0: width(0), w1: width(1), w2: width(2), w3: width(3) };
         Some(Widths { raw, total: raw.w0 + raw.w1 + raw.w2 + raw.w3 })
+    }
+
+    /// Whether the pair (bit k, attribute j) with place g = 4k + j is a split step.
+    #[inline]
+    fn has_step(&self, g: u64) -> bool {
+        let RawWidths { w0, w1, w2, w3 } = self.raw;
+        g < 64 && g / 4 < [w0, w1, w2, w3][(g % 4) as usize]
     }
 
     /// Whether a directory of depth t fits the widths and a slice of so many words (`DirectoryFits`).

@@ -16,6 +16,16 @@ pub fn all_widths(count: usize, total: u32) -> Vec<Vec<u32>> {
     all
 }
 
+/// The widths of all 385 shapes of up to ten bits, and of four random shapes of each size from 11 to 64.
+pub fn widths_of_shapes(random: &mut Random) -> Vec<Vec<u32>> {
+    let mut all: Vec<Vec<u32>> = (1..=4).flat_map(|d| all_widths(d, 10)).collect();
+    for total in 11..=64 {
+        all.extend((0..4).map(|_| random_widths(random, total)));
+    }
+    assert_eq!(all.len(), 385 + 4 + 212);
+    all
+}
+
 /// Random widths with this sum, each from 1 to 16.
 pub fn random_widths(random: &mut Random, total: u32) -> Vec<u32> {
     let d = random.between(total.div_ceil(16) as u64, total.min(4) as u64) as usize;

@@ -5,22 +5,12 @@ use mdeh_tests::compare::Comparisons;
 use mdeh_tests::probe::{double, fill, find_cell, Widths};
 use mdeh_tests::random::Random;
 use mdeh_tests::reference::{formula, steps};
-use mdeh_tests::shapes::{all_widths, random_widths};
+use mdeh_tests::shapes::{random_widths, widths_of_shapes};
 
 const SEED: u64 = 0x6d64_6568_2d30_3032;
 
 /// Words past a directory, which no step changes.
 const GUARDS: usize = 7;
-
-/// The widths of all 385 shapes of up to ten bits, and of four random shapes of each size from 11 to 64.
-fn widths_of_shapes(random: &mut Random) -> Vec<Vec<u32>> {
-    let mut all: Vec<Vec<u32>> = (1..=4).flat_map(|d| all_widths(d, 10)).collect();
-    for total in 11..=64 {
-        all.extend((0..4).map(|_| random_widths(random, total)));
-    }
-    assert_eq!(all.len(), 385 + 4 + 212);
-    all
-}
 
 /// The greatest depth of a directory of these widths: the smaller of 12 and W.
 fn greatest_depth(widths: &[u32]) -> usize {
@@ -41,11 +31,6 @@ fn random_key(random: &mut Random, widths: &[u32]) -> [u32; 4] {
         }
     }
     key
-}
-
-/// Random words.
-fn random_words(random: &mut Random, count: usize) -> Vec<u32> {
-    (0..count).map(|_| random.number() as u32).collect()
 }
 
 // ---- the cell of a key
@@ -100,7 +85,7 @@ fn doubling_gives_each_cell_the_word_of_the_cell_that_it_halves() {
     for widths in widths_of_shapes(&mut random) {
         let cells = Cells::new(&widths, greatest_depth(&widths));
         for t in 0..greatest_depth(&widths) {
-            let before = random_words(&mut random, (2 << t) + GUARDS);
+            let before = random.words((2 << t) + GUARDS);
             let mut after = before.clone();
             double(&fitting(&widths), t as u64, &mut after).expect("the directory fits");
             for Cell { bits, address } in cells.all(t + 1) {
@@ -133,7 +118,7 @@ fn setting_a_region_changes_its_cells_and_no_other_word() {
                 let key = random_key(&mut random, &widths);
                 let region = &cells.split_bits(key)[..x];
                 let word = random.number() as u32;
-                let before = random_words(&mut random, (1 << t) + GUARDS);
+                let before = random.words((1 << t) + GUARDS);
                 let mut after = before.clone();
                 fill(&fitting(&widths), key, x as u64, t as u64, word, &mut after)
                     .expect("the directory fits");
@@ -174,7 +159,7 @@ fn unused_attributes_between_others_are_passed_over() {
                     closed_key[j] = key[place];
                 }
                 let word = random.number() as u32;
-                let words = random_words(&mut random, 2 << t);
+                let words = random.words(2 << t);
                 let steps = |widths, key| {
                     let mut dir = words.clone();
                     fill(widths, key, x, t, word, &mut dir).expect("the directory fits");

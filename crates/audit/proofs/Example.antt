@@ -21,6 +21,7 @@ use Rattle.word.specs.Word.{wordOf}
 use Rattle.word.specs.declared.Leaf.the-variants.{Empty, Page}
 use Rattle.store.specs.Store.{Store, lentConditions}
 use Rattle.store.specs.Promises.{lentNumber}
+use Rattle.lent.specs.Limits.{limitsHold}
 use Rattle.audit.specs.Test.{soundTest, shownSet}
 
 -- ---- stores of widths 2, 2 and b = 2, with L = 3
@@ -139,7 +140,7 @@ damaged =
 
 pub examples : (all soundTest sound ≡ true) × (all (λ x. not (soundTest x)) damaged ≡ true)
 unfolding
-    soundTest lentNumber lentConditions firstNumber shapeConditions inBounds widthsOf
+    soundTest limitsHold lentNumber lentConditions firstNumber shapeConditions inBounds widthsOf
     stepsBelow steps step stepNumber stepsOf depth splitBit
     highestBit createdBy latestStep formula addressFrom address sides sumBits cell cellAddress recordBytes recordOf
 examples = (refl, refl)

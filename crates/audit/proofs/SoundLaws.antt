@@ -8,7 +8,7 @@ use native.Mathlib.Omega.{arith}
 use native.Mathlib.Nat.{zero-add}
 use lib.Dec.{leb, eqb}
 use lib.ListN.{getD}
-use borrow.Author.Tests.{leb-true, le-leb, eqb-true, eq-eqb}
+use borrow.Author.Tests.{leb-true, eqb-true, eq-eqb}
 use Rattle.lists.specs.Filter.{all}
 use Rattle.lists.proofs.Bools.{and-split, and-both}
 use Rattle.lists.proofs.FilterLaws.{all-true}
@@ -23,9 +23,10 @@ use Rattle.model.specs.Sets.{inShape, isSet, divisionOf}
 use Rattle.store.specs.Store.{Store}
 use Rattle.store.specs.Sound.{Sound, tallies}
 use Rattle.store.specs.Promises.{lentNumber}
+use Rattle.lent.specs.Limits.{limitsHold}
+use Rattle.lent.proofs.LimitsLaws.{limits-parts, limits-of-sound}
 use Rattle.audit.specs.Walk.{pagesInUse}
-use Rattle.audit.specs.Test.{sameNumbers, viewOf, shownDivision, shownSet, lentTest, boundsTest, walkTest}
-use Rattle.audit.specs.Test.{sumsTest}
+use Rattle.audit.specs.Test.{sameNumbers, viewOf, shownDivision, shownSet, lentTest, walkTest, sumsTest}
 use Rattle.audit.specs.Test.{soundTest}
 use Rattle.audit.proofs.ReadLaws.{Read, read-of-test}
 use Rattle.audit.proofs.PassLaws.{division-passes}
@@ -63,47 +64,13 @@ module _ (store : Store) where
   abbrev P : ℕ
   P = store .state .limits .pages
 
-  abbrev L : ℕ
-  L = store .state .limits .depth
-
   abbrev T : ℕ
   T = store .state .depth
 
   abbrev W : ℕ
   W = total (widthsOf s)
 
-  -- ---- the bounds and the sums
-
-  pub record Bounds : Type 0 where
-    pub some-page : 1 ≤ P
-    pub most-pages : P ≤ 4096
-    pub depth-limit : L ≤ 12
-    pub depth-bits : L ≤ W
-    pub depth-within : T ≤ L
-
-  pub bounds-of-test : boundsTest store ≡ true → Bounds
-  bounds-of-test e =
-      let k₁ = and-split (leb 1 P) (leb P 4096 && (leb L 12 && (leb L W && leb T L))) e in
-      let k₂ = and-split (leb P 4096) (leb L 12 && (leb L W && leb T L)) (k₁ .1) in
-      let k₃ = and-split (leb L 12) (leb L W && leb T L) (k₂ .1) in
-      let k₄ = and-split (leb L W) (leb T L) (k₃ .1) in
-      record {
-        some-page = leb-true 1 P (k₁ .0);
-        most-pages = leb-true P 4096 (k₂ .0);
-        depth-limit = leb-true L 12 (k₃ .0);
-        depth-bits = leb-true L W (k₄ .0);
-        depth-within = leb-true T L (k₄ .1);
-      }
-
-  boundsTest-true : Bounds → boundsTest store ≡ true
-  boundsTest-true k =
-      rw (
-        le-leb 1 P (k .some-page),
-        le-leb P 4096 (k .most-pages),
-        le-leb L 12 (k .depth-limit),
-        le-leb L W (k .depth-bits),
-        le-leb T L (k .depth-within),
-      )
+  -- ---- the sums
 
   -- T, the tally and the pages in use are those of a division
   pub record Sums (D : Division Record) : Type 0 where
@@ -137,38 +104,39 @@ module _ (store : Store) where
 
   -- ---- yes is right
 
-  sound-of-parts : Lent store → Bounds → walkTest store ≡ true → Sums (shownDivision store)
+  sound-of-parts : Lent store → limitsHold (store .state) ≡ true → walkTest store ≡ true → Sums (shownDivision store)
       → Sound store (shownSet store)
   unfolding divisionOf isSet
-  sound-of-parts l b w k =
+  sound-of-parts l e w k =
+      let b = limits-parts (store .state) e in
       let read : Read (viewOf store) T (wordAt-local store (l .shape)) T emptyString 0 (shownDivision store) =
       read-of-test (viewOf store) T (wordAt-local store (l .shape)) T emptyString 0 w in
       let d : divisionOf s (shownSet store) ≡ shownDivision store =
-      read .divides W (omega (arith, b .depth-within, b .depth-bits)) in
+      read .divides W (omega (arith, b .4, b .3)) in
       record {
         shape = l .shape;
         words-lent = l .words-lent;
         pages-lent = l .pages-lent;
-        some-page = b .some-page;
-        most-pages = b .most-pages;
-        depth-limit = b .depth-limit;
-        depth-bits = b .depth-bits;
-        depth-within = b .depth-within;
+        some-page = b .0;
+        most-pages = b .1;
+        depth-limit = b .2;
+        depth-bits = b .3;
+        depth-within = b .4;
         set = and-both (sorted (recordBit s) W 0 (shownSet store)) (all (inShape s) (shownSet store))
-            (read .ordered (omega (arith, b .depth-within, b .depth-bits))) (read .fit);
+            (read .ordered (omega (arith, b .4, b .3))) (read .fit);
         deepest = rw d (k .deepest);
         tallied = rw d (k .tallied);
-        shown = Shows-of-shown store (shownSet store) (b .most-pages) (rw d (read .shows (zero-add T)))
+        shown = Shows-of-shown store (shownSet store) (b .1) (rw d (read .shows (zero-add T)))
             (rw d (k .in-use));
       }
 
   pub yes-sound : soundTest store ≡ true → Sound store (shownSet store)
   unfolding soundTest
   yes-sound e =
-      let k₁ = and-split (lentTest store) (boundsTest store && (walkTest store && sumsTest store)) e in
-      let k₂ = and-split (boundsTest store) (walkTest store && sumsTest store) (k₁ .1) in
+      let k₁ = and-split (lentTest store) (limitsHold (store .state) && (walkTest store && sumsTest store)) e in
+      let k₂ = and-split (limitsHold (store .state)) (walkTest store && sumsTest store) (k₁ .1) in
       let k₃ = and-split (walkTest store) (sumsTest store) (k₂ .1) in
-      sound-of-parts (lent-of-number store (eqb-true (lentNumber store) 0 (k₁ .0))) (bounds-of-test (k₂ .0)) (k₃ .0)
+      sound-of-parts (lent-of-number store (eqb-true (lentNumber store) 0 (k₁ .0))) (k₂ .0) (k₃ .0)
       (sums-of-test (k₃ .1))
 
   -- ---- no is right
@@ -199,8 +167,8 @@ module _ (store : Store) where
     pub sound-yes : soundTest store ≡ true
     unfolding soundTest
     sound-yes =
-        and-both (lentTest store) (boundsTest store && (walkTest store && sumsTest store)) lent
-        (and-both (boundsTest store) (walkTest store && sumsTest store) bounds
+        and-both (lentTest store) (limitsHold (store .state) && (walkTest store && sumsTest store)) lent
+        (and-both (limitsHold (store .state)) (walkTest store && sumsTest store) (limits-of-sound store S h)
         (and-both (walkTest store) (sumsTest store) (sound-read .0) (sumsTest-true sums)))
       where
         lent : lentTest store ≡ true
@@ -208,17 +176,6 @@ module _ (store : Store) where
             eq-eqb (lentNumber store) 0
             (lentNumber-lent store
             (record { shape = h .shape; words-lent = h .words-lent; pages-lent = h .pages-lent }))
-
-        bounds : boundsTest store ≡ true
-        bounds =
-            boundsTest-true
-            (record {
-              some-page = h .some-page;
-              most-pages = h .most-pages;
-              depth-limit = h .depth-limit;
-              depth-bits = h .depth-bits;
-              depth-within = h .depth-within;
-            })
 
         sums : Sums (shownDivision store)
         sums =

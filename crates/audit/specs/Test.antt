@@ -3,7 +3,7 @@
 use Prim.Native.Nat.{ℕ}
 use mathlib.Core.Bool.{Bool, true, false, _&&_}
 use mathlib.Core.List.{List, [], _∷_}
-use lib.Dec.{leb, eqb}
+use lib.Dec.{eqb}
 use Rattle.shape.specs.Refusal.{Answer, answered}
 use Rattle.shape.specs.Shape.{widthsOf, total}
 use Rattle.region.specs.Strings.{emptyString}
@@ -14,6 +14,7 @@ use Rattle.model.specs.Sets.{inShape}
 use Rattle.store.specs.Store.{Store, wordAt}
 use Rattle.store.specs.Sound.{tallies}
 use Rattle.store.specs.Promises.{lentNumber}
+use Rattle.lent.specs.Limits.{limitsHold}
 use Rattle.audit.specs.Walk.{View, readDivision, regionTest, pagesInUse}
 
 -- two lists of numbers are equal
@@ -50,15 +51,6 @@ module _ (store : Store) where
   abbrev pub lentTest : Bool
   lentTest = eqb (lentNumber store) 0
 
-  -- "P is 1–4,096, L is at most 12 and at most W, and T is at most L"
-  abbrev pub boundsTest : Bool
-  boundsTest =
-      let st = store .state in
-      leb 1 (st .limits .pages)
-      && (leb (st .limits .pages) 4096
-      && (leb (st .limits .depth) 12
-      && (leb (st .limits .depth) (total (widthsOf (st .shape))) && leb (st .depth) (st .limits .depth))))
-
   -- "words and pages show the leaves of some set"
   abbrev pub walkTest : Bool
   walkTest = regionTest viewOf (store .state .depth) emptyString 0
@@ -72,9 +64,9 @@ module _ (store : Store) where
       && (sameNumbers (st .tally .leaves) (tallies shownDivision 0 13)
       && eqb (pagesInUse viewOf (st .limits .pages)) (nonEmptyLeaves shownDivision))
 
-  -- the store is sound
+  -- the store is sound: neither 1 nor 2, the limits, then what words and pages show
   unfoldable pub soundTest : Bool
-  soundTest = lentTest && (boundsTest && (walkTest && sumsTest))
+  soundTest = lentTest && (limitsHold (store .state) && (walkTest && sumsTest))
 
   -- 1, 2, then yes or no
   unfoldable pub checkAnswer : Answer Bool

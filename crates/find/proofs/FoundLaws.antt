@@ -84,7 +84,7 @@ module _ (s : Shape) (r : Record) (key : ℕ) (e : r .key ≡ unpackedKey key) (
   abbrev rs : List Record
   rs = recordsFrom s n 2 page
 
-  record-at : (k : ℕ) → k < n → getD rs k r ≡ recordOf s (recordField page k)
+  pub record-at : (k : ℕ) → k < n → getD rs k r ≡ recordOf s (recordField page k)
   record-at k l = getD-recordsFrom s n k 2 page r l
 
   -- how r stands to record k
@@ -95,7 +95,7 @@ module _ (s : Shape) (r : Record) (key : ℕ) (e : r .key ≡ unpackedKey key) (
       ∙ sym (unpackedKey-keyIn s (recordField page k) (AreBytes-field page (recordOffset k) recordSize b)) in
       λ i. compared ws (sym e i) (sym there i)
 
-  placed-between : (i : ℕ) → Placed ws (unpackedKey key) page n (Before i) → Between (recordBit s) (total ws) 0 r r rs i
+  pub placed-between : (i : ℕ) → Placed ws (unpackedKey key) page n (Before i) → Between (recordBit s) (total ws) 0 r r rs i
   placed-between i p =
       let W = total ws in (
         omega (arith, p .0, length-recordsFrom s n 2 page),

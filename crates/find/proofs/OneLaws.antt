@@ -53,6 +53,16 @@ module _ (ws : List ℕ) (g : ℕ) (page : List ℕ) (n i : ℕ) where
     unfolding firstOne
     firstOne-next q = rw (add-one i, more, bit-there ∙ q)
 
+-- it is one of the k from i on, or the end
+pub firstOne-le : (ws : List ℕ) (g : ℕ) (page : List ℕ) (k i : ℕ) → firstOne ws g page k i ≤ i + k
+unfolding firstOne
+firstOne-le ws g page zero i = omega arith
+firstOne-le ws g page (suc k) i = go (pairBit ws (unpackedKey (keyAt page i)) g) (firstOne-le ws g page k (suc i))
+  where
+    go : (β : Bool) → firstOne ws g page k (suc i) ≤ suc i + k → cond β i (firstOne ws g page k (suc i)) ≤ i + suc k
+    go true ih = omega arith
+    go false ih = omega arith
+
 -- ---- where the records with bit 1 begin
 
 -- behind a record with bit 1 all have it

@@ -15,7 +15,7 @@ use Rattle.region.proofs.StringLaws.{sameBits-comm, sameBits-join}
 use Rattle.region.proofs.OrderLaws.{before-trans, before-asym, sameBits-before}
 use Rattle.page.specs.Changes.{insertAt, removeAt}
 
-all-getD : {A : Type 0} (f : A → Bool) (xs : List A) (i : ℕ) (d : A) → all f xs ≡ true → i < length xs
+pub all-getD : {A : Type 0} (f : A → Bool) (xs : List A) (i : ℕ) (d : A) → all f xs ≡ true → i < length xs
     → f (getD xs i d) ≡ true
 all-getD f [] i d e h = absurd (omega arith)
 all-getD f (x ∷ xs) zero d e h = and-split (f x) (all f xs) e .0

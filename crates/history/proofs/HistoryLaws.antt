@@ -2,7 +2,7 @@
 -- shows the model's next set; so for a list. Assumes nothing.
 use Prim.Native.Nat.{ℕ, zero, suc}
 use mathlib.Core.Path.{_≡_, refl, sym, _∙_}
-use mathlib.Core.List.{List, [], _∷_}
+use mathlib.Core.List.{List, [], _∷_, _++_}
 use lib.ListN.{length}
 use Rattle.shape.specs.Refusal.{Answer, accepted, answered}
 use Rattle.shape.specs.declared.Shape.{Shape}
@@ -17,7 +17,7 @@ use Rattle.store.specs.Fresh.{FreshPromise, freshNumber, freshState, freshMemor
 use Rattle.store.specs.Promises.{ChangePromise}
 use Rattle.store.proofs.FreshLaws.{fixedOf-freshState, sound-of-fresh}
 use Rattle.store.proofs.ReadLaws.{soundWhereRead-of-sound}
-use Rattle.history.specs.History.{Promised, Run, no-call, one-more, ReadsBounded, WithinBounds, History}
+use Rattle.history.specs.History.{Promised, Run, no-call, one-more, ReadsBounded, WithinBounds, lastSet, History}
 
 -- ---- one call
 
@@ -99,19 +99,25 @@ stepped before after S (queryCall q out) o p h =
 
 -- ---- a list of calls
 
-listed-as : {store : Store} {calls : List Call} {outcomes : List Outcome} (f : Fixed) (S : List Record)
-    → fixedOf (store .state) ≡ f → Sound store S → Run store calls outcomes
-    → (outcomes ≡ run f S calls) × WithinBounds f S calls outcomes
+listed-as : {store after : Store} {calls : List Call} {outcomes : List Outcome} (f : Fixed) (S : List Record)
+    → fixedOf (store .state) ≡ f → Sound store S → Run store calls outcomes after
+    → (outcomes ≡ run f S calls) × WithinBounds f S calls outcomes × Sound after (lastSet f S calls)
 unfolding run
-listed-as f S e h no-call = (refl, tt)
-listed-as f S e h (one-more {before = before} {after = after} {c = c} {cs = cs} {o = o} {os = os} p r) =
-    let step : Stepped before S c o after = stepped before after S c o p h in
+listed-as f S e h no-call = (refl, tt, h)
+listed-as f S e h (one-more {before = before} {between = between} {c = c} {cs = cs} {o = o} {os = os} p r) =
+    let step : Stepped before S c o between = stepped before between S c o p h in
     let o-as : o ≡ outcome f S c = rw e at (step .as-model) in
     let bounded : ReadsBounded f S c o = rw e at (step .bounded) in
-    let sound : Sound after (next f S c) = rw e at (step .shown) in
+    let sound : Sound between (next f S c) = rw e at (step .shown) in
     let rest = listed-as f (next f S c) (step .fixed ∙ e) sound r in
     let all-as : o ∷ os ≡ run f S (c ∷ cs) = cc in
-    (all-as, (bounded, rest .1))
+    (all-as, (bounded, rest .1), rest .2)
+
+-- one call more at the end
+pub run-more : {before between after : Store} {cs : List Call} {os : List Outcome} (c : Call) (o : Outcome)
+    → Run before cs os between → Promised between c o after → Run before (cs ++ c ∷ []) (os ++ o ∷ []) after
+run-more c o no-call p = one-more p no-call
+run-more c o (one-more q r) p = one-more q (run-more c o r p)
 
 -- ---- demand 3
 
@@ -134,7 +140,7 @@ fresh-store s m fresh p =
     same-store state memory
 
 pub history : History
-history s m fresh p calls outcomes r =
+history s m fresh p calls outcomes after r =
     let f = fixedBy s (length (m .words)) (length (m .bytes)) in
     let store = fresh-store s m fresh p in
     let sound : Sound fresh [] = rw store (sound-of-fresh s m (fresh-accepted s m fresh p)) in

@@ -11,6 +11,7 @@ use Rattle.model.specs.Limits.{fixedBy}
 use Rattle.model.specs.Model.{Fixed, Call, insertCall, deleteCall, lookupCall, queryCall, changed, listed, Outcome, next, run}
 use Rattle.model.specs.Sets.{readsBound}
 use Rattle.store.specs.Store.{Store, Memory}
+use Rattle.store.specs.Sound.{Sound}
 use Rattle.store.specs.Fresh.{FreshPromise}
 use Rattle.store.specs.Promises.{InsertPromise, DeletePromise, LookupPromise, QueryPromise}
 
@@ -26,11 +27,11 @@ Promised before (lookupCall values) o after =
     LookupPromise before values (o .answer) × (o .output ≡ []) × (after ≡ before)
 Promised before (queryCall q out) o after = QueryPromise before q out (o .answer) (o .output) × (after ≡ before)
 
--- calls one after the other, each on the store that the one before left
-pub data Run : Store → List Call → List Outcome → Type 0 where
-  no-call : {store : Store} → Run store [] []
-  one-more : {before after : Store} {c : Call} {cs : List Call} {o : Outcome} {os : List Outcome}
-      → Promised before c o after → Run after cs os → Run before (c ∷ cs) (o ∷ os)
+-- calls one after the other, each on the store that the one before left, and the store that the last one left
+pub data Run : Store → List Call → List Outcome → Store → Type 0 where
+  no-call : {store : Store} → Run store [] [] store
+  one-more : {before between after : Store} {c : Call} {cs : List Call} {o : Outcome} {os : List Outcome}
+      → Promised before c o between → Run between cs os after → Run before (c ∷ cs) (o ∷ os) after
 
 -- ---- the bound of the reads
 
@@ -48,14 +49,20 @@ WithinBounds f S [] os = Unit {0}
 WithinBounds f S (c ∷ cs) [] = ⊥
 WithinBounds f S (c ∷ cs) (o ∷ os) = ReadsBounded f S c o × WithinBounds f (next f S c) cs os
 
+-- the model's set after a list of calls
+abbrev pub lastSet : Fixed → List Record → List Call → List Record
+lastSet f S [] = S
+lastSet f S (c ∷ cs) = lastSet f (next f S c) cs
+
 -- ---- demand 3
 
 -- "A fresh store is the state and the slices that an accepted Fresh leaves .. The plain model is given that Fresh's
--- shape and slice lengths": any list of calls on it is answered as the model answers it, and each query's reads are
--- within the bound
+-- shape and slice lengths": any list of calls on it is answered as the model answers it, each query's reads are within
+-- the bound, and the store that is left shows the model's set
 abbrev pub History : Type 0
 History =
     (s : Shape) (m : Memory) (fresh : Store) → FreshPromise s m (accepted changed) fresh
-    → (calls : List Call) (outcomes : List Outcome) → Run fresh calls outcomes
+    → (calls : List Call) (outcomes : List Outcome) (after : Store) → Run fresh calls outcomes after
     → (outcomes ≡ run (fixedBy s (length (m .words)) (length (m .bytes))) [] calls)
     × WithinBounds (fixedBy s (length (m .words)) (length (m .bytes))) [] calls outcomes
+    × Sound after (lastSet (fixedBy s (length (m .words)) (length (m .bytes))) [] calls)

@@ -1,5 +1,8 @@
 // The C interface: what Rust or C links. A number of 0 stands for an accepted call; any other is the
-// refusal's (document 01, "Refused calls"), and the values beside it are 0.
+// refusal's (document 01, "Refused calls"), and the values beside it are 0. The address map is here,
+// the store's calls are in `calls`.
+pub mod calls;
+
 use address::AddressAnswer;
 use address::Index;
 use address::IndexAnswer;

@@ -1,15 +1,15 @@
--- Laws of the call's tests, one for each way that a function ends: the limits, the sums of the whole walk, the answer.
+-- Laws of the call's tests, one for each way that a function ends: the sums of the whole walk, the answer.
 -- Assumes nothing.
 use Prim.Native.Nat.{ℕ, _+_, _-_, _^_, _≤_, _<_}
 use mathlib.Core.Path.{_≡_, refl, sym, ap, _∙_, subst}
-use mathlib.Core.Bool.{Bool, true, false, _&&_, _||_, and-false, false≢true}
+use mathlib.Core.Bool.{Bool, true, false, _&&_, _||_, false≢true}
 use mathlib.Core.List.{List, [], _∷_}
 use native.Mathlib.Omega.{arith}
 use native.Mathlib.Nat.{le-trans, sub-zero}
-use lib.Dec.{leb, ltb, eqb}
+use lib.Dec.{ltb, eqb}
 use lib.ListN.{length, getD, replicate, getD-replicate}
 use lib.Pow.{pow-mono}
-use borrow.Author.Tests.{le-leb, lt-leb, ltb-false, eq-eqb, ne-eqb}
+use borrow.Author.Tests.{ltb-false, eq-eqb, ne-eqb}
 use Rattle.shape.specs.Refusal.{accepted, refused, refusal}
 use Rattle.shape.specs.Shape.{Fit, shapeNumber, widthsOf, total}
 use Rattle.shape.proofs.ShapeLaws.{inBounds-of, widthsOf-fit}
@@ -23,10 +23,11 @@ use Rattle.store.specs.declared.State.{State}
 use Rattle.store.specs.Sound.{tallies}
 use Rattle.store.specs.Promises.{lentNumber, CheckPromise}
 use Rattle.audit.specs.Walk.{regionTest, readDivision, pagesInUse}
-use Rattle.audit.specs.Test.{viewOf, shownDivision, sameNumbers, boundsTest, walkTest, sumsTest, soundTest, checkAnswer}
+use Rattle.audit.specs.Test.{viewOf, shownDivision, sameNumbers, walkTest, sumsTest, soundTest, checkAnswer}
 use Rattle.audit.proofs.AnswerLaws.{check-promise}
 use Rattle.audit.proofs.ShowsLaws.{Lent, lentNumber-lent}
-use Rattle.audit.proofs.SoundLaws.{bounds-of-test}
+use Rattle.lent.specs.Limits.{limitsHold}
+use Rattle.lent.proofs.LimitsLaws.{limits-parts}
 use Rattle.inspect.specs.declared.regions.Region.{Region}
 use Rattle.inspect.specs.declared.walk.Seen.{Seen}
 use Rattle.inspect.specs.Regions.{wholeRegion}
@@ -34,40 +35,6 @@ use Rattle.inspect.specs.Sums.{viewBy, Tells, Walks, Walked, TallyRoom}
 use Rattle.inspect.specs.Sums.{usedPages, sameTally, lacksMemory, StoreLent}
 use Rattle.inspect.proofs.RegionLaws.{names-whole, regionIn-whole}
 use Rattle.inspect.proofs.CountLaws.{pagesInUse-usedPages, sameNumbers-sameTally}
-
--- ---- the limits
-
-module _ (st : State) where
-  abbrev P : ℕ
-  P = st .limits .pages
-
-  abbrev L : ℕ
-  L = st .limits .depth
-
-  abbrev W : ℕ
-  W = total (widthsOf (st .shape))
-
-  abbrev bounds : Bool
-  bounds = boundsTest (store st [] [])
-
-  pub bounds-no-page : P < 1 → false ≡ bounds
-  bounds-no-page h = sym (rw (lt-leb 1 P h))
-
-  pub bounds-most-pages : 4096 < P → false ≡ bounds
-  bounds-most-pages h = sym (rw (lt-leb P 4096 h) (and-false (leb 1 P)))
-
-  pub bounds-deep : 12 < L → false ≡ bounds
-  bounds-deep h = sym (rw (lt-leb L 12 h, and-false (leb P 4096)) (and-false (leb 1 P)))
-
-  module _ (bits : ℕ) (all : bits ≡ W) where
-    pub bounds-bits : bits < L → false ≡ bounds
-    bounds-bits h =
-        let over : W < L = subst (λ n. n < L) all h in
-        sym (rw (lt-leb L W over, and-false (leb L 12), and-false (leb P 4096)) (and-false (leb 1 P)))
-
-    pub bounds-rest : 1 ≤ P → P ≤ 4096 → L ≤ 12 → L ≤ bits → leb (st .depth) L ≡ bounds
-    bounds-rest p q l w =
-        sym (rw (le-leb 1 P p, le-leb P 4096 q, le-leb L 12 l, le-leb L W (subst (λ n. L ≤ n) all w)))
 
 -- ---- the whole walk
 
@@ -216,24 +183,24 @@ module _ (st : State) (words bytes : List ℕ) where
           ∙ answered-none (st .shape) (soundTest whole) 1 (lacksMemory st (length words) (length bytes)) n lent))
           (check-promise whole)
 
-      sound : soundTest whole ≡ (boundsTest whole && (walkTest whole && sumsTest whole))
+      sound : soundTest whole ≡ (limitsHold st && (walkTest whole && sumsTest whole))
       unfolding soundTest
       sound = rw (lentNumber-lent whole memory-lent)
 
-      pub check-limits-fail : boundsTest whole ≡ false → CheckPromise whole (accepted false)
+      pub check-limits-fail : limitsHold st ≡ false → CheckPromise whole (accepted false)
       check-limits-fail e = answer false (sound ∙ ap (λ β. β && (walkTest whole && sumsTest whole)) e)
 
-      module _ (limits : boundsTest whole ≡ true) where
+      module _ (limits : limitsHold st ≡ true) where
         pub storeLent : StoreLent st (length words) (length bytes)
         storeLent =
-            let b = bounds-of-test whole limits in
+            let b = limits-parts st limits in
             record {
               shape = n;
               words-lent = memory-lent .words-lent;
               pages-lent = memory-lent .pages-lent;
-              short = b .depth-limit;
-              bits = b .depth-bits;
-              within = b .depth-within;
+              short = b .2;
+              bits = b .3;
+              within = b .4;
             }
 
         pub check-shows : (β : Bool) → β ≡ (walkTest whole && sumsTest whole) → CheckPromise whole (accepted β)

@@ -3,9 +3,9 @@ pub mod counts;
 pub mod regions;
 pub mod walk;
 
-use address::total_of;
 use counts::pages_in_use;
 use counts::same_tally;
+use lent::limits_hold;
 use regions::whole_region;
 use shape::shape_number;
 use shape::widths_of;
@@ -14,13 +14,12 @@ use store::State;
 use walk::walk;
 ghost use mathlib.Core.Path.{_≡_};
 ghost use mathlib.Core.Bool.{_&&_};
-ghost use mathlib.Core.List.{[]};
 ghost use lib.ListN.{length};
 ghost use Rattle.shape.specs.Shape.{shapeNumber};
 ghost use Rattle.store.specs.Store.{store};
 ghost use Rattle.store.specs.Answers.{checkedAnswer};
 ghost use Rattle.store.specs.Promises.{CheckPromise};
-ghost use Rattle.audit.specs.Test.{boundsTest, walkTest, sumsTest};
+ghost use Rattle.audit.specs.Test.{walkTest, sumsTest};
 ghost use Rattle.inspect.specs.Sums.{lacksMemory, StoreLent};
 
 // Whether the lent store is sound: yes exactly for a sound store, otherwise no. Refused with 1 for a
@@ -37,7 +36,7 @@ pub fn check(state: State, dir: &[u32], pages: &[u8]) -> Checked
     if lacks_memory(state, words, bytes) {
         return Checked::Refused(2);
     }
-    if !in_limits(state) {
+    if !limits_hold(state) {
         return Checked::No;
     }
     if shows_leaves(state, dir, pages) {
@@ -60,28 +59,6 @@ fn lacks_memory(state: State, words: usize, bytes: usize) -> bool
     }
     let size = 2 + 12 * (state.shape.capacity as u64);
     (bytes as u64) < (state.limits.pages as u64) * size
-}
-
-// Whether P is 1 to 4,096, L at most 12 and at most W, and T at most L.
-fn in_limits(state: State) -> bool
-    requires { ⌜ shapeNumber (state .shape) ≡ 0 ⌝ }
-    ensures { λ r. ⌜ r ≡ boundsTest (store state [] []) ⌝ }
-{
-    let page_count = state.limits.pages;
-    let deepest = state.limits.depth;
-    if page_count < 1 {
-        return false;
-    }
-    if 4096 < page_count {
-        return false;
-    }
-    if 12 < deepest {
-        return false;
-    }
-    if total_of(widths_of(state.shape)) < (deepest as u64) {
-        return false;
-    }
-    state.depth <= deepest
 }
 
 // Whether words and pages show the leaves of some set, and T, the tally and the pages in use are

@@ -3,7 +3,7 @@
 use Prim.Native.Nat.{ℕ, _*_, _+_, _^_, _≤_, _<_}
 use mathlib.Core.Path.{_≡_, refl, sym, ap, _∙_}
 use mathlib.Core.Bool.{Bool, true, false, not, cond, _||_}
-use mathlib.Core.List.{List, [], _∷_, _++_}
+use mathlib.Core.List.{List, [], _∷_}
 use native.Mathlib.Omega.{arith}
 use native.Mathlib.Nat.{mul-le-mul-left}
 use lib.Dec.{ltb}
@@ -12,9 +12,6 @@ use Rattle.shape.specs.Refusal.{firstNumber, refusal}
 use Rattle.shape.specs.Shape.{shapeConditions, shapeNumber, inBounds}
 use Rattle.shape.specs.Key.{keyFits}
 use Rattle.shape.proofs.RefusalLaws.{firstNumber-shape, firstNumber-shape-out}
-use Rattle.shape.proofs.ShapeLaws.{inBounds-of}
-use Rattle.shape.proofs.BoundsLaws.{within-le}
-use Rattle.page.specs.Page.{pageSize}
 use Rattle.model.specs.Model.{keyConditions}
 use Rattle.store.specs.Store.{store, lentConditions, pagesSize}
 use Rattle.store.specs.Promises.{lentNumber, keyNumber}

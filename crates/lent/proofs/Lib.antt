@@ -1,1 +1,3 @@
 pub mod LentLaws
+pub mod LimitsLaws
+pub mod PassedLaws

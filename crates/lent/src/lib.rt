@@ -1,7 +1,8 @@
-// The refusals of a call on a store that need no look into words and pages (document 01, "Refused
-// calls"): 1, then 2, then 3 of a key.
+// What a call on a store finds without a look into words and pages (document 01, "Refused calls"): 1,
+// then 2, then 3 of a key; and limits that no sound store has, which is 9.
 use address::Index;
 use address::index_fits;
+use address::total_of;
 use shape::Key;
 use shape::Shape;
 use shape::shape_number;
@@ -13,6 +14,7 @@ ghost use lib.Dec.{ltb};
 ghost use Rattle.shape.specs.Key.{keyFits};
 ghost use Rattle.shape.specs.Shape.{shapeNumber};
 ghost use Rattle.page.specs.Page.{pageSize};
+ghost use Rattle.lent.specs.Limits.{limitsHold};
 ghost use Rattle.lent.specs.Private.{lentNumberBy, keyNumberBy};
 
 // 1 for a shape outside its bounds, then 2 for fewer than 2^L words or P pages lent; 0 for neither.
@@ -44,6 +46,27 @@ pub fn key_number(state: State, words: usize, bytes: usize, key: Key) -> u32
     }
     let shape = state.shape;
     if key_fits(shape, key) { 0 } else { 3 }
+}
+
+// Whether P is 1 to 4,096, L at most 12 and at most W, and T at most L.
+pub fn limits_hold(state: State) -> bool
+    requires { ⌜ shapeNumber (state .shape) ≡ 0 ⌝ }
+    ensures { λ r. ⌜ r ≡ limitsHold state ⌝ }
+{
+    let limits = state.limits;
+    if limits.pages < 1 {
+        return false;
+    }
+    if 4096 < limits.pages {
+        return false;
+    }
+    if 12 < limits.depth {
+        return false;
+    }
+    if total_of(widths_of(state.shape)) < (limits.depth as u64) {
+        return false;
+    }
+    state.depth <= limits.depth
 }
 
 // Whether each value of a key fits its attribute.

@@ -4,22 +4,22 @@ use mathlib.Core.Path.{_≡_}
 use mathlib.Core.Bool.{true, false}
 use mathlib.Core.List.{List}
 use native.Mathlib.Omega.{arith}
-use lib.Dec.{leb}
 use borrow.Author.Tests.{le-leb, lt-leb, lt-ltb, le-ltb}
 use Rattle.shape.specs.Refusal.{accepted, refused}
-use Rattle.shape.specs.Shape.{widthsOf, total}
+use Rattle.shape.specs.Shape.{widthsOf}
 use Rattle.split.specs.Bits.{splitBit}
 use Rattle.record.specs.Packed.{packedKey}
 use Rattle.page.specs.Page.{countOf, pageAt}
 use Rattle.page.specs.Fields.{contentAt}
 use Rattle.word.specs.Word.{leafOf}
-use Rattle.word.specs.declared.Leaf.{Leaf}
 use Rattle.word.specs.declared.Leaf.the-variants.{Empty, Page}
 use Rattle.model.specs.Model.{found}
 use Rattle.store.specs.Store.{Store}
 use Rattle.store.specs.declared.State.{State}
 use Rattle.store.proofs.ShownLaws.{wordOn}
-use Rattle.lookup.specs.Private.{keyPlace, placeAnswer, pageAnswer, leafAnswer, limitsHold, soughtAnswer}
+use Rattle.lent.specs.Limits.{limitsHold}
+use Rattle.seek.specs.Hold.{wordHolds}
+use Rattle.lookup.specs.Private.{keyPlace, placeAnswer, pageAnswer, leafAnswer, wordAnswer, soughtAnswer}
 
 -- ---- a page with n records
 
@@ -46,60 +46,22 @@ module _ (b key : ℕ) (page : List ℕ) (n : ℕ) (e : n ≡ countOf page) wher
     unfolding placeAnswer
     pageAnswer-found i p h = rw (pageAnswer-place, ← p, lt-ltb i n h)
 
--- ---- a leaf
+-- ---- a leaf, as a word names it
 
-module _ (st : State) (bytes : List ℕ) (key : ℕ) (leaf : Leaf) where
-  pub leafAnswer-empty : (x : ℕ) → leaf ≡ Empty x → refused 5 ≡ leafAnswer st bytes key leaf
-  unfolding leafAnswer
-  leafAnswer-empty x e = rw e
+module _ (st : State) (bytes : List ℕ) (key word : ℕ) where
+  pub wordAnswer-damaged : wordHolds st word ≡ false → refused 9 ≡ wordAnswer st bytes key word
+  unfolding wordAnswer
+  wordAnswer-damaged e = rw e
 
-  module _ (g x : ℕ) (e : leaf ≡ Page g x) where
-    pub leafAnswer-deep : st .depth < x → refused 9 ≡ leafAnswer st bytes key leaf
-    unfolding leafAnswer
-    leafAnswer-deep h = rw (e, lt-leb x (st .depth) h)
+  module _ (holds : wordHolds st word ≡ true) where
+    pub wordAnswer-empty : (x : ℕ) → leafOf word ≡ Empty x → refused 5 ≡ wordAnswer st bytes key word
+    unfolding wordAnswer leafAnswer
+    wordAnswer-empty x e = rw (holds, e)
 
-    pub leafAnswer-past : x ≤ st .depth → st .limits .pages ≤ g → refused 9 ≡ leafAnswer st bytes key leaf
-    unfolding leafAnswer
-    leafAnswer-past h p = rw (e, le-leb x (st .depth) h, le-ltb g (st .limits .pages) p)
-
-    pub leafAnswer-page : x ≤ st .depth → g < st .limits .pages
-        → pageAnswer (st .shape .capacity) (pageAt (st .shape .capacity) bytes g) key ≡ leafAnswer st bytes key leaf
-    unfolding leafAnswer
-    leafAnswer-page h p = rw (e, le-leb x (st .depth) h, lt-ltb g (st .limits .pages) p)
-
--- ---- limits
-
-module _ (st : State) where
-  abbrev P : ℕ
-  P = st .limits .pages
-
-  abbrev L : ℕ
-  L = st .limits .depth
-
-  abbrev W : ℕ
-  W = total (widthsOf (st .shape))
-
-  pub limitsHold-no-page : P < 1 → false ≡ limitsHold st
-  unfolding limitsHold
-  limitsHold-no-page h = rw (lt-leb 1 P h)
-
-  pub limitsHold-pages : 4096 < P → false ≡ limitsHold st
-  unfolding limitsHold
-  limitsHold-pages h = rw (le-leb 1 P (omega arith), lt-leb P 4096 h)
-
-  module _ (some : 1 ≤ P) (few : P ≤ 4096) where
-    pub limitsHold-deep : 12 < L → false ≡ limitsHold st
-    unfolding limitsHold
-    limitsHold-deep h = rw (le-leb 1 P some, le-leb P 4096 few, lt-leb L 12 h)
-
-    pub limitsHold-bits : L ≤ 12 → W < L → false ≡ limitsHold st
-    unfolding limitsHold
-    limitsHold-bits l h = rw (le-leb 1 P some, le-leb P 4096 few, le-leb L 12 l, lt-leb L W h)
-
-    -- within the others, T decides
-    pub limitsHold-depth : L ≤ 12 → L ≤ W → leb (st .depth) L ≡ limitsHold st
-    unfolding limitsHold
-    limitsHold-depth l h = rw (le-leb 1 P some, le-leb P 4096 few, le-leb L 12 l, le-leb L W h)
+    pub wordAnswer-page : (g x : ℕ) → leafOf word ≡ Page g x
+        → pageAnswer (st .shape .capacity) (pageAt (st .shape .capacity) bytes g) key ≡ wordAnswer st bytes key word
+    unfolding wordAnswer leafAnswer
+    wordAnswer-page g x e = rw (holds, e)
 
 -- ---- a store
 
@@ -108,8 +70,8 @@ module _ (store : Store) (values : List ℕ) where
   unfolding soughtAnswer
   soughtAnswer-limits e = rw e
 
-  pub soughtAnswer-leaf : limitsHold (store .state) ≡ true → (word key : ℕ)
+  pub soughtAnswer-word : limitsHold (store .state) ≡ true → (word key : ℕ)
       → word ≡ wordOn store (splitBit (widthsOf (store .state .shape)) values) → key ≡ packedKey values
-      → leafAnswer (store .state) (store .memory .bytes) key (leafOf word) ≡ soughtAnswer store values
+      → wordAnswer (store .state) (store .memory .bytes) key word ≡ soughtAnswer store values
   unfolding soughtAnswer
-  soughtAnswer-leaf e word key w k = rw (e, w, k)
+  soughtAnswer-word e word key w k = rw (e, w, k)

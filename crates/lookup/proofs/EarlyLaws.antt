@@ -1,16 +1,14 @@
--- Laws of what the early refusals and the limits leave: shape, key and lent slices of a store that they let pass; the
--- number that a sound store gives. Assumes nothing.
+-- Laws of what the early refusals leave: shape, key and lent slices of a store that they let pass; the number that a
+-- sound store gives. Assumes nothing.
 use Prim.Native.Nat.{ℕ, _^_, _≤_}
 use mathlib.Core.Path.{_≡_, refl, subst, _∙_}
-use mathlib.Core.Bool.{Bool, true, false, not, _&&_, _||_, cond}
+use mathlib.Core.Bool.{Bool, true, false, not, _||_, cond}
 use mathlib.Core.List.{List}
 use native.Mathlib.Omega.{arith}
-use lib.Dec.{leb}
 use lib.ListN.{length}
-use borrow.Author.Tests.{leb-true, ltb-false, le-ltb, not-false}
-use Rattle.lists.proofs.Bools.{and-split}
+use borrow.Author.Tests.{ltb-false, le-ltb, not-false}
 use Rattle.shape.specs.Refusal.{firstNumber}
-use Rattle.shape.specs.Shape.{within, inBounds, shapeConditions, shapeNumber, widthsOf, total}
+use Rattle.shape.specs.Shape.{inBounds, shapeConditions, shapeNumber}
 use Rattle.shape.specs.Key.{keyFits, encodings}
 use Rattle.shape.specs.declared.Shape.{Shape}
 use Rattle.shape.proofs.ShapeLaws.{shapeNumber-true}
@@ -20,8 +18,6 @@ use Rattle.record.proofs.KeyLaws.{key-below-bytes}
 use Rattle.model.proofs.SetLaws.{firstNumber-zero, length-encodings, indexFits-encodings}
 use Rattle.store.specs.Store.{Store, pagesSize, lentConditions}
 use Rattle.store.specs.Promises.{keyNumber}
-use Rattle.store.specs.declared.State.{State}
-use Rattle.lookup.specs.Private.{limitsHold}
 
 -- ---- 1, 2, 3
 
@@ -71,25 +67,3 @@ unfolding encodings
 SixteenBits-of-keyFits s values n f e =
     subst SixteenBits (perAttribute-getD values e)
     (key-below-bytes s n (encodings s values) (length-encodings s values) (indexFits-encodings s values ∙ f))
-
--- ---- limits
-
-pub record Limited (st : State) : Type 0 where
-  pub few : st .limits .pages ≤ 4096
-  pub bits : st .limits .depth ≤ total (widthsOf (st .shape))
-  pub within-limit : st .depth ≤ st .limits .depth
-
-pub limited : (st : State) → limitsHold st ≡ true → Limited st
-unfolding limitsHold
-limited st e =
-    let L = st .limits .depth in
-    let W = total (widthsOf (st .shape)) in
-    let pages = and-split (within 1 4096 (st .limits .pages)) (leb L 12 && (leb L W && leb (st .depth) L)) e in
-    let few = and-split (leb 1 (st .limits .pages)) (leb (st .limits .pages) 4096) (pages .0) in
-    let depth = and-split (leb L 12) (leb L W && leb (st .depth) L) (pages .1) in
-    let last = and-split (leb L W) (leb (st .depth) L) (depth .1) in
-    record {
-      few = leb-true (st .limits .pages) 4096 (few .1);
-      bits = leb-true L W (last .0);
-      within-limit = leb-true (st .depth) L (last .1);
-    }

@@ -1,11 +1,11 @@
 -- Lookup's promise: kept by the number of an early refusal, and by the answer of the store otherwise. Assumes nothing.
 use Prim.Native.Nat.{ℕ}
 use mathlib.Core.Path.{_≡_, refl, sym, ap, subst, _∙_}
-use mathlib.Core.Bool.{Bool, true, false, not, _&&_, cond}
+use mathlib.Core.Bool.{Bool, true, false, not, cond}
 use mathlib.Core.List.{List}
 use mathlib.Core.Logic.{_⊎_, inl, inr}
 use native.Mathlib.Omega.{arith}
-use lib.Dec.{leb, ltb}
+use lib.Dec.{ltb}
 use Rattle.shape.specs.Refusal.{Answer, accepted, refused}
 use Rattle.shape.specs.Shape.{within, widthsOf}
 use Rattle.shape.specs.Key.{keyFits}
@@ -23,7 +23,9 @@ use Rattle.store.specs.Store.{Store, fixedOf}
 use Rattle.store.specs.Promises.{keyNumber, LookupPromise}
 use Rattle.store.specs.declared.State.{State}
 use Rattle.store.proofs.ShownLaws.{wordOn}
-use Rattle.lookup.specs.Private.{keyPlace, placeAnswer, pageAnswer, leafAnswer, limitsHold, soughtAnswer}
+use Rattle.lent.specs.Limits.{limitsHold}
+use Rattle.seek.specs.Hold.{wordHolds}
+use Rattle.lookup.specs.Private.{keyPlace, placeAnswer, pageAnswer, leafAnswer, wordAnswer, soughtAnswer}
 use Rattle.lookup.proofs.EarlyLaws.{passed}
 use Rattle.lookup.proofs.SoughtLaws.{keyNumber-read, soughtAnswer-stored}
 use Rattle.lookup.proofs.StoredLaws.{lookup-unfit, lookup-stored}
@@ -53,22 +55,26 @@ pageAnswer-ordinary b key page =
     let i = keyPlace page key n 0 in
     ordinary-or-nine (within 1 b n) (placeAnswer page n i) (placeAnswer-ordinary page n i)
 
-leafAnswer-ordinary : (st : State) (bytes : List ℕ) (key : ℕ) (leaf : Leaf) → Ordinary (leafAnswer st bytes key leaf)
+leafAnswer-ordinary : (b key : ℕ) (bytes : List ℕ) (leaf : Leaf) → Ordinary (leafAnswer b bytes key leaf)
 unfolding leafAnswer
-leafAnswer-ordinary st bytes key (Empty depth) = inr (inl refl)
-leafAnswer-ordinary st bytes key (Page g depth) =
+leafAnswer-ordinary b key bytes (Empty depth) = inr (inl refl)
+leafAnswer-ordinary b key bytes (Page g depth) = pageAnswer-ordinary b key (pageAt b bytes g)
+
+wordAnswer-ordinary : (st : State) (bytes : List ℕ) (key word : ℕ) → Ordinary (wordAnswer st bytes key word)
+unfolding wordAnswer
+wordAnswer-ordinary st bytes key word =
     let b = st .shape .capacity in
-    let page = pageAt b bytes g in
-    ordinary-or-nine (leb depth (st .depth) && ltb g (st .limits .pages)) (pageAnswer b page key)
-    (pageAnswer-ordinary b key page)
+    ordinary-or-nine (wordHolds st word) (leafAnswer b bytes key (leafOf word))
+    (leafAnswer-ordinary b key bytes (leafOf word))
 
 soughtAnswer-ordinary : (store : Store) (values : List ℕ) → Ordinary (soughtAnswer store values)
 unfolding soughtAnswer
 soughtAnswer-ordinary store values =
     let st = store .state in
-    let leaf = leafOf (wordOn store (splitBit (widthsOf (st .shape)) values)) in
-    ordinary-or-nine (limitsHold st) (leafAnswer st (store .memory .bytes) (packedKey values) leaf)
-    (leafAnswer-ordinary st (store .memory .bytes) (packedKey values) leaf)
+    let bytes = store .memory .bytes in
+    let word = wordOn store (splitBit (widthsOf (st .shape)) values) in
+    ordinary-or-nine (limitsHold st) (wordAnswer st bytes (packedKey values) word)
+    (wordAnswer-ordinary st bytes (packedKey values) word)
 
 -- ---- the promise
 

@@ -7,7 +7,6 @@ use mathlib.Core.List.{List, [], _∷_}
 use native.Mathlib.Numerals.{add-one}
 use native.Mathlib.Omega.{arith}
 use lib.ListN.{length}
-use borrow.Author.Tests.{le-leb}
 use Rattle.lists.specs.Filter.{all, nonEmpty}
 use Rattle.lists.proofs.FilterLaws.{all-filter}
 use Rattle.shape.specs.Shape.{shapeNumber, widthsOf, total}
@@ -30,14 +29,14 @@ use Rattle.store.specs.Store.{Store}
 use Rattle.store.specs.Sound.{Sound}
 use Rattle.store.specs.Promises.{keyNumber, keyQuery, withBytes, SoundWhereRead}
 use Rattle.store.proofs.AgreeLaws.{Agree-le, wordAt-agree}
-use Rattle.store.proofs.ShownLaws.{wordOn, shape-of-Sound, depth-of-Sound, leafDepth-le-depth}
-use Rattle.store.proofs.ShownLaws.{wordOn-depth, leafRecords-page}
+use Rattle.store.proofs.ShownLaws.{wordOn, shape-of-Sound, depth-of-Sound, leafRecords-page}
 use Rattle.store.proofs.SetLaws.{length-leafRecords}
 use Rattle.store.proofs.DividedLaws.{leafDepth-le-total, leafRecords-divisionOf}
 use Rattle.store.proofs.KeyLaws.{keyWord, stored-no-page, stored-page}
-use Rattle.lookup.specs.Private.{pageAnswer, leafAnswer, limitsHold, soughtAnswer}
-use Rattle.lookup.proofs.CaseLaws.{pageAnswer-place, leafAnswer-empty, leafAnswer-page, limitsHold-depth}
-use Rattle.lookup.proofs.CaseLaws.{soughtAnswer-leaf}
+use Rattle.lent.proofs.LimitsLaws.{limits-of-sound}
+use Rattle.seek.proofs.HoldLaws.{word-of-sound}
+use Rattle.lookup.specs.Private.{pageAnswer, wordAnswer, soughtAnswer}
+use Rattle.lookup.proofs.CaseLaws.{pageAnswer-place, wordAnswer-empty, wordAnswer-page, soughtAnswer-word}
 use Rattle.lookup.proofs.EarlyLaws.{keyNumber-lent}
 use Rattle.lookup.proofs.KeyBitLaws.{packedKey-encodings, Agree-encodings, agrees-keyQuery}
 use Rattle.lookup.proofs.StoredLaws.{storedAnswer, placeAnswer-stored}
@@ -102,12 +101,6 @@ module _ (store : Store) (values : List ℕ) (S : List Record)
   keyNumber-read =
       keyNumber-lent store values (sound .shape) (sound .words-lent) (omega (arith, sound .pages-lent, w .2))
 
-  limits : limitsHold (store .state) ≡ true
-  limits =
-      sym
-      (limitsHold-depth (store .state) (sound .some-page) (sound .most-pages) (sound .depth-limit) (sound .depth-bits))
-      ∙ le-leb (store .state .depth) (store .state .limits .depth) (sound .depth-within)
-
   -- the cell of the values is the cell of the key
   word-key : keyWord whole key ≡ wordOn store (splitBit (widthsOf s) values)
   word-key =
@@ -116,16 +109,16 @@ module _ (store : Store) (values : List ℕ) (S : List Record)
       (Agree-le (splitBit (widthsOf s) values) bits (store .state .depth) (total (widthsOf s))
       (depth-of-Sound whole S sound) (Agree-encodings s values good)))
 
-  leafAnswer-sound : keyFits s values ≡ true → (field : ℕ) → keyWord whole key % 2 ^ 16 ≡ field
-      → leafAnswer (store .state) (store .memory .bytes) (packedKey values) (leafOf (keyWord whole key))
+  wordAnswer-sound : keyFits s values ≡ true → (field : ℕ) → keyWord whole key % 2 ^ 16 ≡ field
+      → wordAnswer (store .state) (store .memory .bytes) (packedKey values) (keyWord whole key)
       ≡ storedAnswer (stored key S)
-  leafAnswer-sound f zero e =
-      sym (leafAnswer-empty (store .state) (store .memory .bytes) (packedKey values) (leafOf (keyWord whole key)) _
-      (leafOf-empty (keyWord whole key) e))
+  wordAnswer-sound f zero e =
+      sym (wordAnswer-empty (store .state) (store .memory .bytes) (packedKey values) (keyWord whole key)
+      (word-of-sound whole S sound bits) _ (leafOf-empty (keyWord whole key) e))
       ∙ ap storedAnswer (sym (stored-no-page whole S sound key e))
-  leafAnswer-sound f (suc g) e =
-      sym (leafAnswer-page (store .state) (store .memory .bytes) (packedKey values) (leafOf (keyWord whole key)) g x
-      (leafOf-suc (keyWord whole key) g e) deep (leaf .0))
+  wordAnswer-sound f (suc g) e =
+      sym (wordAnswer-page (store .state) (store .memory .bytes) (packedKey values) (keyWord whole key)
+      (word-of-sound whole S sound bits) g _ (leafOf-suc (keyWord whole key) g e))
       ∙ ap (λ page. pageAnswer (s .capacity) page (packedKey values)) read
       ∙ ap (pageAnswer (s .capacity) page) (packedKey-encodings s values)
       ∙ pageAnswer-stored s good S (sound .set) bits (s .capacity) key page
@@ -136,9 +129,6 @@ module _ (store : Store) (values : List ℕ) (S : List Record)
       plus : keyWord whole key % 2 ^ 16 ≡ g + 1
       plus = e ∙ sym (add-one g)
 
-      x : ℕ
-      x = keyWord whole key / 2 ^ 16
-
       page : List ℕ
       page = pageAt (s .capacity) (w .0) g
 
@@ -148,14 +138,12 @@ module _ (store : Store) (values : List ℕ) (S : List Record)
           × (nonEmpty (leafRecords bits 0 (divisionOf s S)) ≡ true)
       leaf = leafRecords-page whole S sound bits g plus
 
-      deep : x ≤ store .state .depth
-      deep = omega (arith, wordOn-depth whole S sound bits, leafDepth-le-depth whole S sound bits)
-
       -- the page of the key's leaf is as that of the sound store
       read : pageAt (s .capacity) (store .memory .bytes) g ≡ page
       read = w .3 bits (agrees-keyQuery s values good _ (leafDepth-le-total s S bits)) g _ (leaf .0) (leaf .1)
 
   pub soughtAnswer-stored : keyFits s values ≡ true → soughtAnswer store values ≡ storedAnswer (stored key S)
   soughtAnswer-stored f =
-      sym (soughtAnswer-leaf store values limits (keyWord whole key) (packedKey values) word-key refl)
-      ∙ leafAnswer-sound f (keyWord whole key % 2 ^ 16) refl
+      let limits = limits-of-sound whole S sound in
+      sym (soughtAnswer-word store values limits (keyWord whole key) (packedKey values) word-key refl)
+      ∙ wordAnswer-sound f (keyWord whole key % 2 ^ 16) refl

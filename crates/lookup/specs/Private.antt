@@ -1,11 +1,11 @@
 -- What lookup answers on any store, sound or not, step by step: the place of a key on a page, the page, the leaf, the
 -- store (document 01, "Calls", "Refused calls" 5 and 9). Assumes nothing.
 use Prim.Native.Nat.{ℕ, zero, suc}
-use mathlib.Core.Bool.{Bool, _&&_, cond}
+use mathlib.Core.Bool.{cond}
 use mathlib.Core.List.{List}
-use lib.Dec.{leb, ltb, eqb}
+use lib.Dec.{ltb, eqb}
 use Rattle.shape.specs.Refusal.{Answer, accepted, refused}
-use Rattle.shape.specs.Shape.{within, widthsOf, total}
+use Rattle.shape.specs.Shape.{within, widthsOf}
 use Rattle.split.specs.Bits.{splitBit}
 use Rattle.record.specs.Packed.{packedKey}
 use Rattle.page.specs.Page.{countOf, pageAt}
@@ -16,6 +16,8 @@ use Rattle.word.specs.declared.Leaf.the-variants.{Empty, Page}
 use Rattle.model.specs.Model.{Reply, found}
 use Rattle.store.specs.Store.{Store, wordAt}
 use Rattle.store.specs.declared.State.{State}
+use Rattle.lent.specs.Limits.{limitsHold}
+use Rattle.seek.specs.Hold.{wordHolds}
 
 -- ---- a page
 
@@ -36,24 +38,21 @@ pageAnswer b page key =
 
 -- ---- a leaf, as the word of the key's cell names it
 
--- "A word taken apart without a page means absent, with no read"; 9 for a depth above T and for "page number P"
-unfoldable pub leafAnswer : State → List ℕ → ℕ → Leaf → Answer Reply
-leafAnswer st bytes key (Empty depth) = refused 5
-leafAnswer st bytes key (Page g depth) =
-    let b = st .shape .capacity in
-    cond (leb depth (st .depth) && ltb g (st .limits .pages)) (pageAnswer b (pageAt b bytes g) key) (refused 9)
+-- "A word taken apart without a page means absent, with no read"
+unfoldable pub leafAnswer : ℕ → List ℕ → ℕ → Leaf → Answer Reply
+leafAnswer b bytes key (Empty depth) = refused 5
+leafAnswer b bytes key (Page g depth) = pageAnswer b (pageAt b bytes g) key
+
+-- 9 for a word that no sound store has: a depth above T, "word with page number P"
+unfoldable pub wordAnswer : State → List ℕ → ℕ → ℕ → Answer Reply
+wordAnswer st bytes key word =
+    cond (wordHolds st word) (leafAnswer (st .shape .capacity) bytes key (leafOf word)) (refused 9)
 
 -- ---- a store
 
--- "P is 1–4,096, L is at most 12 and at most W, and T is at most L"
-unfoldable pub limitsHold : State → Bool
-limitsHold st =
-    let L = st .limits .depth in
-    within 1 4096 (st .limits .pages) && (leb L 12 && (leb L (total (widthsOf (st .shape))) && leb (st .depth) L))
-
--- the answer after 1, 2 and 3
+-- the answer after 1, 2 and 3: 9 for limits that no sound store has
 unfoldable pub soughtAnswer : Store → List ℕ → Answer Reply
 soughtAnswer store values =
     let st = store .state in
     let word = wordAt (st .shape) (st .depth) (store .memory .words) (splitBit (widthsOf (st .shape)) values) in
-    cond (limitsHold st) (leafAnswer st (store .memory .bytes) (packedKey values) (leafOf word)) (refused 9)
+    cond (limitsHold st) (wordAnswer st (store .memory .bytes) (packedKey values) word) (refused 9)

@@ -1,32 +1,29 @@
 // The call Lookup: a key's record, by the word of its cell and the page of its leaf (document 01,
 // "Calls").
-use address::total_of;
-use directory::cells::find_cell;
 use lent::key_number;
+use lent::limits_hold;
 use page::content_at;
 use page::count;
 use page::key_at;
 use record::RECORD_SIZE;
 use record::pack_key;
+use seek::key_word;
+use seek::word_holds;
 use shape::Key;
-use shape::widths_of;
 use store::Found;
 use store::State;
 use word::Leaf;
 use word::unpack;
 ghost use mathlib.Core.Path.{_≡_};
-ghost use Prim.Native.Nat.{_^_, _<_, _≤_};
+ghost use Prim.Native.Nat.{_≤_};
 ghost use lib.ListN.{length};
-ghost use Rattle.shape.specs.Shape.{shapeNumber, widthsOf, total};
-ghost use Rattle.split.specs.Bits.{splitBit};
 ghost use Rattle.page.specs.Fields.{recordOffset};
 ghost use Rattle.page.specs.Page.{pageSize, pageAt};
 ghost use Rattle.pages.specs.Pages.{PageLent};
-ghost use Rattle.word.specs.Word.{leafOf};
 ghost use Rattle.store.specs.Answers.{foundAnswer};
 ghost use Rattle.store.specs.Promises.{keyNumber, LookupPromise};
-ghost use Rattle.store.specs.Store.{store, pagesSize, wordAt};
-ghost use Rattle.lookup.specs.Private.{keyPlace, pageAnswer, leafAnswer, limitsHold, soughtAnswer};
+ghost use Rattle.store.specs.Store.{store, pagesSize};
+ghost use Rattle.lookup.specs.Private.{keyPlace, pageAnswer, wordAnswer, soughtAnswer};
 
 // The content of a key's record, and the pages read: 1. Refused with 1, 2, 3, 5 or 9, the first that
 // holds in this order. Writes nothing.
@@ -38,11 +35,11 @@ pub fn lookup(state: State, dir: &[u32], pages: &[u8], key: Key) -> Found
     if number != 0 {
         return Found::Refused(number);
     }
-    seek(state, dir, pages, key)
+    seek_key(state, dir, pages, key)
 }
 
 // The record of a key after 1, 2 and 3: 9 for limits that no sound store has.
-fn seek(state: State, dir: &[u32], pages: &[u8], key: Key) -> Found
+fn seek_key(state: State, dir: &[u32], pages: &[u8], key: Key) -> Found
     requires { ⌜ keyNumber (store state (now dir) (now pages)) (key .values) ≡ 0 ⌝ }
     ensures { λ r. ⌜ foundAnswer r
         ≡ soughtAnswer (store state (now (dir .entry)) (now (pages .entry))) (key .values) ⌝ }
@@ -52,60 +49,24 @@ fn seek(state: State, dir: &[u32], pages: &[u8], key: Key) -> Found
     }
     let values = key.values;
     let word = key_word(state, dir, values);
-    seek_in_leaf(state, pages, word, pack_key(key))
+    seek_by_word(state, pages, word, pack_key(key))
 }
 
-// Whether P is 1 to 4,096, L at most 12 and at most W, and T at most L.
-pub fn limits_hold(state: State) -> bool
-    requires { ⌜ shapeNumber (state .shape) ≡ 0 ⌝ }
-    ensures { λ r. ⌜ r ≡ limitsHold state ⌝ }
-{
-    let limits = state.limits;
-    if limits.pages < 1 {
-        return false;
-    }
-    if 4096 < limits.pages {
-        return false;
-    }
-    if 12 < limits.depth {
-        return false;
-    }
-    if total_of(widths_of(state.shape)) < (limits.depth as u64) {
-        return false;
-    }
-    state.depth <= limits.depth
-}
-
-// The word at the cell of a key.
-pub fn key_word(state: State, dir: &[u32], values: [u32; 4]) -> u32
-    requires { ⌜ (shapeNumber (state .shape) ≡ 0) × (state .depth ≤ total (widthsOf (state .shape))) ⌝ }
-    requires { ⌜ 2 ^ state .depth ≤ length (now dir) ⌝ }
-    ensures { λ r. ⌜ r ≡ wordAt (state .shape) (state .depth) (now (dir .entry))
-        (splitBit (widthsOf (state .shape)) values) ⌝ }
-{
-    let cell = find_cell(widths_of(state.shape), values, state.depth as u64);
-    dir[cell as usize]
-}
-
-// The record of a packed key in the leaf that a word names: 5 for a leaf without a page, 9 for a
-// depth above T or a page number of P or more.
-fn seek_in_leaf(state: State, pages: &[u8], word: u32, key: u64) -> Found
+// The record of a packed key in the leaf that a word names: 9 for a word that no sound store has, 5
+// for a leaf without a page, which is not read.
+fn seek_by_word(state: State, pages: &[u8], word: u32, key: u64) -> Found
     requires { ⌜ (state .shape .capacity ≤ 16) × (state .limits .pages ≤ 4096) ⌝ }
     requires { ⌜ pagesSize state ≤ length (now pages) ⌝ }
-    ensures { λ r. ⌜ foundAnswer r ≡ leafAnswer state (now (pages .entry)) key (leafOf word) ⌝ }
+    ensures { λ r. ⌜ foundAnswer r ≡ wordAnswer state (now (pages .entry)) key word ⌝ }
 {
-    let shape = state.shape;
-    let limits = state.limits;
+    if !word_holds(state, word) {
+        return Found::Refused(9);
+    }
     let found = unpack(word);
     let Leaf::Page(page, depth) = found else {
         return Found::Refused(5);
     };
-    if state.depth < depth {
-        return Found::Refused(9);
-    }
-    if limits.pages <= page {
-        return Found::Refused(9);
-    }
+    let shape = state.shape;
     seek_at(pages, shape.capacity as usize, page as usize, key)
 }
 

@@ -42,7 +42,7 @@ module _ (ws : List ℕ) (fit : Fit ws) where
     t = length (stepsBelow ws g)
 
     -- the bits before the step agree
-    agree-before : AgreeFrom (splitBit ws x) (splitBit ws y) t 0
+    pub agree-before : AgreeFrom (splitBit ws x) (splitBit ws y) t 0
     unfolding stepNumber
     agree-before u l =
         let s = stepNumber-onto ws u g l in
@@ -55,7 +55,7 @@ module _ (ws : List ℕ) (fit : Fit ws) where
         subst (λ v. splitBit ws x v ≡ splitBit ws y v) here
         (splitBit-place x h live ∙ d .same-before h (s .5) live ∙ sym (splitBit-place y h live))
 
-    differ-here : g < 64 → DifferAt (splitBit ws x) (splitBit ws y) (0 + t)
+    pub differ-here : g < 64 → DifferAt (splitBit ws x) (splitBit ws y) (0 + t)
     differ-here l e =
         let live = d .step-there l in
         d .differ-there l
@@ -64,7 +64,7 @@ module _ (ws : List ℕ) (fit : Fit ws) where
         ∙ splitBit-place y g live)
 
     module _ (all : length (steps ws) ≡ total ws) where
-      t-lt : g < 64 → t < total ws
+      pub t-lt : g < 64 → t < total ws
       t-lt l = omega (arith, all, stepsBelow-lt g (d .step-there l))
 
       t-all : 64 ≤ g → t ≡ total ws

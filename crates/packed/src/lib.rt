@@ -96,17 +96,13 @@ fn smaller(a: u64, b: u64) -> u64
     if a < b { a } else { b }
 }
 
-// The width of attribute j.
+// The width of attribute j, from all four in one number: no jump that a random j makes unforeseeable.
 fn width_at(widths: Widths, j: u64) -> u64
-    requires { ⌜ j < 4 ⌝ }
+    requires { ⌜ Fit (widthList widths) × (j < 4) ⌝ }
     ensures { λ r. ⌜ r ≡ getD (widthList widths) j 0 ⌝ }
 {
-    match j {
-        0 => widths.w0,
-        1 => widths.w1,
-        2 => widths.w2,
-        _ => widths.w3,
-    }
+    let all = widths.w0 + widths.w1 * 0x100 + widths.w2 * 0x10000 + widths.w3 * 0x1000000;
+    (all >> (8 * j)) & 0xff
 }
 
 // The depth of an attribute j of w bits just before the pair at place g.

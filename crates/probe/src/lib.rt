@@ -1,5 +1,12 @@
 // Inner steps, exported for tests and benchmarks: each export hands its arguments on to one step, with
-// that step's contract. A caller tests what the `requires` asks.
+// that step's contract. A caller tests what the `requires` asks. Enums cross as numbers (`specs/`).
+//
+// Here are the steps on the directory; the modules have those on words, keys, pages and queries.
+pub mod keys;
+pub mod matching;
+pub mod records;
+pub mod words;
+
 use directory::cells::find_cell;
 use directory::doubling::double;
 use directory::regions::fill;

@@ -1,5 +1,5 @@
 -- Laws of the call query: what each step asks, and the promise from what the steps leave. Assumes nothing.
-use Prim.Native.Nat.{ℕ, _+_, _*_, _/_, _^_, _≤_, _<_, min}
+use Prim.Native.Nat.{ℕ, _/_, _^_, _≤_, _<_, min}
 use mathlib.Core.Path.{_≡_, refl, sym, ap, _∙_, subst}
 use mathlib.Core.Bool.{Bool, true, false, true≢false}
 use mathlib.Core.List.{List, map, flatMap}
@@ -23,20 +23,21 @@ use Rattle.model.proofs.MatchLaws.{matches-agrees}
 use Rattle.page.specs.Page.{pageAt, recordsOf}
 use Rattle.select.specs.Pattern.{GivenSixteenBits, bitsOf, patternOf}
 use Rattle.select.specs.Output.{emit}
-use Rattle.select.proofs.EmitLaws.{IsField}
 use Rattle.store.specs.declared.State.{State}
 use Rattle.store.specs.Store.{store}
-use Rattle.store.specs.Promises.{QueryPromise, SoundWhereRead}
+use Rattle.store.specs.Promises.{QueryPromise, SoundWhereRead, withBytes}
+use Rattle.lent.specs.Limits.{limitsHold}
 use Rattle.lent.specs.Private.{lentNumberBy}
 use Rattle.lent.proofs.LentLaws.{shape-of-lentNumberBy}
+use Rattle.lent.proofs.LimitsLaws.{limits-parts, limits-of-sound}
 use Rattle.walk.specs.declared.Noted.{Noted}
 use Rattle.walk.specs.declared.Noted.the-variants.{Pages, Damaged}
-use Rattle.walk.specs.Seen.{walkSeen, Put, Walkable, fairPage}
+use Rattle.walk.specs.Seen.{walkSeen, Put, Walkable}
 use Rattle.walk.proofs.NotedLaws.{noted-le, noted-readable, noted-reads, noted-records}
-use Rattle.query.specs.Private.{queryNumberBy, walkable, PagesListed, listHits}
-use Rattle.query.proofs.EarlyLaws.{parts-of-queryNumberBy, lent-of-lentNumberBy, bounds-of-walkable, indexFits-query}
+use Rattle.query.specs.Private.{queryNumberBy, PagesListed, listHits}
+use Rattle.query.proofs.EarlyLaws.{parts-of-queryNumberBy, lent-of-lentNumberBy, indexFits-query}
 use Rattle.query.proofs.NotedLaws.{Lent, Lent-readable, All-take-of, IsField-listHits, map-listHits}
-use Rattle.query.proofs.PromiseLaws.{walkable-sound, promise-nine, promise-listed}
+use Rattle.query.proofs.PromiseLaws.{promise-nine, promise-listed}
 
 abbrev isPages : Noted → Bool
 isPages (Pages n) = true
@@ -61,23 +62,23 @@ module _ (st : State) (words bytes : List ℕ) (q : List (Option ℕ))
   six-of-none =
       key-below-bytes (st .shape) shape-of-none (bitsOf q) refl (indexFits-query (st .shape) q ∙ fits)
 
-  pub nine-unwalkable : (out : List ℕ) → walkable st ≡ false → QueryPromise (store st words bytes) q out (refused 9) out
-  nine-unwalkable out e =
+  pub nine-limits : (out : List ℕ) → limitsHold st ≡ false → QueryPromise (store st words bytes) q out (refused 9) out
+  nine-limits out e =
       promise-nine st words bytes q out (sym none)
-      (λ S h. true≢false (sym (walkable-sound st words bytes q out S h) ∙ e))
+      (λ S h. true≢false (sym (limits-of-sound (withBytes (store st words bytes) (h .0)) S (h .1)) ∙ e))
 
-  module _ (can : walkable st ≡ true) where
+  module _ (can : limitsHold st ≡ true) where
     pub walkable-none : Walkable st (length words) (length bytes) 4096
     walkable-none =
-        let b = bounds-of-walkable st can in
+        let b = limits-parts st can in
         let l = lent-of-lentNumberBy st (length words) (length bytes) q lent in
-        let p : 2 ^ st .depth ≤ 2 ^ st .limits .depth = pow-mono {i = st .depth} {j = st .limits .depth} (b .0) in
+        let p : 2 ^ st .depth ≤ 2 ^ st .limits .depth = pow-mono {i = st .depth} {j = st .limits .depth} (b .4) in
         record {
           shape = inBounds-of (st .shape) shape-of-none;
-          depth-twelve = omega (arith, b .0, b .1);
-          depth-bits = omega (arith, b .0, b .3);
+          depth-twelve = omega (arith, b .4, b .2);
+          depth-bits = omega (arith, b .4, b .3);
           words-lent = omega (arith, l .0, p);
-          most-pages = b .2;
+          most-pages = b .1;
           pages-lent = l .1;
           list-lent = omega arith;
         }
@@ -93,8 +94,8 @@ module _ (st : State) (words bytes : List ℕ) (q : List (Option ℕ))
       module _ (n : ℕ) (e : r ≡ Pages n) where
         few : n ≤ 4096
         few =
-            let b = bounds-of-walkable st can in
-            let p : 2 ^ st .depth ≤ 2 ^ 12 = pow-mono {i = st .depth} {j = 12} (omega (arith, b .0, b .1)) in
+            let b = limits-parts st can in
+            let p : 2 ^ st .depth ≤ 2 ^ 12 = pow-mono {i = st .depth} {j = 12} (omega (arith, b .4, b .2)) in
             omega (arith, p, noted-le st words bytes (queryBits (st .shape) q) list r later o n e)
 
         each-lent : (i : ℕ) → i < n → Lent (st .shape .capacity) bytes (getD later i 0)

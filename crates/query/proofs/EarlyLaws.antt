@@ -1,18 +1,17 @@
 -- Laws of the query's early refusals, one for each way that the tests end. Assumes nothing.
-use Prim.Native.Nat.{ℕ, _^_, _≤_, _<_}
-use mathlib.Core.Path.{_≡_, refl, sym, ap, _∙_}
+use Prim.Native.Nat.{ℕ, _^_, _≤_}
+use mathlib.Core.Path.{_≡_, refl, sym, _∙_}
 use mathlib.Core.Bool.{Bool, true, false, not, cond, _&&_, _||_}
-use mathlib.Core.List.{List, [], _∷_, _++_}
+use mathlib.Core.List.{List}
 use mathlib.Core.Option.{Option, none, some}
 use native.Mathlib.Omega.{arith}
-use lib.Dec.{ltb, leb}
+use lib.Dec.{ltb}
 use lib.ListN.{length, getD}
 use lib.Pow.{pow-pos}
-use borrow.Author.Tests.{lt-ltb, le-leb, lt-leb, leb-true, ltb-false}
-use Rattle.lists.proofs.Bools.{and-split}
+use borrow.Author.Tests.{lt-ltb, ltb-false}
 use Rattle.shape.specs.Refusal.{firstNumber}
-use Rattle.shape.specs.Shape.{shapeConditions, inBounds, widthOf, widthsOf, total, indexFits}
-use Rattle.shape.specs.Key.{valueFits, keyFits, ifGiven, isGiven, namesUnused, queryFits, encodings, perAttribute}
+use Rattle.shape.specs.Shape.{shapeConditions, inBounds, widthOf, widthsOf, indexFits}
+use Rattle.shape.specs.Key.{valueFits, keyFits, ifGiven, namesUnused, queryFits, encodings}
 use Rattle.shape.specs.declared.Shape.{Shape}
 use Rattle.model.specs.Model.{queryConditions}
 use Rattle.model.proofs.SetLaws.{indexFits-encodings}
@@ -21,7 +20,7 @@ use Rattle.store.specs.Store.{store, lentConditions, pagesSize}
 use Rattle.store.specs.Promises.{queryNumber}
 use Rattle.store.specs.declared.State.{State}
 use Rattle.lent.specs.Private.{lentBy, lentNumberBy}
-use Rattle.query.specs.Private.{queryNumberBy, walkable}
+use Rattle.query.specs.Private.{queryNumberBy}
 
 -- ---- 8 and 3
 
@@ -117,39 +116,3 @@ pub queryNumber-by : (st : State) (words bytes : List ℕ) (q : List (Option ℕ
     → queryNumber (store st words bytes) q ≡ queryNumberBy st (length words) (length bytes) q
 unfolding queryNumber lentConditions queryNumberBy lentBy
 queryNumber-by st words bytes q = refl
-
--- ---- what the walk needs
-
-module _ (st : State) where
-  abbrev W : ℕ
-  W = total (widthsOf (st .shape))
-
-  pub walkable-of : st .depth ≤ st .limits .depth → st .limits .depth ≤ 12 → st .limits .pages ≤ 4096
-      → leb (st .limits .depth) W ≡ walkable st
-  unfolding walkable
-  walkable-of a b c =
-      sym (rw (le-leb (st .depth) (st .limits .depth) a, le-leb (st .limits .depth) 12 b, le-leb (st .limits .pages) 4096 c))
-
-  pub walkable-deep : st .limits .depth < st .depth → false ≡ walkable st
-  unfolding walkable
-  walkable-deep a = sym (rw (lt-leb (st .depth) (st .limits .depth) a))
-
-  pub walkable-twelve : st .depth ≤ st .limits .depth → 12 < st .limits .depth → false ≡ walkable st
-  unfolding walkable
-  walkable-twelve a b =
-      sym (rw (le-leb (st .depth) (st .limits .depth) a, lt-leb (st .limits .depth) 12 b))
-
-  pub walkable-pages : st .depth ≤ st .limits .depth → st .limits .depth ≤ 12 → 4096 < st .limits .pages
-      → false ≡ walkable st
-  unfolding walkable
-  walkable-pages a b c =
-      sym (rw (le-leb (st .depth) (st .limits .depth) a, le-leb (st .limits .depth) 12 b, lt-leb (st .limits .pages) 4096 c))
-
-  pub bounds-of-walkable : walkable st ≡ true
-      → (st .depth ≤ st .limits .depth) × (st .limits .depth ≤ 12) × (st .limits .pages ≤ 4096) × (st .limits .depth ≤ W)
-  unfolding walkable
-  bounds-of-walkable e =
-      let a = and-split (leb (st .depth) (st .limits .depth)) _ e in
-      let b = and-split (leb (st .limits .depth) 12) _ (a .1) in
-      let c = and-split (leb (st .limits .pages) 4096) _ (b .1) in
-      (leb-true _ _ (a .0), leb-true _ _ (b .0), leb-true _ _ (c .0), leb-true _ _ (c .1))

@@ -1,38 +1,36 @@
 -- Laws of the query's promise, one for each way that the call ends. Assumes nothing.
-use Prim.Native.Nat.{ℕ, zero, suc, _+_, _-_, _*_, _/_, _^_, _≤_, _<_, min}
+use Prim.Native.Nat.{ℕ, zero, suc, _-_, _*_, _/_, _^_, _≤_, min}
 use mathlib.Core.Path.{_≡_, refl, sym, ap, _∙_, subst}
 use mathlib.Core.Bool.{Bool, true, false, true≢false, false≢true}
-use mathlib.Core.List.{List, [], _∷_, _++_, map}
-use mathlib.Core.Logic.{_⊎_, inl, inr}
+use mathlib.Core.List.{List, [], _∷_, map}
+use mathlib.Core.Logic.{inl, inr}
 use mathlib.Core.Option.{Option}
 use native.Mathlib.Omega.{arith}
 use lib.ListN.{length, take, drop, length-append, length-map}
 use lib.Seq.{drop-at, length-take-le}
-use borrow.Author.Tests.{le-ltb, le-leb}
+use borrow.Author.Tests.{le-ltb}
 use Rattle.lists.specs.Filter.{filter}
 use Rattle.lists.specs.Members.{All}
-use Rattle.shape.specs.Refusal.{Answer, accepted, refused, answered, firstNumber}
-use Rattle.shape.specs.Shape.{shapeNumber, widthsOf, total}
+use Rattle.shape.specs.Refusal.{Answer, accepted, refused, answered}
+use Rattle.shape.specs.Shape.{shapeNumber}
 use Rattle.shape.specs.declared.Shape.{Shape}
 use Rattle.shape.proofs.ShapeLaws.{shapeNumber-true}
-use Rattle.region.specs.Division.{greatestDepth}
 use Rattle.record.specs.Record.{Record, matches}
 use Rattle.record.specs.Bytes.{recordSize, recordOf, recordBytes, recordsBytes}
 use Rattle.record.proofs.ByteLaws.{length-recordBytes}
 use Rattle.model.specs.Model.{Reply, changed, found, listed, queryCall, numberFor}
 use Rattle.model.specs.Model.{replyTo, outputOf, outputAfter, ifAccepted, outcome}
-use Rattle.model.specs.Sets.{divisionOf, queryBits, readsOf, givenDepths, readsBound}
+use Rattle.model.specs.Sets.{queryBits, readsOf, givenDepths, readsBound}
 use Rattle.model.proofs.ReadsLaws.{readsOf-le}
 use Rattle.select.specs.Output.{emit}
 use Rattle.select.proofs.EmitLaws.{IsField, length-emit, emit-records}
 use Rattle.store.specs.declared.State.{State}
 use Rattle.store.specs.Store.{Store, store, fixedOf, pagesSize}
-use Rattle.store.specs.Sound.{Sound}
 use Rattle.store.specs.Promises.{QueryPromise, SoundWhereRead, queryNumber}
 use Rattle.lent.specs.Private.{lentNumberBy}
 use Rattle.lent.proofs.LentLaws.{lentNumberBy-none}
-use Rattle.query.specs.Private.{queryNumberBy, walkable}
-use Rattle.query.proofs.EarlyLaws.{queryNumberBy-query, queryNumber-by, walkable-of}
+use Rattle.query.specs.Private.{queryNumberBy}
+use Rattle.query.proofs.EarlyLaws.{queryNumberBy-query, queryNumber-by}
 
 -- ---- answers
 
@@ -70,11 +68,6 @@ module _ (st : State) (words bytes : List ℕ) (q : List (Option ℕ)) (out : Li
         sym (lentNumberBy-none st (length words) (length bytes) shape-sound
         (le-ltb (length words) (2 ^ st .limits .depth) (h .1 .words-lent))
         (le-ltb (length bytes) (pagesSize st) (omega (arith, h .1 .pages-lent, h .2))))
-
-    pub walkable-sound : walkable st ≡ true
-    walkable-sound =
-        sym (walkable-of st (h .1 .depth-within) (h .1 .depth-limit) (h .1 .most-pages))
-        ∙ le-leb (st .limits .depth) (total (widthsOf (st .shape))) (h .1 .depth-bits)
 
     model-number : number ≡ numberFor (fixedOf st) S (queryCall q out)
     unfolding numberFor

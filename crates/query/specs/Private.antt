@@ -1,13 +1,10 @@
 -- Early refusals by the lengths of the lent slices; the records that match in some pages, one page after the other.
 -- Assumes nothing.
 use Prim.Native.Nat.{ℕ, _+_, _*_, _≤_, _<_}
-use mathlib.Core.Bool.{Bool, _&&_}
 use mathlib.Core.List.{List, _++_, flatMap}
 use mathlib.Core.Option.{Option}
-use lib.Dec.{leb}
 use lib.ListN.{length, getD}
 use Rattle.shape.specs.Refusal.{firstNumber}
-use Rattle.shape.specs.Shape.{widthsOf, total}
 use Rattle.model.specs.Model.{queryConditions}
 use Rattle.store.specs.declared.State.{State}
 use Rattle.lent.specs.Private.{lentBy}
@@ -21,13 +18,6 @@ use Rattle.select.specs.Output.{hits}
 -- 1, 2, 8, 3 of a state with so many words and bytes lent
 unfoldable pub queryNumberBy : State → ℕ → ℕ → List (Option ℕ) → ℕ
 queryNumberBy st words bytes q = firstNumber (lentBy st words bytes ++ queryConditions (st .shape) q)
-
--- "P is 1–4,096, L is at most 12 and at most W, and T is at most L": what the walk needs of it
-unfoldable pub walkable : State → Bool
-walkable st =
-    leb (st .depth) (st .limits .depth)
-    && (leb (st .limits .depth) 12
-    && (leb (st .limits .pages) 4096 && leb (st .limits .depth) (total (widthsOf (st .shape)))))
 
 -- ---- pages
 

@@ -1,8 +1,8 @@
 // The call query: the records that match a partial-match query (document 01, "Calls").
 use address::Index;
 use address::index_fits;
-use address::total_of;
 use lent::lent_number;
+use lent::limits_hold;
 use record::RECORD_SIZE;
 use select::Pattern;
 use select::pattern_of;
@@ -30,7 +30,7 @@ ghost use Rattle.select.specs.Pattern.{wantedBits};
 ghost use Rattle.store.specs.Store.{store};
 ghost use Rattle.store.specs.Promises.{QueryPromise};
 ghost use Rattle.store.specs.Answers.{listedAnswer};
-ghost use Rattle.query.specs.Private.{queryNumberBy, walkable, CountLent, PagesListed, pageHits, listHits};
+ghost use Rattle.query.specs.Private.{queryNumberBy, CountLent, PagesListed, pageHits, listHits};
 
 // The records that match a partial-match query, written into the output in split order while whole
 // ones fit; how many were written, how many match, how many pages were read. Refused with 1, 2, 8, 3
@@ -43,7 +43,7 @@ pub fn query(state: State, dir: &[u32], pages: &[u8], query: Query, out: &mut [u
     if number != 0 {
         return Listed::Refused(number);
     }
-    if !can_walk(state) {
+    if !limits_hold(state) {
         return Listed::Refused(9);
     }
     let mut list = [0u32; 4096];
@@ -142,25 +142,6 @@ fn value_at(query: Query, j: usize) -> u64
         Wanted::Free => 0,
         Wanted::Given(value) => value as u64,
     }
-}
-
-// Whether T is at most L, L at most 12 and at most W, and P at most 4,096, as in any sound store.
-fn can_walk(state: State) -> bool
-    requires { ⌜ shapeNumber (state .shape) ≡ 0 ⌝ }
-    ensures { λ r. ⌜ r ≡ walkable state ⌝ }
-{
-    let limits = state.limits;
-    if limits.depth < state.depth {
-        return false;
-    }
-    if 12 < limits.depth {
-        return false;
-    }
-    if 4096 < limits.pages {
-        return false;
-    }
-    let widths = widths_of(state.shape);
-    limits.depth as u64 <= total_of(widths)
 }
 
 // Writes the records that match, of the first n pages of the list, one page after the other, into

@@ -19,6 +19,7 @@ ghost use Rattle.select.specs.Output.{hits, emit, afterMatch, emitMatch}
 ghost use Rattle.select.specs.KeyPlace.{keyPlace};
 
 // A query for packed keys: the bits that it gives, and what they are.
+#[repr(C)]
 pub struct Pattern {
     pub mask: u64,
     pub value: u64,

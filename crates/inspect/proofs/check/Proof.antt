@@ -6,8 +6,7 @@ use borrow.Author.Tests.{not-true, not-false}
 use lib.ListN.{length}
 use Rattle.shape.specs.Shape.{shapeNumber}
 use Rattle.store.specs.Answers.{checkedAnswer}
-use Rattle.store.specs.Store.{store}
-use Rattle.audit.specs.Test.{boundsTest}
+use Rattle.lent.specs.Limits.{limitsHold}
 use Rattle.inspect.specs.Sums.{lacksMemory}
 use Rattle.inspect.proofs.CheckLaws.{check-shape-out, check-lacks, check-limits-fail, storeLent, check-shows}
 use Rattle.inspect.proofs.check.Statement.{statement}
@@ -22,8 +21,8 @@ lent : (c : tie.Else2) → let a = c .before .before .before .before .before .be
 lent c = sym (c .before .lacks-memory .ensures) ∙ c .if2 .left
 
 limits : (c : tie.Else3) → let a = c .before .before .before .before .before .before .before .before .args in
-    boundsTest (store (a .state) (a .dir .now) (a .pages .now)) ≡ true
-limits c = sym (c .before .in-limits .ensures) ∙ not-false _ (c .if3 .left)
+    limitsHold (a .state) ≡ true
+limits c = sym (c .before .limits-hold .ensures) ∙ not-false _ (c .if3 .left)
 
 shape-number-requires : tie.Need-shape-number-requires
 shape-number-requires c κs = search needs
@@ -46,8 +45,8 @@ returns-2 c =
     check-lacks (a .state) (a .dir .now) (a .pages .now) (in-bounds (c .before .before))
     (sym (c .before .lacks-memory .ensures) ∙ c .if2 .taken)
 
-in-limits-requires : tie.Need-in-limits-requires
-in-limits-requires c κs = search needs
+limits-hold-requires : tie.Need-limits-hold-requires
+limits-hold-requires c κs = search needs
 
 returns-3 : tie.Need-returns-3
 unfolding checkedAnswer
@@ -55,7 +54,7 @@ returns-3 c =
     let a = c .before .before .before .before .before .before .before .before .args in
     check-limits-fail (a .state) (a .dir .now) (a .pages .now) (in-bounds (c .before .before .before .before))
     (lent (c .before .before))
-    (sym (c .before .in-limits .ensures) ∙ not-true _ (c .if3 .taken))
+    (sym (c .before .limits-hold .ensures) ∙ not-true _ (c .if3 .taken))
 
 shows-leaves-requires : tie.Need-shows-leaves-requires
 shows-leaves-requires c κs =
@@ -92,7 +91,7 @@ check-spec =
     returns
     lacks-memory-requires
     returns-2
-    in-limits-requires
+    limits-hold-requires
     returns-3
     shows-leaves-requires
     returns-4

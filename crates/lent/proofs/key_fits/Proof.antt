@@ -1,5 +1,5 @@
 -- `lent::key_fits` meets its contract: a key's values as an index vector. Assumes nothing.
-use mathlib.Core.Path.{_≡_, sym, ap, _∙_}
+use mathlib.Core.Path.{ap, _∙_}
 use Rattle.shape.specs.Shape.{widthList, indexFits}
 use Rattle.shape.specs.Key.{encodings}
 use Rattle.address.proofs.AnswerLaws.{widths-fit}

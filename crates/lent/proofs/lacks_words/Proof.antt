@@ -1,5 +1,5 @@
 -- `lent::lacks_words` meets its contract: a slice has fewer than 2 ^ 64 words. Assumes nothing.
-use Prim.Native.Nat.{_^_, _<_, _≤_}
+use Prim.Native.Nat.{_^_, _≤_}
 use mathlib.Core.Path.{sym}
 use native.Mathlib.Omega.{arith}
 use native.Mathlib.Nat.{le-trans}

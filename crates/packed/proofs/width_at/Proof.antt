@@ -1,24 +1,51 @@
--- `packed::width_at` meets its contract: what is neither 0, 1 nor 2 is 3. Assumes nothing.
-use mathlib.Core.Path.{_≡_}
+-- `packed::width_at` meets its contract: four widths in one number, eight bits each. Assumes nothing.
 use native.Mathlib.Omega.{arith}
+use Rattle.packed.proofs.WidthLaws.{width-of-all}
 use borrow.Author.Needs.{needs}
 use Rattle.packed.proofs.width_at.Statement.{statement}
 use Rattle.packed.proofs.width_at.Tie as tie
 
+mul-all : tie.Need-mul-all
+mul-all c = let fit = c .before .pre .0 in omega (arith, fit 0, fit 1, fit 2, fit 3)
+
+add-all : tie.Need-add-all
+add-all c = let fit = c .before .before .pre .0 in omega (arith, fit 0, fit 1, fit 2, fit 3)
+
+mul-all-2 : tie.Need-mul-all-2
+mul-all-2 c = let fit = c .before .before .before .pre .0 in omega (arith, fit 0, fit 1, fit 2, fit 3)
+
+add-all-2 : tie.Need-add-all-2
+add-all-2 c = let fit = c .before .before .before .pre .0 in omega (arith, fit 0, fit 1, fit 2, fit 3)
+
+mul-all-3 : tie.Need-mul-all-3
+mul-all-3 c = let fit = c .before .before .before .before .pre .0 in omega (arith, fit 0, fit 1, fit 2, fit 3)
+
+add-all-3 : tie.Need-add-all-3
+add-all-3 c = let fit = c .before .before .before .before .pre .0 in omega (arith, fit 0, fit 1, fit 2, fit 3)
+
+mul-result : tie.Need-mul-result
+mul-result c = search needs
+
+shr-result : tie.Need-shr-result
+shr-result c = search needs
+
 returns : tie.Need-returns
-returns c = search needs
-
-returns-2 : tie.Need-returns-2
-returns-2 c = search needs
-
-returns-3 : tie.Need-returns-3
-returns-3 c = search needs
-
-returns-4 : tie.Need-returns-4
-returns-4 c =
-    let m = c .match .rest in
-    let e : c .before .args .j ≡ 3 = omega (arith, m .1, m .0 .1, m .0 .0 .1, c .before .pre) in
-    rw e
+returns c =
+    let start = c .before .before .before .before in
+    let fit = start .pre .0 in
+    let w = start .args .widths in
+    width-of-all (w .w0) (w .w1) (w .w2) (w .w3) (start .args .j) (fit 0) (fit 1) (fit 2) (fit 3) (start .pre .1)
 
 pub width-at-spec : {M : Type 1} → statement M
-width-at-spec = tie.close (tie.spec returns returns-2 returns-3 returns-4)
+width-at-spec =
+    tie.close
+    (tie.spec
+    mul-all
+    add-all
+    mul-all-2
+    add-all-2
+    mul-all-3
+    add-all-3
+    mul-result
+    shr-result
+    returns)

@@ -8,7 +8,6 @@ use Rattle.page.specs.Page.{pageAt}
 use Rattle.select.specs.Output.{emit}
 use Rattle.query.specs.Private.{pageHits, listHits}
 use Rattle.query.proofs.ListLaws.{listHits-none, length-listHits-next, emit-listHits-next, length-listHits-le}
-use borrow.Author.Needs.{needs}
 use Rattle.query.proofs.put_pages.Statement.{statement}
 use Rattle.query.proofs.put_pages.Tie as tie
 

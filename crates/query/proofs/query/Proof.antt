@@ -1,6 +1,6 @@
 -- `query::query` meets its contract: each way that it ends is a law of the promise. Assumes nothing.
 use Prim.Native.Nat.{_/_, min}
-use mathlib.Core.Path.{_≡_, refl, sym, ap, _∙_}
+use mathlib.Core.Path.{refl, sym, ap, _∙_}
 use native.Mathlib.Omega.{arith}
 use lib.ListN.{length, take}
 use borrow.Author.Tests.{not-true, not-false}
@@ -11,7 +11,7 @@ use Rattle.store.specs.Answers.{listedAnswer}
 use Rattle.query.specs.Private.{listHits}
 use Rattle.query.proofs.PromiseLaws.{promise-early}
 use Rattle.query.proofs.CallLaws.{shape-of-none, six-of-none, walkable-none, pages-listed}
-use Rattle.query.proofs.CallLaws.{nine-unwalkable, nine-damaged, promise-of-pages}
+use Rattle.query.proofs.CallLaws.{nine-limits, nine-damaged, promise-of-pages}
 use borrow.Author.Needs.{needs}
 use Rattle.query.proofs.query.Statement.{statement}
 use Rattle.query.proofs.query.Tie as tie
@@ -26,8 +26,8 @@ returns c =
     let n = c .before .query-number .ensures in
     promise-early (a .state) (a .dir .now) (a .pages .now) (wantedValues (a .query)) (a .out .now) _ n (c .if1 .taken)
 
-can-walk-requires : tie.Need-can-walk-requires
-can-walk-requires c κs =
+limits-hold-requires : tie.Need-limits-hold-requires
+limits-hold-requires c κs =
     let a = c .before .before .before .before .before .args in
     shape-of-none (a .state) (a .dir .now) (a .pages .now) (wantedValues (a .query))
     (sym (c .before .query-number .ensures) ∙ c .if1 .left)
@@ -36,9 +36,9 @@ returns-2 : tie.Need-returns-2
 unfolding listedAnswer
 returns-2 c =
     let a = c .before .before .before .before .before .before .before .args in
-    nine-unwalkable (a .state) (a .dir .now) (a .pages .now) (wantedValues (a .query))
+    nine-limits (a .state) (a .dir .now) (a .pages .now) (wantedValues (a .query))
     (sym (c .before .before .before .query-number .ensures) ∙ c .before .before .if1 .left) (a .out .now)
-    (sym (c .before .can-walk .ensures) ∙ not-true _ (c .if2 .taken))
+    (sym (c .before .limits-hold .ensures) ∙ not-true _ (c .if2 .taken))
 
 slice-aggregate-note-pages : tie.Need-slice-aggregate-note-pages
 slice-aggregate-note-pages c = search needs
@@ -49,7 +49,7 @@ note-pages-requires c κs =
     let e = w .before .before in
     let a = e .before .before .before .before .before .args in
     let none = sym (e .before .query-number .ensures) ∙ e .if1 .left in
-    let can = sym (w .before .can-walk .ensures) ∙ not-false _ (w .if2 .left) in
+    let can = sym (w .before .limits-hold .ensures) ∙ not-false _ (w .if2 .left) in
     walkable-none (a .state) (a .dir .now) (a .pages .now) (wantedValues (a .query)) none can
 
 enum-known-noted : tie.Need-enum-known-noted
@@ -65,7 +65,7 @@ returns-3 c =
     let e = w .before .before in
     let a = e .before .before .before .before .before .args in
     let none = sym (e .before .query-number .ensures) ∙ e .if1 .left in
-    let can = sym (w .before .can-walk .ensures) ∙ not-false _ (w .if2 .left) in
+    let can = sym (w .before .limits-hold .ensures) ∙ not-false _ (w .if2 .left) in
     let walk = c .before .before .before .note-pages in
     nine-damaged (a .state) (a .dir .now) (a .pages .now) (wantedValues (a .query)) none can
     _ _ _ (walk .ensures) refl (walk .kept .1 .1 .1 .1 .0) (a .out .now) (c .enum-told .given .1)
@@ -89,7 +89,7 @@ put-pages-requires c κs =
     let e = w .before .before in
     let a = e .before .before .before .before .before .args in
     let none = sym (e .before .query-number .ensures) ∙ e .if1 .left in
-    let can = sym (w .before .can-walk .ensures) ∙ not-false _ (w .if2 .left) in
+    let can = sym (w .before .limits-hold .ensures) ∙ not-false _ (w .if2 .left) in
     let walk = c .before .before .before .before .before .before .before .before .before .note-pages in
     pages-listed (a .state) (a .dir .now) (a .pages .now) (wantedValues (a .query)) none can
     _ _ _ (walk .ensures) refl (walk .kept .1 .1 .1 .1 .0) _ (c .before .before .before .before .before .before .noted .given .1)
@@ -107,7 +107,7 @@ returns-4 c =
     let e = w .before .before in
     let a = e .before .before .before .before .before .args in
     let none = sym (e .before .query-number .ensures) ∙ e .if1 .left in
-    let can = sym (w .before .can-walk .ensures) ∙ not-false _ (w .if2 .left) in
+    let can = sym (w .before .limits-hold .ensures) ∙ not-false _ (w .if2 .left) in
     let found = c .before .before .before .before .before .before .before .before .before .before .noted .given in
     let walk = c .before .before .before .before .before .before .before .before .before .before .before .before .before .note-pages in
     let put = c .before .before .before .put-pages in
@@ -127,7 +127,7 @@ query-spec =
     (tie.spec
     query-number-requires
     returns
-    can-walk-requires
+    limits-hold-requires
     returns-2
     slice-aggregate-note-pages
     note-pages-requires

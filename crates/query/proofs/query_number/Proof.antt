@@ -1,5 +1,5 @@
 -- `query::query_number` meets its contract: each way that it ends is a law of the number. Assumes nothing.
-use mathlib.Core.Path.{_≡_, sym, _∙_}
+use mathlib.Core.Path.{sym, _∙_}
 use Rattle.shape.specs.Key.{wantedValues}
 use Rattle.lent.proofs.LentLaws.{shape-of-lentNumberBy}
 use Rattle.query.proofs.EarlyLaws.{queryNumberBy-lent, queryNumberBy-unused, queryNumberBy-out, queryNumberBy-fits}

@@ -1,0 +1,50 @@
+//! The plain store, call by call, against the list scanned in full and the judge of soundness.
+use super::Store;
+use mdeh_tests::compare::Comparisons;
+use mdeh_tests::host::Shape;
+use mdeh_tests::plain::image::Image;
+use mdeh_tests::plain::judge::judge;
+use mdeh_tests::plain::model::Model;
+use mdeh_tests::plain::refusal::page_size;
+use mdeh_tests::plain::samples::{query_of, random_key};
+use mdeh_tests::random::Random;
+use mdeh_tests::shapes::random_widths;
+
+#[test]
+fn random_calls_are_answered_as_the_list_answers_them() {
+    let mut count = Comparisons::default();
+    let mut random = Random::new(0x6d64_6568_2d30_3039);
+    for _ in 0..400 {
+        let total = random.between(1, 20) as u32;
+        let mut shape = Shape::new(&random_widths(&mut random, total));
+        shape.capacity = random.between(1, 5) as u32;
+        let (words, bytes) = (1 + random.below(300), (1 + random.below(30)) * page_size(shape));
+        let mut store = Store::new(shape, words, bytes);
+        let mut model = Model::fresh(shape, words, bytes).expect("the shape is within its bounds");
+        for turn in 0..200 {
+            let key = random_key(&mut random, &model);
+            let about = format_args!("{shape:?}, {words} words, {bytes} bytes, turn {turn}, {key:?}");
+            // more inserts at first, more deletes at last
+            if random.below(200) > turn {
+                let payload = random.number() as u32;
+                count.same(store.insert(key, payload), model.insert(key, payload), about);
+            } else {
+                count.same(store.delete(key), model.delete(key), about);
+            }
+            let (state, dir, pages) = store.image();
+            count.same(judge(&Image { state, dir, pages }), Ok(true), about);
+            count.same(store.check(), true, about);
+            let key = random_key(&mut random, &model);
+            count.same(store.lookup(key), model.lookup(key).map(|(payload, _)| payload), about);
+            let query = query_of(random.below(16), key);
+            let length = random.below(200);
+            let mut out = [random.bytes(length), vec![]];
+            out[1] = out[0].clone();
+            let found = store.query(query, &mut out[0]);
+            let found = found.map(|(written, total, reads)| (written as u64, total as u64, reads as u64));
+            count.same(found, model.query(query, &mut out[1]), about);
+            count.same(&out[0], &out[1], about);
+        }
+    }
+    count.end(400 * 200 * 6);
+}

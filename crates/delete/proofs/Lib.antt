@@ -1,0 +1,4 @@
+pub mod DeletedLaws
+pub mod PageLaws
+pub mod SoundPageLaws
+pub mod StepLaws

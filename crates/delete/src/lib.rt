@@ -1,0 +1,54 @@
+// The call Delete: a key's record leaves the store, and leaves are joined until the set's own stand
+// (document 01, "Calls").
+pub mod steps;
+
+use lent::key_number;
+use removal::Plan;
+use removal::plan_delete;
+use shape::Key;
+use steps::join_leaves;
+use steps::keep_leaf;
+use store::Change;
+use store::Changed;
+use store::State;
+ghost use Rattle.store.specs.Answers.{changedAnswer};
+ghost use Rattle.store.specs.Promises.{DeletePromise};
+ghost use Rattle.store.specs.Store.{store};
+
+// Removes the record with a key, and joins leaves until none is left that the set without it does not
+// have. Refused with 1, 2, 3, 5 or 9, the first that holds in this order; a refused call changes
+// nothing.
+pub fn delete(state: State, dir: &mut [u32], pages: &mut [u8], key: Key) -> Change
+    ensures { λ r. ⌜ DeletePromise (store state (now (dir .entry)) (now (pages .entry))) (key .values)
+        (changedAnswer (r .answer)) (store (r .state) (now (dir .exit)) (now (pages .exit))) ⌝ }
+{
+    let number = key_number(state, dir.len(), pages.len(), key);
+    if number != 0 {
+        return Change {
+            answer: Changed::Refused(number),
+            state,
+        };
+    }
+    let plan = plan_delete(state, dir, pages, key);
+    let values = key.values;
+    match plan {
+        Plan::Refused(n) => Change {
+            answer: Changed::Refused(n),
+            state,
+        },
+        Plan::Keep(found) => {
+            keep_leaf(state, dir, pages, values, found);
+            Change {
+                answer: Changed::Done,
+                state,
+            }
+        }
+        Plan::Join(found, join) => {
+            let joined = join_leaves(state, dir, pages, values, found, join);
+            Change {
+                answer: Changed::Done,
+                state: joined,
+            }
+        }
+    }
+}

@@ -1,0 +1,195 @@
+-- Laws of the call insert, one for each plan: what the steps ask holds, and what they leave keeps the promise. Assumes
+-- nothing.
+use Prim.Native.Nat.{ℕ, zero, suc, _^_, _≤_, _<_}
+use mathlib.Core.Path.{_≡_, refl, sym, ap, _∙_, subst}
+use mathlib.Core.List.{List}
+use native.Mathlib.Omega.{arith}
+use native.Mathlib.Nat.{le-trans}
+use lib.ListN.{length}
+use lib.Pow.{pow-mono}
+use Rattle.shape.specs.Refusal.{accepted, refused}
+use Rattle.shape.specs.Shape.{widthsOf}
+use Rattle.shape.specs.declared.Shape.{Shape}
+use Rattle.shape.proofs.ShapeLaws.{widthsOf-fit, capacity-bounds}
+use Rattle.split.specs.Bits.{splitBit}
+use Rattle.directory.specs.Directory.{DirectoryFits, Filled}
+use Rattle.record.specs.declared.Content.{Content}
+use Rattle.record.specs.Packed.{packedKey, packedBytes}
+use Rattle.packed.specs.Order.{pairBit}
+use Rattle.packed.proofs.StepLaws.{splitBit-place}
+use Rattle.pages.specs.Pages.{PageLent}
+use Rattle.word.specs.Word.{wordOf}
+use Rattle.word.specs.declared.Leaf.the-variants.{Page}
+use Rattle.model.specs.Model.{changed}
+use Rattle.store.specs.Store.{Store, memory, store}
+use Rattle.store.specs.Promises.{keyNumber, InsertPromise}
+use Rattle.store.specs.declared.State.{State}
+use Rattle.change.proofs.RegionLaws.{changedStore}
+use Rattle.change.proofs.InsertPromiseLaws.{insert-early}
+use Rattle.plan.specs.Private.{Planned, TakePlanned, GetPlanned, DividePlanned}
+use Rattle.plan.specs.declared.Plan.{Plan}
+use Rattle.plan.specs.declared.Plan.the-variants.{Refused, Take, Get, Divide}
+use Rattle.plan.specs.declared.Split.{Split}
+use Rattle.plan.specs.declared.Cut.{Cut}
+use Rattle.plan.proofs.MetLaws.{key-recordFor, unpacked-recordFor}
+use Rattle.insert.specs.Private.{insertedPages, CutFits, dividedPages, WordsLent, WordsDivided}
+use Rattle.insert.proofs.TakeLaws.{page-lent, promise-taken, promise-got}
+use Rattle.insert.proofs.CarriedLaws.{lent-own, lent-free, start-le, place-le}
+use Rattle.insert.proofs.SplitLaws.{promise-divided}
+
+module _ (before : Store) (values : List ℕ) (content : Content) where
+  abbrev s : Shape
+  s = before .state .shape
+
+  abbrev b : ℕ
+  b = s .capacity
+
+  abbrev bytes : List ℕ
+  bytes = before .memory .bytes
+
+  -- 1, 2, 3
+  pub by-early : (n : ℕ) → n ≡ keyNumber before values → (n ≡ 0 → ⊥)
+      → InsertPromise before values content (refused n) before
+  by-early zero e n = absurd (n refl)
+  by-early (suc k) e n = insert-early before values content k (sym e)
+
+  module _ (small : content .payload < 2 ^ 32) (plan : Plan) (p : Planned before values plan) (key : ℕ)
+      (ek : key ≡ packedKey values) where
+    -- 4, 6, 7, 9
+    pub by-refused : (n : ℕ) → plan ≡ Refused n → InsertPromise before values content (refused n) before
+    by-refused n e = subst (Planned before values) e p content
+
+    -- ---- a page takes the record
+
+    module _ (g i n : ℕ) (e : plan ≡ Take g i n) where
+      taken : TakePlanned before values g i n
+      taken = subst (Planned before values) e p
+
+      pub lent-taken : PageLent b g bytes × (i ≤ n) × (n < b)
+      lent-taken = (page-lent before values (taken .asked) g (taken .met .within), taken .place .0, taken .room)
+
+      pub by-taken : (bytes′ : List ℕ) → bytes′ ≡ insertedPages b g i n (packedBytes key content) bytes
+          → InsertPromise before values content (accepted changed)
+          (store (before .state) (before .memory .words) bytes′)
+      by-taken bytes′ d =
+          subst
+          (λ bs. InsertPromise before values content (accepted changed)
+          (store (before .state) (before .memory .words) bs))
+          (sym (d ∙ ap (λ k. insertedPages b g i n (packedBytes k content) bytes) ek))
+          (promise-taken before values content (taken .asked) small g i n taken)
+
+    -- ---- an empty leaf gets a page
+
+    module _ (g x : ℕ) (e : plan ≡ Get g x) where
+      got : GetPlanned before values g x
+      got = subst (Planned before values) e p
+
+      pub lent-got : PageLent b g bytes × (0 ≤ 0) × (0 < b)
+      lent-got = (
+        page-lent before values (got .asked) g (got .within),
+        omega arith,
+        capacity-bounds s (got .asked .shape) .0,
+      )
+
+      pub word-fits : (g < 65535) × (x < 16)
+      word-fits =
+          let a = got .asked in (
+            omega (arith, got .within, a .pages-lent .few),
+            omega (arith, got .depth-le, a .within-limit, a .short),
+          )
+
+      pub fill-fits : (ws : List ℕ) → ws ≡ widthsOf s
+          → DirectoryFits ws (before .state .depth) (length (before .memory .words)) × (x ≤ before .state .depth)
+      fill-fits ws ew =
+          let a = got .asked in
+          let fits : DirectoryFits (widthsOf s) (before .state .depth) (length (before .memory .words)) =
+          record {
+            fit = widthsOf-fit s (a .shape);
+            deep = le-trans (a .within-limit) (a .bits);
+            short = le-trans (a .within-limit) (a .short);
+            room = le-trans (pow-mono (a .within-limit)) (a .words-lent);
+          } in (
+            subst (λ v. DirectoryFits v (before .state .depth) (length (before .memory .words))) (sym ew) fits,
+            got .depth-le,
+          )
+
+      pub by-got : (bytes′ : List ℕ) → bytes′ ≡ insertedPages b g 0 0 (packedBytes key content) bytes
+          → (ws : List ℕ) → ws ≡ widthsOf s → (word : ℕ) → word ≡ wordOf (Page g x) → (words′ : List ℕ)
+          → Filled ws (before .state .depth) x (splitBit ws values) word (before .memory .words) words′
+          → InsertPromise before values content (accepted changed) (store (before .state) words′ bytes′)
+      by-got bytes′ d ws ew word e′ words′ f =
+          subst
+          (λ bs. InsertPromise before values content (accepted changed) (store (before .state) words′ bs))
+          (sym (d ∙ ap (λ k. insertedPages b g 0 0 (packedBytes k content) bytes) ek))
+          (promise-got before values content (got .asked) small g x got words′
+          (subst
+          (λ v. Filled v (before .state .depth) x (splitBit v values) (wordOf (Page g x)) (before .memory .words)
+          words′)
+          ew
+          (subst
+          (λ w. Filled ws (before .state .depth) x (splitBit ws values) w (before .memory .words) words′) e′ f)))
+
+    -- ---- a full leaf is divided
+
+    module _ (split : Split) (cut : Cut) (free : ℕ) (e : plan ≡ Divide split cut free) where
+      dividing : DividePlanned before values split cut free
+      dividing = subst (Planned before values) e p
+
+      key-bit : cut .bit ≡ splitBit (widthsOf s) values (split .step)
+      key-bit =
+          let a = dividing .asked in
+          let met = dividing .met .ends-met in
+          let same = sym (unpacked-recordFor s values content (a .shape) (a .fits) (a .four))
+          ∙ key-recordFor s values content (a .shape) (a .fits) (a .four) in
+          dividing .half .bit-there
+          ∙ ap (λ k. pairBit (widthsOf s) k (split .pair)) same
+          ∙ sym (splitBit-place (widthsOf s) (widthsOf-fit s (a .shape)) values (split .pair)
+          (met .ends .step-there (dividing .met .differ)))
+          ∙ ap (splitBit (widthsOf s) values) (sym (met .step))
+
+      pub words-lent : WordsLent (before .state) values split (cut .bit) free (length (before .memory .words))
+      words-lent =
+          let a = dividing .asked in
+          record {
+            shape = a .shape;
+            lent = a .words-lent;
+            short = a .short;
+            bits = a .bits;
+            within-limit = a .within-limit;
+            below = dividing .met .below;
+            deep = dividing .met .deep;
+            tally = dividing .met .tally;
+            page-lt = omega (arith, dividing .met .ends-met .met .within, a .pages-lent .few);
+            free-lt = omega (arith, dividing .free-within, a .pages-lent .few);
+            bit-is = key-bit;
+          }
+
+      pub pages-lent : PageLent b (split .page) bytes × PageLent b free bytes
+      pages-lent = (
+        lent-own before values content (dividing .asked) small split cut free dividing,
+        lent-free before values content (dividing .asked) small split cut free dividing,
+      )
+
+      pub cut-fits : CutFits b cut
+      cut-fits =
+          record {
+            capacity-le = capacity-bounds s (dividing .asked .shape) .1;
+            start-le = start-le before values content (dividing .asked) small split cut free dividing;
+            place-le = place-le before values content (dividing .asked) small split cut free dividing;
+            room = dividing .half .room;
+          }
+
+      pub by-divided : (bytes′ : List ℕ)
+          → bytes′ ≡ dividedPages b (split .page) free cut (packedBytes key content) bytes
+          → (after : State) (words′ : List ℕ) → WordsDivided (before .state) values split free (before .memory .words)
+          after words′
+          → InsertPromise before values content (accepted changed) (store after words′ bytes′)
+      by-divided bytes′ d after words′ w =
+          subst (λ st. InsertPromise before values content (accepted changed) (store st words′ bytes′))
+          (sym (w .state))
+          (subst
+          (λ bs. InsertPromise before values content (accepted changed)
+          (changedStore before (after .depth) (after .tally) (memory words′ bs)))
+          (sym (d ∙ ap (λ k. dividedPages b (split .page) free cut (packedBytes k content) bytes) ek))
+          (promise-divided before values content (dividing .asked) small split cut free dividing (after .depth)
+          (after .tally) (w .doubled) words′ (w .deeper) (w .tallied) (w .deepened) (w .leaves)))

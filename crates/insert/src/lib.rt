@@ -1,0 +1,90 @@
+// The call Insert: a record joins the store (document 01, "Calls"). A plan is found without a write;
+// then it is carried out by steps that cannot fail.
+pub mod steps;
+
+use directory::regions::fill;
+use lent::key_number;
+use plan::Plan;
+use plan::plan_insert;
+use record::Content;
+use record::pack_key;
+use shape::Key;
+use shape::widths_of;
+use steps::divide_pages;
+use steps::divide_words;
+use steps::insert_record;
+use store::Change;
+use store::Changed;
+use store::State;
+use word::pack_page;
+ghost use Rattle.store.specs.Answers.{changedAnswer};
+ghost use Rattle.store.specs.Promises.{InsertPromise};
+ghost use Rattle.store.specs.Store.{store};
+
+// Adds a record; a full leaf is divided until no leaf has more than b. Refused with 1, 2, 3, 4, 6, 7
+// or 9, the first that holds in this order; a refused call changes nothing.
+pub fn insert(state: State, dir: &mut [u32], pages: &mut [u8], key: Key, content: Content) -> Change
+    ensures { λ r. ⌜ InsertPromise (store state (now (dir .entry)) (now (pages .entry))) (key .values) content
+        (changedAnswer (r .answer)) (store (r .state) (now (dir .exit)) (now (pages .exit))) ⌝ }
+{
+    let number = key_number(state, dir.len(), pages.len(), key);
+    if number != 0 {
+        let answer = Changed::Refused(number);
+        return Change { answer, state };
+    }
+    let step = plan_insert(state, dir, pages, key);
+    let packed = pack_key(key);
+    let values = key.values;
+    let shape = state.shape;
+    let capacity = shape.capacity as usize;
+    match step {
+        Plan::Refused(n) => {
+            let answer = Changed::Refused(n);
+            return Change { answer, state };
+        }
+        Plan::Take(page, place, count) => {
+            insert_record(
+                pages,
+                capacity,
+                page as usize,
+                place,
+                count,
+                packed,
+                content,
+            );
+            let answer = Changed::Done;
+            return Change { answer, state };
+        }
+        Plan::Get(page, depth) => {
+            insert_record(pages, capacity, page as usize, 0, 0, packed, content);
+            let word = pack_page(page, depth);
+            fill(
+                widths_of(shape),
+                values,
+                depth as u64,
+                state.depth as u64,
+                word,
+                dir,
+            );
+            let answer = Changed::Done;
+            return Change { answer, state };
+        }
+        Plan::Divide(split, cut, free) => {
+            let divided = divide_words(state, dir, values, split, cut.bit, free);
+            divide_pages(
+                pages,
+                capacity,
+                split.page as usize,
+                free as usize,
+                cut,
+                packed,
+                content,
+            );
+            let answer = Changed::Done;
+            return Change {
+                answer,
+                state: divided,
+            };
+        }
+    }
+}

@@ -1,0 +1,76 @@
+-- `lookup::seek_key` meets its contract: the early refusals and the limits leave what each step asks. Assumes nothing.
+use mathlib.Core.Path.{_≡_, sym, _∙_}
+use mathlib.Core.Bool.{true}
+use native.Mathlib.Nat.{le-trans}
+use lib.ListN.{length, length-map}
+use lib.Pow.{pow-mono}
+use borrow.Author.Tests.{not-true, not-false}
+use Rattle.shape.proofs.ShapeLaws.{capacity-bounds}
+use Rattle.store.specs.Answers.{foundAnswer}
+use Rattle.store.specs.Store.{store}
+use Rattle.lent.specs.Limits.{limitsHold}
+use Rattle.lent.proofs.LimitsLaws.{limits-parts}
+use Rattle.lookup.proofs.CaseLaws.{soughtAnswer-limits, soughtAnswer-word}
+use Rattle.lookup.proofs.EarlyLaws.{Passed, passed, SixteenBits-of-keyFits}
+use Rattle.lookup.proofs.seek_key.Statement.{statement}
+use Rattle.lookup.proofs.seek_key.Tie as tie
+
+-- the array of a key's values has four: what owning the key tells
+four : (c : tie.Start) → length (c .args .key .values) ≡ 4
+four c = sym (length-map (c .args .key .values) (λ v. v)) ∙ c .good .1 .1 .1 .0 .1 .1 .0 .1 .0 .1
+
+-- what the early refusals leave
+early : (c : tie.After-shared-slice-known2)
+    → let a = c .before .before .args in Passed (store (a .state) (a .dir .now) (a .pages .now)) (a .key .values)
+early c = passed _ _ (c .before .before .pre)
+
+-- and the limits
+held : (c : tie.Else1) → limitsHold (c .before .before .before .before .args .state) ≡ true
+held c = sym (c .before .limits-hold .ensures) ∙ not-false (c .before .limits-hold .result) (c .if1 .left)
+
+limits-hold-requires : tie.Need-limits-hold-requires
+limits-hold-requires c κs = early c .shape
+
+returns : tie.Need-returns
+unfolding foundAnswer
+returns c =
+    let a = c .before .before .before .before .args in
+    soughtAnswer-limits (store (a .state) (a .dir .now) (a .pages .now)) (a .key .values)
+    (sym (c .before .limits-hold .ensures) ∙ not-true (c .before .limits-hold .result) (c .if1 .taken))
+
+key-word-requires : tie.Need-key-word-requires
+key-word-requires c κs =
+    let p = early (c .before .before .before) in
+    let l = limits-parts (c .before .before .before .before .before .args .state) (held (c .before)) in
+    ((p .shape, le-trans (l .4) (l .3)), le-trans (pow-mono (l .4)) (p .words-lent))
+
+pack-key-requires : tie.Need-pack-key-requires
+pack-key-requires c κs =
+    let s = c .before .before .before .before .before .before in
+    let p = early (c .before .before .before .before) in
+    SixteenBits-of-keyFits (s .args .state .shape) (s .args .key .values) (p .shape) (p .fits) (four s)
+
+seek-by-word-requires : tie.Need-seek-by-word-requires
+seek-by-word-requires c κs =
+    let st = c .before .before .before .before .before .before .before .args .state in
+    let p = early (c .before .before .before .before .before) in
+    let l = limits-parts st (held (c .before .before .before)) in
+    ((capacity-bounds (st .shape) (p .shape) .1, l .1), p .pages-lent)
+
+returns-2 : tie.Need-returns-2
+returns-2 c =
+    let a = c .before .before .before .before .before .before .before .before .args in
+    c .seek-by-word .ensures
+    ∙ soughtAnswer-word (store (a .state) (a .dir .now) (a .pages .now)) (a .key .values)
+    (held (c .before .before .before .before)) _ _ (c .before .before .key-word .ensures) (c .before .pack-key .ensures)
+
+pub seek-key-spec : {M : Type 1} → statement M
+seek-key-spec =
+    tie.close
+    (tie.spec
+    limits-hold-requires
+    returns
+    key-word-requires
+    pack-key-requires
+    seek-by-word-requires
+    returns-2)

@@ -1,9 +1,0 @@
-pub mod AnswerLaws
-pub mod DifferenceLaws
-pub mod EncodingLaws
-pub mod Example
-pub mod LeastLaws
-pub mod OrderLaws
-pub mod PlaceLaws
-pub mod SearchLaws
-pub mod WidthLaws

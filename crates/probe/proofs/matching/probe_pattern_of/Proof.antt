@@ -1,0 +1,18 @@
+-- `probe::matching::probe_pattern_of` meets its contract: the pattern of the query that the numbers say. Assumes nothing.
+use mathlib.Core.Path.{sym, ap, subst, _∙_}
+use Rattle.select.specs.Pattern.{GivenSixteenBits, patternOf}
+use borrow.Author.Needs.{needs}
+use Rattle.probe.proofs.matching.probe_pattern_of.Statement.{statement}
+use Rattle.probe.proofs.matching.probe_pattern_of.Tie as tie
+
+query-of-requires : tie.Need-query-of-requires
+query-of-requires c κs = search needs
+
+pattern-of-requires : tie.Need-pattern-of-requires
+pattern-of-requires c κs = subst GivenSixteenBits (sym (c .query-of .ensures)) (c .before .pre)
+
+returns : tie.Need-returns
+returns c = c .pattern-of .ensures ∙ ap patternOf (c .before .query-of .ensures)
+
+pub probe-pattern-of-spec : {M : Type 1} → statement M
+probe-pattern-of-spec = tie.close (tie.spec query-of-requires pattern-of-requires returns)

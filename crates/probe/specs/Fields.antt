@@ -1,0 +1,42 @@
+-- Enums as the numbers that cross the C interface. Assumes nothing.
+use Prim.Native.Nat.{ℕ, zero, suc}
+use mathlib.Core.List.{List}
+use mathlib.Core.Option.{Option, none, some}
+use lib.ListN.{getD}
+use Rattle.shape.specs.Key.{perAttribute}
+use Rattle.word.specs.declared.Leaf.{Leaf}
+use Rattle.word.specs.declared.Leaf.the-variants.{Empty, Page}
+use Rattle.packed.specs.declared.Order.{Order}
+use Rattle.packed.specs.declared.Order.the-variants as order
+use Rattle.find.specs.declared.Place.{Place}
+use Rattle.find.specs.declared.Place.the-variants.{Before, At}
+use Rattle.probe.specs.declared.words.LeafFields.{LeafFields}
+use Rattle.probe.specs.declared.keys.PlaceFields.{PlaceFields}
+use Rattle.probe.specs.declared.matching.Asked.{Asked}
+
+-- a leaf: 1 and its page, or 0 and 0 without one; and its depth
+abbrev pub leafFields : Leaf → LeafFields
+leafFields (Empty depth) = record { paged = 0; page = 0; depth = depth }
+leafFields (Page page depth) = record { paged = 1; page = page; depth = depth }
+
+-- how a key stands to another one
+abbrev pub orderNumber : Order → ℕ
+orderNumber order.Same = 0
+orderNumber order.Before = 1
+orderNumber order.After = 2
+
+-- a place: 0 for the one before record i, any other number for that of record i
+abbrev pub numberedPlace : ℕ → ℕ → Place
+numberedPlace zero i = Before i
+numberedPlace (suc found) i = At i
+
+abbrev pub placeOf : PlaceFields → Place
+placeOf f = numberedPlace (f .found) (f .place)
+
+-- what a query says of an attribute: nothing for 0, the value for any other number
+abbrev pub askedValue : ℕ → ℕ → Option ℕ
+askedValue zero value = none
+askedValue (suc given) value = some value
+
+unfoldable pub askedValues : Asked → List (Option ℕ)
+askedValues a = perAttribute (λ j. askedValue (getD (a .given) j 0) (getD (a .values) j 0))

@@ -1,0 +1,4 @@
+pub mod ClimbLaws
+pub mod EarlyLaws
+pub mod MetLaws
+pub mod PairLaws

@@ -1,0 +1,194 @@
+-- Laws of what the plan of a delete meets at the sibling of the key's leaf: the leaf stays, or both are joined; the
+-- refusal 9. Assumes nothing.
+use Prim.Native.Nat.{ℕ, suc, _+_, _-_, _^_, _≤_, _<_}
+use mathlib.Core.Path.{_≡_, refl, sym, ap, _∙_, subst}
+use mathlib.Core.Bool.{Bool, true, false, not, true≢false, false≢true}
+use mathlib.Core.List.{List}
+use native.Mathlib.Omega.{arith}
+use Rattle.shape.specs.Refusal.{refused}
+use Rattle.cell.specs.Cell.{Agree}
+use Rattle.region.specs.Strings.{sibling}
+use Rattle.region.specs.Division.{leafDepth}
+use Rattle.region.proofs.StringLaws.{withBit-same}
+use Rattle.record.specs.Record.{Record}
+use Rattle.page.specs.Page.{countOf, pageAt}
+use Rattle.word.specs.Word.{wordOf, leafOf}
+use Rattle.word.specs.declared.Leaf.the-variants.{Empty, Page}
+use Rattle.word.proofs.WordLaws.{wordOf-one-to-one, wordOf-apart}
+use Rattle.store.specs.Store.{Store}
+use Rattle.store.specs.Sound.{Sound}
+use Rattle.store.specs.Promises.{DeletePromise}
+use Rattle.store.proofs.ShownLaws.{wordOn, divisionOn}
+use Rattle.change.specs.Delete.{keyString, AtSibling, JoinFound}
+use Rattle.change.proofs.BoundLaws.{count-bounds}
+use Rattle.change.proofs.DeletePromiseLaws.{delete-unsound}
+use Rattle.change.proofs.DeleteWordLaws.{leaf-of-page-word}
+use Rattle.lent.proofs.LimitsLaws.{limits-parts}
+use Rattle.seek.specs.Hold.{wordHolds}
+use Rattle.seek.proofs.HoldLaws.{held-empty, held-page}
+use Rattle.tally.specs.Tally.{tallyHolds}
+use Rattle.tally.proofs.CountLaws.{tallyHolds-of-sound}
+use Rattle.removal.specs.Plan.{RecordFound, StaysAlone, JoinPlanned}
+use Rattle.removal.specs.Private.{SiblingMet, JoinMade}
+use Rattle.removal.specs.declared.Stored.{Stored}
+use Rattle.removal.specs.declared.Join.{Join}
+use Rattle.removal.proofs.MetLaws.{refused-word}
+
+-- in a sound store a leaf and its sibling have two pages
+pub siblings-apart : (before : Store) (S : List Record) → Sound before S → (key : List ℕ) (g h m : ℕ)
+    → g < before .state .limits .pages → wordOn before (keyString before key) ≡ wordOf (Page g (suc m))
+    → AtSibling before key m (λ w. w ≡ wordOf (Page h (suc m))) → h ≡ g → ⊥
+siblings-apart before S sound key g h m l own c e =
+    sound .shown .own-page p (c .0) parted g (suc m) (suc m) l own (c .2 ∙ ap (λ i. wordOf (Page i (suc m))) e)
+  where
+    p : ℕ → Bool
+    p = keyString before key
+
+    two : (β : Bool) → β ≡ not β → ⊥
+    two true d = true≢false d
+    two false d = false≢true d
+
+    depth : leafDepth p 0 (divisionOn before S) ≡ suc m
+    depth = leaf-of-page-word before S sound p g (suc m) l own .0
+
+    parted : Agree (leafDepth p 0 (divisionOn before S)) p (c .0) → ⊥
+    parted a =
+        let here : Agree (suc m) p (c .0) = rw depth at a in
+        two (p m) (here m (omega arith) ∙ sym (c .1 m (omega arith)) ∙ withBit-same p m (not (p m)))
+
+module _ (before : Store) (values : List ℕ) (r : Stored) (f : RecordFound before values r) where
+  abbrev P : ℕ
+  P = before .state .limits .pages
+
+  abbrev b : ℕ
+  b = before .state .shape .capacity
+
+  abbrev g : ℕ
+  g = r .page
+
+  abbrev x : ℕ
+  x = r .depth
+
+  abbrev p : ℕ → Bool
+  p = keyString before values
+
+  abbrev countBefore : ℕ → ℕ
+  countBefore h = countOf (pageAt b (before .memory .bytes) h)
+
+  most : P ≤ 4096
+  most = limits-parts (before .state) (f .leaf .limits) .1
+
+  -- the empty string has no sibling
+  pub stays-root : x ≡ 0 → StaysAlone before values g x
+  stays-root e m d = absurd (omega arith)
+
+  -- ---- the word of a cell of the sibling
+
+  module _ (divided : 0 < x) (word : ℕ) (c : AtSibling before values (x - 1) (λ w. word ≡ w)) where
+    pub refused-sibling : wordHolds (before .state) word ≡ false → DeletePromise before values (refused 9) before
+    refused-sibling e =
+        refused-word before values (f .leaf .early) (c .0) (ap (wordHolds (before .state)) (sym (c .2)) ∙ e)
+
+    stays : ((h : ℕ) → h < P → word ≡ wordOf (Page h x) → suc b < countBefore g + countBefore h)
+        → StaysAlone before values g x
+    stays alone m e =
+        let same : x - 1 ≡ m = omega arith in (
+          c .0,
+          subst (λ z. Agree (suc z) (sibling p z) (c .0)) same (c .1),
+          λ h l d. alone h l (c .2 ∙ d ∙ ap (λ y. wordOf (Page h y)) (sym e)),
+        )
+
+    module _ (holds : wordHolds (before .state) word ≡ true) where
+      pub stays-empty : (y : ℕ) → leafOf word ≡ Empty y → StaysAlone before values g x
+      stays-empty y e =
+          stays (λ h l d.
+          absurd (wordOf-apart h x y (omega (arith, most)) (sym d ∙ held-empty (before .state) word holds y e .1)))
+
+      module _ (h y : ℕ) (e : leafOf word ≡ Page h y) where
+        leaf : (h < P) × (y ≤ before .state .depth) × (word ≡ wordOf (Page h y))
+        leaf = held-page (before .state) word holds h y e
+
+        -- never joined with a divided sibling
+        pub stays-deep : (y ≡ x → ⊥) → StaysAlone before values g x
+        stays-deep n =
+            stays (λ i l d.
+            absurd (n (wordOf-one-to-one h i y x (omega (arith, most, leaf .0)) (omega (arith, most)) (sym (leaf .2) ∙ d) .1)))
+
+        pub siblingMet : y ≡ x → SiblingMet before values r h
+        siblingMet d =
+            record {
+              divided = divided;
+              other-within = leaf .0;
+              other = (c .0, c .1, sym (c .2) ∙ leaf .2 ∙ ap (λ z. wordOf (Page h z)) d);
+            }
+
+  -- ---- a sibling with page h
+
+  module _ (h : ℕ) (s : SiblingMet before values r h) where
+    step : suc (x - 1) ≡ x
+    step = omega (arith, s .divided)
+
+    unsound : ((S : List Record) → Sound before S → ⊥) → DeletePromise before values (refused 9) before
+    unsound none = delete-unsound before values (f .leaf .early) none
+
+    pub refused-shared : h ≡ g → DeletePromise before values (refused 9) before
+    refused-shared e =
+        unsound (λ S sound.
+        siblings-apart before S sound values g h (x - 1) (f .leaf .own-within)
+        (f .leaf .own ∙ ap (λ y. wordOf (Page g y)) (sym step))
+        (s .other .0, s .other .1, s .other .2 ∙ ap (λ y. wordOf (Page h y)) (sym step)) e)
+
+    pub refused-other-count : (k : ℕ) → k ≡ countBefore h → (1 ≤ k → k ≤ b → ⊥)
+        → DeletePromise before values (refused 9) before
+    refused-other-count k e none =
+        unsound (λ S sound.
+        let c = s .other in
+        let n = count-bounds before S sound (c .0) h x (omega (arith, most, s .other-within)) (c .2) in
+        none (omega (arith, n .0)) (omega (arith, n .1)))
+
+    pub refused-tally : tallyHolds (before .state .tally .leaves) ≡ false → DeletePromise before values (refused 9) before
+    refused-tally e = unsound (λ S sound. true≢false (sym (tallyHolds-of-sound before S sound) ∙ e))
+
+    module _ (k : ℕ) (e : k ≡ countBefore h) where
+      -- both do not fit one page
+      pub stays-full : b + 1 < r .count + k → StaysAlone before values g x
+      stays-full l =
+          let c = s .other in
+          stays (s .divided) (wordOn before (c .0)) (c .0, c .1, refl)
+          (λ i w d.
+          let same : h ≡ i =
+          wordOf-one-to-one h i x x (omega (arith, most, s .other-within)) (omega (arith, most)) (sym (c .2) ∙ d) .0 in
+          rw (sym same) (omega (arith, e, f .counted)))
+
+      pub joinPlanned : r .count + k ≤ b + 1 → k ≤ b → (h ≡ g → ⊥) → tallyHolds (before .state .tally .leaves) ≡ true
+          → (j : Join) → JoinMade (before .state) (before .memory .words) values x h k j → JoinPlanned before values r j
+      joinPlanned l few apart holds j made =
+          record {
+            depth-step = made .depth-step;
+            met = met;
+            apart = λ d. apart (sym (made .other) ∙ sym d);
+            counted = rw (made .other) (made .count ∙ e);
+            few = rw (made .count) few;
+            bit = made .bit;
+            tally = holds;
+          }
+        where
+          here : x - 1 ≡ j .step
+          here = omega (arith, made .depth-step)
+
+          met : JoinFound before values g (j .other) (j .step) (j .top)
+          met = record {
+            own-within = f .leaf .own-within;
+            own = f .leaf .own ∙ ap (λ y. wordOf (Page g y)) (made .depth-step);
+            other-within = rw (made .other) (s .other-within);
+            other =
+                let c = s .other in (
+                  c .0,
+                  subst (λ z. Agree (suc z) (sibling p z) (c .0)) here (c .1),
+                  c .2 ∙ ap (λ i. wordOf (Page i x)) (sym (made .other)) ∙ ap (λ y. wordOf (Page (j .other) y)) (made .depth-step),
+                );
+            fit = rw (made .other) (omega (arith, e, f .counted));
+            above = made .climbed .above;
+            empty = made .climbed .empty;
+            top = made .climbed .top;
+          }

@@ -1,0 +1,119 @@
+-- `removal::plan_pair` meets its contract: each way that it ends is a law of a leaf and its sibling. Assumes nothing.
+use mathlib.Core.Path.{sym, _∙_}
+use native.Mathlib.Omega.{arith}
+use borrow.Author.Tests.{not-true, not-false}
+use Rattle.store.specs.Store.{store}
+use Rattle.removal.proofs.MetLaws.{directoryLent, pageLent}
+use Rattle.removal.proofs.PairLaws.{refused-shared, refused-other-count, refused-tally, stays-full, joinPlanned}
+use borrow.Author.Needs.{needs}
+use Rattle.removal.proofs.plan_pair.Statement.{statement}
+use Rattle.removal.proofs.plan_pair.Tie as tie
+
+cast-capacity : tie.Need-cast-capacity
+cast-capacity c = search needs
+
+returns : tie.Need-returns
+returns c =
+    let s = c .before .before .before .before .before .before in
+    let a = s .args in
+    let before = store (a .state) (a .dir .now) (a .pages .now) in
+    refused-shared before (a .key .values) (a .found) (s .pre .0) (a .other) (s .pre .1) (c .if1 .taken)
+
+count-at-requires : tie.Need-count-at-requires
+count-at-requires c κs =
+    let s = c .before .before .before .before .before .before in
+    let a = s .args in
+    let before = store (a .state) (a .dir .now) (a .pages .now) in
+    pageLent before (a .key .values) (a .found .page) (a .found .depth) (s .pre .0 .leaf) (a .other)
+    (s .pre .1 .other-within)
+
+returns-2 : tie.Need-returns-2
+returns-2 c =
+    let s = c .before .before .before .before .before .before .before .before in
+    let a = s .args in
+    let before = store (a .state) (a .dir .now) (a .pages .now) in
+    let count = c .before .count-at in
+    refused-other-count before (a .key .values) (a .found) (s .pre .0) (a .other) (s .pre .1) (count .result)
+    (count .ensures .0) (λ u v. omega (arith, u, c .if2 .taken))
+
+returns-3 : tie.Need-returns-3
+returns-3 c =
+    let s = c .before .before .before .before .before .before .before .before .before in
+    let a = s .args in
+    let before = store (a .state) (a .dir .now) (a .pages .now) in
+    let count = c .before .before .count-at in
+    refused-other-count before (a .key .values) (a .found) (s .pre .0) (a .other) (s .pre .1) (count .result)
+    (count .ensures .0) (λ u v. omega (arith, v, c .if3 .taken))
+
+add-if4 : tie.Need-add-if4
+add-if4 c = search needs
+
+add-if4-2 : tie.Need-add-if4-2
+add-if4-2 c =
+    let s = c .before .before .before .before .before .before .before .before .before .before in
+    omega (arith, s .pre .0 .few, c .before .before .before .count-at .ensures .1)
+
+returns-4 : tie.Need-returns-4
+returns-4 c =
+    let s = c .before .before .before .before .before .before .before .before .before .before .before in
+    let a = s .args in
+    let before = store (a .state) (a .dir .now) (a .pages .now) in
+    let count = c .before .before .before .before .count-at in (
+      s .pre .0,
+      stays-full before (a .key .values) (a .found) (s .pre .0) (a .other) (s .pre .1) (count .result)
+          (count .ensures .0) (c .if4 .taken),
+    )
+
+tally-holds-requires : tie.Need-tally-holds-requires
+tally-holds-requires c κs = search needs
+
+returns-5 : tie.Need-returns-5
+returns-5 c =
+    let s = c .before .before .before .before .before .before .before .before .before .before .before .before .before in
+    let a = s .args in
+    let before = store (a .state) (a .dir .now) (a .pages .now) in
+    let holds = c .before .tally-holds in
+    refused-tally before (a .key .values) (a .found) (s .pre .0) (a .other) (s .pre .1)
+    (sym (holds .ensures) ∙ not-true (holds .result) (c .if5 .taken))
+
+plan-join-requires : tie.Need-plan-join-requires
+plan-join-requires c κs =
+    let s = c .before .before .before .before .before .before .before .before .before .before .before .before .before .before in
+    let a = s .args in
+    let before = store (a .state) (a .dir .now) (a .pages .now) in
+    let found = s .pre .0 in (
+      directoryLent before (a .key .values) (a .found .page) (a .found .depth) (found .leaf),
+      s .pre .1 .divided,
+      found .leaf .deep,
+    )
+
+returns-6 : tie.Need-returns-6
+returns-6 c =
+    let s = c .before .before .before .before .before .before .before .before .before .before .before .before .before .before .before in
+    let a = s .args in
+    let before = store (a .state) (a .dir .now) (a .pages .now) in
+    let count = c .before .before .before .before .before .before .before .before .count-at in
+    let holds = c .before .before .before .tally-holds in (
+      s .pre .0,
+      joinPlanned before (a .key .values) (a .found) (s .pre .0) (a .other) (s .pre .1) (count .result)
+          (count .ensures .0) (omega (arith, c .before .before .before .before .if4 .left)) (omega (arith, c .before .before .before .before .before .before .if3 .left))
+          (c .before .before .before .before .before .before .before .before .before .if1 .left) (sym (holds .ensures) ∙ not-false (holds .result) (c .before .before .if5 .left)) _
+          (c .plan-join .ensures),
+    )
+
+pub plan-pair-spec : {M : Type 1} → statement M
+plan-pair-spec =
+    tie.close
+    (tie.spec
+    cast-capacity
+    returns
+    count-at-requires
+    returns-2
+    returns-3
+    add-if4
+    add-if4-2
+    returns-4
+    tally-holds-requires
+    returns-5
+    plan-join-requires
+    returns-6)

@@ -1,0 +1,113 @@
+-- `removal::plan_sibling` meets its contract: each way that it ends is a law of the word of the sibling's cell. Assumes
+-- nothing.
+use Prim.Native.Nat.{_-_}
+use mathlib.Core.Path.{_≡_, sym, _∙_}
+use mathlib.Core.Bool.{true}
+use native.Mathlib.Omega.{arith}
+use borrow.Author.Tests.{not-true, not-false}
+use Rattle.word.specs.Word.{leafOf}
+use Rattle.word.specs.declared.Leaf.the-variants.{Page}
+use Rattle.store.specs.Store.{store}
+use Rattle.seek.specs.Hold.{wordHolds}
+use Rattle.removal.proofs.MetLaws.{directoryLent}
+use Rattle.removal.proofs.PairLaws.{refused-sibling, stays-empty, stays-deep, siblingMet}
+use borrow.Author.Needs.{needs}
+use Rattle.removal.proofs.plan_sibling.Statement.{statement}
+use Rattle.removal.proofs.plan_sibling.Tie as tie
+
+-- the word holds
+held : (c : tie.Else1)
+    → wordHolds (c .before .before .before .before .before .before .before .args .state) (c .before .before .sibling-of .result) ≡ true
+held c = sym (c .before .word-holds .ensures) ∙ not-false (c .before .word-holds .result) (c .if1 .left)
+
+-- the leaf with a page that it names
+named : (c : tie.After-sibling)
+    → leafOf (c .before .before .before .before .before .sibling-of .result) ≡ Page (c .sibling .given .0 .0) (c .sibling .given .0 .1 .0)
+named c = sym (c .before .before .unpack .ensures) ∙ c .sibling .given .1
+
+sub-sibling-of : tie.Need-sub-sibling-of
+sub-sibling-of c = omega (arith, c .before .before .before .before .pre .1)
+
+sibling-of-requires : tie.Need-sibling-of-requires
+sibling-of-requires c κs =
+    let s = c .before .before .before .before in
+    let a = s .args in
+    let before = store (a .state) (a .dir .now) (a .pages .now) in
+    let found = s .pre .0 in (
+      directoryLent before (a .key .values) (a .found .page) (a .found .depth) (found .leaf),
+      omega (arith, s .pre .1, found .leaf .deep),
+    )
+
+word-holds-requires : tie.Need-word-holds-requires
+word-holds-requires c κs = search needs
+
+returns : tie.Need-returns
+returns c =
+    let s = c .before .before .before .before .before .before .before in
+    let a = s .args in
+    let before = store (a .state) (a .dir .now) (a .pages .now) in
+    let holds = c .before .word-holds in
+    let word = c .before .before .sibling-of in
+    refused-sibling before (a .key .values) (a .found) (s .pre .0) (s .pre .1) (word .result) (word .ensures)
+    (sym (holds .ensures) ∙ not-true (holds .result) (c .if1 .taken))
+
+unpack-requires : tie.Need-unpack-requires
+unpack-requires c κs = search needs
+
+enum-known-sibling : tie.Need-enum-known-sibling
+enum-known-sibling c = search needs
+
+enum-told : tie.Need-enum-told
+enum-told c = search needs
+
+returns-2 : tie.Need-returns-2
+returns-2 c =
+    let s = c .before .before .before .before .before .before .before .before .before .before in
+    let a = s .args in
+    let before = store (a .state) (a .dir .now) (a .pages .now) in
+    let word = c .before .before .before .before .before .sibling-of in (
+      s .pre .0,
+      stays-empty before (a .key .values) (a .found) (s .pre .0) (s .pre .1) (word .result) (word .ensures)
+          (held (c .before .before .before)) _ (sym (c .before .before .unpack .ensures) ∙ c .enum-told .given .1),
+    )
+
+returns-3 : tie.Need-returns-3
+returns-3 c =
+    let s = c .before .before .before .before .before .before .before .before .before .before .before .before .before in
+    let a = s .args in
+    let before = store (a .state) (a .dir .now) (a .pages .now) in
+    let word = c .before .before .before .before .before .before .before .before .sibling-of in (
+      s .pre .0,
+      stays-deep before (a .key .values) (a .found) (s .pre .0) (s .pre .1) (word .result) (word .ensures)
+          (held (c .before .before .before .before .before .before)) _ _ (named (c .before .before .before)) (c .if2 .taken),
+    )
+
+plan-pair-requires : tie.Need-plan-pair-requires
+plan-pair-requires c κs =
+    let s = c .before .before .before .before .before .before .before .before .before .before .before .before .before in
+    let a = s .args in
+    let before = store (a .state) (a .dir .now) (a .pages .now) in
+    let word = c .before .before .before .before .before .before .before .before .sibling-of in (
+      s .pre .0,
+      siblingMet before (a .key .values) (a .found) (s .pre .0) (s .pre .1) (word .result) (word .ensures)
+          (held (c .before .before .before .before .before .before)) _ _ (named (c .before .before .before)) (c .if2 .left),
+    )
+
+returns-4 : tie.Need-returns-4
+returns-4 c = c .plan-pair .ensures
+
+pub plan-sibling-spec : {M : Type 1} → statement M
+plan-sibling-spec =
+    tie.close
+    (tie.spec
+    sub-sibling-of
+    sibling-of-requires
+    word-holds-requires
+    returns
+    unpack-requires
+    enum-known-sibling
+    enum-told
+    returns-2
+    returns-3
+    plan-pair-requires
+    returns-4)

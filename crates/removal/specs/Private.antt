@@ -1,0 +1,46 @@
+-- What the steps of the plan of a delete find at the sibling of the key's leaf and above it. Private functions'
+-- contracts cite these. Assumes nothing.
+use Prim.Native.Nat.{ℕ, suc, _-_, _^_, _≤_, _<_}
+use mathlib.Core.Path.{_≡_}
+use mathlib.Core.List.{List, []}
+use Rattle.shape.specs.Shape.{shapeNumber, widthsOf, total}
+use Rattle.split.specs.Bits.{splitBit}
+use Rattle.word.specs.Word.{wordOf}
+use Rattle.word.specs.declared.Leaf.the-variants.{Empty, Page}
+use Rattle.store.specs.Store.{Store, store}
+use Rattle.store.specs.declared.State.{State}
+use Rattle.change.specs.Delete.{AtSibling}
+use Rattle.removal.specs.declared.Stored.{Stored}
+use Rattle.removal.specs.declared.Join.{Join}
+
+-- ---- the sibling of the key's leaf
+
+-- a leaf of the same depth, with page h
+pub record SiblingMet (before : Store) (values : List ℕ) (r : Stored) (h : ℕ) : Type 0 where
+  pub divided : 0 < r .depth
+  pub other-within : h < before .state .limits .pages
+  pub other : AtSibling before values (r .depth - 1) (λ w. w ≡ wordOf (Page h (r .depth)))
+
+-- ---- siblings above
+
+-- the directory of depth T fits the shape, the greatest depth 12, and a slice of so many words
+pub record DirectoryLent (st : State) (size : ℕ) : Type 0 where
+  pub shape : shapeNumber (st .shape) ≡ 0
+  pub deep : st .depth ≤ total (widthsOf (st .shape))
+  pub short : st .depth ≤ 12
+  pub room : 2 ^ st .depth ≤ size
+
+module _ (st : State) (words values : List ℕ) where
+  -- from depth m up, the siblings are empty leaves from depth y + 1 on, and that at depth y is none
+  pub record Climbed (m y : ℕ) : Type 0 where
+    pub above : y ≤ m
+    pub empty : (z : ℕ) → y ≤ z → z < m → AtSibling (store st words []) values z (λ w. w ≡ wordOf (Empty (suc z)))
+    pub top : (z : ℕ) → y ≡ suc z → AtSibling (store st words []) values z (λ w. w ≡ wordOf (Empty (suc z)) → ⊥)
+
+  -- the join of a leaf of depth x with its sibling, which has page h and k records
+  pub record JoinMade (x h k : ℕ) (j : Join) : Type 0 where
+    pub other : j .other ≡ h
+    pub count : j .count ≡ k
+    pub depth-step : x ≡ suc (j .step)
+    pub bit : j .bit ≡ splitBit (widthsOf (st .shape)) values (j .step)
+    pub climbed : Climbed (j .step) (j .top)

@@ -1,0 +1,79 @@
+// The siblings of a key's regions, and what a join makes of them: the key's leaf and its sibling give
+// way to one leaf, which takes in the empty siblings above.
+use super::Join;
+use address::pairs::pair_of_step;
+use shape::Shape;
+use shape::widths_of;
+use sibling::bit_at;
+use sibling::sibling_word;
+use store::State;
+use word::pack_empty;
+ghost use mathlib.Core.Path.{_≡_};
+ghost use mathlib.Core.List.{[]};
+ghost use Prim.Native.Nat.{_<_, _≤_};
+ghost use lib.ListN.{length};
+ghost use Rattle.shape.specs.Shape.{shapeNumber, widthsOf, total};
+ghost use Rattle.split.specs.Bits.{splitBit};
+ghost use Rattle.store.specs.Store.{store};
+ghost use Rattle.change.specs.Delete.{AtSibling};
+ghost use Rattle.removal.specs.Private.{DirectoryLent, Climbed, JoinMade};
+
+// The join of a leaf of depth x with its sibling, which has page `other` and so many records.
+pub fn plan_join(
+    state: State,
+    dir: &[u32],
+    values: [u32; 4],
+    x: u32,
+    other: u32,
+    count: usize,
+) -> Join
+    requires { ⌜ DirectoryLent state (length (now dir)) × (0 < x) × (x ≤ state .depth) ⌝ }
+    ensures { λ r. ⌜ JoinMade state (now (dir .entry)) values x other count r ⌝ }
+{
+    let step = x - 1;
+    let bit = step_bit(state.shape, values, step);
+    let top = climb(state, dir, values, step);
+    Join {
+        other,
+        count,
+        step,
+        bit,
+        top,
+    }
+}
+
+// The least depth y such that from depth m up the siblings are empty leaves, those of depths y + 1
+// to m.
+fn climb(state: State, dir: &[u32], values: [u32; 4], m: u32) -> u32
+    requires { ⌜ DirectoryLent state (length (now dir)) × (m < state .depth) ⌝ }
+    ensures { λ r. ⌜ Climbed state (now (dir .entry)) values m r ⌝ }
+{
+    let mut y = m;
+    while 0 < y {
+        let word = sibling_of(state, dir, values, y - 1);
+        if word != pack_empty(y) {
+            return y;
+        }
+        y -= 1;
+    }
+    y
+}
+
+// The word of a cell of the sibling of a key's region of z + 1 bits.
+pub fn sibling_of(state: State, dir: &[u32], values: [u32; 4], z: u32) -> u32
+    requires { ⌜ DirectoryLent state (length (now dir)) × (z < state .depth) ⌝ }
+    ensures { λ r. ⌜ AtSibling (store state (now (dir .entry)) []) values z (λ w. r ≡ w) ⌝ }
+{
+    let widths = widths_of(state.shape);
+    sibling_word(widths, values, z as u64, state.depth as u64, dir)
+}
+
+// The split bit of a key at a step.
+fn step_bit(shape: Shape, values: [u32; 4], step: u32) -> bool
+    requires { ⌜ (shapeNumber shape ≡ 0) × (step < total (widthsOf shape)) ⌝ }
+    ensures { λ r. ⌜ r ≡ splitBit (widthsOf shape) values step ⌝ }
+{
+    let widths = widths_of(shape);
+    let pair = pair_of_step(widths, step as u64);
+    bit_at(widths, values, pair)
+}

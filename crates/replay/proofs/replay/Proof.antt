@@ -1,0 +1,76 @@
+-- `replay::replay` meets its contract: Fresh is refused, or the calls on the fresh store give the model's run. Assumes
+-- nothing.
+use mathlib.Core.Path.{ap}
+use Rattle.store.specs.Answers.{changedAnswer}
+use Rattle.store.specs.Store.{memory}
+use Rattle.replay.proofs.ReplayedLaws.{replayed-refused, replayed-accepted}
+use borrow.Author.Needs.{needs}
+use Rattle.replay.proofs.replay.Statement.{statement}
+use Rattle.replay.proofs.replay.Tie as tie
+
+fresh-requires : tie.Need-fresh-requires
+fresh-requires c κs = search needs
+
+enum-told : tie.Need-enum-told
+enum-told c = search needs
+
+enum-told-2 : tie.Need-enum-told-2
+enum-told-2 c = search needs
+
+same-length : tie.Need-same-length
+same-length c = search needs
+
+same-length-2 : tie.Need-same-length-2
+same-length-2 c = search needs
+
+returns : tie.Need-returns
+unfolding changedAnswer
+returns c =
+    let call = c .before .before .before .before .before .before in
+    let a = call .before .before .before .before .before .before .before .before .args in
+    replayed-refused (a .shape) (memory (a .dir .now) (a .pages .now)) (a .calls .now) (a .answers .now) (a .out .now)
+    (changedAnswer (call .fresh .result .answer)) _ _ (ap changedAnswer (c .enum-told2 .given .1))
+    (call .fresh .ensures)
+
+run-calls-requires : tie.Need-run-calls-requires
+run-calls-requires c κs = search needs
+
+same-length-3 : tie.Need-same-length-3
+same-length-3 c = search needs
+
+same-length-4 : tie.Need-same-length-4
+same-length-4 c = search needs
+
+same-length-5 : tie.Need-same-length-5
+same-length-5 c = search needs
+
+same-length-6 : tie.Need-same-length-6
+same-length-6 c = search needs
+
+returns-2 : tie.Need-returns-2
+unfolding changedAnswer
+returns-2 c =
+    let ran = c .before .before .before .before .before .before .before .before in
+    let told = ran .before .before .before .before .before .before in
+    let call = told .before .before .before .before .before .before in
+    let a = call .before .before .before .before .before .before .before .before .args in
+    replayed-accepted (a .shape) (memory (a .dir .now) (a .pages .now)) (a .calls .now) (a .answers .now) (a .out .now)
+    (changedAnswer (call .fresh .result .answer)) _ _ _ _ (ap changedAnswer (told .enum-told .given .1))
+    (call .fresh .ensures) (ran .run-calls .ensures)
+
+pub replay-spec : {M : Type 1} → statement M
+replay-spec =
+    tie.close
+    (tie.spec
+    fresh-requires
+    enum-told
+    enum-told-2
+    same-length
+    same-length-2
+    returns
+    run-calls-requires
+    same-length-3
+    same-length-4
+    same-length-5
+    same-length-6
+    returns-2)

@@ -1,0 +1,3 @@
+pub mod Encoding
+pub mod Private
+pub mod Replayed

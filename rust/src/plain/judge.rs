@@ -1,0 +1,95 @@
+//! Whether a store is sound, by the definition of document 01, "Lent memory".
+//!
+//! In a sound store a page is free or has the records of a leaf, so that the set can only be that of all records in
+//! pages that are not free. The judge reads it there and then compares the store with the set's leaves.
+use super::image::{word_of, Image, DEPTH, DEPTH_LIMIT, PAGE_LIMIT, STATE, TALLY};
+use super::leaves::{greatest_depth, leaf_of, leaves, tally, Record};
+use super::model::Model;
+use super::refusal::{key_refused, memory_refused, page_size, shape_refused};
+use crate::cells::Cells;
+
+/// The number of the refusal, 1 or 2; else whether the store is sound.
+pub fn judge(image: &Image) -> Result<bool, u32> {
+    match early_number(image) {
+        Some(number) => Err(number),
+        None => Ok(is_sound(image)),
+    }
+}
+
+/// 1 or 2, of a call on a lent store.
+pub fn early_number(image: &Image) -> Option<u32> {
+    let shape = image.shape();
+    let (p, l) = (image.state[PAGE_LIMIT], image.state[DEPTH_LIMIT]);
+    if shape_refused(shape) {
+        Some(1)
+    } else if memory_refused(shape, p, l, image.dir.len(), image.pages.len()) {
+        Some(2)
+    } else {
+        None
+    }
+}
+
+/// After 1 and 2.
+fn is_sound(image: &Image) -> bool {
+    let [p, l, t] = [PAGE_LIMIT, DEPTH_LIMIT, DEPTH].map(|place| image.state[place] as usize);
+    let model = Model::new(image.shape(), p, l);
+    let bits = model.widths().iter().sum::<u32>() as usize;
+    if !(1..=4096).contains(&p) || l > 12 || l > bits || t > l {
+        return false;
+    }
+    let Some(pages) = (0..p).map(|g| records_of(image, &model, g)).collect::<Option<Vec<_>>>() else {
+        return false;
+    };
+    let mut set = pages.concat();
+    set.sort_by(|r, s| r.bits.cmp(&s.bits));
+    if set.windows(2).any(|pair| pair[0].key == pair[1].key) {
+        return false;
+    }
+    let leaves = leaves(image.shape().capacity as usize, &set);
+    if greatest_depth(&leaves) != t || tally(&leaves) != image.state[TALLY..STATE] {
+        return false;
+    }
+    // "no two leaves share a page, every page without a leaf is free" follow: no key stands twice
+    Cells::new(model.widths(), t).all(t).iter().all(|cell| {
+        let leaf = &leaves[leaf_of(&leaves, &cell.bits)];
+        let word = image.dir[cell.address];
+        let page = (word as usize & 0xffff).checked_sub(1);
+        word == word_of(page, leaf.depth())
+            && match page {
+                None => leaf.records.is_empty(),
+                Some(g) => g < p && !leaf.records.is_empty() && pages[g] == leaf.records,
+            }
+    })
+}
+
+/// The records of page g: none of a free page; `None` for a count above b or a value out of range.
+fn records_of(image: &Image, model: &Model, g: usize) -> Option<Vec<Record>> {
+    let mut page = PageReader { bytes: &image.pages[g * page_size(model.shape)..] };
+    let count = page.number();
+    if count > model.shape.capacity {
+        return None;
+    }
+    let mut records = Vec::new();
+    for _ in 0..count {
+        let key = [0; 4].map(|_: u32| page.number());
+        let payload = page.number() | page.number() << 16;
+        if key_refused(model.shape, key) {
+            return None;
+        }
+        records.push(model.record(key, payload));
+    }
+    Some(records)
+}
+
+/// Little-endian numbers of 16 bits, one after the other.
+struct PageReader<'a> {
+    bytes: &'a [u8],
+}
+
+impl PageReader<'_> {
+    fn number(&mut self) -> u32 {
+        let (number, rest) = self.bytes.split_at(2);
+        self.bytes = rest;
+        u32::from(number[0]) + 256 * u32::from(number[1])
+    }
+}

@@ -1,0 +1,140 @@
+//! The plain model (document 01, "The plain model of demand 3"): a list of records, scanned in full for every answer.
+use super::leaves::{greatest_depth, leaves, Leaf, Record};
+use super::refusal::{key_refused, page_size, query_refused, shape_refused, used_widths};
+use crate::host::Shape;
+use crate::reference::steps;
+
+/// A fixed shape, P and L, and a set of records in any order.
+#[derive(Clone, Debug)]
+pub struct Model {
+    pub shape: Shape,
+    pub page_limit: usize,
+    pub depth_limit: usize,
+    pub records: Vec<Record>,
+    widths: Vec<u32>,
+    steps: Vec<(u32, usize)>,
+}
+
+impl Model {
+    /// The model of an accepted Fresh, or the number of the refusal.
+    pub fn fresh(shape: Shape, words: usize, bytes: usize) -> Result<Model, u32> {
+        if shape_refused(shape) {
+            return Err(1);
+        }
+        let whole_pages = bytes / page_size(shape);
+        if words == 0 || whole_pages == 0 {
+            return Err(2);
+        }
+        // "the smallest of 12, W and the rounded-down base-2 logarithm of the directory's length"
+        let bits = used_widths(shape).iter().sum::<u32>() as usize;
+        let logarithm = (0..64).rev().find(|&l| words >> l != 0).unwrap();
+        Ok(Model::new(shape, whole_pages.min(4096), logarithm.min(bits).min(12)))
+    }
+
+    /// The model without records of this shape, P and L.
+    pub fn new(mut shape: Shape, page_limit: usize, depth_limit: usize) -> Model {
+        // "Fresh holds them as 0"
+        shape.widths[shape.attributes as usize..].fill(0);
+        let widths = used_widths(shape);
+        let steps = steps(&widths);
+        Model { shape, page_limit, depth_limit, records: vec![], widths, steps }
+    }
+
+    /// The widths of the attributes in use.
+    pub fn widths(&self) -> &[u32] {
+        &self.widths
+    }
+
+    /// "The split bits of a key are its bits in this order."
+    pub fn split_bits(&self, key: [u32; 4]) -> Vec<bool> {
+        self.steps.iter().map(|&(k, j)| (key[j] >> (self.widths[j] - 1 - k)) & 1 == 1).collect()
+    }
+
+    /// The key with these first split bits, and 0 in the others.
+    pub fn key_of(&self, bits: &[bool]) -> [u32; 4] {
+        let mut key = [0; 4];
+        for (&bit, &(k, j)) in bits.iter().zip(&self.steps) {
+            key[j] |= u32::from(bit) << (self.widths[j] - 1 - k);
+        }
+        key
+    }
+
+    pub fn record(&self, key: [u32; 4], payload: u32) -> Record {
+        Record { bits: self.split_bits(key), key, payload }
+    }
+
+    /// The leaves of the set, in split order.
+    pub fn leaves(&self) -> Vec<Leaf> {
+        leaves(self.shape.capacity as usize, &self.records)
+    }
+
+    /// Whether a store of these limits can hold a set: T at most L, and a page for each leaf that is not empty.
+    pub fn holds(&self) -> bool {
+        let leaves = self.leaves();
+        let pages = leaves.iter().filter(|leaf| !leaf.records.is_empty()).count();
+        greatest_depth(&leaves) <= self.depth_limit && pages <= self.page_limit
+    }
+
+    /// The leaves that agree with a query.
+    pub fn agreeing(&self, query: [Option<u32>; 4]) -> Vec<Leaf> {
+        let mut leaves = self.leaves();
+        leaves.retain(|leaf| leaf.agrees(&self.steps, &self.widths, query));
+        leaves
+    }
+
+    // ---- calls
+
+    pub fn insert(&mut self, key: [u32; 4], payload: u32) -> Result<(), u32> {
+        if key_refused(self.shape, key) {
+            return Err(3);
+        }
+        if self.records.iter().any(|record| record.key == key) {
+            return Err(4);
+        }
+        let new = self.record(key, payload);
+        let first = &new.bits[..self.depth_limit];
+        let sharing = self.records.iter().filter(|record| record.bits.starts_with(first)).count();
+        if sharing >= self.shape.capacity as usize {
+            return Err(6);
+        }
+        self.records.push(new);
+        let pages = self.leaves().iter().filter(|leaf| !leaf.records.is_empty()).count();
+        if pages > self.page_limit {
+            self.records.pop();
+            return Err(7);
+        }
+        Ok(())
+    }
+
+    pub fn delete(&mut self, key: [u32; 4]) -> Result<(), u32> {
+        if key_refused(self.shape, key) {
+            return Err(3);
+        }
+        let place = self.records.iter().position(|record| record.key == key).ok_or(5u32)?;
+        self.records.remove(place);
+        Ok(())
+    }
+
+    /// The payload, and 1 page read.
+    pub fn lookup(&self, key: [u32; 4]) -> Result<(u32, u32), u32> {
+        if key_refused(self.shape, key) {
+            return Err(3);
+        }
+        self.records.iter().find(|record| record.key == key).map(|record| (record.payload, 1)).ok_or(5)
+    }
+
+    /// Written, total and reads.
+    pub fn query(&self, query: [Option<u32>; 4], out: &mut [u8]) -> Result<(u64, u64, u64), u32> {
+        if let Some(number) = query_refused(self.shape, query) {
+            return Err(number);
+        }
+        let mut found: Vec<&Record> = self.records.iter().filter(|record| record.matches(query)).collect();
+        found.sort_by(|r, s| r.bits.cmp(&s.bits));
+        let written = found.len().min(out.len() / 12);
+        for (i, record) in found[..written].iter().enumerate() {
+            out[12 * i..12 * i + 12].copy_from_slice(&record.bytes());
+        }
+        let reads = self.agreeing(query).iter().filter(|leaf| !leaf.records.is_empty()).count();
+        Ok((written as u64, found.len() as u64, reads as u64))
+    }
+}

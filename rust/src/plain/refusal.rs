@@ -1,0 +1,44 @@
+//! The refusals that need no look into words and pages, from the table of document 01, "Refused calls".
+use crate::host::Shape;
+
+/// A page's bytes: "A page has 2 + 12b bytes".
+pub fn page_size(shape: Shape) -> usize {
+    2 + 12 * shape.capacity as usize
+}
+
+/// The widths that count: "Widths past d are ignored".
+pub fn used_widths(shape: Shape) -> Vec<u32> {
+    shape.widths[..shape.attributes as usize].to_vec()
+}
+
+/// 1: "shape outside its bounds".
+pub fn shape_refused(shape: Shape) -> bool {
+    !(1..=4).contains(&shape.attributes)
+        || !(1..=16).contains(&shape.capacity)
+        || used_widths(shape).iter().any(|width| !(1..=16).contains(width))
+}
+
+/// 2, of a later call: "fewer than 2^L words or P pages", whatever P and L are.
+pub fn memory_refused(shape: Shape, page_limit: u32, depth_limit: u32, words: usize, bytes: usize) -> bool {
+    let words_needed = 1u128.checked_shl(depth_limit).unwrap_or(u128::MAX);
+    (words as u128) < words_needed || (bytes as u128) < page_limit as u128 * page_size(shape) as u128
+}
+
+/// 3: "value or index of 2^w_j or more .. unused key or index value not 0".
+pub fn key_refused(shape: Shape, key: [u32; 4]) -> bool {
+    let widths = used_widths(shape);
+    (0..4).any(|j| match widths.get(j) {
+        Some(&width) => key[j] >= 1 << width,
+        None => key[j] != 0,
+    })
+}
+
+/// 8: "query names attribute d or above", then 3 for a given value; "A value of a free attribute is ignored."
+pub fn query_refused(shape: Shape, query: [Option<u32>; 4]) -> Option<u32> {
+    let widths = used_widths(shape);
+    if query[widths.len()..].iter().any(Option::is_some) {
+        return Some(8);
+    }
+    let large = |(value, &width): (&Option<u32>, &u32)| value.is_some_and(|value| value >= 1 << width);
+    query.iter().zip(&widths).any(large).then_some(3)
+}

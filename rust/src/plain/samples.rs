@@ -1,0 +1,45 @@
+//! Random models and keys.
+use super::model::Model;
+use crate::host::Shape;
+use crate::random::Random;
+use crate::shapes::random_widths;
+
+/// A model of a random shape, with random limits and as many records as a random number of inserts leaves. Few bits,
+/// low limits and small capacities are likely, and so are full stores and keys with long common beginnings.
+pub fn random_model(random: &mut Random) -> Model {
+    let most = [6, 14, 64][random.below(3)];
+    let total = random.between(1, most) as u32;
+    let widths = random_widths(random, total);
+    let mut shape = Shape::new(&widths);
+    let most = [3, 16][random.below(2)];
+    shape.capacity = random.between(1, most) as u32;
+    let depth_limit = [total.min(12) as usize, random.below(total.min(12) as usize + 1)][random.below(2)];
+    let page_limit = 1 + random.below(40);
+    let mut model = Model::new(shape, page_limit, depth_limit);
+    let most = page_limit * shape.capacity as usize;
+    for _ in 0..random.below(2 * most + 2).min(250) {
+        let key = random_key(random, &model);
+        let payload = random.number() as u32;
+        // a refused record is left out
+        let _ = model.insert(key, payload);
+    }
+    model
+}
+
+/// A key within the shape's bounds: half of them have their first bits, up to a random one, from a stored key, and one
+/// in eight is a stored key.
+pub fn random_key(random: &mut Random, model: &Model) -> [u32; 4] {
+    let total = model.widths().iter().sum::<u32>() as usize;
+    let mut bits: Vec<bool> = (0..total).map(|_| random.below(2) == 1).collect();
+    if !model.records.is_empty() && random.below(2) == 1 {
+        let stored = &model.records[random.below(model.records.len())].bits;
+        let common = if random.below(4) == 0 { total } else { random.below(total) };
+        bits[..common].copy_from_slice(&stored[..common]);
+    }
+    model.key_of(&bits)
+}
+
+/// A query that gives the attributes of a subset (bit j for attribute j) the values of a key.
+pub fn query_of(subset: usize, key: [u32; 4]) -> [Option<u32>; 4] {
+    [0, 1, 2, 3].map(|j| (subset >> j & 1 == 1).then_some(key[j]))
+}

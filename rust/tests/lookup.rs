@@ -1,0 +1,201 @@
+//! The call lookup on sound stores and on what it meets of unsound ones, compared with a list scanned in full.
+use mdeh_tests::compare::Comparisons;
+use mdeh_tests::lent::LentStore;
+use mdeh_tests::plain::image::{word_of, Image, Laid, DEPTH, PAGE_LIMIT};
+use mdeh_tests::plain::model::Model;
+use mdeh_tests::plain::samples::{random_key, random_model};
+use mdeh_tests::random::Random;
+
+const SEED: u64 = 0x6d64_6568_2d30_3035;
+
+#[test]
+fn keys_of_random_stores() {
+    let mut count = Comparisons::default();
+    let mut random = Random::new(SEED);
+    for _ in 0..1000 {
+        let model = random_model(&mut random);
+        let store = LentStore::of(&mut random, &model);
+        for _ in 0..100 {
+            let key = random_key(&mut random, &model);
+            count.same(store.lookup(key), model.lookup(key), format_args!("{model:?}, {key:?}"));
+        }
+    }
+    count.end(1000 * 100);
+}
+
+#[test]
+fn every_key_of_a_large_store() {
+    let mut count = Comparisons::default();
+    let mut random = Random::new(SEED);
+    for widths in [&[8, 8, 10][..], &[16], &[3, 4, 5, 2], &[16; 4]] {
+        let mut shape = mdeh_tests::host::Shape::new(widths);
+        shape.capacity = 8;
+        let mut model = Model::new(shape, 4096, 12);
+        while model.records.len() < 3000 {
+            let bits: Vec<bool> = (0..widths.iter().sum()).map(|_| random.below(2) == 1).collect();
+            let record = model.record(model.key_of(&bits), random.number() as u32);
+            model.records.push(record);
+        }
+        model.records.sort_by(|r, s| r.bits.cmp(&s.bits));
+        model.records.dedup_by(|r, s| r.bits == s.bits);
+        assert!(model.holds());
+        let store = LentStore::of(&mut random, &model);
+        for i in 0..500 {
+            let record = &model.records[i * model.records.len() / 500];
+            let about = format_args!("{record:?}");
+            count.same(store.lookup(record.key), Ok((record.payload, 1)), about);
+            let key = random_key(&mut random, &model);
+            count.same(store.lookup(key), model.lookup(key), format_args!("{key:?}"));
+        }
+    }
+    count.end(4 * 1000);
+}
+
+#[test]
+fn pages_of_other_leaves_overwritten() {
+    let mut count = Comparisons::default();
+    let mut random = Random::new(SEED);
+    for _ in 0..1000 {
+        let model = random_model(&mut random);
+        let laid = Laid::new(&mut random, &model);
+        for _ in 0..10 {
+            let key = random_key(&mut random, &model);
+            let bits = model.split_bits(key);
+            let read = laid.leaves.iter().find(|placed| bits.starts_with(&placed.leaf.bits)).unwrap().page;
+            let mut image = laid.image.clone();
+            for g in (0..model.page_limit).filter(|&g| Some(g) != read) {
+                let bytes = random.bytes(image.page(g).len());
+                image.page(g).copy_from_slice(&bytes);
+            }
+            let store = LentStore::new(&mut random, &image);
+            count.same(store.lookup(key), model.lookup(key), format_args!("{model:?}, {key:?}"));
+        }
+    }
+    count.end(1000 * 10);
+}
+
+// ---- refused calls
+
+#[test]
+fn values_out_of_range_are_refused_with_3() {
+    let mut count = Comparisons::default();
+    let mut random = Random::new(SEED);
+    for _ in 0..500 {
+        let model = random_model(&mut random);
+        let store = LentStore::of(&mut random, &model);
+        for j in 0..4 {
+            let least = 1u32 << model.shape.widths[j];
+            for value in [least, least + 1, 1 << 16, 1 << 31, u32::MAX] {
+                let mut key = random_key(&mut random, &model);
+                key[j] = value;
+                let about = format_args!("{:?}, {key:?}", model.shape);
+                count.same(model.lookup(key), Err(3), about);
+                count.same(store.lookup(key), Err(3), about);
+            }
+        }
+    }
+    count.end(500 * 4 * 5 * 2);
+}
+
+#[test]
+fn refusals_1_and_2_come_before_3() {
+    let mut count = Comparisons::default();
+    let mut random = Random::new(SEED);
+    for _ in 0..200 {
+        let model = random_model(&mut random);
+        let laid = Laid::new(&mut random, &model);
+        let bad_key = [u32::MAX; 4];
+        for (image, number) in early_refused(&laid.image, &model) {
+            let store = LentStore::new(&mut random, &image);
+            for key in [random_key(&mut random, &model), bad_key] {
+                count.same(store.lookup(key), Err(number), format_args!("{:?}", image.state));
+            }
+        }
+    }
+    count.end(200 * 8 * 2);
+}
+
+/// The store with a bad shape, too few state words, words or pages, or both.
+fn early_refused(image: &Image, model: &Model) -> Vec<(Image, u32)> {
+    let changed = |change: &dyn Fn(&mut Image), number| {
+        let mut image = image.clone();
+        change(&mut image);
+        (image, number)
+    };
+    let words = (1 << model.depth_limit) - 1;
+    let bytes = image.clone().page(0).len() * model.page_limit - 1;
+    vec![
+        changed(&|image| image.state[0] = 5, 1),
+        changed(&|image| image.state[1] = 17, 1),
+        changed(&|image| image.state[5] = 0, 1),
+        changed(&|image| image.state.truncate(21), 1),
+        changed(&|image| image.state.clear(), 1),
+        changed(&|image| image.dir.truncate(words), 2),
+        changed(&|image| image.pages.truncate(bytes), 2),
+        changed(&|image| (image.dir, image.pages, image.state[5]) = (vec![], vec![], 17), 1),
+    ]
+}
+
+// ---- damage that a lookup meets
+
+/// Compares the lookups of a leaf's keys, and of others in it, with 9.
+fn all_damaged(count: &mut Comparisons, random: &mut Random, model: &Model, bits: &[bool], image: &Image) {
+    let store = LentStore::new(random, image);
+    for _ in 0..5 {
+        let mut all = model.split_bits(random_key(random, model));
+        all[..bits.len()].copy_from_slice(bits);
+        let key = model.key_of(&all);
+        let about = format_args!("{:?}, {key:?} in leaf {bits:?}", image.state);
+        count.same(store.lookup(key), Err(9), about);
+    }
+}
+
+#[test]
+fn a_damaged_word_gives_9() {
+    let mut count = Comparisons::default();
+    let mut random = Random::new(SEED);
+    for _ in 0..500 {
+        let model = random_model(&mut random);
+        let laid = Laid::new(&mut random, &model);
+        let placed = &laid.leaves[random.below(laid.leaves.len())];
+        let (t, p) = (laid.image.state[DEPTH] as usize, laid.image.state[PAGE_LIMIT] as usize);
+        let deep = t + 1 + random.below(15 - t);
+        let past = p + random.below(65_535 - p);
+        for word in [
+            placed.word | 1 << random.between(20, 31),
+            word_of(placed.page, t + 1),
+            word_of(placed.page, deep),
+            word_of(None, deep),
+            word_of(Some(p), placed.leaf.depth()),
+            word_of(Some(past), placed.leaf.depth()),
+            word_of(Some(65_534), placed.leaf.depth()),
+            u32::MAX,
+        ] {
+            let mut image = laid.image.clone();
+            placed.cells.iter().for_each(|&a| image.dir[a] = word);
+            all_damaged(&mut count, &mut random, &model, &placed.leaf.bits, &image);
+        }
+    }
+    count.end(500 * 8 * 5);
+}
+
+#[test]
+fn a_damaged_count_gives_9() {
+    let mut count = Comparisons::default();
+    let mut random = Random::new(SEED);
+    let mut stores = 0;
+    while stores < 500 {
+        let model = random_model(&mut random);
+        let laid = Laid::new(&mut random, &model);
+        let placed = &laid.leaves[random.below(laid.leaves.len())];
+        let Some(page) = placed.page else { continue };
+        stores += 1;
+        let b = model.shape.capacity as u16;
+        for damaged in [0, b + 1, b + 256, 1 << 15, u16::MAX] {
+            let mut image = laid.image.clone();
+            image.set_count(page, damaged);
+            all_damaged(&mut count, &mut random, &model, &placed.leaf.bits, &image);
+        }
+    }
+    count.end(500 * 5 * 5);
+}

@@ -1,0 +1,248 @@
+//! The call query on sound stores and on what it meets of unsound ones, compared with a list scanned in full.
+use mdeh_tests::compare::Comparisons;
+use mdeh_tests::lent::{lend_bytes, LentStore};
+use mdeh_tests::plain::image::{word_of, Image, Laid, Placed, DEPTH, PAGE_LIMIT};
+use mdeh_tests::plain::model::Model;
+use mdeh_tests::plain::samples::{query_of, random_key, random_model};
+use mdeh_tests::random::Random;
+
+const SEED: u64 = 0x6d64_6568_2d30_3036;
+
+/// Compares answer and output of a query, with an output of so many random bytes between guards.
+fn compare(
+    count: &mut Comparisons,
+    random: &mut Random,
+    model: &Model,
+    store: &LentStore,
+    query: [Option<u32>; 4],
+    bytes: usize,
+) {
+    let mut expected = random.bytes(bytes);
+    let mut out = lend_bytes(random, &expected);
+    let answer = store.query(query, &mut out);
+    let about = format_args!("{:?}, {query:?}, {bytes} bytes", model.shape);
+    count.same(answer, model.query(query, &mut expected), about);
+    count.same(out.slice() == expected, true, about);
+}
+
+/// A random query of the shape's attributes.
+fn random_query(random: &mut Random, model: &Model) -> [Option<u32>; 4] {
+    let subset = random.below(1 << model.widths().len());
+    query_of(subset, random_key(random, model))
+}
+
+/// How many bytes a query's output takes.
+fn output_size(model: &Model, query: [Option<u32>; 4]) -> usize {
+    12 * model.records.iter().filter(|record| record.matches(query)).count()
+}
+
+#[test]
+fn every_subset_of_given_attributes() {
+    let mut count = Comparisons::default();
+    let mut random = Random::new(SEED);
+    let mut subsets = 0;
+    for _ in 0..1000 {
+        let model = random_model(&mut random);
+        let store = LentStore::of(&mut random, &model);
+        for subset in 0..1 << model.widths().len() {
+            subsets += 1;
+            for _ in 0..4 {
+                let query = query_of(subset, random_key(&mut random, &model));
+                let bytes = random.below(output_size(&model, query) + 30);
+                compare(&mut count, &mut random, &model, &store, query, bytes);
+            }
+        }
+    }
+    count.end(subsets * 4 * 2);
+}
+
+#[test]
+fn outputs_of_every_length() {
+    let mut count = Comparisons::default();
+    let mut random = Random::new(SEED);
+    let mut lengths = 0;
+    for _ in 0..200 {
+        let model = random_model(&mut random);
+        let store = LentStore::of(&mut random, &model);
+        let query = random_query(&mut random, &model);
+        let most = output_size(&model, query).min(40 * 12) + 25;
+        for bytes in 0..=most {
+            lengths += 1;
+            compare(&mut count, &mut random, &model, &store, query, bytes);
+        }
+    }
+    count.end(lengths * 2);
+}
+
+#[test]
+fn pages_not_read_overwritten() {
+    let mut count = Comparisons::default();
+    let mut random = Random::new(SEED);
+    for _ in 0..1000 {
+        let model = random_model(&mut random);
+        let laid = Laid::new(&mut random, &model);
+        for _ in 0..6 {
+            let query = random_query(&mut random, &model);
+            let agreeing = model.agreeing(query);
+            let read: Vec<usize> = laid
+                .leaves
+                .iter()
+                .filter(|placed| agreeing.contains(&placed.leaf))
+                .filter_map(|placed| placed.page)
+                .collect();
+            let mut image = laid.image.clone();
+            for g in (0..model.page_limit).filter(|g| !read.contains(g)) {
+                let bytes = random.bytes(image.page(g).len());
+                image.page(g).copy_from_slice(&bytes);
+            }
+            let store = LentStore::new(&mut random, &image);
+            let bytes = random.below(output_size(&model, query) + 30);
+            compare(&mut count, &mut random, &model, &store, query, bytes);
+        }
+    }
+    count.end(1000 * 6 * 2);
+}
+
+// ---- refused calls
+
+#[test]
+fn refusal_8_comes_before_3() {
+    let mut count = Comparisons::default();
+    let mut random = Random::new(SEED);
+    for _ in 0..300 {
+        let model = random_model(&mut random);
+        let store = LentStore::of(&mut random, &model);
+        for j in 0..4 {
+            let large = 1u32 << model.shape.widths[j];
+            for value in [0, large, large + 1, 1 << 16, 1 << 31, u32::MAX] {
+                let mut query = random_query(&mut random, &model);
+                query[j] = Some(value);
+                compare(&mut count, &mut random, &model, &store, query, 30);
+                // a value out of range in every attribute of the shape
+                let query = query.map(|wanted| wanted.map(|_| u32::MAX));
+                compare(&mut count, &mut random, &model, &store, query, 30);
+            }
+        }
+    }
+    count.end(300 * 4 * 6 * 2 * 2);
+}
+
+#[test]
+fn refusals_1_and_2_come_before_8_and_3() {
+    let mut count = Comparisons::default();
+    let mut random = Random::new(SEED);
+    for _ in 0..300 {
+        let model = random_model(&mut random);
+        let laid = Laid::new(&mut random, &model);
+        let words = (1 << model.depth_limit) - 1;
+        let bytes = laid.image.clone().page(0).len() * model.page_limit - 1;
+        let mut stores: Vec<(Image, u32)> = vec![(laid.image, 0); 6];
+        stores[0].0.state[0] = 0;
+        stores[1].0.state[1] = 0;
+        stores[2].0.state[5] = 17;
+        stores[3].0.state.truncate(21);
+        stores[4].0.dir.truncate(words);
+        stores[5].0.pages.truncate(bytes);
+        for (i, (image, number)) in stores.iter_mut().enumerate() {
+            *number = if i < 4 { 1 } else { 2 };
+            let store = LentStore::new(&mut random, image);
+            for query in [[None; 4], [Some(0); 4], [Some(u32::MAX); 4], random_query(&mut random, &model)] {
+                let content = random.bytes(60);
+                let mut out = lend_bytes(&mut random, &content);
+                let about = format_args!("{:?}, {query:?}", image.state);
+                count.same(store.query(query, &mut out), Err(*number), about);
+                count.same(out.unchanged(), true, about);
+            }
+        }
+    }
+    count.end(300 * 6 * 4 * 2);
+}
+
+// ---- damage that a query meets
+
+/// Compares the queries that agree with a leaf's string with 9, the output as it came.
+fn all_damaged(count: &mut Comparisons, random: &mut Random, model: &Model, leaf: &Placed, image: &Image) {
+    let store = LentStore::new(random, image);
+    for subset in [0, random.below(1 << model.widths().len()), (1 << model.widths().len()) - 1] {
+        let mut bits = model.split_bits(random_key(random, model));
+        bits[..leaf.leaf.depth()].copy_from_slice(&leaf.leaf.bits);
+        let query = query_of(subset, model.key_of(&bits));
+        let content = random.bytes(100);
+        let mut out = lend_bytes(random, &content);
+        let about = format_args!("{:?}, {query:?}, leaf {:?}", image.state, leaf.leaf.bits);
+        count.same(store.query(query, &mut out), Err(9), about);
+        count.same(out.unchanged(), true, about);
+    }
+}
+
+#[test]
+fn a_damaged_word_gives_9() {
+    let mut count = Comparisons::default();
+    let mut random = Random::new(SEED);
+    for _ in 0..500 {
+        let model = random_model(&mut random);
+        let laid = Laid::new(&mut random, &model);
+        let placed = &laid.leaves[random.below(laid.leaves.len())];
+        let (t, p) = (laid.image.state[DEPTH] as usize, laid.image.state[PAGE_LIMIT] as usize);
+        let deep = t + 1 + random.below(15 - t);
+        let past = p + random.below(65_535 - p);
+        for word in [
+            placed.word | 1 << random.between(20, 31),
+            word_of(placed.page, t + 1),
+            word_of(placed.page, deep),
+            word_of(None, deep),
+            word_of(Some(p), placed.leaf.depth()),
+            word_of(Some(past), placed.leaf.depth()),
+            word_of(Some(65_534), placed.leaf.depth()),
+            u32::MAX,
+        ] {
+            let mut image = laid.image.clone();
+            placed.cells.iter().for_each(|&a| image.dir[a] = word);
+            all_damaged(&mut count, &mut random, &model, placed, &image);
+        }
+    }
+    count.end(500 * 8 * 3 * 2);
+}
+
+/// The word of a leaf that is a 1-side says less than its depth: the walk comes to it by the 0-side's word.
+#[test]
+fn a_depth_below_the_region_gives_9() {
+    let mut count = Comparisons::default();
+    let mut random = Random::new(SEED);
+    let mut stores = 0;
+    while stores < 500 {
+        let model = random_model(&mut random);
+        let laid = Laid::new(&mut random, &model);
+        let placed = &laid.leaves[random.below(laid.leaves.len())];
+        if placed.leaf.bits.last() != Some(&true) {
+            continue;
+        }
+        stores += 1;
+        let depth = random.below(placed.leaf.depth());
+        let mut image = laid.image.clone();
+        placed.cells.iter().for_each(|&a| image.dir[a] = word_of(placed.page, depth));
+        all_damaged(&mut count, &mut random, &model, placed, &image);
+    }
+    count.end(500 * 3 * 2);
+}
+
+#[test]
+fn a_damaged_count_gives_9() {
+    let mut count = Comparisons::default();
+    let mut random = Random::new(SEED);
+    let mut stores = 0;
+    while stores < 500 {
+        let model = random_model(&mut random);
+        let laid = Laid::new(&mut random, &model);
+        let placed = &laid.leaves[random.below(laid.leaves.len())];
+        let Some(page) = placed.page else { continue };
+        stores += 1;
+        let b = model.shape.capacity as u16;
+        for damaged in [0, b + 1, b + 256, 1 << 15, u16::MAX] {
+            let mut image = laid.image.clone();
+            image.set_count(page, damaged);
+            all_damaged(&mut count, &mut random, &model, placed, &image);
+        }
+    }
+    count.end(500 * 5 * 3 * 2);
+}
