@@ -2,8 +2,10 @@
 -- standard input", and prints the reply to each. Assumes nothing.
 use Prim.Native.Nat.{ℕ, zero, suc, _+_, _≤_, _<_}
 use mathlib.Core.Path.{_≡_}
+use mathlib.Core.Bool.{Bool, _&&_}
 use mathlib.Core.List.{List, _++_}
 use mathlib.Core.Logic.{_⊎_}
+use lib.Dec.{eqb}
 use lib.ListN.{getD, length, take}
 use Rattle.line.specs.Private.{start, fed, ended}
 use Rattle.line.specs.declared.Reading.{Reading}
@@ -45,6 +47,10 @@ abbrev pub Ran : List ℕ → ℕ → ℕ → Standing → Standing → Type 0
 Ran bytes from zero before after = after ≡ before
 Ran bytes from (suc n) before after =
     (between : Standing) × Ran bytes from n before between × Stepped (getD bytes (from + n) 0) between after
+
+-- whether nothing was read of a line
+abbrev pub nothingRead : Reading → Bool
+nothingRead r = eqb (r .fields) 0 && eqb (r .word) 1
 
 -- "It prints": no byte past the text, and at most 7 fields counted
 pub record Standable (p : Progress) (text : List ℕ) : Type 0 where

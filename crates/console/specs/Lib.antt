@@ -1,3 +1,4 @@
 pub mod Console
 pub mod Input
+pub mod Printed
 pub mod Private

@@ -32,13 +32,25 @@ pub fn command_of(session: Session, line: Line) -> Command
         Kind::Bad => Command::Nothing,
         Kind::Shape => shape_command(line),
         Kind::Put => {
-            if has_numbers(session.begun, line, d + 1) { Command::Put } else { Command::Nothing }
+            if has_numbers(session.begun, line, d + 1) {
+                Command::Put
+            } else {
+                Command::Nothing
+            }
         }
         Kind::Cut => {
-            if has_numbers(session.begun, line, d) { Command::Cut } else { Command::Nothing }
+            if has_numbers(session.begun, line, d) {
+                Command::Cut
+            } else {
+                Command::Nothing
+            }
         }
         Kind::List => {
-            if has_fields(session.begun, line, d) { Command::List } else { Command::Nothing }
+            if has_fields(session.begun, line, d) {
+                Command::List
+            } else {
+                Command::Nothing
+            }
         }
     }
 }

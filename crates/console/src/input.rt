@@ -1,5 +1,4 @@
 // Input, in pieces of any size: each line that ends is replied to.
-use super::Next;
 use super::REPLY_SIZE;
 use super::Session;
 use super::reply;
@@ -12,13 +11,12 @@ use store::Limits;
 use store::State;
 use store::Tally;
 ghost use mathlib.Core.Path.{_≡_};
-ghost use mathlib.Core.Bool.{_&&_, false};
+ghost use mathlib.Core.Bool.{false};
 ghost use Prim.Native.Nat.{_+_, _≤_};
-ghost use lib.Dec.{eqb};
 ghost use lib.ListN.{length};
 ghost use Rattle.line.specs.Private.{start};
 ghost use Rattle.console.specs.Console.{lent};
-ghost use Rattle.console.specs.Input.{standing, Stepped, Standable, RunPromise};
+ghost use Rattle.console.specs.Input.{standing, Stepped, Standable, RunPromise, nothingRead};
 
 const NEWLINE: u8 = 10;
 
@@ -139,7 +137,7 @@ pub fn step(
 
 // Whether nothing was read of a line.
 pub fn is_empty(reading: Reading) -> bool
-    ensures { λ r. ⌜ r ≡ (eqb (reading .fields) 0 && eqb (reading .word) 1) ⌝ }
+    ensures { λ r. ⌜ r ≡ nothingRead reading ⌝ }
 {
     if reading.fields != 0 {
         return false;

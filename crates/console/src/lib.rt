@@ -4,15 +4,16 @@ pub mod commands;
 pub mod fields;
 pub mod input;
 pub mod replies;
-pub mod stub;
 
 use commands::Command;
 use commands::command_of;
+use delete::delete;
 use fields::content_of;
 use fields::key_of;
 use fields::query_of;
 use fields::shape_of;
 use fresh::fresh;
+use insert::insert;
 use line::Line;
 use query::query;
 use replies::put_changed;
@@ -21,8 +22,6 @@ use shape::Shape;
 use store::Change;
 use store::Changed;
 use store::State;
-use stub::delete;
-use stub::insert;
 use text::put_bad;
 use text::put_refused;
 ghost use mathlib.Core.Path.{_≡_};
@@ -128,10 +127,7 @@ fn begin(session: Session, change: Change) -> Session
     let answer = change.answer;
     let state = change.state;
     match answer {
-        Changed::Done => Session {
-            begun: true,
-            state,
-        },
+        Changed::Done => Session { begun: true, state },
         Changed::Refused(_) => session,
     }
 }

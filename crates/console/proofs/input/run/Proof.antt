@@ -65,14 +65,13 @@ loop-again c =
     let call = c .before .before .before .before .before .before .before .before .step in
     let loop = c .before .before .before .before .before .before .before .before .before .before .before .before .before .before .before .before .before .loop in
     let inv = loop .inv in
-    let a = c .before .before .before .before .before .before .before .before .before .before .before .before .before .before .before .before .before .before .before .before .before .before .before .args in
-    (
+    let a = c .before .before .before .before .before .before .before .before .before .before .before .before .before .before .before .before .before .before .before .before .before .before .before .args in (
       call .kept .1 .1 .0 ∙ inv .0,
       call .kept .1 .1 .1 .0 ∙ inv .1,
       call .kept .1 .1 .1 .1 .0 ∙ inv .2,
       inv .3,
       running-step (a .piece .now) (a .from) (a .progress) _ (a .text .now) (loop .next) (loop .here) _ (loop .text) (inv .4)
-      _ _ _ (c .before .before .before .before .before .before .before .before .before .before .before .before .before .before .before .before .loop-test .taken) (call .ensures .0) (call .ensures .1) (call .kept .1 .1 .1 .1 .1 .0),
+          _ _ _ (c .before .before .before .before .before .before .before .before .before .before .before .before .before .before .before .before .loop-test .taken) (call .ensures .0) (call .ensures .1) (call .kept .1 .1 .1 .1 .1 .0),
     )
 
 same-length-5 : tie.Need-same-length-5 Inv-loop μ-loop

@@ -32,8 +32,7 @@ returns c =
     let s = c .before .before .before .before .before .before .before .before .before .before .before .before .before .before .before .before .before .before .before .before .before .before .before in
     let call = c .before .before .before .before .before .before .before .before .before .before in
     let line = call .before .before .before .before .before in
-    let p = s .args .progress in
-    (
+    let p = s .args .progress in (
       inl (line .before .if1 .taken, line-ended p _ _ _ _ _ _ _ (line .end .ensures) (c .begin .ensures) (call .reply .ensures)),
       line-stands p _ _ _ _ _ _ _ (line .end .ensures) (c .begin .ensures) (call .reply .ensures) (omega (arith, s .pre .1)),
     )
@@ -44,8 +43,7 @@ feed-requires c κs = search needs
 returns-2 : tie.Need-returns-2
 returns-2 c =
     let s = c .before .before .before .before .before .before .before .before in
-    let p = s .args .progress in
-    (
+    let p = s .args .progress in (
       inr (c .before .if1 .left, byte-read p _ _ _ _ (c .feed .ensures)),
       byte-stands p _ _ _ (c .feed .ensures) (s .pre .0) (omega (arith, s .pre .1)),
     )
