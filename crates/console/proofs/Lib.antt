@@ -1,0 +1,5 @@
+pub mod CommandLaws
+pub mod FieldLaws
+pub mod InputLaws
+pub mod PrintedLaws
+pub mod ReplyLaws

@@ -1,0 +1,4 @@
+pub mod Console
+pub mod Input
+pub mod Printed
+pub mod Private

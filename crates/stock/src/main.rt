@@ -1,0 +1,76 @@
+// The program `stock` (document 01, "Proof table and the printed run"): reads lines from standard input,
+// and prints the reply to each.
+use console::input::Progress;
+use console::input::is_empty;
+use console::input::printed;
+use console::input::run;
+use console::input::start;
+use console::input::step;
+use libc::STDIN_FILENO;
+use libc::STDOUT_FILENO;
+ghost use Prim.Native.Nat.{_≤_};
+ghost use lib.ListN.{length};
+
+// Lends 4,096 words, 32,768 page bytes, 256 output records of 12 bytes, and a text.
+fn main() {
+    let mut piece = io::large_buffer();
+    let mut text = io::large_buffer();
+    let mut dir = [0u32; 4096];
+    let mut pages = [0u8; 32768];
+    let mut out = [0u8; 3072];
+    serve(&mut piece, &mut dir, &mut pages, &mut out, &mut text);
+}
+
+// Reads pieces until the input ends. A proved loop has to end, and nothing says that the input does:
+// so it counts its turns down, from a number that no run uses up.
+fn serve(piece: &mut [u8], dir: &mut [u32], pages: &mut [u8], out: &mut [u8], text: &mut [u8])
+    requires { ⌜ (length (now out) ≤ 3072) × (12352 ≤ length (now text)) ⌝ }
+{
+    let mut progress = start();
+    let mut turns = u64::MAX;
+    while turns > 0 {
+        let got = libc::read(STDIN_FILENO, piece);
+        let n = io::count(got, piece);
+        if n == 0 {
+            finish(progress, dir, pages, out, text);
+            return;
+        }
+        progress = answer(progress, &piece[..n], dir, pages, out, text);
+        turns -= 1;
+    }
+}
+
+// Replies to the lines that end in a piece.
+fn answer(
+    progress: Progress,
+    piece: &[u8],
+    dir: &mut [u32],
+    pages: &mut [u8],
+    out: &mut [u8],
+    text: &mut [u8],
+) -> Progress
+    requires { ⌜ (progress .reading .fields ≤ 7) × (length (now out) ≤ 3072) × (12352 ≤ length (now text)) ⌝ }
+    ensures { λ r. ⌜ r .reading .fields ≤ 7 ⌝ }
+{
+    let mut here = progress;
+    let mut at = 0;
+    while at < piece.len() {
+        let reach = run(printed(here), piece, at, dir, pages, out, text);
+        here = reach.progress;
+        at = reach.next;
+        io::write_all(STDOUT_FILENO, &text[..here.end]);
+    }
+    here
+}
+
+// Replies to a last line that no newline ends.
+fn finish(progress: Progress, dir: &mut [u32], pages: &mut [u8], out: &mut [u8], text: &mut [u8])
+    requires { ⌜ (progress .reading .fields ≤ 7) × (length (now out) ≤ 3072) × (12352 ≤ length (now text)) ⌝ }
+{
+    let reading = progress.reading;
+    if is_empty(reading) {
+        return;
+    }
+    let last = step(printed(progress), 10, dir, pages, out, text);
+    io::write_all(STDOUT_FILENO, &text[..last.end]);
+}

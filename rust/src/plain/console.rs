@@ -1,0 +1,106 @@
+//! The program `stock` in plain Rust (document 01, "Proof table and the printed run"): a line, and the reply to it.
+use super::model::Model;
+use crate::host::Shape;
+
+/// "It lends 4,096 words, 32,768 page bytes and 256 output records."
+const WORDS: usize = 4096;
+const BYTES: usize = 32768;
+const OUTPUT: usize = 256 * 12;
+
+/// The store of the last accepted `shape`.
+#[derive(Default)]
+pub struct Console {
+    model: Option<Model>,
+}
+
+impl Console {
+    /// The reply to a line, which has no newline; with its newlines.
+    pub fn reply(&mut self, line: &[u8]) -> String {
+        self.answer(line).unwrap_or_else(|| "bad line\n".to_owned())
+    }
+
+    /// None for a bad line.
+    fn answer(&mut self, line: &[u8]) -> Option<String> {
+        let mut fields = line.split(|&byte| byte == b' ');
+        let word = fields.next()?;
+        let items: Vec<Option<u32>> = fields.map(item).collect::<Option<_>>()?;
+        if word == b"shape" {
+            return self.shape(&numbers(&items)?);
+        }
+        let model = self.model.as_mut()?;
+        let d = model.shape.attributes as usize;
+        match word {
+            b"put" => {
+                let values = numbers(&items)?;
+                (values.len() == d + 1).then(|| changed(model.insert(four(&values[..d], 0), values[d])))
+            }
+            b"cut" => {
+                let values = numbers(&items)?;
+                (values.len() == d).then(|| changed(model.delete(four(&values, 0))))
+            }
+            b"list" => (items.len() == d).then(|| listed(model, four(&items, None))),
+            _ => None,
+        }
+    }
+
+    /// "A `shape` line has as many widths as its d says; with d outside 1–4 it prints `no 1`".
+    fn shape(&mut self, numbers: &[u32]) -> Option<String> {
+        let attributes = *numbers.first()?;
+        if !(1..=4).contains(&attributes) {
+            return Some(changed(Err(1)));
+        }
+        let d = attributes as usize;
+        if numbers.len() != d + 2 {
+            return None;
+        }
+        let shape = Shape { attributes, widths: four(&numbers[1..=d], 0), capacity: numbers[d + 1] };
+        let fresh = Model::fresh(shape, WORDS, BYTES);
+        Some(changed(fresh.map(|model| self.model = Some(model))))
+    }
+}
+
+/// A decimal number below 2^32, or none for `*`; no item for a field of another form.
+fn item(field: &[u8]) -> Option<Option<u32>> {
+    if field == b"*" {
+        return Some(None);
+    }
+    if field.is_empty() || !field.iter().all(u8::is_ascii_digit) {
+        return None;
+    }
+    let number = field.iter().fold(0u64, |n, digit| (10 * n + u64::from(digit - b'0')).min(1 << 32));
+    u32::try_from(number).ok().map(Some)
+}
+
+/// The items as numbers, if none is `*`.
+fn numbers(items: &[Option<u32>]) -> Option<Vec<u32>> {
+    items.iter().copied().collect()
+}
+
+/// One thing for each of the four attributes.
+fn four<T: Copy>(items: &[T], rest: T) -> [T; 4] {
+    std::array::from_fn(|j| items.get(j).copied().unwrap_or(rest))
+}
+
+fn changed(answer: Result<(), u32>) -> String {
+    answer.map_or_else(|number| format!("no {number}\n"), |()| "ok\n".to_owned())
+}
+
+/// "the records (values, payload), then `=`, total, reads".
+fn listed(model: &Model, query: [Option<u32>; 4]) -> String {
+    let mut out = [0; OUTPUT];
+    match model.query(query, &mut out) {
+        Err(number) => format!("no {number}\n"),
+        Ok((written, total, reads)) => {
+            let records = out.chunks(12).take(written as usize);
+            let mut text: String = records.map(|bytes| record(model.shape.attributes as usize, bytes)).collect();
+            text += &format!("= {total} {reads}\n");
+            text
+        }
+    }
+}
+
+fn record(d: usize, bytes: &[u8]) -> String {
+    let values = bytes.chunks(2).take(d).map(|value| format!("{} ", u16::from_le_bytes([value[0], value[1]])));
+    let payload = u32::from_le_bytes([bytes[8], bytes[9], bytes[10], bytes[11]]);
+    format!("{}{payload}\n", values.collect::<String>())
+}
