@@ -1,5 +1,6 @@
 //! The store's calls on 20,000 records of widths 8, 8, 10 with b = 16, beside the plain store, a scan of the packed
 //! records, and SQLite in memory with an index for each attribute.
+use crate::changes;
 use crate::inputs::{sum, vectors};
 use crate::measure::{Named, Step, Table, PLAIN, PROVED};
 use crate::records::{pack, packed, payload, stored_keys, Forms, RECORDS, WIDTHS};
@@ -12,11 +13,14 @@ const LOOKUPS: usize = 256;
 const QUERIES: usize = 16;
 
 const SCAN: &str = "scan";
-const SQLITE: &str = "SQLite";
+pub const SQLITE: &str = "SQLite";
 
 pub fn rows(table: &mut Table, random: &mut Random) {
     table.section("Calls");
-    if !["lookup, hit", "lookup, miss", "query", "check"].iter().any(|name| table.has(name)) {
+    if !["lookup, hit", "lookup, miss", "query", "check", "insert", "delete"]
+        .iter()
+        .any(|name| table.has(name))
+    {
         return;
     }
     let forms = Forms::new(random);
@@ -30,6 +34,7 @@ pub fn rows(table: &mut Table, random: &mut Random) {
         query(table, forms, subset, stored);
     }
     check(table, forms);
+    changes::rows(table, random, forms);
 }
 
 /// The payloads of keys; 5 for an absent one.

@@ -2,6 +2,7 @@
 //! arguments choose the steps whose name has one of them: `cell region`.
 mod address;
 mod calls;
+mod changes;
 mod directory;
 mod inputs;
 mod measure;

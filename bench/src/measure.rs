@@ -30,6 +30,13 @@ pub struct Step {
 /// computed.
 pub type Named<M> = (&'static str, Box<dyn FnMut(&mut M) -> u64>);
 
+/// One form of a step that changes its memory: what makes it ready, which is not timed, and a pass over the inputs.
+pub struct Changing {
+    pub name: &'static str,
+    pub ready: Box<dyn FnMut()>,
+    pub pass: Box<dyn FnMut() -> u64>,
+}
+
 /// The rows to be measured, in sections that have a table each.
 pub struct Table {
     chosen: Vec<String>,
@@ -46,10 +53,11 @@ struct Row {
     forms: Vec<Form>,
 }
 
-/// One form of a step: its name, a pass over the inputs, how many passes make a run, in which turns it runs, and the
-/// times of a unit.
+/// One form of a step: its name, what makes a run ready, a pass over the inputs, how many passes make a run, in which
+/// turns it runs, and the times of a unit.
 struct Form {
     name: &'static str,
+    ready: Box<dyn FnMut()>,
     pass: Box<dyn FnMut() -> u64>,
     passes: u32,
     every: usize,
@@ -105,6 +113,18 @@ impl Table {
         }
         let section = self.sections.last_mut().expect("a section is begun");
         section.rows.push(Row { step, forms });
+    }
+
+    /// Adds a row of forms that change their memory: each run is one pass. The numbers have to be the same for all.
+    pub fn changing(&mut self, step: Step, forms: Vec<Changing>) {
+        if !self.has(&step.name) {
+            return;
+        }
+        let forms: Vec<(Form, u64)> = forms.into_iter().map(Form::changing).collect();
+        let same = forms.windows(2).all(|pair| pair[0].1 == pair[1].1);
+        assert!(same, "{}: the forms do different things", step.name);
+        let section = self.sections.last_mut().expect("a section is begun");
+        section.rows.push(Row { step, forms: forms.into_iter().map(|form| form.0).collect() });
     }
 
     /// Measures all rows and prints them.
@@ -167,11 +187,23 @@ impl Form {
         let one = (0..10).map(|_| time(&mut pass, 1)).fold(f64::INFINITY, f64::min);
         let passes = (RUN / one).ceil() as u32;
         let every = (one / LONG_RUN).ceil() as usize;
-        Form { name, pass: Box::new(pass), passes, every, times: Vec::new() }
+        Form { name, ready: Box::new(|| {}), pass: Box::new(pass), passes, every, times: Vec::new() }
+    }
+
+    /// A form that changes its memory, and its number.
+    fn changing(form: Changing) -> (Form, u64) {
+        let Changing { name, mut ready, mut pass } = form;
+        ready();
+        let number = pass();
+        ready();
+        let one = time(&mut pass, 1);
+        let every = (one / LONG_RUN).ceil() as usize;
+        (Form { name, ready, pass, passes: 1, every, times: Vec::new() }, number)
     }
 
     /// Times one run.
     fn run(&mut self, units: usize) {
+        (self.ready)();
         self.times.push(time(&mut self.pass, self.passes) / units as f64);
     }
 

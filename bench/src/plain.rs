@@ -6,6 +6,7 @@ use mdeh_tests::host::Shape;
 use std::cmp::Ordering;
 
 /// Widths of at most 16 bits: how many, the width of each attribute, 0 past them, and the sum.
+#[derive(Clone)]
 pub struct Widths {
     used: usize,
     bits: [usize; 4],

@@ -10,9 +10,14 @@ pub const RECORDS: usize = 20_000;
 /// How many more are inserted and deleted again.
 const DELETED: usize = 2_000;
 
-/// The lent memory: the words of a directory of depth 12, and 4,096 pages.
-const WORDS: usize = 1 << 12;
+/// The lent memory: the words of a directory of depth 12, and the bytes of 4,096 pages.
+pub const WORDS: usize = 1 << 12;
+pub const BYTES: usize = PAGES * (2 + 12 * 16);
 const PAGES: usize = 4096;
+
+pub fn shape() -> Shape {
+    Shape { capacity: 16, ..Shape::new(&WIDTHS) }
+}
 
 /// The same records in every form, kept as long as the program runs.
 #[derive(Clone, Copy)]
@@ -29,8 +34,7 @@ pub struct Forms {
 impl Forms {
     /// Random records, some of them deleted again: the plain store is filled by its inserts, the proved store is lent a copy of its memory.
     pub fn new(random: &mut Random) -> Forms {
-        let shape = Shape { capacity: 16, ..Shape::new(&WIDTHS) };
-        let mut plain = Store::new(shape, WORDS, PAGES * (2 + 12 * 16));
+        let mut plain = Store::new(shape(), WORDS, BYTES);
         let mut keys = Vec::new();
         let mut refused = 0;
         while keys.len() < RECORDS + DELETED {
@@ -89,7 +93,7 @@ pub fn stored_keys(random: &mut Random, records: &[[u8; 12]], count: usize) -> &
 }
 
 /// The four values of a packed record.
-fn values(record: &[u8; 12]) -> [i64; 4] {
+pub fn values(record: &[u8; 12]) -> [i64; 4] {
     [0, 1, 2, 3].map(|j| u16::from_le_bytes([record[2 * j], record[2 * j + 1]]).into())
 }
 

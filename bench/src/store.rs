@@ -12,6 +12,7 @@ use mdeh_tests::host::Shape;
 use page::Page;
 
 /// A directory of words and the bytes of pages, with the state beside them.
+#[derive(Clone)]
 pub struct Store {
     shape: Shape,
     map: Map,

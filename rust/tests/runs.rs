@@ -29,7 +29,7 @@ fn random_shape(random: &mut Random, bits: u32, most: u64) -> Shape {
 fn every_word_and_page_of_small_stores() {
     let mut count = Comparisons::default();
     let mut random = Random::new(SEED);
-    for _ in 0..150 {
+    for _ in 0..300 {
         let shape = random_shape(&mut random, 18, 5);
         let (words, pages) = (1 + random.below(200), 1 + random.below(25));
         let mut followed = Followed::fresh(&mut random, shape, words, pages);
@@ -53,7 +53,7 @@ fn every_word_and_page_of_small_stores() {
             count.same(out.slice(), &expected[..], about);
         }
     }
-    count.end(150 * 300 * (COMPARED + 3));
+    count.end(300 * 300 * (COMPARED + 3));
 }
 
 // ---- a list in split order
@@ -184,17 +184,17 @@ fn runs(seed: u64, stores: usize, bits: u32, most_capacity: u64, most_pages: usi
 
 #[test]
 fn many_tiny_stores() {
-    runs(SEED, 600, 6, 3, 12, 500);
+    runs(SEED, 1500, 6, 3, 12, 500);
 }
 
 #[test]
 fn stores_of_some_pages() {
-    runs(SEED + 1, 100, 64, 5, 60, 2000);
+    runs(SEED + 1, 250, 64, 5, 60, 2000);
 }
 
 #[test]
 fn stores_of_many_records() {
-    runs(SEED + 2, 4, 64, 16, 300, 8000);
+    runs(SEED + 2, 10, 64, 16, 300, 8000);
 }
 
 /// The greatest store: 4,096 words and pages. Check and a query of everything come every 500 calls.

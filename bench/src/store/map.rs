@@ -11,6 +11,7 @@ pub struct Step {
     shifts: [u32; 4],
 }
 
+#[derive(Clone)]
 pub struct Map {
     widths: [u32; 4],
     pub steps: Vec<Step>,

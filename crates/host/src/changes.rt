@@ -34,8 +34,8 @@ pub extern "C" fn mdeh_insert(
         (store after (now (dir .exit)) (now (pages .exit)))) (now (state .entry)) r (now (state .exit)) ⌝ }
 {
     let content = Content { payload };
-    let change = insert(state_in(state), dir, pages, key, content);
-    settle(state, change)
+    let inserted = insert(state_in(state), dir, pages, key, content);
+    settle(state, inserted)
 }
 
 // Removes the record of a key, and joins leaves until the set's own leaves stand. Refused with 1, 2, 3,
@@ -46,8 +46,8 @@ pub extern "C" fn mdeh_delete(state: &mut [u32], dir: &mut [u32], pages: &mut [u
         (store before (now (dir .entry)) (now (pages .entry))) (key .values) answer
         (store after (now (dir .exit)) (now (pages .exit)))) (now (state .entry)) r (now (state .exit)) ⌝ }
 {
-    let change = delete(state_in(state), dir, pages, key);
-    settle(state, change)
+    let deleted = delete(state_in(state), dir, pages, key);
+    settle(state, deleted)
 }
 
 // Writes the state of an accepted change into its words, and returns the number of the change.
