@@ -1,68 +1,84 @@
+-- `stock::answer` meets its contract: each run reads a byte at least, since the text has room when it begins. Assumes nothing.
+use Prim.Native.Nat.{_+_, _-_, _≤_, _<_}
+use mathlib.Core.Path.{_≡_, refl, sym, _∙_}
+use native.Mathlib.Omega.{arith}
+use lib.ListN.{length}
+use lib.Seq.{length-take-le}
+use borrow.Author.Needs.{needs}
 use Rattle.stock.proofs.answer.Statement.{statement}
 use Rattle.stock.proofs.answer.Tie as tie
-use Rattle.stock.proofs.answer.Reads as reads
-use Rattle.stock.proofs.answer.Lts as lts
-use Rattle.console.proofs.input.printed.Reads as printed-reads
-use Rattle.console.proofs.input.run.Reads as run-reads
-use Rattle.io.proofs.write_all.Reads as write-all-reads
 
 abbrev Inv-loop : tie.InvT-loop
-Inv-loop piece dir₀ pages₀ out₀ text₀ here₀ at₀ dir pages out text here at = ?
+Inv-loop piece dir₀ pages₀ out₀ text₀ here₀ at₀ dir pages out text here at =
+    (at ≤ length piece) × (here .reading .fields ≤ 7) × (length dir ≡ length dir₀) × (length pages ≡ length pages₀)
+    × (length out ≡ length out₀) × (length text ≡ length text₀) × (length out₀ ≤ 3072) × (12352 ≤ length text₀)
 
 abbrev μ-loop : tie.MeasureT-loop
-μ-loop piece dir₀ pages₀ out₀ text₀ here₀ at₀ dir pages out text here at = ?
+μ-loop piece dir₀ pages₀ out₀ text₀ here₀ at₀ dir pages out text here at = length piece - at
 
--- src/main.rt:57:5
 loop-holds : tie.Need-loop-holds Inv-loop μ-loop
-loop-holds c = ?
+loop-holds c = let s = c .before .before .before .before .before in (omega arith, s .pre .0, refl, refl, refl, refl, s .pre .1, s .pre .2)
 
--- src/main.rt:58:25
 printed-requires : tie.Need-printed-requires Inv-loop μ-loop
-printed-requires c κs = ?
+printed-requires c κs = search needs
 
--- src/main.rt:58:13
 run-requires : tie.Need-run-requires Inv-loop μ-loop
-run-requires c κs = ?
+run-requires c κs =
+    let p = c .before .before .before .before .printed in
+    let inv = c .before .before .before .before .before .before .loop .inv in
+    (
+      record { counted = rw (p .ensures .1) (inv .1); within = omega (arith, p .ensures .2) },
+      inv .0,
+      omega (arith, inv .4, inv .6),
+    )
 
--- src/main.rt:61:38
 slice-reshare-prefix-write-all : tie.Need-slice-reshare-prefix-write-all Inv-loop μ-loop
-slice-reshare-prefix-write-all c = ?
+slice-reshare-prefix-write-all c = c .before .before .before .before .before .before .before .before .before .run .ensures .stands .within
 
--- src/main.rt:61:38
 slice-aggregate-write-all : tie.Need-slice-aggregate-write-all Inv-loop μ-loop
-slice-aggregate-write-all c = ?
+slice-aggregate-write-all c =
+    let r = c .before .before .before .before .before .before .before .before .before .before .run in
+    sym (length-take-le (r .result .progress .end) (r .last .1 .1 .1 .1 .1 .1 .0) (r .ensures .stands .within))
 
--- src/main.rt:61:9
 write-all-requires : tie.Need-write-all-requires Inv-loop μ-loop
-write-all-requires c κs = ?
+write-all-requires c κs = search needs
 
--- src/main.rt:57:5
 loop-less : tie.Need-loop-less Inv-loop μ-loop
-loop-less c = ?
+loop-less c =
+    let r = c .before .before .before .before .before .before .before .before .before .before .before .run .ensures in
+    let test = c .before .before .before .before .before .before .before .before .before .before .before .before .before .before .before .before .before .loop-test .taken in
+    let inv = c .before .before .before .before .before .before .before .before .before .before .before .before .before .before .before .before .before .before .loop .inv in
+    omega (arith, test, r .next-within, r .moves test (omega (arith, c .before .before .before .before .before .before .before .before .before .before .before .before .before .before .before .before .printed .ensures .2, inv .5, inv .7)))
 
--- src/main.rt:57:5
 loop-again : tie.Need-loop-again Inv-loop μ-loop
-loop-again c = ?
+loop-again c =
+    let r = c .before .before .before .before .before .before .before .before .before .before .before .run in
+    let inv = c .before .before .before .before .before .before .before .before .before .before .before .before .before .before .before .before .before .before .loop .inv in
+    (
+      r .ensures .next-within,
+      r .ensures .stands .counted,
+      r .kept .1 .1 .1 .0 ∙ inv .2,
+      r .kept .1 .1 .1 .1 .0 ∙ inv .3,
+      r .kept .1 .1 .1 .1 .1 .0 ∙ inv .4,
+      r .kept .1 .1 .1 .1 .1 .1 .0 ∙ inv .5,
+      inv .6,
+      inv .7,
+    )
 
--- src/main.rt:44:1
 same-length : tie.Need-same-length Inv-loop μ-loop
-same-length c = ?
+same-length c = c .before .loop .inv .2
 
--- src/main.rt:44:1
 same-length-2 : tie.Need-same-length-2 Inv-loop μ-loop
-same-length-2 c = ?
+same-length-2 c = c .before .loop .inv .3
 
--- src/main.rt:44:1
 same-length-3 : tie.Need-same-length-3 Inv-loop μ-loop
-same-length-3 c = ?
+same-length-3 c = c .before .loop .inv .4
 
--- src/main.rt:44:1
 same-length-4 : tie.Need-same-length-4 Inv-loop μ-loop
-same-length-4 c = ?
+same-length-4 c = c .before .loop .inv .5
 
--- src/main.rt:44:1
 returns : tie.Need-returns Inv-loop μ-loop
-returns c = ?
+returns c = c .before .loop .inv .1
 
 pub answer-spec : {M : Type 1} → statement M
 answer-spec =
