@@ -1,5 +1,5 @@
-//! Insert and delete where they are refused early, on unsound stores and on random memory: they end, answer 9 or what is
-//! ordinary for the call, and with any number nothing is changed (`LentStore` compares it, and the guards).
+//! Insert and delete where they are refused early, on unsound stores and on random memory: they end, answer 9 or what
+//! is ordinary for the call, and with any number nothing is changed (`LentStore` compares it, and the guards).
 use mdeh_tests::compare::Comparisons;
 use mdeh_tests::lent::LentStore;
 use mdeh_tests::plain::damage::WAYS;

@@ -105,8 +105,8 @@ fn leaves_are_joined_over_several_levels() {
     count.end(12 * 16 * (COMPARED + 2));
 }
 
-/// The sibling of the deleted keys' leaf is divided into leaves that have few records: all of them stay, and the emptied
-/// leaf's page is free.
+/// The sibling of the deleted keys' leaf is divided into leaves that have few records: all of them stay, and the
+/// emptied leaf's page is free.
 #[test]
 fn a_divided_sibling_is_not_joined() {
     let mut count = Comparisons::default();

@@ -3,7 +3,7 @@
 use Prim.Native.Nat.{ℕ, zero, suc, _≤_, _<_}
 use mathlib.Core.Path.{_≡_, refl, sym, ap, subst, _∙_}
 use mathlib.Core.Bool.{false≢true, true, false}
-use mathlib.Core.List.{List}
+use mathlib.Core.List.{List, [], _∷_}
 use mathlib.Core.Logic.{⊎-elim}
 use native.Mathlib.Decide.{decLt}
 use native.Mathlib.Omega.{arith}
@@ -36,6 +36,14 @@ accepted-refused n e = let z : false ≡ true = cc in false≢true z
 
 refused-same : (n m : ℕ) → _≡_ {A = Answer Reply} (refused n) (refused m) → n ≡ m
 refused-same n m e = cc
+
+-- 0 is none of an insert's numbers, and none of a delete's
+pub insert-not-zero : Member {A = ℕ} 0 (4 ∷ 6 ∷ 7 ∷ 9 ∷ []) → ⊥
+insert-not-zero =
+    ⊎-elim (λ e. omega arith) (⊎-elim (λ e. omega arith) (⊎-elim (λ e. omega arith) (⊎-elim (λ e. omega arith) (λ e. e))))
+
+pub delete-not-zero : Member {A = ℕ} 0 (5 ∷ 9 ∷ []) → ⊥
+delete-not-zero = ⊎-elim (λ e. omega arith) (⊎-elim (λ e. omega arith) (λ e. e))
 
 -- no refusal has the number 0
 pub change-not-zero : (c : Call) (early : ℕ) (numbers : List ℕ) (before after : Store) → (Member 0 numbers → ⊥)

@@ -8,8 +8,8 @@ use std::collections::BTreeMap;
 /// The leaves that a store shows, by their strings, each with its page if it has one.
 pub type Pages = BTreeMap<Vec<bool>, Option<usize>>;
 
-/// The pages of the leaves of a model's set, if the store shows exactly these leaves; otherwise what is wrong. The cells
-/// are those of the model's widths.
+/// The pages of the leaves of a model's set, if the store shows exactly these leaves; otherwise what is wrong. The
+/// cells are those of the model's widths.
 pub fn pages_shown(image: &Image, model: &Model, cells: &Cells) -> Result<Pages, String> {
     let leaves = model.leaves();
     let state = state_words(model, &leaves);

@@ -1,7 +1,5 @@
 -- `host::changes::mdeh_insert` meets its contract: what `insert` promises, over the words. Assumes nothing.
-use mathlib.Core.Logic.{⊎-elim}
-use native.Mathlib.Omega.{arith}
-use Rattle.host.proofs.ChangeLaws.{words-of-done, promise-settled}
+use Rattle.host.proofs.ChangeLaws.{insert-not-zero, words-of-done, promise-settled}
 use borrow.Author.Needs.{needs}
 use Rattle.host.proofs.changes.mdeh_insert.Statement.{statement}
 use Rattle.host.proofs.changes.mdeh_insert.Tie as tie
@@ -31,7 +29,7 @@ returns : tie.Need-returns
 returns c =
     let call = c .before .before .before .before .before .before .before .before in
     let read = call .before .before .before in
-    promise-settled _ _ _ _ _ _ _ _ _ (read .state-in .ensures) _ (call .insert .ensures) (⊎-elim (λ e. omega arith) (⊎-elim (λ e. omega arith) (⊎-elim (λ e. omega arith) (⊎-elim (λ e. omega arith) (λ e. e))))) _ _
+    promise-settled _ _ _ _ _ _ _ _ _ (read .state-in .ensures) _ (call .insert .ensures) insert-not-zero _ _
     (c .before .before .settle .ensures)
 
 pub mdeh-insert-spec : {M : Type 1} → statement M

@@ -1,5 +1,4 @@
 -- `host::changes::settle` meets its contract: each arm is a law of the words after a change. Assumes nothing.
-use Prim.Native.Nat.{ℕ}
 use mathlib.Core.Path.{_≡_, sym, ap, _∙_}
 use lib.ListN.{length, length-map}
 use Rattle.store.specs.Answers.{changedAnswer}
