@@ -10,7 +10,8 @@ const SEED: u64 = 0x6d64_6568_2d30_3131;
 
 /// The program, which has to be there.
 fn program() -> PathBuf {
-    let root = Path::new(env!("CARGO_MANIFEST_DIR")).parent().expect("the package is a folder of the repository");
+    let root =
+        Path::new(env!("CARGO_MANIFEST_DIR")).parent().expect("the package is a folder of the repository");
     let path = root.join("target").join("bin").join("stock");
     assert!(path.is_file(), "{} is missing: run `rt check stock` first", path.display());
     path
@@ -18,7 +19,8 @@ fn program() -> PathBuf {
 
 /// What the program prints for an input that is written to it in pieces of these sizes, over and over.
 fn printed(input: &[u8], sizes: &[usize]) -> Vec<u8> {
-    let mut child = Command::new(program()).stdin(Stdio::piped()).stdout(Stdio::piped()).spawn().expect("it starts");
+    let mut child =
+        Command::new(program()).stdin(Stdio::piped()).stdout(Stdio::piped()).spawn().expect("it starts");
     let mut stdin = child.stdin.take().expect("a pipe");
     let mut output = Vec::new();
     std::thread::scope(|scope| {
@@ -75,7 +77,8 @@ fn line(random: &mut Random, widths: &[u64]) -> String {
         0..=49 => format!("put {} {}", values.join(" "), random.number() as u32),
         50..=74 => format!("cut {}", values.join(" ")),
         75..=95 => {
-            let items: Vec<&str> = values.iter().map(|v| if random.below(2) == 0 { "*" } else { &v[..] }).collect();
+            let items: Vec<&str> =
+                values.iter().map(|v| if random.below(2) == 0 { "*" } else { &v[..] }).collect();
             format!("list {}", items.join(" "))
         }
         96 => format!("list {}", vec!["*"; widths.len()].join(" ")),
@@ -88,9 +91,13 @@ fn line(random: &mut Random, widths: &[u64]) -> String {
 #[test]
 fn long_runs() {
     let mut random = Random::new(SEED);
-    for (widths, capacity, count) in
-        [(&[2, 2][..], 2, 2000), (&[4, 5, 3], 4, 4000), (&[16; 4], 16, 3000), (&[6], 1, 2000), (&[5, 5], 16, 3000)]
-    {
+    for (widths, capacity, count) in [
+        (&[2, 2][..], 2, 2000),
+        (&[4, 5, 3], 4, 4000),
+        (&[16; 4], 16, 3000),
+        (&[6], 1, 2000),
+        (&[5, 5], 16, 3000),
+    ] {
         let list: Vec<String> = widths.iter().map(u64::to_string).collect();
         let mut input = format!("shape {} {} {capacity}\n", widths.len(), list.join(" "));
         for _ in 0..count {
@@ -104,12 +111,46 @@ fn long_runs() {
 #[test]
 fn edges_of_the_line_form() {
     let lines: [&[u8]; 40] = [
-        b"list *", b"put 1 2", b"shape", b"shape *", b"shape 0", b"shape 0 7 7 7 7 7 7 7 7", b"shape 5", b"shape 2 2 2",
-        b"shape 2 2 2 2 2", b"shape 2 2 * 2", b"shape 4294967296", b"shape 0 4294967296", b"shape 1 17 1",
-        b"shape 1 0 1", b"shape 1 1 17", b"shape 1 1 0", b"list 0", b"shape 2 2 2 2", b"put 0 0 1\r", b"put  0 0 1",
-        b" put 0 0 1", b"put 0 0 1 ", b"put 000 00000000000000000000000 0000004294967295", b"put 1 1 4294967296",
-        b"put +1 1 1", b"put 1 -1 1", b"put 1\t1 1", b"put 4 0 1", b"put 0 0 5", b"put * 0 1", b"cut *", b"cut 3 3",
-        b"list * *", b"list 0 *", b"list * 4", b"list *", b"list ** *", b"", b"LIST * *", b"shape 0",
+        b"list *",
+        b"put 1 2",
+        b"shape",
+        b"shape *",
+        b"shape 0",
+        b"shape 0 7 7 7 7 7 7 7 7",
+        b"shape 5",
+        b"shape 2 2 2",
+        b"shape 2 2 2 2 2",
+        b"shape 2 2 * 2",
+        b"shape 4294967296",
+        b"shape 0 4294967296",
+        b"shape 1 17 1",
+        b"shape 1 0 1",
+        b"shape 1 1 17",
+        b"shape 1 1 0",
+        b"list 0",
+        b"shape 2 2 2 2",
+        b"put 0 0 1\r",
+        b"put  0 0 1",
+        b" put 0 0 1",
+        b"put 0 0 1 ",
+        b"put 000 00000000000000000000000 0000004294967295",
+        b"put 1 1 4294967296",
+        b"put +1 1 1",
+        b"put 1 -1 1",
+        b"put 1\t1 1",
+        b"put 4 0 1",
+        b"put 0 0 5",
+        b"put * 0 1",
+        b"cut *",
+        b"cut 3 3",
+        b"list * *",
+        b"list 0 *",
+        b"list * 4",
+        b"list *",
+        b"list ** *",
+        b"",
+        b"LIST * *",
+        b"shape 0",
     ];
     let mut input = lines.join(&b'\n');
     compare(&input, &[7]);

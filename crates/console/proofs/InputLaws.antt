@@ -1,6 +1,6 @@
 -- Laws of input that is read byte by byte: a line that ends, a byte of a line, and a run over a piece. Assumes nothing.
 use Prim.Native.Nat.{ℕ, zero, suc, _+_, _≤_, _<_}
-use mathlib.Core.Path.{_≡_, refl, sym, ap, _∙_}
+use mathlib.Core.Path.{_≡_, refl, ap, _∙_}
 use mathlib.Core.Bool.{Bool, true, false, cond}
 use mathlib.Core.List.{List, _++_}
 use mathlib.Core.Logic.{_⊎_, inl, inr}
@@ -10,11 +10,9 @@ use lib.ListN.{getD, length, length-append, length-take, take}
 use Rattle.line.specs.Private.{start, fed, ended, closed, opened, added}
 use Rattle.line.specs.declared.Line.{Line}
 use Rattle.line.specs.declared.Reading.{Reading}
-use Rattle.line.proofs.ReadingLaws.{closed-fields}
 use Rattle.text.specs.Text.{Grown}
 use Rattle.console.specs.Console.{Lent, asked, ReplyPromise}
-use Rattle.console.specs.Input.{Standing, standing, LineEnded, ByteRead, Stepped, Ran, Standable, RunPromise}
-use Rattle.console.specs.declared.Session.{Session}
+use Rattle.console.specs.Input.{standing, LineEnded, ByteRead, Stepped, Ran, Standable, RunPromise}
 use Rattle.console.specs.declared.Next.{Next}
 use Rattle.console.specs.declared.input.Progress.{Progress}
 
@@ -59,7 +57,8 @@ module _ (p : Progress) (m : Lent) (text : List ℕ) where
   lineNext next reading = record { session = next .session; reading = reading; end = next .end }
 
   module _ (m′ : Lent) (text′ : List ℕ) (line : Line) (next : Next) (reading : Reading) (e : line ≡ ended (p .reading))
-      (f : reading ≡ start) (promise : ReplyPromise (asked (p .session) line) (p .session) m text (p .end) next m′ text′) where
+      (f : reading ≡ start)
+      (promise : ReplyPromise (asked (p .session) line) (p .session) m text (p .end) next m′ text′) where
     pub line-ended : LineEnded (standing p m text) (standing (lineNext next reading) m′ text′)
     line-ended =
         record {

@@ -1,8 +1,8 @@
--- What a run over input prints are the replies to the lines that its bytes show; a line of which nothing was read has no
--- bytes. Assumes nothing.
+-- What a run over input prints are the replies to the lines that its bytes show; a line of which nothing was read has
+-- no bytes. Assumes nothing.
 use Prim.Native.Nat.{ℕ, zero, suc, _+_, _*_, _≤_, _<_}
 use mathlib.Core.Path.{_≡_, refl, sym, ap, _∙_}
-use mathlib.Core.Bool.{Bool, true, false, _&&_, cond}
+use mathlib.Core.Bool.{Bool, true, false, cond}
 use mathlib.Core.List.{List, [], _∷_, _++_}
 use mathlib.Core.Logic.{_⊎_, inl, inr}
 use native.Mathlib.Omega.{arith}
@@ -69,7 +69,9 @@ module _ (bytes : List ℕ) (from : ℕ) (small : (i : ℕ) → getD bytes i 0 <
     (h : PartRead part (before .reading)) where
   -- what was printed, with the bytes of the line that has not ended then
   abbrev pub Prints : ℕ → Standing → Type 0
-  Prints n after = (part′ : List ℕ) × PartRead part′ (after .reading) × PrintedFrom bytes from n (printedOf part before) (printedOf part′ after)
+  Prints n after =
+      (part′ : List ℕ) × PartRead part′ (after .reading)
+      × PrintedFrom bytes from n (printedOf part before) (printedOf part′ after)
 
   pub ran-printed : (n : ℕ) (after : Standing) → Ran bytes from n before after → Prints n after
   ran-printed zero after e =

@@ -1,7 +1,7 @@
--- Laws of replies: a call's promise with the text of its answer is the promise of the reply; what a query's answer needs
--- to be printed. Assumes nothing.
+-- Laws of replies: a call's promise with the text of its answer is the promise of the reply; what a query's answer
+-- needs to be printed. Assumes nothing.
 use Prim.Native.Nat.{ℕ, zero, suc, _*_, _≤_}
-use mathlib.Core.Path.{_≡_, refl, sym, ap, _∙_}
+use mathlib.Core.Path.{_≡_, refl, ap}
 use mathlib.Core.Bool.{Bool, true, false, not, cond, false≢true}
 use mathlib.Core.List.{List}
 use mathlib.Core.Logic.{⊎-elim}
@@ -10,7 +10,7 @@ use native.Mathlib.Omega.{arith}
 use lib.ListN.{length}
 use Rattle.lists.proofs.Bools.{and-split}
 use Rattle.shape.specs.Refusal.{Answer, accepted, refused, firstNumber}
-use Rattle.shape.specs.Shape.{within, allBelow, inBounds, shapeConditions}
+use Rattle.shape.specs.Shape.{within, inBounds, shapeConditions}
 use Rattle.shape.specs.declared.Shape.{Shape}
 use Rattle.shape.proofs.BoundsLaws.{within-le}
 use Rattle.record.specs.Bytes.{recordSize}
@@ -71,8 +71,8 @@ module _ (session : Session) (line : Line) (words bytes text : List ℕ) (at : �
       }
 
 -- the line asks what the reply answers
-pub reply-asked : (session : Session) (line : Line) (m m′ : Lent) (text text′ : List ℕ) (at : ℕ) (next : Next) (asks : Asked)
-    → asks ≡ asked session line → ReplyPromise asks session m text at next m′ text′
+pub reply-asked : (session : Session) (line : Line) (m m′ : Lent) (text text′ : List ℕ) (at : ℕ) (next : Next)
+    (asks : Asked) → asks ≡ asked session line → ReplyPromise asks session m text at next m′ text′
     → ReplyPromise (asked session line) session m text at next m′ text′
 reply-asked session line m m′ text text′ at next asks e promise = rw (← e) promise
 

@@ -1,6 +1,6 @@
 -- The replies that the program prints, by the bytes of the lines (document 01, "Proof table and the printed run"): each
 -- newline ends a line, "A line of another form .. is a bad line". Assumes nothing.
-use Prim.Native.Nat.{ℕ, zero, suc, _+_, _<_}
+use Prim.Native.Nat.{ℕ, zero, suc, _+_}
 use mathlib.Core.Path.{_≡_}
 use mathlib.Core.List.{List, [], _∷_, _++_}
 use mathlib.Core.Logic.{_⊎_}

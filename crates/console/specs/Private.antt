@@ -7,7 +7,8 @@ use Rattle.shape.specs.Refusal.{Answer, accepted, refused}
 use Rattle.record.specs.Bytes.{recordSize}
 use Rattle.model.specs.Model.{Reply, changed, found, listed}
 use Rattle.line.specs.declared.Line.{Line}
-use Rattle.console.specs.Console.{Asked, nothing, noShape, newShape, put, cut, list, valuesFrom, itemsOf, shapeIn, contentIn}
+use Rattle.console.specs.Console.{Asked, nothing, noShape, newShape, put, cut, list}
+use Rattle.console.specs.Console.{valuesFrom, itemsOf, shapeIn, contentIn}
 use Rattle.console.specs.declared.commands.Command.{Command}
 use Rattle.console.specs.declared.commands.Command.the-variants as command
 

@@ -1,5 +1,5 @@
-// A command line on the store that a program holds (document 01, "Proof table and the printed run"):
-// what it asks, the call, and the reply.
+// A command line on the store that a program holds (document 01, "Proof table and the printed
+// run"): what it asks, the call, and the reply.
 pub mod commands;
 pub mod fields;
 pub mod input;
@@ -24,7 +24,6 @@ use store::Changed;
 use store::State;
 use text::put_bad;
 use text::put_refused;
-ghost use mathlib.Core.Path.{_≡_};
 ghost use mathlib.Core.List.{List};
 ghost use Prim.Native.Nat.{ℕ, _+_, _≤_};
 ghost use lib.ListN.{length};

@@ -6,7 +6,6 @@ use text::put_ok;
 use text::put_records;
 use text::put_refused;
 use text::put_sum;
-ghost use mathlib.Core.Path.{_≡_};
 ghost use mathlib.Core.List.{_++_};
 ghost use Prim.Native.Nat.{_+_, _*_, _≤_};
 ghost use lib.ListN.{length};

@@ -1,5 +1,5 @@
-// The program `stock` (document 01, "Proof table and the printed run"): reads lines from standard input,
-// and prints the reply to each.
+// The program `stock` (document 01, "Proof table and the printed run"): reads lines from standard
+// input, and prints the reply to each.
 use console::input::Progress;
 use console::input::is_empty;
 use console::input::printed;
@@ -21,8 +21,8 @@ fn main() {
     serve(&mut piece, &mut dir, &mut pages, &mut out, &mut text);
 }
 
-// Reads pieces until the input ends. A proved loop has to end, and nothing says that the input does:
-// so it counts its turns down, from a number that no run uses up.
+// Reads pieces until the input ends. A proved loop has to end, and nothing says that the input
+// does: so it counts its turns down, from a number that no run uses up.
 fn serve(piece: &mut [u8], dir: &mut [u32], pages: &mut [u8], out: &mut [u8], text: &mut [u8])
     requires { ⌜ (length (now out) ≤ 3072) × (12352 ≤ length (now text)) ⌝ }
 {

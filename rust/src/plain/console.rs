@@ -92,7 +92,8 @@ fn listed(model: &Model, query: [Option<u32>; 4]) -> String {
         Err(number) => format!("no {number}\n"),
         Ok((written, total, reads)) => {
             let records = out.chunks(12).take(written as usize);
-            let mut text: String = records.map(|bytes| record(model.shape.attributes as usize, bytes)).collect();
+            let mut text: String =
+                records.map(|bytes| record(model.shape.attributes as usize, bytes)).collect();
             text += &format!("= {total} {reads}\n");
             text
         }
@@ -100,7 +101,8 @@ fn listed(model: &Model, query: [Option<u32>; 4]) -> String {
 }
 
 fn record(d: usize, bytes: &[u8]) -> String {
-    let values = bytes.chunks(2).take(d).map(|value| format!("{} ", u16::from_le_bytes([value[0], value[1]])));
+    let values =
+        bytes.chunks(2).take(d).map(|value| format!("{} ", u16::from_le_bytes([value[0], value[1]])));
     let payload = u32::from_le_bytes([bytes[8], bytes[9], bytes[10], bytes[11]]);
     format!("{}{payload}\n", values.collect::<String>())
 }

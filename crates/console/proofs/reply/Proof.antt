@@ -54,9 +54,13 @@ same-length c = search needs
 
 returns : tie.Need-returns
 returns c =
-    let a = c .before .before .before .before .before .before .before .before .before .before .before .args in
+    let at-command-of = c .before .before .before .before .before .before in
+    let at-args = at-command-of .before .before .before .before .before in
+    let a = at-args .args in
     reply-asked (a .session) (a .line) _ _ _ _ _ _ _
-    (ap (askedAs (a .line) (a .session .state .shape .attributes)) (sym (c .before .before .before .before .enum-told .given .1)) ∙ c .before .before .before .before .before .before .command-of .ensures)
+    (ap (askedAs (a .line) (a .session .state .shape .attributes))
+    (sym (c .before .before .before .before .enum-told .given .1))
+    ∙ at-command-of .command-of .ensures)
     (c .before .before .reply-bad .ensures _)
 
 same-length-2 : tie.Need-same-length-2
@@ -64,9 +68,13 @@ same-length-2 c = search needs
 
 returns-2 : tie.Need-returns-2
 returns-2 c =
-    let a = c .before .before .before .before .before .before .before .before .before .before .before .args in
+    let at-command-of = c .before .before .before .before .before .before in
+    let at-args = at-command-of .before .before .before .before .before in
+    let a = at-args .args in
     reply-asked (a .session) (a .line) _ _ _ _ _ _ _
-    (ap (askedAs (a .line) (a .session .state .shape .attributes)) (sym (c .before .before .before .before .enum-told2 .given .1)) ∙ c .before .before .before .before .before .before .command-of .ensures)
+    (ap (askedAs (a .line) (a .session .state .shape .attributes))
+    (sym (c .before .before .before .before .enum-told2 .given .1))
+    ∙ at-command-of .command-of .ensures)
     (c .before .before .reply-outside .ensures _)
 
 same-length-3 : tie.Need-same-length-3
@@ -80,10 +88,18 @@ same-length-5 c = search needs
 
 returns-3 : tie.Need-returns-3
 returns-3 c =
-    let a = c .before .before .before .before .before .before .before .before .before .before .before .before .before .before .before .before .before .before .args in
+    let at-reply-shape = c .before .before .before .before .before .before in
+    let at-shape-of = at-reply-shape .before .before .before .before in
+    let at-enum-told3 = at-shape-of .before in
+    let at-command-of = at-enum-told3 .before .before in
+    let at-args = at-command-of .before .before .before .before .before in
+    let a = at-args .args in
     reply-asked (a .session) (a .line) _ _ _ _ _ _ _
-    (ap newShape (c .before .before .before .before .before .before .before .before .before .before .shape-of .ensures) ∙ (ap (askedAs (a .line) (a .session .state .shape .attributes)) (sym (c .before .before .before .before .before .before .before .before .before .before .before .enum-told3 .given .1)) ∙ c .before .before .before .before .before .before .before .before .before .before .before .before .before .command-of .ensures))
-    (c .before .before .before .before .before .before .reply-shape .ensures _)
+    (ap newShape (at-shape-of .shape-of .ensures)
+    ∙ (ap (askedAs (a .line) (a .session .state .shape .attributes))
+    (sym (at-enum-told3 .enum-told3 .given .1))
+    ∙ at-command-of .command-of .ensures))
+    (at-reply-shape .reply-shape .ensures _)
 
 same-length-6 : tie.Need-same-length-6
 same-length-6 c = search needs
@@ -96,10 +112,16 @@ same-length-8 c = search needs
 
 returns-4 : tie.Need-returns-4
 returns-4 c =
-    let a = c .before .before .before .before .before .before .before .before .before .before .before .before .before .before .before .before .before .args in
+    let at-reply-put = c .before .before .before .before .before .before in
+    let at-enum-told4 = at-reply-put .before .before .before .before in
+    let at-command-of = at-enum-told4 .before .before in
+    let at-args = at-command-of .before .before .before .before .before in
+    let a = at-args .args in
     reply-asked (a .session) (a .line) _ _ _ _ _ _ _
-    (ap (askedAs (a .line) (a .session .state .shape .attributes)) (sym (c .before .before .before .before .before .before .before .before .before .before .enum-told4 .given .1)) ∙ c .before .before .before .before .before .before .before .before .before .before .before .before .command-of .ensures)
-    (c .before .before .before .before .before .before .reply-put .ensures _)
+    (ap (askedAs (a .line) (a .session .state .shape .attributes))
+    (sym (at-enum-told4 .enum-told4 .given .1))
+    ∙ at-command-of .command-of .ensures)
+    (at-reply-put .reply-put .ensures _)
 
 same-length-9 : tie.Need-same-length-9
 same-length-9 c = search needs
@@ -112,10 +134,16 @@ same-length-11 c = search needs
 
 returns-5 : tie.Need-returns-5
 returns-5 c =
-    let a = c .before .before .before .before .before .before .before .before .before .before .before .before .before .before .before .before .before .args in
+    let at-reply-cut = c .before .before .before .before .before .before in
+    let at-enum-told5 = at-reply-cut .before .before .before .before in
+    let at-command-of = at-enum-told5 .before .before in
+    let at-args = at-command-of .before .before .before .before .before in
+    let a = at-args .args in
     reply-asked (a .session) (a .line) _ _ _ _ _ _ _
-    (ap (askedAs (a .line) (a .session .state .shape .attributes)) (sym (c .before .before .before .before .before .before .before .before .before .before .enum-told5 .given .1)) ∙ c .before .before .before .before .before .before .before .before .before .before .before .before .command-of .ensures)
-    (c .before .before .before .before .before .before .reply-cut .ensures _)
+    (ap (askedAs (a .line) (a .session .state .shape .attributes))
+    (sym (at-enum-told5 .enum-told5 .given .1))
+    ∙ at-command-of .command-of .ensures)
+    (at-reply-cut .reply-cut .ensures _)
 
 same-length-12 : tie.Need-same-length-12
 same-length-12 c = search needs
@@ -131,9 +159,14 @@ same-length-15 c = search needs
 
 returns-6 : tie.Need-returns-6
 returns-6 c =
-    let a = c .before .before .before .before .before .before .before .before .before .before .before .before .before .before .before .before .args in
+    let at-enum-told6 = c .before .before .before .before .before .before .before .before .before in
+    let at-command-of = at-enum-told6 .before .before in
+    let at-args = at-command-of .before .before .before .before .before in
+    let a = at-args .args in
     reply-asked (a .session) (a .line) _ _ _ _ _ _ _
-    (ap (askedAs (a .line) (a .session .state .shape .attributes)) (sym (c .before .before .before .before .before .before .before .before .before .enum-told6 .given .1)) ∙ c .before .before .before .before .before .before .before .before .before .before .before .command-of .ensures)
+    (ap (askedAs (a .line) (a .session .state .shape .attributes))
+    (sym (at-enum-told6 .enum-told6 .given .1))
+    ∙ at-command-of .command-of .ensures)
     (c .before .before .before .before .reply-list .ensures)
 
 pub reply-spec : {M : Type 1} → statement M

@@ -27,8 +27,9 @@ same-length-3 c = search needs
 
 returns : tie.Need-returns
 returns c =
-    let a = c .before .before .before .before .before .before .before .before .before .before .before .before .before .before .before .before .before .before .before .args in
     let call = c .before .before .before .before .before .before .before .before .before in
+    let at-args = call .before .before .before .before .before .before .before .before .before .before in
+    let a = at-args .args in
     reply-cut (a .session) (a .line) _ _ _ _ _ _ _ _ _ _ _ (call .before .before .before .key-of .ensures)
     (c .before .before .before .put-changed .ensures) (call .delete .ensures)
 

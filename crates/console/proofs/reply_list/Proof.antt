@@ -16,9 +16,13 @@ query-requires c κs = search needs
 
 put-listed-requires : tie.Need-put-listed-requires
 put-listed-requires c κs =
-    let s = c .before .before .before .before .before .before .before .before .before .before .before .before .before .before in
-    let a = s .args in
-    (omega (arith, s .pre .0), printable (a .session .state) (a .dir .now) (a .pages .now) _ (a .out .now) _ (s .pre .1) _ (c .before .before .before .before .query .ensures))
+    let between = c .before .before .before .before .before .before .before .before .before .before .before in
+    let s = between .before .before .before in
+    let a = s .args in (
+      omega (arith, s .pre .0),
+      printable (a .session .state) (a .dir .now) (a .pages .now) _ (a .out .now) _ (s .pre .1) _
+          (c .before .before .before .before .query .ensures),
+    )
 
 same-length : tie.Need-same-length
 same-length c = search needs
@@ -28,8 +32,9 @@ same-length-2 c = search needs
 
 returns : tie.Need-returns
 returns c =
-    let a = c .before .before .before .before .before .before .before .before .before .before .before .before .before .before .before .before .before .args in
     let call = c .before .before .before .before .before .before .before in
+    let at-args = call .before .before .before .before .before .before .before .before .before .before in
+    let a = at-args .args in
     reply-list (a .session) (a .line) _ _ _ _ _ _ _ _ _ _ (call .before .before .query-of .ensures) (call .query .ensures)
     (c .before .before .put-listed .ensures)
 

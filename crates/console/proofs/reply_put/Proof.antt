@@ -30,8 +30,9 @@ same-length-3 c = search needs
 
 returns : tie.Need-returns
 returns c =
-    let a = c .before .before .before .before .before .before .before .before .before .before .before .before .before .before .before .before .before .before .before .before .args in
     let call = c .before .before .before .before .before .before .before .before .before in
+    let at-args = call .before .before .before .before .before .before .before .before .before .before .before in
+    let a = at-args .args in
     let content = call .before .before .before in
     reply-put (a .session) (a .line) _ _ _ _ _ _ _ _ _ _ _ (content .before .key-of .ensures)
     (c .before .before .before .put-changed .ensures) _ (content .content-of .ensures) (call .insert .ensures)

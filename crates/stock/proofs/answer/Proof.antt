@@ -1,5 +1,6 @@
--- `stock::answer` meets its contract: each run reads a byte at least, since the text has room when it begins. Assumes nothing.
-use Prim.Native.Nat.{_+_, _-_, _≤_, _<_}
+-- `stock::answer` meets its contract: each run reads a byte at least, since the text has room when it
+-- begins. Assumes nothing.
+use Prim.Native.Nat.{_-_, _≤_}
 use mathlib.Core.Path.{_≡_, refl, sym, _∙_}
 use native.Mathlib.Omega.{arith}
 use lib.ListN.{length}
@@ -17,27 +18,32 @@ abbrev μ-loop : tie.MeasureT-loop
 μ-loop piece dir₀ pages₀ out₀ text₀ here₀ at₀ dir pages out text here at = length piece - at
 
 loop-holds : tie.Need-loop-holds Inv-loop μ-loop
-loop-holds c = let s = c .before .before .before .before .before in (omega arith, s .pre .0, refl, refl, refl, refl, s .pre .1, s .pre .2)
+loop-holds c =
+    let s = c .before .before .before .before .before in
+    (omega arith, s .pre .0, refl, refl, refl, refl, s .pre .1, s .pre .2)
 
 printed-requires : tie.Need-printed-requires Inv-loop μ-loop
 printed-requires c κs = search needs
 
 run-requires : tie.Need-run-requires Inv-loop μ-loop
 run-requires c κs =
+    let at-loop = c .before .before .before .before .before .before in
     let p = c .before .before .before .before .printed in
-    let inv = c .before .before .before .before .before .before .loop .inv in
-    (
+    let inv = at-loop .loop .inv in (
       record { counted = rw (p .ensures .1) (inv .1); within = omega (arith, p .ensures .2) },
       inv .0,
       omega (arith, inv .4, inv .6),
     )
 
 slice-reshare-prefix-write-all : tie.Need-slice-reshare-prefix-write-all Inv-loop μ-loop
-slice-reshare-prefix-write-all c = c .before .before .before .before .before .before .before .before .before .run .ensures .stands .within
+slice-reshare-prefix-write-all c =
+    let at-run = c .before .before .before .before .before .before .before .before .before in
+    at-run .run .ensures .stands .within
 
 slice-aggregate-write-all : tie.Need-slice-aggregate-write-all Inv-loop μ-loop
 slice-aggregate-write-all c =
-    let r = c .before .before .before .before .before .before .before .before .before .before .run in
+    let at-run = c .before .before .before .before .before .before .before .before .before .before in
+    let r = at-run .run in
     sym (length-take-le (r .result .progress .end) (r .last .1 .1 .1 .1 .1 .1 .0) (r .ensures .stands .within))
 
 write-all-requires : tie.Need-write-all-requires Inv-loop μ-loop
@@ -45,16 +51,21 @@ write-all-requires c κs = search needs
 
 loop-less : tie.Need-loop-less Inv-loop μ-loop
 loop-less c =
-    let r = c .before .before .before .before .before .before .before .before .before .before .before .run .ensures in
-    let test = c .before .before .before .before .before .before .before .before .before .before .before .before .before .before .before .before .before .loop-test .taken in
-    let inv = c .before .before .before .before .before .before .before .before .before .before .before .before .before .before .before .before .before .before .loop .inv in
-    omega (arith, test, r .next-within, r .moves test (omega (arith, c .before .before .before .before .before .before .before .before .before .before .before .before .before .before .before .before .printed .ensures .2, inv .5, inv .7)))
+    let at-run = c .before .before .before .before .before .before .before .before .before .before .before in
+    let at-printed = at-run .before .before .before .before .before in
+    let at-loop-test = at-printed .before in
+    let at-loop = at-loop-test .before in
+    let r = at-run .run .ensures in
+    let test = at-loop-test .loop-test .taken in
+    let inv = at-loop .loop .inv in
+    omega (arith, test, r .next-within, r .moves test (omega (arith, at-printed .printed .ensures .2, inv .5, inv .7)))
 
 loop-again : tie.Need-loop-again Inv-loop μ-loop
 loop-again c =
-    let r = c .before .before .before .before .before .before .before .before .before .before .before .run in
-    let inv = c .before .before .before .before .before .before .before .before .before .before .before .before .before .before .before .before .before .before .loop .inv in
-    (
+    let at-run = c .before .before .before .before .before .before .before .before .before .before .before in
+    let at-loop = at-run .before .before .before .before .before .before .before in
+    let r = at-run .run in
+    let inv = at-loop .loop .inv in (
       r .ensures .next-within,
       r .ensures .stands .counted,
       r .kept .1 .1 .1 .0 ∙ inv .2,

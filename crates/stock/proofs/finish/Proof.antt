@@ -1,5 +1,4 @@
 -- `stock::finish` meets its contract: the text has room for a reply. Assumes nothing.
-use Prim.Native.Nat.{_≤_}
 use mathlib.Core.Path.{sym}
 use native.Mathlib.Omega.{arith}
 use lib.Seq.{length-take-le}
@@ -27,7 +26,8 @@ slice-reshare-prefix-write-all c = search needs
 
 slice-aggregate-write-all : tie.Need-slice-aggregate-write-all
 slice-aggregate-write-all c =
-    let r = c .before .before .before .before .before .before .before .before .before .step in
+    let at-step = c .before .before .before .before .before .before .before .before .before in
+    let r = at-step .step in
     sym (length-take-le (r .result .end) (r .last .1 .1 .1 .1 .1 .0) (r .ensures .1 .within))
 
 write-all-requires : tie.Need-write-all-requires

@@ -34,23 +34,44 @@ count-requires c κs = search needs
 
 finish-requires : tie.Need-finish-requires Inv-loop μ-loop
 finish-requires c κs =
-    let inv = c .before .before .before .before .before .before .before .before .before .before .before .before .loop .inv in
+    let at-loop = c .before .before .before .before .before .before .before .before .before .before .before .before in
+    let inv = at-loop .loop .inv in
     (inv .0, omega (arith, inv .4, inv .6), omega (arith, inv .5, inv .7))
 
 same-length : tie.Need-same-length Inv-loop μ-loop
-same-length c = c .before .before .before .before .before .before .before .before .before .before .before .before .before .before .before .before .before .before .read .kept .1 .0 ∙ c .before .before .before .before .before .before .before .before .before .before .before .before .before .before .before .before .before .before .before .before .before .loop .inv .1
+same-length c =
+    let between = c .before .before .before .before .before .before .before .before .before .before .before in
+    let at-read = between .before .before .before .before .before .before .before in
+    let at-loop = at-read .before .before .before in
+    at-read .read .kept .1 .0 ∙ at-loop .loop .inv .1
 
 same-length-2 : tie.Need-same-length-2 Inv-loop μ-loop
-same-length-2 c = c .before .before .before .before .before .before .before .before .finish .kept .1 .0 ∙ c .before .before .before .before .before .before .before .before .before .before .before .before .before .before .before .before .before .before .before .before .before .loop .inv .2
+same-length-2 c =
+    let at-finish = c .before .before .before .before .before .before .before .before in
+    let between = at-finish .before .before .before .before .before .before .before .before .before .before .before in
+    let at-loop = between .before .before in
+    at-finish .finish .kept .1 .0 ∙ at-loop .loop .inv .2
 
 same-length-3 : tie.Need-same-length-3 Inv-loop μ-loop
-same-length-3 c = c .before .before .before .before .before .before .before .before .finish .kept .1 .1 .0 ∙ c .before .before .before .before .before .before .before .before .before .before .before .before .before .before .before .before .before .before .before .before .before .loop .inv .3
+same-length-3 c =
+    let at-finish = c .before .before .before .before .before .before .before .before in
+    let between = at-finish .before .before .before .before .before .before .before .before .before .before .before in
+    let at-loop = between .before .before in
+    at-finish .finish .kept .1 .1 .0 ∙ at-loop .loop .inv .3
 
 same-length-4 : tie.Need-same-length-4 Inv-loop μ-loop
-same-length-4 c = c .before .before .before .before .before .before .before .before .finish .kept .1 .1 .1 .0 ∙ c .before .before .before .before .before .before .before .before .before .before .before .before .before .before .before .before .before .before .before .before .before .loop .inv .4
+same-length-4 c =
+    let at-finish = c .before .before .before .before .before .before .before .before in
+    let between = at-finish .before .before .before .before .before .before .before .before .before .before .before in
+    let at-loop = between .before .before in
+    at-finish .finish .kept .1 .1 .1 .0 ∙ at-loop .loop .inv .4
 
 same-length-5 : tie.Need-same-length-5 Inv-loop μ-loop
-same-length-5 c = c .before .before .before .before .before .before .before .before .finish .kept .1 .1 .1 .1 .0 ∙ c .before .before .before .before .before .before .before .before .before .before .before .before .before .before .before .before .before .before .before .before .before .loop .inv .5
+same-length-5 c =
+    let at-finish = c .before .before .before .before .before .before .before .before in
+    let between = at-finish .before .before .before .before .before .before .before .before .before .before .before in
+    let at-loop = between .before .before in
+    at-finish .finish .kept .1 .1 .1 .1 .0 ∙ at-loop .loop .inv .5
 
 returns : tie.Need-returns Inv-loop μ-loop
 returns c = search needs
@@ -63,22 +84,32 @@ slice-aggregate-answer c = c .before .before .count .ensures .0 .1
 
 answer-requires : tie.Need-answer-requires Inv-loop μ-loop
 answer-requires c κs =
-    let inv = c .before .before .before .before .before .before .before .before .before .before .before .before .before .loop .inv in
+    let between = c .before .before .before .before .before .before .before .before .before .before .before in
+    let at-loop = between .before .before in
+    let inv = at-loop .loop .inv in
     (inv .0, omega (arith, inv .4, inv .6), omega (arith, inv .5, inv .7))
 
 sub-turns : tie.Need-sub-turns Inv-loop μ-loop
-sub-turns c = omega (arith, c .before .before .before .before .before .before .before .before .before .before .before .before .before .before .before .before .before .before .before .before .before .loop-test .taken)
+sub-turns c =
+    let between = c .before .before .before .before .before .before .before .before .before .before .before in
+    let at-loop-test = between .before .before .before .before .before .before .before .before .before .before in
+    omega (arith, at-loop-test .loop-test .taken)
 
 loop-less : tie.Need-loop-less Inv-loop μ-loop
-loop-less c = omega (arith, c .before .before .before .before .before .before .before .before .before .before .before .before .before .before .before .before .before .before .before .before .before .loop-test .taken)
+loop-less c =
+    let between = c .before .before .before .before .before .before .before .before .before .before .before in
+    let at-loop-test = between .before .before .before .before .before .before .before .before .before .before in
+    omega (arith, at-loop-test .loop-test .taken)
 
 loop-again : tie.Need-loop-again Inv-loop μ-loop
 loop-again c =
-    let answer = c .before .before .before .before .before .before .before .before .answer in
-    let inv = c .before .before .before .before .before .before .before .before .before .before .before .before .before .before .before .before .before .before .before .before .before .before .loop .inv in
-    (
+    let at-answer = c .before .before .before .before .before .before .before .before in
+    let at-read = at-answer .before .before .before .before .before .before .before .before .before .before .before in
+    let at-loop = at-read .before .before .before in
+    let answer = at-answer .answer in
+    let inv = at-loop .loop .inv in (
       answer .ensures,
-      c .before .before .before .before .before .before .before .before .before .before .before .before .before .before .before .before .before .before .before .read .kept .1 .0 ∙ inv .1,
+      at-read .read .kept .1 .0 ∙ inv .1,
       answer .kept .1 .1 .0 ∙ inv .2,
       answer .kept .1 .1 .1 .0 ∙ inv .3,
       answer .kept .1 .1 .1 .1 .0 ∙ inv .4,

@@ -40,43 +40,58 @@ has-fields-requires : tie.Need-has-fields-requires
 has-fields-requires c κs = search needs
 
 returns : tie.Need-returns
-returns c = let a = c .before .before .before .before .before .args in asked-bad (a .session) (a .line) (c .enum-told .given .1)
+returns c =
+    let at-args = c .before .before .before .before .before in
+    let a = at-args .args in asked-bad (a .session) (a .line) (c .enum-told .given .1)
 
 returns-2 : tie.Need-returns-2
 returns-2 c =
-    let a = c .before .before .before .before .before .before .args in
+    let at-args = c .before .before .before .before .before .before in
+    let a = at-args .args in
     c .shape-command .ensures (a .session .state .shape .attributes)
     ∙ asked-shape (a .session) (a .line) (c .before .enum-told2 .given .1)
 
 returns-3 : tie.Need-returns-3
 returns-3 c =
-    let a = c .before .before .before .before .before .before .before .args in
-    asked-put (a .session) (a .line) true (c .before .before .enum-told3 .given .1) (sym (c .if1 .taken) ∙ c .before .has-numbers .ensures)
+    let at-args = c .before .before .before .before .before .before .before in
+    let a = at-args .args in
+    asked-put (a .session) (a .line) true (c .before .before .enum-told3 .given .1)
+    (sym (c .if1 .taken) ∙ c .before .has-numbers .ensures)
 
 returns-4 : tie.Need-returns-4
 returns-4 c =
-    let a = c .before .before .before .before .before .before .before .args in
-    asked-put (a .session) (a .line) false (c .before .before .enum-told3 .given .1) (sym (c .if1 .left) ∙ c .before .has-numbers .ensures)
+    let at-args = c .before .before .before .before .before .before .before in
+    let a = at-args .args in
+    asked-put (a .session) (a .line) false (c .before .before .enum-told3 .given .1)
+    (sym (c .if1 .left) ∙ c .before .has-numbers .ensures)
 
 returns-5 : tie.Need-returns-5
 returns-5 c =
-    let a = c .before .before .before .before .before .before .before .args in
-    asked-cut (a .session) (a .line) true (c .before .before .enum-told4 .given .1) (sym (c .if2 .taken) ∙ c .before .has-numbers2 .ensures)
+    let at-args = c .before .before .before .before .before .before .before in
+    let a = at-args .args in
+    asked-cut (a .session) (a .line) true (c .before .before .enum-told4 .given .1)
+    (sym (c .if2 .taken) ∙ c .before .has-numbers2 .ensures)
 
 returns-6 : tie.Need-returns-6
 returns-6 c =
-    let a = c .before .before .before .before .before .before .before .args in
-    asked-cut (a .session) (a .line) false (c .before .before .enum-told4 .given .1) (sym (c .if2 .left) ∙ c .before .has-numbers2 .ensures)
+    let at-args = c .before .before .before .before .before .before .before in
+    let a = at-args .args in
+    asked-cut (a .session) (a .line) false (c .before .before .enum-told4 .given .1)
+    (sym (c .if2 .left) ∙ c .before .has-numbers2 .ensures)
 
 returns-7 : tie.Need-returns-7
 returns-7 c =
-    let a = c .before .before .before .before .before .before .before .args in
-    asked-list (a .session) (a .line) true (c .before .before .enum-told5 .given .1) (sym (c .if3 .taken) ∙ c .before .has-fields .ensures)
+    let at-args = c .before .before .before .before .before .before .before in
+    let a = at-args .args in
+    asked-list (a .session) (a .line) true (c .before .before .enum-told5 .given .1)
+    (sym (c .if3 .taken) ∙ c .before .has-fields .ensures)
 
 returns-8 : tie.Need-returns-8
 returns-8 c =
-    let a = c .before .before .before .before .before .before .before .args in
-    asked-list (a .session) (a .line) false (c .before .before .enum-told5 .given .1) (sym (c .if3 .left) ∙ c .before .has-fields .ensures)
+    let at-args = c .before .before .before .before .before .before .before in
+    let a = at-args .args in
+    asked-list (a .session) (a .line) false (c .before .before .enum-told5 .given .1)
+    (sym (c .if3 .left) ∙ c .before .has-fields .ensures)
 
 pub command-of-spec : {M : Type 1} → statement M
 command-of-spec =

@@ -1,5 +1,6 @@
--- `console::commands::shape_command` meets its contract: each way that it ends is a law of `askedShape`. Assumes nothing.
-use mathlib.Core.Path.{_≡_, sym, ap, _∙_}
+-- `console::commands::shape_command` meets its contract: each way that it ends is a law of
+-- `askedShape`. Assumes nothing.
+use mathlib.Core.Path.{sym, ap, _∙_}
 use Prim.Native.Nat.{_+_, _≤_, _<_}
 use native.Mathlib.Omega.{arith}
 use Rattle.console.specs.Console.{numberAt}

@@ -22,7 +22,12 @@ unfolding wantedValues itemsOf
 returns c =
     let three = c .before in
     let two = three .before in
-    rw (two .before .attribute-at .ensures, two .attribute-at2 .ensures, three .attribute-at3 .ensures, c .attribute-at4 .ensures)
+    rw (
+      two .before .attribute-at .ensures,
+      two .attribute-at2 .ensures,
+      three .attribute-at3 .ensures,
+      c .attribute-at4 .ensures,
+    )
 
 pub query-of-spec : {M : Type 1} → statement M
 query-of-spec =

@@ -18,7 +18,8 @@ number-at-requires c κs = search needs
 returns : tie.Need-returns
 returns c =
     let a = c .before .before .args in
-    c .number-at .ensures ∙ sym (ap (λ β. cond β (numberAt (a .line) (a .from + a .j)) 0) (lt-ltb (a .j) (a .d) (c .before .if1 .taken)))
+    c .number-at .ensures
+    ∙ sym (ap (λ β. cond β (numberAt (a .line) (a .from + a .j)) 0) (lt-ltb (a .j) (a .d) (c .before .if1 .taken)))
 
 returns-2 : tie.Need-returns-2
 returns-2 c =

@@ -1,4 +1,5 @@
--- `console::input::run` meets its contract: the bytes so far were read, and the text ends within what is lent. Assumes nothing.
+-- `console::input::run` meets its contract: the bytes so far were read, and the text ends within what
+-- is lent. Assumes nothing.
 use Prim.Native.Nat.{_-_, _≤_}
 use mathlib.Core.Path.{_≡_, refl, _∙_}
 use mathlib.Core.Logic.{inl, inr}
@@ -40,9 +41,11 @@ same-length-4 c = c .before .before .before .loop .inv .4 .same-length
 
 returns : tie.Need-returns Inv-loop μ-loop
 returns c =
-    let a = c .before .before .before .before .before .before .before .before .before .args in
+    let at-args = c .before .before .before .before .before .before .before .before .before in
+    let a = at-args .args in
     let loop = c .before .before .before .loop in
-    run-promise (a .piece .now) (a .from) (a .progress) _ (a .text .now) (loop .next) (loop .here) _ (loop .text) (loop .inv .4)
+    run-promise (a .piece .now) (a .from) (a .progress) _ (a .text .now) (loop .next) (loop .here) _ (loop .text)
+    (loop .inv .4)
     (inr (omega (arith, c .if1 .taken, loop .inv .4 .stands .within)))
 
 shared-slice-read-step : tie.Need-shared-slice-read-step Inv-loop μ-loop
@@ -50,28 +53,42 @@ shared-slice-read-step c = c .before .before .before .loop-test .taken
 
 step-requires : tie.Need-step-requires Inv-loop μ-loop
 step-requires c κs =
-    let loop = c .before .before .before .before .before .before .before .before .loop in
+    let at-if1 = c .before .before .before .before .before in
+    let at-loop = at-if1 .before .before .before in
+    let loop = at-loop .loop in
     let stands = loop .inv .4 .stands in
-    (stands .counted, omega (arith, c .before .before .before .before .before .if1 .left, stands .within), omega (arith, loop .inv .2, loop .inv .3))
+    (stands .counted, omega (arith, at-if1 .if1 .left, stands .within), omega (arith, loop .inv .2, loop .inv .3))
 
 add-next : tie.Need-add-next Inv-loop μ-loop
-add-next c = record { fits = omega (arith, c .before .before .before .before .before .before .before .before .before .before .before .before .before .before .before .before .loop-test .taken, c .before .before .before .before .before .before .before .before .before .before .before .before .before .before .before .before .before .before .before .before .before .before .before .good .1 .0) }
+add-next c =
+    let between = c .before .before .before .before .before .before .before .before .before .before .before in
+    let at-loop-test = between .before .before .before .before .before in
+    let at-good = at-loop-test .before .before .before .before .before .before .before in
+    record { fits = omega (arith, at-loop-test .loop-test .taken, at-good .good .1 .0) }
 
 loop-less : tie.Need-loop-less Inv-loop μ-loop
-loop-less c = omega (arith, c .before .before .before .before .before .before .before .before .before .before .before .before .before .before .before .before .loop-test .taken)
+loop-less c =
+    let between = c .before .before .before .before .before .before .before .before .before .before .before in
+    let at-loop-test = between .before .before .before .before .before in
+    omega (arith, at-loop-test .loop-test .taken)
 
 loop-again : tie.Need-loop-again Inv-loop μ-loop
 loop-again c =
-    let call = c .before .before .before .before .before .before .before .before .step in
-    let loop = c .before .before .before .before .before .before .before .before .before .before .before .before .before .before .before .before .before .loop in
+    let at-step = c .before .before .before .before .before .before .before .before in
+    let at-loop-test = at-step .before .before .before .before .before .before .before .before in
+    let at-loop = at-loop-test .before in
+    let at-args = at-loop .before .before .before .before .before .before in
+    let call = at-step .step in
+    let loop = at-loop .loop in
     let inv = loop .inv in
-    let a = c .before .before .before .before .before .before .before .before .before .before .before .before .before .before .before .before .before .before .before .before .before .before .before .args in (
+    let a = at-args .args in (
       call .kept .1 .1 .0 ∙ inv .0,
       call .kept .1 .1 .1 .0 ∙ inv .1,
       call .kept .1 .1 .1 .1 .0 ∙ inv .2,
       inv .3,
-      running-step (a .piece .now) (a .from) (a .progress) _ (a .text .now) (loop .next) (loop .here) _ (loop .text) (inv .4)
-          _ _ _ (c .before .before .before .before .before .before .before .before .before .before .before .before .before .before .before .before .loop-test .taken) (call .ensures .0) (call .ensures .1) (call .kept .1 .1 .1 .1 .1 .0),
+      running-step (a .piece .now) (a .from) (a .progress) _ (a .text .now) (loop .next) (loop .here) _ (loop .text)
+          (inv .4) _ _ _ (at-loop-test .loop-test .taken) (call .ensures .0) (call .ensures .1)
+          (call .kept .1 .1 .1 .1 .1 .0),
     )
 
 same-length-5 : tie.Need-same-length-5 Inv-loop μ-loop
@@ -88,9 +105,11 @@ same-length-8 c = c .before .loop .inv .4 .same-length
 
 returns-2 : tie.Need-returns-2 Inv-loop μ-loop
 returns-2 c =
-    let a = c .before .before .before .before .before .before .before .args in
+    let at-args = c .before .before .before .before .before .before .before in
+    let a = at-args .args in
     let loop = c .before .loop in
-    run-promise (a .piece .now) (a .from) (a .progress) _ (a .text .now) (loop .next) (loop .here) _ (loop .text) (loop .inv .4)
+    run-promise (a .piece .now) (a .from) (a .progress) _ (a .text .now) (loop .next) (loop .here) _ (loop .text)
+    (loop .inv .4)
     (inl (omega (arith, c .loop-test .left)))
 
 pub run-spec : {M : Type 1} → statement M

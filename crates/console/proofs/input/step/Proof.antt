@@ -29,12 +29,18 @@ same-length-4 c = search needs
 
 returns : tie.Need-returns
 returns c =
-    let s = c .before .before .before .before .before .before .before .before .before .before .before .before .before .before .before .before .before .before .before .before .before .before .before in
     let call = c .before .before .before .before .before .before .before .before .before .before in
+    let between = call .before .before .before .before .before .before .before .before .before .before .before in
+    let s = between .before .before in
     let line = call .before .before .before .before .before in
     let p = s .args .progress in (
-      inl (line .before .if1 .taken, line-ended p _ _ _ _ _ _ _ (line .end .ensures) (c .begin .ensures) (call .reply .ensures)),
-      line-stands p _ _ _ _ _ _ _ (line .end .ensures) (c .begin .ensures) (call .reply .ensures) (omega (arith, s .pre .1)),
+      inl (
+        line .before .if1 .taken,
+        line-ended p _ _ _ _ _ _ _ (line .end .ensures) (c .begin .ensures)
+            (call .reply .ensures),
+      ),
+      line-stands p _ _ _ _ _ _ _ (line .end .ensures) (c .begin .ensures) (call .reply .ensures)
+          (omega (arith, s .pre .1)),
     )
 
 feed-requires : tie.Need-feed-requires

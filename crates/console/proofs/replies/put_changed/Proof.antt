@@ -28,7 +28,9 @@ same-length-2 c = search needs
 
 returns-2 : tie.Need-returns-2
 unfolding changedAnswer
-returns-2 c = rw (c .before .before .before .before .before .answer .given .1) (c .before .before .put-refused .ensures)
+returns-2 c =
+    let at-answer = c .before .before .before .before .before in
+    rw (at-answer .answer .given .1) (c .before .before .put-refused .ensures)
 
 pub put-changed-spec : {M : Type 1} → statement M
 put-changed-spec =

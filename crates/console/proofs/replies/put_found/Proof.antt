@@ -14,7 +14,9 @@ same-length : tie.Need-same-length
 same-length c = search needs
 
 returns : tie.Need-returns
-returns c = Grown-then _ _ _ _ _ _ _ _ (c .before .before .before .before .before .before .put-records .ensures .0) (c .before .before .put-sum .ensures)
+returns c =
+    let at-put-records = c .before .before .before .before .before .before in
+    Grown-then _ _ _ _ _ _ _ _ (at-put-records .put-records .ensures .0) (c .before .before .put-sum .ensures)
 
 pub put-found-spec : {M : Type 1} → statement M
 put-found-spec = tie.close (tie.spec put-records-requires put-sum-requires same-length returns)

@@ -10,7 +10,8 @@ enum-known-listed c = search needs
 put-found-requires : tie.Need-put-found-requires
 unfolding listedAnswer
 put-found-requires c κs =
-    let pre = c .before .before .before .before .before .before .pre in
+    let at-pre = c .before .before .before .before .before .before in
+    let pre = at-pre .pre in
     let fits = rw (c .before .before .listed .given .1) at (pre .1) in
     (pre .0, fits .0, fits .1, fits .2)
 
@@ -25,14 +26,18 @@ same-length c = search needs
 
 returns : tie.Need-returns
 unfolding listedAnswer
-returns c = rw (c .before .before .before .before .before .listed .given .1) (c .before .before .put-found .ensures)
+returns c =
+    let at-listed = c .before .before .before .before .before in
+    rw (at-listed .listed .given .1) (c .before .before .put-found .ensures)
 
 same-length-2 : tie.Need-same-length-2
 same-length-2 c = search needs
 
 returns-2 : tie.Need-returns-2
 unfolding listedAnswer
-returns-2 c = rw (c .before .before .before .before .before .listed2 .given .1) (c .before .before .put-refused .ensures)
+returns-2 c =
+    let at-listed2 = c .before .before .before .before .before in
+    rw (at-listed2 .listed2 .given .1) (c .before .before .put-refused .ensures)
 
 pub put-listed-spec : {M : Type 1} → statement M
 put-listed-spec =
