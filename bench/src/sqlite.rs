@@ -16,7 +16,7 @@ type Raw = *mut c_void;
 
 /// The functions of the library that are called.
 #[derive(Clone, Copy)]
-struct Library {
+struct Functions {
     version: unsafe extern "C" fn() -> *const c_char,
     open: unsafe extern "C" fn(*const c_char, *mut Raw) -> c_int,
     exec: unsafe extern "C" fn(Raw, *const c_char, Raw, Raw, Raw) -> c_int,
@@ -31,25 +31,25 @@ struct Library {
 /// A database, kept as long as the program runs.
 #[derive(Clone, Copy)]
 pub struct Database {
-    library: Library,
+    functions: Functions,
     raw: Raw,
 }
 
 /// A prepared statement, kept as long as the program runs.
 pub struct Statement {
-    library: Library,
+    functions: Functions,
     raw: Raw,
 }
 
-impl Library {
-    fn load() -> Option<Library> {
+impl Functions {
+    fn load() -> Option<Functions> {
         // SAFETY: the name is a C string; each symbol has the type that SQLite's header gives it.
         unsafe {
             let library = dlopen(c"libsqlite3.so.0".as_ptr(), RTLD_NOW);
             if library.is_null() {
                 return None;
             }
-            Some(Library {
+            Some(Functions {
                 version: symbol(library, c"sqlite3_libversion")?,
                 open: symbol(library, c"sqlite3_open")?,
                 exec: symbol(library, c"sqlite3_exec")?,
@@ -80,16 +80,16 @@ unsafe fn symbol<F: Copy>(library: Raw, name: &CStr) -> Option<F> {
 impl Database {
     /// An empty database in memory; `None` where the library is not installed.
     pub fn open() -> Option<Database> {
-        let library = Library::load()?;
+        let functions = Functions::load()?;
         let mut raw = null_mut();
         // SAFETY: the name is a C string, and the database is written to a place of its own.
-        let status = unsafe { (library.open)(c":memory:".as_ptr(), &mut raw) };
-        (status == SQLITE_OK).then_some(Database { library, raw })
+        let status = unsafe { (functions.open)(c":memory:".as_ptr(), &mut raw) };
+        (status == SQLITE_OK).then_some(Database { functions, raw })
     }
 
     pub fn version(&self) -> String {
         // SAFETY: the library returns a C string that stays.
-        unsafe { CStr::from_ptr((self.library.version)()) }.to_string_lossy().into_owned()
+        unsafe { CStr::from_ptr((self.functions.version)()) }.to_string_lossy().into_owned()
     }
 
     /// Runs statements without results.
@@ -97,7 +97,7 @@ impl Database {
         let text = CString::new(statements).expect("no zero byte");
         // SAFETY: the database is open, the text is a C string, and no callback is given.
         let status =
-            unsafe { (self.library.exec)(self.raw, text.as_ptr(), null_mut(), null_mut(), null_mut()) };
+            unsafe { (self.functions.exec)(self.raw, text.as_ptr(), null_mut(), null_mut(), null_mut()) };
         assert_eq!(status, SQLITE_OK, "{statements}");
     }
 
@@ -105,9 +105,9 @@ impl Database {
         let text = CString::new(statement).expect("no zero byte");
         let mut raw = null_mut();
         // SAFETY: the database is open, the text is a C string, and the statement is written to a place of its own.
-        let status = unsafe { (self.library.prepare)(self.raw, text.as_ptr(), -1, &mut raw, null_mut()) };
+        let status = unsafe { (self.functions.prepare)(self.raw, text.as_ptr(), -1, &mut raw, null_mut()) };
         assert_eq!(status, SQLITE_OK, "{statement}");
-        Statement { library: self.library, raw }
+        Statement { functions: self.functions, raw }
     }
 }
 
@@ -118,12 +118,12 @@ impl Statement {
         // SAFETY: the statement is prepared; values that it does not have are refused by the library.
         unsafe {
             for (i, value) in values.into_iter().enumerate() {
-                (self.library.bind)(self.raw, i as c_int + 1, value);
+                (self.functions.bind)(self.raw, i as c_int + 1, value);
             }
-            while (self.library.step)(self.raw) == SQLITE_ROW {
+            while (self.functions.step)(self.raw) == SQLITE_ROW {
                 row(self);
             }
-            (self.library.reset)(self.raw);
+            (self.functions.reset)(self.raw);
         }
     }
 
@@ -131,13 +131,13 @@ impl Statement {
     #[inline]
     pub fn number(&self, column: c_int) -> i64 {
         // SAFETY: the statement is prepared; a column that it does not have is 0.
-        unsafe { (self.library.column)(self.raw, column) }
+        unsafe { (self.functions.column)(self.raw, column) }
     }
 
     /// A text of the present row.
     pub fn text(&self, column: c_int) -> String {
         // SAFETY: the statement is prepared and stands on a row; the text is a C string that stays until the next step.
-        let text = unsafe { (self.library.text)(self.raw, column) };
+        let text = unsafe { (self.functions.text)(self.raw, column) };
         assert!(!text.is_null(), "column {column} has no text");
         // SAFETY: as above.
         unsafe { CStr::from_ptr(text) }.to_string_lossy().into_owned()

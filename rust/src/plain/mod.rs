@@ -11,3 +11,4 @@ pub mod ordered;
 pub mod refusal;
 pub mod samples;
 pub mod shown;
+pub mod unsound;
