@@ -68,6 +68,7 @@ module _ (change : Change) (words : List ℕ) where
   settled-done done four thirteen words′ e =
       record {
         number-done = λ _. refl;
+        words-done = λ _. e;
         state-done = λ _. ap stateIn e ∙ stateIn-statePut (change .state) words four thirteen;
         past-done = λ _. ap (drop stateSize) e ∙ drop-statePut (change .state) words;
         number-refused = λ n f. absurd (accepted-refused n (sym done ∙ f));
@@ -78,6 +79,7 @@ module _ (change : Change) (words : List ℕ) where
   settled-refused n e =
       record {
         number-done = λ f. absurd (accepted-refused n (sym f ∙ e));
+        words-done = λ f. absurd (accepted-refused n (sym f ∙ e));
         state-done = λ f. absurd (accepted-refused n (sym f ∙ e));
         past-done = λ f. absurd (accepted-refused n (sym f ∙ e));
         number-refused = λ m f. refused-same n m (sym e ∙ f);

@@ -1,7 +1,7 @@
 -- Laws of Fresh on a state in lent words: its number; its promise from that of Fresh, for each way that the call ends,
 -- and back. Assumes nothing.
 use Prim.Native.Nat.{ℕ, zero, suc, _≤_, _<_}
-use mathlib.Core.Path.{_≡_, refl, sym, ap, _∙_}
+use mathlib.Core.Path.{_≡_, refl, sym, ap, subst, _∙_}
 use mathlib.Core.Bool.{Bool, true, false, cond, false≢true}
 use mathlib.Core.List.{List}
 use borrow.Author.Tests.{lt-ltb, le-ltb}
@@ -12,14 +12,19 @@ use Rattle.shape.specs.Shape.{shapeNumber, widthsOf}
 use Rattle.shape.specs.declared.Shape.{Shape}
 use Rattle.model.specs.Limits.{freshShape}
 use Rattle.model.specs.Model.{Reply, changed, ifAccepted}
+use Rattle.store.specs.Answers.{changedAnswer}
 use Rattle.store.specs.Fresh.{FreshPromise, freshNumber, freshState, freshMemory, noState}
 use Rattle.store.specs.Store.{Memory, memory, store}
+use Rattle.store.specs.declared.Change.{Change}
+use Rattle.store.specs.declared.Changed.{Changed}
+use Rattle.store.specs.declared.Changed.the-variants.{Done, Refused}
 use Rattle.store.specs.declared.State.{State}
 use Rattle.fresh.specs.Private.{lacksMemory}
 use Rattle.fresh.proofs.PromiseLaws.{freshNumber-shape-out, freshNumber-lacks, freshNumber-none}
 use Rattle.image.specs.Image.{stateSize, stateIn, statePut}
 use Rattle.image.proofs.ImageLaws.{stateIn-statePut}
 use Rattle.host_changes.specs.Fresh.{lentFreshNumber, LentFreshPromise}
+use Rattle.host_changes.specs.Private.{Settled}
 
 module _ (s : Shape) (words ds bs : List ℕ) where
   abbrev m : Memory
@@ -64,7 +69,7 @@ module _ (s : Shape) (words ds bs : List ℕ) where
 
   module _ (long : stateSize ≤ length words) (answer : Answer Reply) (state : State) (ds′ bs′ : List ℕ)
       (p : FreshPromise s m answer (store state ds′ bs′)) where
-    pub promise-done : (words′ : List ℕ) → words′ ≡ statePut state words → answer ≡ accepted changed
+    promise-done : (words′ : List ℕ) → words′ ≡ statePut state words → answer ≡ accepted changed
         → LentFreshPromise s words m 0 words′ (memory ds′ bs′)
     promise-done words′ written done = go (freshNumber s m) refl
       where
@@ -81,7 +86,7 @@ module _ (s : Shape) (words ds bs : List ℕ) where
             let z : false ≡ true = cc in
             absurd (false≢true z)
 
-    pub promise-not-done : (n : ℕ) → answer ≡ refused n → LentFreshPromise s words m n words (memory ds′ bs′)
+    promise-not-done : (n : ℕ) → answer ≡ refused n → LentFreshPromise s words m n words (memory ds′ bs′)
     promise-not-done n not-done = go (freshNumber s m) refl
       where
         go : (k : ℕ) → freshNumber s m ≡ k → LentFreshPromise s words m n words (memory ds′ bs′)
@@ -98,6 +103,25 @@ module _ (s : Shape) (words ds bs : List ℕ) where
               words-as = rw number refl;
               memory-as = rw number (rw e at (p .memory-as));
             }
+
+  -- by what the words are once the change is settled
+  module _ (long : stateSize ≤ length words) (change : Change) (ds′ bs′ : List ℕ)
+      (p : FreshPromise s m (changedAnswer (change .answer)) (store (change .state) ds′ bs′)) where
+    pub fresh-settled : (number : ℕ) (words′ : List ℕ) → Settled change words number words′
+        → LentFreshPromise s words m number words′ (memory ds′ bs′)
+    unfolding changedAnswer
+    fresh-settled number words′ t = go (change .answer) refl
+      where
+        go : (a : Changed) → change .answer ≡ a → LentFreshPromise s words m number words′ (memory ds′ bs′)
+        go Done e =
+            let done : changedAnswer (change .answer) ≡ accepted changed = ap changedAnswer e in
+            subst (λ k. LentFreshPromise s words m k words′ (memory ds′ bs′)) (sym (t .number-done done))
+            (promise-done long _ _ ds′ bs′ p words′ (t .words-done done) done)
+        go (Refused n) e =
+            let not-done : changedAnswer (change .answer) ≡ refused n = ap changedAnswer e in
+            subst (λ k. LentFreshPromise s words m k words′ (memory ds′ bs′)) (sym (t .number-refused n not-done))
+            (subst (λ w. LentFreshPromise s words m n w (memory ds′ bs′)) (sym (t .words-refused n not-done))
+            (promise-not-done long _ _ ds′ bs′ p n not-done))
 
   -- ---- back
 

@@ -40,14 +40,7 @@ pub fn fresh_in_words(shape: Shape, state: &mut [u32], dir: &mut [u32], pages: &
         return 2;
     }
     let change = fresh(shape, dir, pages);
-    let answer = change.answer;
-    match answer {
-        Changed::Done => {
-            put_state(state, change.state);
-            0
-        }
-        Changed::Refused(number) => number,
-    }
+    settle(state, change)
 }
 
 // Adds a record, and divides regions until no leaf has more than b. Refused with 1, 2, 3, 4, 6, 7 or

@@ -1,9 +1,7 @@
 -- `host_changes::fresh_in_words` meets its contract: each way that it ends is a law of the promise. Assumes nothing.
-use mathlib.Core.Path.{sym, ap, _∙_}
+use mathlib.Core.Path.{sym, _∙_}
 use native.Mathlib.Omega.{arith}
-use Rattle.store.specs.Answers.{changedAnswer}
-use Rattle.host_changes.proofs.FreshLaws.{number-shape-out, number-short}
-use Rattle.host_changes.proofs.FreshLaws.{promise-refused, promise-done, promise-not-done}
+use Rattle.host_changes.proofs.FreshLaws.{number-shape-out, number-short, promise-refused, fresh-settled}
 use borrow.Author.Needs.{needs}
 use Rattle.host_changes.proofs.fresh_in_words.Statement.{statement}
 use Rattle.host_changes.proofs.fresh_in_words.Tie as tie
@@ -31,14 +29,8 @@ returns-2 c =
 fresh-requires : tie.Need-fresh-requires
 fresh-requires c κs = search needs
 
-enum-told : tie.Need-enum-told
-enum-told c = search needs
-
-put-state-requires : tie.Need-put-state-requires
-put-state-requires c κs = search needs
-
-enum-known-answer : tie.Need-enum-known-answer
-enum-known-answer c = search needs
+settle-requires : tie.Need-settle-requires
+settle-requires c κs = λ _. c .before .before .before .before .before .before .before .before .if2 .left
 
 same-length : tie.Need-same-length
 same-length c = search needs
@@ -50,31 +42,12 @@ same-length-3 : tie.Need-same-length-3
 same-length-3 c = search needs
 
 returns-3 : tie.Need-returns-3
-unfolding changedAnswer
 returns-3 c =
-    let told = c .before .before .before .before in
-    let done = told .before .before .before .before .before .before in
+    let done = c .before .before .before .before .before .before .before .before in
     let lent = done .before .before .before in
     let s = lent .before .before .before .before .before .before .args in
-    promise-done (s .shape) (s .state .now) (s .dir .now) (s .pages .now) (lent .if2 .left) _ _ _ _
-    (done .fresh .ensures) _
-    (c .before .before .put-state .ensures) (ap changedAnswer (told .enum-told .given .1))
-
-same-length-4 : tie.Need-same-length-4
-same-length-4 c = search needs
-
-same-length-5 : tie.Need-same-length-5
-same-length-5 c = search needs
-
-returns-4 : tie.Need-returns-4
-unfolding changedAnswer
-returns-4 c =
-    let done = c .before .before .before .before .before .before .before in
-    let lent = done .before .before .before in
-    let s = lent .before .before .before .before .before .before .args in
-    promise-not-done (s .shape) (s .state .now) (s .dir .now) (s .pages .now) (lent .if2 .left) _ _ _ _
-    (done .fresh .ensures) _
-    (ap changedAnswer (c .before .answer .given .1))
+    fresh-settled (s .shape) (s .state .now) (s .dir .now) (s .pages .now) (lent .if2 .left) _ _ _
+    (done .fresh .ensures) _ _ (c .before .before .settle .ensures)
 
 pub fresh-in-words-spec : {M : Type 1} → statement M
 fresh-in-words-spec =
@@ -84,13 +57,8 @@ fresh-in-words-spec =
     returns
     returns-2
     fresh-requires
-    enum-told
-    put-state-requires
-    enum-known-answer
+    settle-requires
     same-length
     same-length-2
     same-length-3
-    returns-3
-    same-length-4
-    same-length-5
-    returns-4)
+    returns-3)
