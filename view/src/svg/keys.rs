@@ -33,18 +33,22 @@ fn tile(picture: &Picture, area: Area, bits: Bits) -> Area {
     )
 }
 
-/// A point for each record, in the middle of its key's place.
+/// A point for each record.
 fn records(canvas: &mut Canvas, picture: &Picture, area: Area) {
     let radius = if picture.records() > 400 { 1.2 } else { 2.2 };
-    let widths = picture.widths();
-    let part = |record: &Record, j: usize| (f64::from(record.values[j]) + 0.5) / f64::from(1u32 << widths[j]);
     canvas.open("class=\"record\"");
     for record in picture.leaves.iter().flat_map(|leaf| &leaf.records) {
-        let x = area.x + part(record, 0) * area.width;
-        let y = area.y + (1.0 - part(record, 1)) * area.height;
+        let (x, y) = point(picture, area, record);
         canvas.dot(x, y, radius);
     }
     canvas.close();
+}
+
+/// The middle of a key's place.
+fn point(picture: &Picture, area: Area, record: &Record) -> (f64, f64) {
+    let widths = picture.widths();
+    let part = |j: usize| (f64::from(record.values[j]) + 0.5) / f64::from(1u32 << widths[j]);
+    (area.x + part(0) * area.width, area.y + (1.0 - part(1)) * area.height)
 }
 
 /// The attributes and their least and greatest values.
@@ -57,4 +61,31 @@ fn axes(canvas: &mut Canvas, picture: &Picture, area: Area) {
     canvas.text(area.x - 6.0, bottom, "end", "0");
     canvas.text(area.x - 6.0, area.y + area.height / 2.0, "end", "attribute 1");
     canvas.text(area.x - 6.0, area.y + 12.0, "end", &greatest(1));
+}
+
+#[cfg(test)]
+mod tests {
+    use super::*;
+    use crate::session::Session;
+
+    /// The leaves tile the area, and each has its records in its tile.
+    #[test]
+    fn records_lie_in_their_leaves() {
+        let mut session = Session::default();
+        let mut take = |line: String| session.take(line.as_bytes()).expect("an accepted line");
+        take("shape 2 4 7 2".to_owned());
+        (0..60).for_each(|i: u32| take(format!("put {} {} {i}", i * i % 16, 2 * i + i % 2)));
+        let picture = Picture::of(&session.store().expect("a store"));
+        let area = Area::new(3.0, 5.0, 64.0, 256.0);
+        let mut covered = 0.0;
+        for leaf in &picture.leaves {
+            let Area { x, y, width, height } = tile(&picture, area, leaf.bits);
+            covered += width * height;
+            for record in &leaf.records {
+                let (across, down) = point(&picture, area, record);
+                assert!((x..x + width).contains(&across) && (y..y + height).contains(&down), "{}", leaf.bits);
+            }
+        }
+        assert_eq!(covered, 64.0 * 256.0);
+    }
 }
