@@ -13,7 +13,7 @@ pub fn fill(picture: &Picture, place: usize) -> String {
         return EMPTY.to_owned();
     }
     let before = place as f64 / picture.leaves.len() as f64 + leaf.bits.span().0;
-    colour(150.0 * before, 0.62, if place % 2 == 0 { 0.64 } else { 0.76 })
+    colour(150.0 * before, 0.62, if place % 2 == 0 { 0.7 } else { 0.8 })
 }
 
 /// The attributes of what stands for the leaf at a place: its class and its fill.
