@@ -1,8 +1,8 @@
 //! A multidimensional extendible hash store in memory that its host lends, behind safe types.
 //!
-//! Records have a key of one to four values and a payload of 32 bits. A [`Query`] gives some of the values and leaves the
-//! others open; it reads only the pages whose records can match. The store needs no heap and never panics; each call
-//! is answered as its proved contract says, whatever the memory holds. This crate adds types and no copy of the memory.
+//! Records have a key of one to four values and a payload of 32 bits. A [`Query`] gives some of the values and leaves
+//! the others open; it reads only the pages whose records can match. The store needs no heap and never panics; each
+//! call is answered as its proved contract says, whatever the memory holds. This crate adds types and no copies.
 //!
 //! ```
 //! use mdeh::{Query, Refusal, Shape, Store};
@@ -30,9 +30,10 @@
 //! # Memory
 //!
 //! A store of page capacity b has use for up to 4,096 directory words and 4,096 pages of 2 + 12b bytes
-//! ([`Shape::page_bytes`]). Fewer limit how far it can grow, more are left alone. Both slices are borrowed as long as the
-//! [`Store`] lives, which itself holds the 22 words of the state. To keep a store, keep all three ([`Store::state`],
-//! [`Store::directory`], [`Store::pages`]); [`Store::reopen`] takes them up again.
+//! ([`Shape::page_bytes`]). Fewer limit how far it can grow, more are left alone. Both slices are borrowed as long as
+//! the [`Store`] lives, which itself holds the 22 words of the state. To keep a store, keep all three
+//! ([`Store::state`], [`Store::directory`], [`Store::pages`]); [`Store::reopen`] takes them up again.
+//! The layouts are in `embed/mdeh.h`.
 //!
 //! # Linking
 //!

@@ -11,9 +11,9 @@ pub use crate::raw::STATE_WORDS;
 
 /// A store: its state, and the directory and pages that the host lends.
 ///
-/// Calls that read take `&self` and write nothing in the store, so threads may share it. Refusals are listed in the order
-/// in which they are looked for; [`Refusal::Unsound`] is never given on a store that [`Store::check`] finds sound, and
-/// from [`Store::fresh`] on every call leaves it sound.
+/// Calls that read take `&self` and write nothing in the store, so threads may share it. Refusals are listed in the
+/// order in which they are looked for; a refused call has changed nothing. [`Refusal::Unsound`] is never given on a
+/// store that [`Store::check`] finds sound; [`Store::fresh`] makes a sound store, and every call leaves it sound.
 pub struct Store<'m> {
     state: [u32; STATE_WORDS],
     directory: &'m mut [u32],
@@ -54,8 +54,8 @@ impl<'m> Store<'m> {
 
     /// Takes up a store that was kept: its state, and its directory and pages, which may be longer now.
     ///
-    /// Nothing is tested and nothing is trusted: every call stays within the memory and ends, whatever the memory holds.
-    /// Ask [`Store::check`] whether the store is as it was kept.
+    /// Nothing is tested and nothing is trusted: every call stays within the memory and ends, whatever it holds. Ask
+    /// [`Store::check`] whether it is a sound store.
     ///
     /// ```
     /// use mdeh::{Shape, Store};
@@ -144,8 +144,8 @@ impl<'m> Store<'m> {
         }
     }
 
-    /// Whether the memory holds a sound store: state, words and pages show one set of records, from which every call is then
-    /// answered.
+    /// Whether the memory holds a sound store: state, words and pages show one set of records, from which every call is
+    /// then answered.
     ///
     /// Refused with [`Refusal::Shape`] or [`Refusal::Memory`].
     #[inline]
