@@ -23,17 +23,25 @@ pub fn draw(picture: &Picture) -> String {
     lines.iter().map(|line| format!("{}\n", line.trim_end())).collect()
 }
 
-/// The shape, the figures of the state, the leaves at each depth.
+/// The shape, the figures of the state, the leaves at each depth and the split step that halves a region of it.
 fn header(picture: &Picture) -> Vec<String> {
-    let depths: String = (0..=picture.depth).map(|depth| format!("{depth:>6}")).collect();
-    let tally: String = picture.tally.iter().map(|count| format!("{count:>6}")).collect();
+    let depths = (0..=picture.depth).map(|depth| depth.to_string());
+    let tally = picture.tally.iter().map(usize::to_string);
+    let steps = picture.steps.iter().map(|(bit, attribute)| format!("{attribute}.{bit}"));
     vec![
         format!("shape      {}", figures::shape(picture)),
         format!("directory  {}", figures::directory(picture)),
         format!("pages      {}", figures::pages(picture)),
-        format!("depth {depths}"),
-        format!("leaves{tally}"),
+        String::new(),
+        row("depth", depths),
+        row("leaves", tally),
+        row("halved by attribute.bit", steps),
     ]
+}
+
+/// A label and a column for each number.
+fn row(label: &str, numbers: impl Iterator<Item = String>) -> String {
+    numbers.fold(format!("{label:23}"), |row, number| format!("{row}{number:>5}"))
 }
 
 /// A line for each cell.

@@ -13,8 +13,10 @@ fn printed_run() {
 shape      2 attributes of width 2, 2, pages of 2 records
 directory  T 3 of 4, 8 cells, 4 leaves
 pages      3 of 1260 in use, 66 % filled, 4 records
-depth      0     1     2     3
-leaves     0     1     1     2
+
+depth                      0    1    2    3
+leaves                     0    1    1    2
+halved by attribute.bit  0.0  1.0  0.1
 
 Cells by address
 address  split bits  index  leaf  page
@@ -44,8 +46,10 @@ fn store_without_records() {
 shape      1 attribute of width 16, pages of 1 record
 directory  T 0 of 12, 1 cell, 1 leaf
 pages      0 of 2340 in use, 0 records
-depth      0
-leaves     1
+
+depth                      0
+leaves                     1
+halved by attribute.bit
 
 Cells by address
 address  split bits  index  leaf  page
