@@ -16,8 +16,8 @@ fn random_calls_are_answered_as_the_list_answers_them() {
     let mut random = Random::new(0x6d64_6568_2d30_3039);
     for _ in 0..400 {
         let total = random.between(1, 20) as u32;
-        let mut shape = Shape::new(&random_widths(&mut random, total));
-        shape.capacity = random.between(1, 5) as u32;
+        let widths = random_widths(&mut random, total);
+        let shape = Shape::new(&widths, random.between(1, 5) as u32);
         let (words, bytes) = (1 + random.below(300), (1 + random.below(30)) * page_size(shape));
         let mut store = Store::new(shape, words, bytes);
         let mut model = Model::fresh(shape, words, bytes).expect("the shape is within its bounds");

@@ -69,7 +69,8 @@ pub fn delete(state: &mut [u32], dir: &mut [u32], pages: &mut [u8], key: [u32; 4
 }
 
 /// 0 for an accepted call, otherwise the number of the refusal.
-fn done(number: u32) -> Result<(), u32> {
+#[inline]
+pub(super) fn done(number: u32) -> Result<(), u32> {
     match number {
         0 => Ok(()),
         number => Err(number),

@@ -1,22 +1,18 @@
 //! Fresh and the calls that read, over lent memory. The state lies in 32-bit words, the directory too, the pages in
 //! bytes.
-use super::Shape;
+use super::changes::done;
+use super::{Key, Shape};
 
 /// The words of a state: d, the four widths, b, P, L, T and the tally of depths 0 to 12.
 pub const STATE_WORDS: usize = 22;
-
-/// A key: a value for each attribute, 0 for an unused one.
-#[repr(C)]
-#[derive(Clone, Copy, Debug, PartialEq, Eq)]
-pub struct Key {
-    pub values: [u32; 4],
-}
 
 /// A query: attribute j is given the value `values[j]` where `given[j]` is not 0, and free otherwise.
 #[repr(C)]
 #[derive(Clone, Copy, Debug, PartialEq, Eq)]
 pub struct HostQuery {
+    /// whether each attribute is given
     pub given: [u32; 4],
+    /// the value wanted of each; ignored where it is free
     pub values: [u32; 4],
 }
 
@@ -24,8 +20,11 @@ pub struct HostQuery {
 #[repr(C)]
 #[derive(Clone, Copy, Debug, PartialEq, Eq)]
 pub struct LookupResult {
+    /// 0, or the refusal's number
     pub number: u32,
+    /// of the key's record
     pub payload: u32,
+    /// pages read
     pub reads: u32,
 }
 
@@ -34,9 +33,13 @@ pub struct LookupResult {
 #[repr(C)]
 #[derive(Clone, Copy, Debug, PartialEq, Eq)]
 pub struct QueryResult {
+    /// 0, or the refusal's number
     pub number: u32,
+    /// records in the output
     pub written: u64,
+    /// records that match
     pub total: u64,
+    /// pages read
     pub reads: u64,
 }
 
@@ -44,15 +47,20 @@ pub struct QueryResult {
 #[repr(C)]
 #[derive(Clone, Copy, Debug, PartialEq, Eq)]
 pub struct CheckResult {
+    /// 0, or the refusal's number
     pub number: u32,
+    /// 1 for a sound store
     pub sound: u32,
 }
 
 /// What an accepted query counts.
 #[derive(Clone, Copy, Debug, PartialEq, Eq)]
 pub struct Counts {
+    /// records in the output
     pub written: u64,
+    /// records that match
     pub total: u64,
+    /// pages read
     pub reads: u64,
 }
 
@@ -121,10 +129,7 @@ pub fn fresh(shape: Shape, state: &mut [u32], dir: &mut [u32], pages: &mut [u8])
             pages.len(),
         )
     };
-    match number {
-        0 => Ok(()),
-        number => Err(number),
-    }
+    done(number)
 }
 
 /// The payload of a key's record and the pages read, as the library returns them.
