@@ -1,0 +1,3 @@
+pub mod Lending
+pub mod LentLaws
+pub mod ValueLaws
