@@ -1,4 +1,5 @@
-// The tally, lent to the steps that divide and join regions, which update it (document 01).
+// The tally, lent to the steps that divide and join regions, which update it (document 01, "Lent
+// memory").
 use store::Tally;
 ghost use mathlib.Core.Path.{_≡_};
 ghost use mathlib.Core.Bool.{true};
@@ -15,8 +16,7 @@ pub fn divide(tally: &mut Tally, x: usize, n: usize)
     *tally = tally::divide(*tally, x, n);
 }
 
-// Two leaves of one depth give way to one above them, n times, down to depth x: the lent tally is
-// updated.
+// Two leaves give way to one above them, n times, the last of depth x: the lent tally is updated.
 pub fn join(tally: &mut Tally, x: usize, n: usize)
     requires { ⌜ (x + n ≤ 12) × (tallyHolds (now tally .leaves) ≡ true) ⌝ }
     ensures { λ _. ⌜ now (tally .exit) .leaves ≡ joinedTally x n (now (tally .entry) .leaves) ⌝ }
@@ -24,7 +24,7 @@ pub fn join(tally: &mut Tally, x: usize, n: usize)
     *tally = tally::join(*tally, x, n);
 }
 
-// A tally that is lent to `divide`, as it comes back.
+// The same by value: the tally is lent to `divide`, and returned.
 pub fn divided(tally: Tally, x: usize, n: usize) -> Tally
     requires { ⌜ (x + n ≤ 12) × (tallyHolds (tally .leaves) ≡ true) ⌝ }
     ensures { λ r. ⌜ r .leaves ≡ dividedTally x n (tally .leaves) ⌝ }
@@ -34,7 +34,7 @@ pub fn divided(tally: Tally, x: usize, n: usize) -> Tally
     lent
 }
 
-// A tally that is lent to `join`, as it comes back.
+// The same by value: the tally is lent to `join`, and returned.
 pub fn joined(tally: Tally, x: usize, n: usize) -> Tally
     requires { ⌜ (x + n ≤ 12) × (tallyHolds (tally .leaves) ≡ true) ⌝ }
     ensures { λ r. ⌜ r .leaves ≡ joinedTally x n (tally .leaves) ⌝ }
