@@ -1,16 +1,18 @@
--- Laws of calls and answers as numbers: a call read word by word, its kind, the bytes of its output; the answers and
--- outputs of one call more. Assumes nothing.
-use Prim.Native.Nat.{ℕ, zero, suc, _+_, _*_, _<_, min}
+-- Laws of calls and answers as numbers: a call read word by word, its kind, the bytes of its output; an answer
+-- written; the answers and outputs of one call more. Assumes nothing.
+use Prim.Native.Nat.{ℕ, zero, suc, _+_, _*_, _≤_, _<_, min}
 use mathlib.Core.Path.{_≡_, refl, sym, ap, _∙_}
 use mathlib.Core.List.{List, [], _∷_, _++_, append-assoc, append-nil}
 use mathlib.Core.Option.{some}
 use native.Mathlib.Omega.{arith}
-use lib.ListN.{length, getD}
+use lib.ListN.{length, take, drop, getD, set}
+use lib.Seq.{sets-eq}
 use Rattle.shape.specs.Refusal.{Answer, accepted, refused}
 use Rattle.model.specs.Model.{insertCall, deleteCall, lookupCall, queryCall, Reply, changed, found, listed, Outcome}
-use Rattle.replay.specs.declared.Request.{Request}
-use Rattle.replay.specs.Encoding.{callSize, requestAt, valueIf, wantedIn, callOfKind, callOf, sizeOfKind, requestSize, answerWords, answersOf, outputsOf}
-use Rattle.replay.specs.Private.{fourAt}
+use Rattle.encoding.specs.declared.Request.{Request}
+use Rattle.encoding.specs.Encoding.{callSize, requestAt, valueIf, wantedIn, callOfKind, callOf, sizeOfKind}
+use Rattle.encoding.specs.Encoding.{requestSize, answerWords, answersOf, outputsOf}
+use Rattle.encoding.specs.Private.{fourAt}
 
 -- ---- calls
 
@@ -117,6 +119,19 @@ fourAt-answerWords (refused n) = refl
 pub fourAt-answer : (ws : List ℕ) (a : Answer Reply) → ws ≡ answerWords a
     → (fourAt ws 0 ≡ answerWords a) × (length (answerWords a) ≡ 4)
 fourAt-answer ws a e = (ap (λ l. fourAt l 0) e ∙ fourAt-answerWords a, length-answerWords a)
+
+-- ---- an answer written
+
+-- four writes in a row
+pub four-sets : (l words : List ℕ) (at : ℕ) → at + 4 ≤ length l
+    → set (set (set (set l at (getD words 0 0)) (at + 1) (getD words 1 0)) (at + 2) (getD words 2 0)) (at + 3)
+    (getD words 3 0)
+    ≡ take at l ++ fourAt words 0 ++ drop (at + 4) l
+four-sets l words at h =
+    let a1 : at + 1 ≡ suc at = omega arith in
+    let a2 : at + 2 ≡ suc (suc at) = omega arith in
+    let a3 : at + 3 ≡ suc (suc (suc at)) = omega arith in
+    rw (a1, a2, a3) (sets-eq (fourAt words 0) l at h)
 
 -- ---- one call more
 

@@ -1,10 +1,10 @@
--- `replay::query_of` meets its contract, attribute by attribute. Assumes nothing.
+-- `encoding::query_of` meets its contract, attribute by attribute. Assumes nothing.
 use mathlib.Core.List.{[], _∷_}
 use Rattle.shape.specs.Key.{wantedValues}
-use Rattle.replay.specs.Encoding.{wantedIn}
+use Rattle.encoding.specs.Encoding.{wantedIn}
 use borrow.Author.Needs.{needs}
-use Rattle.replay.proofs.query_of.Statement.{statement}
-use Rattle.replay.proofs.query_of.Tie as tie
+use Rattle.encoding.proofs.query_of.Statement.{statement}
+use Rattle.encoding.proofs.query_of.Tie as tie
 
 array-read-attribute-of : tie.Need-array-read-attribute-of
 array-read-attribute-of c = search needs

@@ -1,8 +1,8 @@
--- `replay::attribute_of` meets its contract. Assumes nothing.
-use Rattle.replay.proofs.EncodingLaws.{valueIf-given}
+-- `encoding::attribute_of` meets its contract. Assumes nothing.
+use Rattle.encoding.proofs.EncodingLaws.{valueIf-given}
 use borrow.Author.Needs.{needs}
-use Rattle.replay.proofs.attribute_of.Statement.{statement}
-use Rattle.replay.proofs.attribute_of.Tie as tie
+use Rattle.encoding.proofs.attribute_of.Statement.{statement}
+use Rattle.encoding.proofs.attribute_of.Tie as tie
 
 returns : tie.Need-returns
 returns c = search needs

@@ -1,11 +1,11 @@
--- `replay::put_answer` meets its contract: four writes in a row. Assumes nothing.
+-- `encoding::put_answer` meets its contract: four writes in a row. Assumes nothing.
 use Prim.Native.Nat.{_*_}
 use native.Mathlib.Omega.{arith}
 use lib.ListN.{length-set}
-use Rattle.replay.proofs.PartLaws.{four-sets}
+use Rattle.encoding.proofs.EncodingLaws.{four-sets}
 use borrow.Author.Needs.{needs}
-use Rattle.replay.proofs.put_answer.Statement.{statement}
-use Rattle.replay.proofs.put_answer.Tie as tie
+use Rattle.encoding.proofs.put_answer.Statement.{statement}
+use Rattle.encoding.proofs.put_answer.Tie as tie
 
 mul-at : tie.Need-mul-at
 mul-at c = search needs

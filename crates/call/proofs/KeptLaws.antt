@@ -11,10 +11,10 @@ use Rattle.store.specs.Store.{Store, store}
 use Rattle.store.specs.declared.State.{State}
 use Rattle.store.specs.Promises.{InsertPromise, DeletePromise, LookupPromise, QueryPromise}
 use Rattle.history.specs.History.{Promised}
-use Rattle.replay.specs.declared.Request.{Request}
-use Rattle.replay.specs.Encoding.{wantedIn, callOf, requestSize, answerWords}
-use Rattle.replay.specs.Private.{Kept}
-use Rattle.replay.proofs.EncodingLaws.{callOf-insert, callOf-delete, callOf-lookup, callOf-query, no-output}
+use Rattle.encoding.specs.declared.Request.{Request}
+use Rattle.encoding.specs.Encoding.{wantedIn, callOf, requestSize, answerWords}
+use Rattle.encoding.proofs.EncodingLaws.{callOf-insert, callOf-delete, callOf-lookup, callOf-query, no-output}
+use Rattle.call.specs.Private.{Kept}
 
 module _ (before : Store) (r : Request) (out ws : List ℕ) (a : Answer Reply) (e-words : ws ≡ answerWords a) where
   -- by the call that the words say

@@ -1,10 +1,10 @@
--- `replay::run_call` meets its contract: each kind of call keeps its promise. Assumes nothing.
+-- `call::run_call` meets its contract: each kind of call keeps its promise. Assumes nothing.
 use Rattle.shape.specs.Key.{wantedValues}
 use Rattle.store.specs.Store.{store}
-use Rattle.replay.proofs.KeptLaws.{kept-insert, kept-delete, kept-lookup, kept-query}
+use Rattle.call.proofs.KeptLaws.{kept-insert, kept-delete, kept-lookup, kept-query}
 use borrow.Author.Needs.{needs}
-use Rattle.replay.proofs.run_call.Statement.{statement}
-use Rattle.replay.proofs.run_call.Tie as tie
+use Rattle.call.proofs.run_call.Statement.{statement}
+use Rattle.call.proofs.run_call.Tie as tie
 
 insert-requires : tie.Need-insert-requires
 insert-requires c κs = search needs

@@ -1,4 +1,4 @@
--- Calls and answers as numbers, and what a replay of such calls leaves (document 01, "The plain model of demand 3").
+-- Calls and answers as numbers (document 01, "The plain model of demand 3").
 --
 --     a call is 11 words                                       an answer is 4 words
 --     0      kind: 0 insert, 1 delete, 2 lookup, else query    0    number of the refusal, 0 for an accepted call
@@ -19,7 +19,7 @@ use lib.ListN.{length, take, drop, getD}
 use Rattle.shape.specs.Refusal.{Answer, accepted, refused}
 use Rattle.shape.specs.Key.{perAttribute}
 use Rattle.model.specs.Model.{Call, insertCall, deleteCall, lookupCall, queryCall, Reply, changed, found, listed, Outcome}
-use Rattle.replay.specs.declared.Request.{Request}
+use Rattle.encoding.specs.declared.Request.{Request}
 
 -- ---- calls
 

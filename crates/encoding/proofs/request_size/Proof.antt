@@ -1,11 +1,11 @@
--- `replay::request_size` meets its contract. Assumes nothing.
+-- `encoding::request_size` meets its contract. Assumes nothing.
 use Prim.Native.Nat.{_<_}
 use mathlib.Core.Path.{sym, _∙_}
 use native.Mathlib.Omega.{arith}
-use Rattle.replay.proofs.EncodingLaws.{requestSize-none, requestSize-query}
+use Rattle.encoding.proofs.EncodingLaws.{requestSize-none, requestSize-query}
 use borrow.Author.Needs.{needs}
-use Rattle.replay.proofs.request_size.Statement.{statement}
-use Rattle.replay.proofs.request_size.Tie as tie
+use Rattle.encoding.proofs.request_size.Statement.{statement}
+use Rattle.encoding.proofs.request_size.Tie as tie
 
 returns : tie.Need-returns
 returns c =

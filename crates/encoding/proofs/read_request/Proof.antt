@@ -1,8 +1,8 @@
--- `replay::read_request` meets its contract, word by word. Assumes nothing.
-use Rattle.replay.proofs.EncodingLaws.{requestAt-read}
+-- `encoding::read_request` meets its contract, word by word. Assumes nothing.
+use Rattle.encoding.proofs.EncodingLaws.{requestAt-read}
 use borrow.Author.Needs.{needs}
-use Rattle.replay.proofs.read_request.Statement.{statement}
-use Rattle.replay.proofs.read_request.Tie as tie
+use Rattle.encoding.proofs.read_request.Statement.{statement}
+use Rattle.encoding.proofs.read_request.Tie as tie
 
 mul-at : tie.Need-mul-at
 mul-at c = search needs
