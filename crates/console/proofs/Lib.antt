@@ -1,5 +1,1 @@
-pub mod CommandLaws
-pub mod FieldLaws
-pub mod InputLaws
-pub mod PrintedLaws
 pub mod ReplyLaws

@@ -21,10 +21,11 @@ use Rattle.store.specs.Promises.{queryNumber, InsertPromise, DeletePromise, Que
 use Rattle.store.specs.declared.State.{State}
 use Rattle.line.specs.declared.Line.{Line}
 use Rattle.text.specs.Text.{Grown}
-use Rattle.console.specs.Console.{Asked, put, cut, list, valuesFrom, itemsOf, contentIn, asked, changedText}
-use Rattle.console.specs.Console.{listedText, Lent, lent, ReplyPromise}
-use Rattle.console.specs.Private.{Printable}
-use Rattle.console.specs.declared.Session.{Session}
+use Rattle.command.specs.Asked.{Asked, put, cut, list, valuesFrom, itemsOf, contentIn, asked}
+use Rattle.command.specs.declared.session.Session.{Session}
+use Rattle.replies.specs.Replies.{changedText, listedText}
+use Rattle.replies.specs.Private.{Printable}
+use Rattle.console.specs.Console.{Lent, lent, ReplyPromise}
 use Rattle.console.specs.declared.Next.{Next}
 
 -- ---- the promise of a reply

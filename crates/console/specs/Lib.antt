@@ -1,4 +1,1 @@
 pub mod Console
-pub mod Input
-pub mod Printed
-pub mod Private

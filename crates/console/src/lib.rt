@@ -1,17 +1,14 @@
 // A command line on the store that a program holds (document 01, "Proof table and the printed
 // run"): what it asks, the call, and the reply.
-pub mod commands;
-pub mod fields;
-pub mod input;
-pub mod replies;
-
-use commands::Command;
-use commands::command_of;
+use command::Command;
+use command::command_of;
+use command::fields::content_of;
+use command::fields::key_of;
+use command::fields::query_of;
+use command::fields::shape_of;
+use command::session::Session;
+use command::session::begin;
 use delete::delete;
-use fields::content_of;
-use fields::key_of;
-use fields::query_of;
-use fields::shape_of;
 use fresh::fresh;
 use insert::insert;
 use line::Line;
@@ -19,27 +16,16 @@ use query::query;
 use replies::put_changed;
 use replies::put_listed;
 use shape::Shape;
-use store::Change;
-use store::Changed;
-use store::State;
 use text::put_bad;
 use text::put_refused;
 ghost use mathlib.Core.List.{List};
 ghost use Prim.Native.Nat.{ℕ, _+_, _≤_};
 ghost use lib.ListN.{length};
-ghost use Rattle.store.specs.Answers.{changedAnswer};
-ghost use Rattle.console.specs.Console.{Lent, Begun, ReplyPromise, asked, lent, nothing, noShape, newShape};
-ghost use Rattle.console.specs.Private.{askedAs};
-ghost use Rattle.console.specs.declared.commands.Command.the-variants as command;
-
-// The longest reply: 256 records and the sum.
-pub const REPLY_SIZE: usize = 12352;
-
-// The state of the store, if a shape was accepted.
-pub struct Session {
-    pub begun: bool,
-    pub state: State,
-}
+ghost use Rattle.command.specs.Asked.{asked, nothing, noShape, newShape};
+ghost use Rattle.command.specs.Private.{askedAs};
+ghost use Rattle.command.specs.declared.Command.the-variants as command;
+ghost use Rattle.replies.specs.Replies.{replySize};
+ghost use Rattle.console.specs.Console.{Lent, ReplyPromise, lent};
 
 // The session to go on with, and the end of the text.
 pub struct Next {
@@ -57,7 +43,7 @@ pub fn reply(
     text: &mut [u8],
     at: usize,
 ) -> Next
-    requires { ⌜ (at + 12352 ≤ length (now text)) × (length (now out) ≤ 3072) ⌝ }
+    requires { ⌜ (at + replySize ≤ length (now text)) × (length (now out) ≤ 3072) ⌝ }
     ensures { λ r. ⌜ ReplyPromise (asked session line) session
         (lent (now (dir .entry)) (now (pages .entry)) (now (out .entry)))
         (now (text .entry)) at r
@@ -77,7 +63,7 @@ pub fn reply(
 
 // The reply to a line that asks nothing.
 fn reply_bad(session: Session, text: &mut [u8], at: usize) -> Next
-    requires { ⌜ at + 12352 ≤ length (now text) ⌝ }
+    requires { ⌜ at + replySize ≤ length (now text) ⌝ }
     ensures { λ r. ⌜ ((m : Lent) → ReplyPromise nothing session m (now (text .entry)) at r m (now (text .exit))) ⌝ }
 {
     let end = put_bad(text, at);
@@ -86,7 +72,7 @@ fn reply_bad(session: Session, text: &mut [u8], at: usize) -> Next
 
 // The reply to a shape with d outside 1 to 4.
 fn reply_outside(session: Session, text: &mut [u8], at: usize) -> Next
-    requires { ⌜ at + 12352 ≤ length (now text) ⌝ }
+    requires { ⌜ at + replySize ≤ length (now text) ⌝ }
     ensures { λ r. ⌜ ((m : Lent) → ReplyPromise noShape session m (now (text .entry)) at r m (now (text .exit))) ⌝ }
 {
     let end = put_refused(text, at, 1);
@@ -102,7 +88,7 @@ fn reply_shape(
     text: &mut [u8],
     at: usize,
 ) -> Next
-    requires { ⌜ at + 12352 ≤ length (now text) ⌝ }
+    requires { ⌜ at + replySize ≤ length (now text) ⌝ }
     ensures { λ r. ⌜ ((out : List ℕ) → ReplyPromise (newShape shape) session
         (lent (now (dir .entry)) (now (pages .entry)) out)
         (now (text .entry)) at r
@@ -119,18 +105,6 @@ fn reply_shape(
     }
 }
 
-// The session after Fresh: the new store if it was accepted, otherwise the one that there was.
-fn begin(session: Session, change: Change) -> Session
-    ensures { λ r. ⌜ Begun session (changedAnswer (change .answer)) (change .state) r ⌝ }
-{
-    let answer = change.answer;
-    let state = change.state;
-    match answer {
-        Changed::Done => Session { begun: true, state },
-        Changed::Refused(_) => session,
-    }
-}
-
 // A record that is put.
 fn reply_put(
     session: Session,
@@ -140,7 +114,7 @@ fn reply_put(
     text: &mut [u8],
     at: usize,
 ) -> Next
-    requires { ⌜ at + 12352 ≤ length (now text) ⌝ }
+    requires { ⌜ at + replySize ≤ length (now text) ⌝ }
     ensures { λ r. ⌜ ((out : List ℕ)
         → ReplyPromise (askedAs line (session .state .shape .attributes) command.Put) session
         (lent (now (dir .entry)) (now (pages .entry)) out)
@@ -176,7 +150,7 @@ fn reply_cut(
     text: &mut [u8],
     at: usize,
 ) -> Next
-    requires { ⌜ at + 12352 ≤ length (now text) ⌝ }
+    requires { ⌜ at + replySize ≤ length (now text) ⌝ }
     ensures { λ r. ⌜ ((out : List ℕ)
         → ReplyPromise (askedAs line (session .state .shape .attributes) command.Cut) session
         (lent (now (dir .entry)) (now (pages .entry)) out)
@@ -212,7 +186,7 @@ fn reply_list(
     text: &mut [u8],
     at: usize,
 ) -> Next
-    requires { ⌜ (at + 12352 ≤ length (now text)) × (length (now out) ≤ 3072) ⌝ }
+    requires { ⌜ (at + replySize ≤ length (now text)) × (length (now out) ≤ 3072) ⌝ }
     ensures { λ r. ⌜ ReplyPromise (askedAs line (session .state .shape .attributes) command.List) session
         (lent (now (dir .entry)) (now (pages .entry)) (now (out .entry)))
         (now (text .entry)) at r

@@ -1,13 +1,11 @@
 -- Laws of a list that begins with what is done, the rest as it came: the next part as it came, and the list with that
 -- part done too. Assumes nothing.
-use Prim.Native.Nat.{ℕ, suc, _+_, _-_, _≤_}
+use Prim.Native.Nat.{ℕ, _+_, _-_, _≤_}
 use mathlib.Core.Path.{_≡_, sym, ap, _∙_}
 use mathlib.Core.List.{List, _++_, append-assoc}
-use native.Mathlib.Omega.{arith}
-use lib.ListN.{length, take, drop, getD, set}
-use lib.Seq.{take-at, drop-at, drop-drop, sets-eq}
+use lib.ListN.{length, take, drop}
+use lib.Seq.{take-at, drop-at, drop-drop}
 use borrow.Rule.Slice.PartMut.{midOf, putMid, post-is}
-use Rattle.replay.specs.Private.{fourAt}
 
 module _ (done came now : List ℕ) (at : ℕ) (l : length done ≡ at) (e : now ≡ done ++ drop at came) where
   done-first : take at now ≡ done
@@ -30,14 +28,3 @@ module _ (done came now : List ℕ) (at : ℕ) (l : length done ≡ at) (e : now
       let rest : drop (at + n) now ≡ drop (at + n) came =
       sym (drop-drop n at now) ∙ ap (drop n) rest-came ∙ drop-drop n at came in
       λ k. done-first k ++ part ++ rest k
-
--- four writes in a row
-pub four-sets : (l words : List ℕ) (at : ℕ) → at + 4 ≤ length l
-    → set (set (set (set l at (getD words 0 0)) (at + 1) (getD words 1 0)) (at + 2) (getD words 2 0)) (at + 3)
-    (getD words 3 0)
-    ≡ take at l ++ fourAt words 0 ++ drop (at + 4) l
-four-sets l words at h =
-    let a1 : at + 1 ≡ suc at = omega arith in
-    let a2 : at + 2 ≡ suc (suc at) = omega arith in
-    let a3 : at + 3 ≡ suc (suc (suc at)) = omega arith in
-    rw (a1, a2, a3) (sets-eq (fourAt words 0) l at h)

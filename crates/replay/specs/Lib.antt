@@ -1,3 +1,2 @@
-pub mod Encoding
 pub mod Private
 pub mod Replayed

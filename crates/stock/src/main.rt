@@ -1,15 +1,16 @@
 // The program `stock` (document 01, "Proof table and the printed run"): reads lines from standard
 // input, and prints the reply to each.
-use console::input::Progress;
-use console::input::is_empty;
-use console::input::printed;
-use console::input::run;
-use console::input::start;
-use console::input::step;
+use input::Progress;
+use input::is_empty;
+use input::printed;
+use input::run;
+use input::start;
+use input::step;
 use libc::STDIN_FILENO;
 use libc::STDOUT_FILENO;
 ghost use Prim.Native.Nat.{_≤_};
 ghost use lib.ListN.{length};
+ghost use Rattle.replies.specs.Replies.{replySize};
 
 // Lends 4,096 words, 32,768 page bytes, 256 output records of 12 bytes, and a text.
 fn main() {
@@ -24,7 +25,7 @@ fn main() {
 // Reads pieces until the input ends. A proved loop has to end, and nothing says that the input
 // does: so it counts its turns down, from a number that no run uses up.
 fn serve(piece: &mut [u8], dir: &mut [u32], pages: &mut [u8], out: &mut [u8], text: &mut [u8])
-    requires { ⌜ (length (now out) ≤ 3072) × (12352 ≤ length (now text)) ⌝ }
+    requires { ⌜ (length (now out) ≤ 3072) × (replySize ≤ length (now text)) ⌝ }
 {
     let mut progress = start();
     let mut turns = u64::MAX;
@@ -49,7 +50,7 @@ fn answer(
     out: &mut [u8],
     text: &mut [u8],
 ) -> Progress
-    requires { ⌜ (progress .reading .fields ≤ 7) × (length (now out) ≤ 3072) × (12352 ≤ length (now text)) ⌝ }
+    requires { ⌜ (progress .reading .fields ≤ 7) × (length (now out) ≤ 3072) × (replySize ≤ length (now text)) ⌝ }
     ensures { λ r. ⌜ r .reading .fields ≤ 7 ⌝ }
 {
     let mut here = progress;
@@ -65,7 +66,7 @@ fn answer(
 
 // Replies to a last line that no newline ends.
 fn finish(progress: Progress, dir: &mut [u32], pages: &mut [u8], out: &mut [u8], text: &mut [u8])
-    requires { ⌜ (progress .reading .fields ≤ 7) × (length (now out) ≤ 3072) × (12352 ≤ length (now text)) ⌝ }
+    requires { ⌜ (progress .reading .fields ≤ 7) × (length (now out) ≤ 3072) × (replySize ≤ length (now text)) ⌝ }
 {
     let reading = progress.reading;
     if is_empty(reading) {

@@ -1,7 +1,7 @@
 -- `console::reply` meets its contract: what the line asks is what the arm answers. Assumes nothing.
 use mathlib.Core.Path.{sym, ap, _∙_}
-use Rattle.console.specs.Console.{newShape}
-use Rattle.console.specs.Private.{askedAs}
+use Rattle.command.specs.Asked.{newShape}
+use Rattle.command.specs.Private.{askedAs}
 use Rattle.console.proofs.ReplyLaws.{reply-asked}
 use borrow.Author.Needs.{needs}
 use Rattle.console.proofs.reply.Statement.{statement}

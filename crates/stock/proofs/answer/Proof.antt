@@ -6,13 +6,14 @@ use native.Mathlib.Omega.{arith}
 use lib.ListN.{length}
 use lib.Seq.{length-take-le}
 use borrow.Author.Needs.{needs}
+use Rattle.replies.specs.Replies.{replySize}
 use Rattle.stock.proofs.answer.Statement.{statement}
 use Rattle.stock.proofs.answer.Tie as tie
 
 abbrev Inv-loop : tie.InvT-loop
 Inv-loop piece dir₀ pages₀ out₀ text₀ here₀ at₀ dir pages out text here at =
     (at ≤ length piece) × (here .reading .fields ≤ 7) × (length dir ≡ length dir₀) × (length pages ≡ length pages₀)
-    × (length out ≡ length out₀) × (length text ≡ length text₀) × (length out₀ ≤ 3072) × (12352 ≤ length text₀)
+    × (length out ≡ length out₀) × (length text ≡ length text₀) × (length out₀ ≤ 3072) × (replySize ≤ length text₀)
 
 abbrev μ-loop : tie.MeasureT-loop
 μ-loop piece dir₀ pages₀ out₀ text₀ here₀ at₀ dir pages out text here at = length piece - at

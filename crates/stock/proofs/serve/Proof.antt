@@ -5,6 +5,7 @@ use native.Mathlib.Omega.{arith}
 use lib.ListN.{length}
 use borrow.Author.Needs.{needs}
 use Rattle.line.specs.Private.{start}
+use Rattle.replies.specs.Replies.{replySize}
 use Rattle.stock.proofs.serve.Statement.{statement}
 use Rattle.stock.proofs.serve.Tie as tie
 
@@ -12,7 +13,7 @@ abbrev Inv-loop : tie.InvT-loop
 Inv-loop piece₀ dir₀ pages₀ out₀ text₀ progress₀ turns₀ piece dir pages out text progress turns =
     (progress .reading .fields ≤ 7) × (length piece ≡ length piece₀) × (length dir ≡ length dir₀)
     × (length pages ≡ length pages₀) × (length out ≡ length out₀) × (length text ≡ length text₀)
-    × (length out₀ ≤ 3072) × (12352 ≤ length text₀)
+    × (length out₀ ≤ 3072) × (replySize ≤ length text₀)
 
 abbrev μ-loop : tie.MeasureT-loop
 μ-loop piece₀ dir₀ pages₀ out₀ text₀ progress₀ turns₀ piece dir pages out text progress turns = turns
