@@ -61,7 +61,8 @@ static MdehShape random_shape(uint64_t *seed) {
     if (below(seed, 16) == 0) {
         uint32_t *numbers[6] = {&shape.attributes, &shape.capacity, shape.widths, shape.widths + 1, shape.widths + 2,
                                 shape.widths + 3};
-        *numbers[below(seed, 6)] = below(seed, 2) ? 0 : 17 + (uint32_t)number64(seed) % 1000;
+        uint32_t *changed = numbers[below(seed, 6)];
+        *changed = below(seed, 2) ? 0 : 17 + (uint32_t)number64(seed) % 1000;
     }
     return shape;
 }
@@ -79,8 +80,10 @@ static MdehKey random_key(Run *run) {
         j = below(&run->seed, shape->attributes);
         key.values[j] ^= (uint32_t)(kind - 1) << below(&run->seed, shape->widths[j]);
     }
-    if (below(&run->seed, 16) == 0)
-        key.values[below(&run->seed, 4)] ^= (uint32_t)1 << below(&run->seed, 32);
+    if (below(&run->seed, 16) == 0) {
+        j = below(&run->seed, 4);
+        key.values[j] ^= (uint32_t)1 << below(&run->seed, 32);
+    }
     return key;
 }
 
@@ -160,7 +163,8 @@ static void call(Run *run) {
         HOLDS(found.number == model.number && found.payload == model.payload && found.reads == model.reads);
         HOLDS(unchanged(run));
     } else if (kind < 19) {
-        compare_query(run, random_query(run), below(&run->seed, 200));
+        MdehQuery query = random_query(run);
+        compare_query(run, query, below(&run->seed, 200));
     } else {
         reopen(run);
     }
