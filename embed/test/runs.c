@@ -4,24 +4,13 @@
  * given as an argument, that seed runs its list alone.
  */
 #include "edges.h"
+#include "layout.h"
 #include "lent.h"
 #include "model.h"
 
 #include <stdio.h>
 #include <stdlib.h>
 #include <string.h>
-
-/* The layout of what crosses, as the library has it. */
-#define LAID(name, condition) typedef char name[(condition) ? 1 : -1]
-LAID(shape_laid, sizeof(MdehShape) == 24 && offsetof(MdehShape, widths) == 4 && offsetof(MdehShape, capacity) == 20);
-LAID(key_laid, sizeof(MdehKey) == 16 && sizeof(MdehIndex) == 32);
-LAID(query_laid, sizeof(MdehQuery) == 32 && offsetof(MdehQuery, values) == 16);
-LAID(lookup_laid, sizeof(MdehLookupResult) == 12 && offsetof(MdehLookupResult, reads) == 8);
-LAID(listed_laid, sizeof(MdehQueryResult) == 32 && offsetof(MdehQueryResult, written) == 8);
-LAID(counts_laid, offsetof(MdehQueryResult, total) == 16 && offsetof(MdehQueryResult, reads) == 24);
-LAID(check_laid, sizeof(MdehCheckResult) == 8 && offsetof(MdehCheckResult, sound) == 4);
-LAID(address_laid, sizeof(MdehAddressResult) == 16 && offsetof(MdehAddressResult, address) == 8);
-LAID(index_laid, sizeof(MdehIndexResult) == 40 && offsetof(MdehIndexResult, index) == 8);
 
 /* A lent store, the model beside it, and the random numbers of its list. */
 typedef struct {
@@ -50,7 +39,7 @@ static void take_store_back(Run *run) {
     take_back(&run->pages);
 }
 
-/* A shape, one in sixteen of them with a number outside its bounds. */
+/* A shape, one in sixteen with a number outside its bounds. */
 static MdehShape random_shape(uint64_t *seed) {
     MdehShape shape;
     uint32_t j, narrow = below(seed, 2);
@@ -118,6 +107,19 @@ static void compare_query(Run *run, MdehQuery query, uint32_t out_bytes) {
     take_back(&out);
 }
 
+/* A lookup, and the record found by the layouts. */
+static void compare_lookup(Run *run, MdehKey key) {
+    MdehLookupResult found = mdeh_lookup(STORE(run), key), model = model_lookup(&run->model, key);
+    HOLDS(found.number == model.number && found.payload == model.payload && found.reads == model.reads);
+    HOLDS(unchanged(run));
+    if (model.number != MDEH_REFUSED_VALUE) {
+        const uint32_t *state = words_of(&run->state), *directory = words_of(&run->directory);
+        uint32_t payload = 0;
+        HOLDS(layout_lookup(state, directory, bytes_of(&run->pages), key, &payload) == (model.number == MDEH_ACCEPTED));
+        HOLDS(payload == model.payload);
+    }
+}
+
 /* After a call that may change the store: its number, what never changes, a sound store that lists the model's set. */
 static void compare_change(Run *run, uint32_t number, uint32_t wanted) {
     static const MdehQuery all = {{0, 0, 0, 0}, {0, 0, 0, 0}};
@@ -159,9 +161,7 @@ static void call(Run *run) {
     } else if (kind < 14) {
         compare_change(run, mdeh_delete(STORE(run), key), model_delete(&run->model, key));
     } else if (kind < 16) {
-        MdehLookupResult found = mdeh_lookup(STORE(run), key), model = model_lookup(&run->model, key);
-        HOLDS(found.number == model.number && found.payload == model.payload && found.reads == model.reads);
-        HOLDS(unchanged(run));
+        compare_lookup(run, key);
     } else if (kind < 19) {
         MdehQuery query = random_query(run);
         compare_query(run, query, below(&run->seed, 200));
