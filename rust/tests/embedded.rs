@@ -62,7 +62,8 @@ fn compare_query(count: &mut Comparisons, random: &mut Random, store: &Store, mo
     count.same(counts.map_err(Refusal::number), model.query(wanted, &mut expected), about);
     count.same(out.slice(), &expected[..], about);
     assert!(out.guards_stay(), "a guard of the output is changed");
-    let written = expected.chunks_exact(RECORD_BYTES).take(records.len());
+    let written =
+        expected.chunks_exact(RECORD_BYTES).take(counts.map_or(0, |(written, ..)| written as usize));
     let listed = records.iter().map(|record| model.record(record.values, record.payload).bytes());
     count.same(listed.collect::<Vec<_>>(), written.map(Vec::from).collect(), about);
 }
