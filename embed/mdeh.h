@@ -5,8 +5,8 @@
  * others free. Link target/staticlib/libhost.a, which `rt staticlib host` writes: code for x86-64 (System V) that calls
  * memcpy, memmove and memset alone. C99 or later, or C++.
  *
- * SLICES. A lent slice is two arguments, a pointer and how many elements it has. The memory is the host's: it is lent
- * for the call, and no call keeps a pointer, allocates or frees.
+ * SLICES. A lent slice is two arguments, a pointer and how many elements it has. The memory is the host's, of any kind:
+ * it is lent for the call, and no call keeps a pointer, allocates or frees.
  *   - Nothing past the lengths is read or written, whatever the slices hold: random words are refused or answered too.
  *   - The slices of one call must not overlap, and nothing else may write them until it returns.
  *   - uint32_t slices are aligned as uint32_t, byte slices in any way.
@@ -40,12 +40,15 @@
  *   state      word 0 attribute count d; 1-4 widths (0 past d); 5 page capacity b; 6 P; 7 L; 8 directory depth T; 9-21
  *              how many leaves there are at depths 0 to 12. A leaf is a part of the key space with at most b records.
  *   directory  the first 2^T words are in use, each for one cell: bits 0-15 the page number plus one, or 0 for a leaf
- *              without records, bits 16-19 the leaf's depth, the others 0. mdeh_address gives a cell's place.
+ *              without records, bits 16-19 the leaf's depth, the others 0. A leaf of depth x has 2^(T-x) cells, all
+ *              with one word. mdeh_address gives a cell's place from its index vector. That of a key's cell has for
+ *              each attribute the highest bits of its value, as many as the first T split bits have of it, in
+ *              reverse: the highest bit counts 1, the next 2, and so on.
  *   page       bytes 0-1 the record count, 0 for a free page; then the records, in split order.
  *   record     bytes 0-7 four values of 16 bits, unused ones 0; bytes 8-11 the payload.
- *   order      split order compares bit by bit, the highest bit of each attribute first, attributes in turn: for two
- *              attributes of two bits, bit 1 of value 0, bit 1 of value 1, bit 0 of value 0, bit 0 of value 1. A
- *              used-up attribute is passed over.
+ *   order      the split bits of a key are the highest bit of each value in turn, then the next of each; a used-up
+ *              attribute is passed over. Two bits each of values 2 and 1 give 1, 0, 0, 1. Split order compares keys at
+ *              their first differing split bit, 0 before 1.
  */
 #ifndef MDEH_H
 #define MDEH_H

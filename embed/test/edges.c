@@ -3,6 +3,18 @@
 #include "lent.h"
 #include "model.h"
 
+/* The layout of what crosses, as the library has it. */
+#define LAID(name, condition) typedef char name[(condition) ? 1 : -1]
+LAID(shape_laid, sizeof(MdehShape) == 24 && offsetof(MdehShape, widths) == 4 && offsetof(MdehShape, capacity) == 20);
+LAID(key_laid, sizeof(MdehKey) == 16 && sizeof(MdehIndex) == 32);
+LAID(query_laid, sizeof(MdehQuery) == 32 && offsetof(MdehQuery, values) == 16);
+LAID(lookup_laid, sizeof(MdehLookupResult) == 12 && offsetof(MdehLookupResult, reads) == 8);
+LAID(listed_laid, sizeof(MdehQueryResult) == 32 && offsetof(MdehQueryResult, written) == 8);
+LAID(counts_laid, offsetof(MdehQueryResult, total) == 16 && offsetof(MdehQueryResult, reads) == 24);
+LAID(check_laid, sizeof(MdehCheckResult) == 8 && offsetof(MdehCheckResult, sound) == 4);
+LAID(address_laid, sizeof(MdehAddressResult) == 16 && offsetof(MdehAddressResult, address) == 8);
+LAID(index_laid, sizeof(MdehIndexResult) == 40 && offsetof(MdehIndexResult, index) == 8);
+
 static const MdehShape small = {2, {2, 2, 0, 0}, 2};
 static const MdehKey key = {{2, 1, 0, 0}};
 static const MdehQuery all = {{0, 0, 0, 0}, {0, 0, 0, 0}};

@@ -4,24 +4,13 @@
  * given as an argument, that seed runs its list alone.
  */
 #include "edges.h"
+#include "layout.h"
 #include "lent.h"
 #include "model.h"
 
 #include <stdio.h>
 #include <stdlib.h>
 #include <string.h>
-
-/* The layout of what crosses, as the library has it. */
-#define LAID(name, condition) typedef char name[(condition) ? 1 : -1]
-LAID(shape_laid, sizeof(MdehShape) == 24 && offsetof(MdehShape, widths) == 4 && offsetof(MdehShape, capacity) == 20);
-LAID(key_laid, sizeof(MdehKey) == 16 && sizeof(MdehIndex) == 32);
-LAID(query_laid, sizeof(MdehQuery) == 32 && offsetof(MdehQuery, values) == 16);
-LAID(lookup_laid, sizeof(MdehLookupResult) == 12 && offsetof(MdehLookupResult, reads) == 8);
-LAID(listed_laid, sizeof(MdehQueryResult) == 32 && offsetof(MdehQueryResult, written) == 8);
-LAID(counts_laid, offsetof(MdehQueryResult, total) == 16 && offsetof(MdehQueryResult, reads) == 24);
-LAID(check_laid, sizeof(MdehCheckResult) == 8 && offsetof(MdehCheckResult, sound) == 4);
-LAID(address_laid, sizeof(MdehAddressResult) == 16 && offsetof(MdehAddressResult, address) == 8);
-LAID(index_laid, sizeof(MdehIndexResult) == 40 && offsetof(MdehIndexResult, index) == 8);
 
 /* A lent store, the model beside it, and the random numbers of its list. */
 typedef struct {
@@ -50,7 +39,7 @@ static void take_store_back(Run *run) {
     take_back(&run->pages);
 }
 
-/* A shape, one in sixteen of them with a number outside its bounds. */
+/* A shape, one in sixteen with a number outside its bounds. */
 static MdehShape random_shape(uint64_t *seed) {
     MdehShape shape;
     uint32_t j, narrow = below(seed, 2);
@@ -61,7 +50,8 @@ static MdehShape random_shape(uint64_t *seed) {
     if (below(seed, 16) == 0) {
         uint32_t *numbers[6] = {&shape.attributes, &shape.capacity, shape.widths, shape.widths + 1, shape.widths + 2,
                                 shape.widths + 3};
-        *numbers[below(seed, 6)] = below(seed, 2) ? 0 : 17 + (uint32_t)number64(seed) % 1000;
+        uint32_t *changed = numbers[below(seed, 6)];
+        *changed = below(seed, 2) ? 0 : 17 + (uint32_t)number64(seed) % 1000;
     }
     return shape;
 }
@@ -79,8 +69,10 @@ static MdehKey random_key(Run *run) {
         j = below(&run->seed, shape->attributes);
         key.values[j] ^= (uint32_t)(kind - 1) << below(&run->seed, shape->widths[j]);
     }
-    if (below(&run->seed, 16) == 0)
-        key.values[below(&run->seed, 4)] ^= (uint32_t)1 << below(&run->seed, 32);
+    if (below(&run->seed, 16) == 0) {
+        j = below(&run->seed, 4);
+        key.values[j] ^= (uint32_t)1 << below(&run->seed, 32);
+    }
     return key;
 }
 
@@ -113,6 +105,19 @@ static void compare_query(Run *run, MdehQuery query, uint32_t out_bytes) {
     HOLDS(unchanged_from(&out, 0));
     HOLDS(unchanged(run));
     take_back(&out);
+}
+
+/* A lookup, and the record found by the layouts. */
+static void compare_lookup(Run *run, MdehKey key) {
+    MdehLookupResult found = mdeh_lookup(STORE(run), key), model = model_lookup(&run->model, key);
+    HOLDS(found.number == model.number && found.payload == model.payload && found.reads == model.reads);
+    HOLDS(unchanged(run));
+    if (model.number != MDEH_REFUSED_VALUE) {
+        const uint32_t *state = words_of(&run->state), *directory = words_of(&run->directory);
+        uint32_t payload = 0;
+        HOLDS(layout_lookup(state, directory, bytes_of(&run->pages), key, &payload) == (model.number == MDEH_ACCEPTED));
+        HOLDS(payload == model.payload);
+    }
 }
 
 /* After a call that may change the store: its number, what never changes, a sound store that lists the model's set. */
@@ -156,11 +161,10 @@ static void call(Run *run) {
     } else if (kind < 14) {
         compare_change(run, mdeh_delete(STORE(run), key), model_delete(&run->model, key));
     } else if (kind < 16) {
-        MdehLookupResult found = mdeh_lookup(STORE(run), key), model = model_lookup(&run->model, key);
-        HOLDS(found.number == model.number && found.payload == model.payload && found.reads == model.reads);
-        HOLDS(unchanged(run));
+        compare_lookup(run, key);
     } else if (kind < 19) {
-        compare_query(run, random_query(run), below(&run->seed, 200));
+        MdehQuery query = random_query(run);
+        compare_query(run, query, below(&run->seed, 200));
     } else {
         reopen(run);
     }

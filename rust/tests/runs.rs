@@ -10,16 +10,9 @@ use mdeh_tests::plain::ordered::Ordered;
 use mdeh_tests::plain::refusal::page_size;
 use mdeh_tests::plain::samples::{query_of, random_key};
 use mdeh_tests::random::Random;
-use mdeh_tests::shapes::random_widths;
+use mdeh_tests::shapes::random_shape;
 
 const SEED: u64 = 0x6d64_6568_2d30_3133;
-
-/// A random shape with so many bits, and capacity up to `most`.
-fn random_shape(random: &mut Random, bits: u32, most: u64) -> Shape {
-    let total = random.between(1, bits.into()) as u32;
-    let widths = random_widths(random, total);
-    Shape::new(&widths, random.between(1, most) as u32)
-}
 
 // ---- a list scanned in full
 

@@ -40,10 +40,11 @@
 //! `rt staticlib host` in the repository writes the library that this crate's build script links. It is code for x86-64
 //! and needs nothing but `memcpy`, `memmove` and `memset`.
 #![no_std]
-#![deny(missing_docs)]
+#![deny(missing_docs, unsafe_code)]
 
 mod key;
 mod query;
+#[allow(unsafe_code)]
 pub mod raw;
 mod record;
 mod refusal;
