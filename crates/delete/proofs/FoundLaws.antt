@@ -30,7 +30,7 @@ use Rattle.removal.specs.Plan.{RecordFound}
 use Rattle.removal.specs.declared.Stored.{Stored}
 use Rattle.removal.proofs.EarlyLaws.{encodings-values, indexFits-values}
 use Rattle.removal.proofs.MetLaws.{pageLent}
-use Rattle.delete.specs.Private.{RecordLent}
+use Rattle.delete_steps.specs.Private.{RecordLent}
 use Rattle.delete.proofs.SoundPageLaws.{stored-here}
 
 -- 1, 2 or 3

@@ -27,10 +27,10 @@ use Rattle.change.proofs.DeleteTallyLaws.{tallyDepth-le}
 use Rattle.removal.specs.Plan.{RecordFound, JoinPlanned}
 use Rattle.removal.specs.declared.Stored.{Stored}
 use Rattle.removal.specs.declared.Join.{Join}
-use Rattle.delete.specs.PageBytes.{keptPage, freedPage, joinedBytes}
-use Rattle.delete.specs.Private.{PairLent, LeavesLent, JoinWords}
-use Rattle.delete.proofs.PageLaws.{kept-or-freed}
-use Rattle.delete.proofs.PageLaws.{length-joinedBytes, drop-joinedBytes}
+use Rattle.delete_steps.specs.PageBytes.{keptPage, freedPage, joinedBytes}
+use Rattle.delete_steps.specs.Private.{PairLent, LeavesLent, JoinWords}
+use Rattle.delete_steps.proofs.PageLaws.{kept-or-freed}
+use Rattle.delete_steps.proofs.PageLaws.{length-joinedBytes, drop-joinedBytes}
 use Rattle.delete.proofs.SoundPageLaws.{records-joined, count-freed, records-joined-other}
 use Rattle.delete.proofs.FoundLaws.{RecordFacts, recordFacts, recordLent}
 

@@ -26,9 +26,9 @@ use Rattle.change.proofs.PromiseLaws.{KeepsPast}
 use Rattle.change.proofs.DeletePromiseLaws.{delete-kept}
 use Rattle.removal.specs.Plan.{RecordFound, StaysAlone}
 use Rattle.removal.specs.declared.Stored.{Stored}
-use Rattle.delete.specs.PageBytes.{removedBytes}
-use Rattle.delete.specs.Private.{LeafWords}
-use Rattle.delete.proofs.PageLaws.{length-removedBytes, drop-removedBytes, some-left, none-left}
+use Rattle.delete_steps.specs.PageBytes.{removedBytes}
+use Rattle.delete_steps.specs.Private.{LeafWords}
+use Rattle.delete_steps.proofs.PageLaws.{length-removedBytes, drop-removedBytes, some-left, none-left}
 use Rattle.delete.proofs.SoundPageLaws.{records-removed, records-removed-other}
 use Rattle.delete.proofs.FoundLaws.{RecordFacts, recordFacts}
 

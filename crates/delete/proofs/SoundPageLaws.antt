@@ -41,10 +41,10 @@ use Rattle.change.proofs.DeleteWordLaws.{length-pageRecords, leaf-of-page-word}
 use Rattle.change.proofs.DeletePlaceLaws.{nonEmpty-filter, withoutKey-place}
 use Rattle.lookup.proofs.StoredLaws.{sameKey-packed}
 use Rattle.removal.proofs.PairLaws.{siblings-apart}
-use Rattle.delete.specs.PageBytes.{removedBytes, keptPage, freedPage, joinedBytes}
-use Rattle.delete.proofs.PageLaws.{recordsOf-removedBytes, pageAt-removedBytes-other}
-use Rattle.delete.proofs.PageLaws.{countOf-joinedBytes-freed, recordsOf-joinedBytes-kept}
-use Rattle.delete.proofs.PageLaws.{pageAt-joinedBytes-other}
+use Rattle.delete_steps.specs.PageBytes.{removedBytes, keptPage, freedPage, joinedBytes}
+use Rattle.delete_steps.proofs.PageLaws.{recordsOf-removedBytes, pageAt-removedBytes-other}
+use Rattle.delete_steps.proofs.PageLaws.{countOf-joinedBytes-freed, recordsOf-joinedBytes-kept}
+use Rattle.delete_steps.proofs.PageLaws.{pageAt-joinedBytes-other}
 
 module _ (before : Store) (S : List Record) (sound : Sound before S) where
   abbrev s : Shape

@@ -1,13 +1,11 @@
 // The call Delete: a key's record leaves the store, and leaves are joined until the set's own stand
 // (document 01, "Calls").
-pub mod steps;
-
+use delete_steps::join_leaves;
+use delete_steps::keep_leaf;
 use lent::key_number;
 use removal::Plan;
 use removal::plan_delete;
 use shape::Key;
-use steps::join_leaves;
-use steps::keep_leaf;
 use store::Change;
 use store::Changed;
 use store::State;

@@ -32,7 +32,7 @@ use Rattle.plan.specs.declared.Plan.the-variants.{Refused, Take, Get, Divide}
 use Rattle.plan.specs.declared.Split.{Split}
 use Rattle.plan.specs.declared.Cut.{Cut}
 use Rattle.plan.proofs.MetLaws.{key-recordFor, unpacked-recordFor}
-use Rattle.insert.specs.Private.{insertedPages, CutFits, dividedPages, WordsLent, WordsDivided}
+use Rattle.insert_steps.specs.Private.{insertedPages, CutFits, dividedPages, WordsLent, WordsDivided}
 use Rattle.insert.proofs.TakeLaws.{page-lent, promise-taken, promise-got}
 use Rattle.insert.proofs.CarriedLaws.{lent-own, lent-free, start-le, place-le}
 use Rattle.insert.proofs.SplitLaws.{promise-divided}

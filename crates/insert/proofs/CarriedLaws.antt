@@ -22,8 +22,8 @@ use Rattle.plan.specs.Private.{Asked, EndsMet, DividePlanned}
 use Rattle.plan.specs.declared.Split.{Split}
 use Rattle.plan.specs.declared.Cut.{Cut}
 use Rattle.plan.proofs.HalfLaws.{cut-le}
-use Rattle.insert.specs.Private.{dividedPages}
-use Rattle.insert.proofs.InsertedLaws.{length-insertedPages, drop-insertedPages, pageAt-insertedPages-other}
+use Rattle.insert_steps.specs.Private.{dividedPages}
+use Rattle.insert_steps.proofs.InsertedLaws.{length-insertedPages, drop-insertedPages, pageAt-insertedPages-other}
 use Rattle.insert.proofs.TakeLaws.{page-lent, new-length}
 
 -- either of two, and neither

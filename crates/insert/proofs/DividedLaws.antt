@@ -32,8 +32,8 @@ use Rattle.plan.proofs.CutLaws.{insert-low, insert-high}
 use Rattle.plan.proofs.MetLaws.{recordOf-recordFor, records-met}
 use Rattle.plan.proofs.FullLaws.{order, between, step-lt}
 use Rattle.plan.proofs.HalfLaws.{take-cut, drop-cut, cut-within, bit-is}
-use Rattle.insert.specs.Private.{dividedPages}
-use Rattle.insert.proofs.InsertedLaws.{recordsOf-insertedPages}
+use Rattle.insert_steps.specs.Private.{dividedPages}
+use Rattle.insert_steps.proofs.InsertedLaws.{recordsOf-insertedPages}
 use Rattle.insert.proofs.TakeLaws.{new-length}
 use Rattle.insert.proofs.CarriedLaws.{lent-own, lent-free, start-le, apart, place-le, run-le}
 use Rattle.insert.proofs.CarriedLaws.{lent-carried, page-carried}

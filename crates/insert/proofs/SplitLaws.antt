@@ -25,7 +25,7 @@ use Rattle.plan.specs.declared.Split.{Split}
 use Rattle.plan.specs.declared.Cut.{Cut}
 use Rattle.plan.proofs.MetLaws.{key-recordFor}
 use Rattle.plan.proofs.SplitLaws.{meets-full}
-use Rattle.insert.specs.Private.{dividedPages}
+use Rattle.insert_steps.specs.Private.{dividedPages}
 use Rattle.insert.proofs.CarriedLaws.{length-divided, drop-divided, others-divided}
 use Rattle.insert.proofs.DividedLaws.{shows-divided}
 

@@ -33,9 +33,9 @@ use Rattle.change.proofs.InsertPromiseLaws.{OnSound, insert-taken, insert-got}
 use Rattle.plan.specs.Private.{Asked, TakePlanned, GetPlanned}
 use Rattle.plan.proofs.MetLaws.{key-recordFor, unpacked-recordFor, recordOf-recordFor, page-bytes, meets, records-met}
 use Rattle.plan.proofs.MetLaws.{sorted-met, absent-met}
-use Rattle.insert.specs.Private.{insertedPages}
-use Rattle.insert.proofs.InsertedLaws.{length-insertedPages, drop-insertedPages, pageAt-insertedPages-other}
-use Rattle.insert.proofs.InsertedLaws.{recordsOf-insertedPages}
+use Rattle.insert_steps.specs.Private.{insertedPages}
+use Rattle.insert_steps.proofs.InsertedLaws.{length-insertedPages, drop-insertedPages, pageAt-insertedPages-other}
+use Rattle.insert_steps.proofs.InsertedLaws.{recordsOf-insertedPages}
 
 -- a page of the P is lent
 pub page-lent : (before : Store) (values : List ℕ) → Asked before values → (g : ℕ) → g < before .state .limits .pages

@@ -1,8 +1,9 @@
 // The call Insert: a record joins the store (document 01, "Calls"). A plan is found without a write;
 // then it is carried out by steps that cannot fail.
-pub mod steps;
-
 use directory::regions::fill;
+use insert_steps::divide_pages;
+use insert_steps::divide_words;
+use insert_steps::insert_record;
 use lent::key_number;
 use plan::Plan;
 use plan::plan_insert;
@@ -10,9 +11,6 @@ use record::Content;
 use record::pack_key;
 use shape::Key;
 use shape::widths_of;
-use steps::divide_pages;
-use steps::divide_words;
-use steps::insert_record;
 use store::Change;
 use store::Changed;
 use store::State;

@@ -1,0 +1,2 @@
+pub mod PageLaws
+pub mod StepLaws
