@@ -28,13 +28,15 @@ use Rattle.audit.proofs.AnswerLaws.{check-promise}
 use Rattle.audit.proofs.ShowsLaws.{Lent, lentNumber-lent}
 use Rattle.lent.specs.Limits.{limitsHold}
 use Rattle.lent.proofs.LimitsLaws.{limits-parts}
-use Rattle.inspect.specs.declared.regions.Region.{Region}
-use Rattle.inspect.specs.declared.walk.Seen.{Seen}
-use Rattle.inspect.specs.Regions.{wholeRegion}
-use Rattle.inspect.specs.Sums.{viewBy, Tells, Walks, Walked, TallyRoom}
-use Rattle.inspect.specs.Sums.{usedPages, sameTally, lacksMemory, StoreLent}
-use Rattle.inspect.proofs.RegionLaws.{names-whole, regionIn-whole}
-use Rattle.inspect.proofs.CountLaws.{pagesInUse-usedPages, sameNumbers-sameTally}
+use Rattle.counts.specs.Counts.{usedPages, sameTally}
+use Rattle.counts.proofs.CountLaws.{pagesInUse-usedPages}
+use Rattle.seen.specs.declared.Seen.{Seen}
+use Rattle.survey.specs.declared.regions.Region.{Region}
+use Rattle.survey.specs.Regions.{wholeRegion}
+use Rattle.survey.specs.Sums.{viewBy, Tells, Walks, Walked, TallyRoom}
+use Rattle.survey.proofs.RegionLaws.{names-whole, regionIn-whole}
+use Rattle.inspect.specs.Private.{lacksMemory, StoreLent}
+use Rattle.inspect.proofs.TallyLaws.{sameNumbers-sameTally}
 
 -- ---- the whole walk
 

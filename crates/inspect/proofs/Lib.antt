@@ -1,6 +1,2 @@
 pub mod CheckLaws
-pub mod CountLaws
-pub mod DividedLaws
-pub mod LeafLaws
-pub mod RegionLaws
-pub mod SumLaws
+pub mod TallyLaws

@@ -1,17 +1,13 @@
 // The call check: whether a lent store is sound (document 01, "Calls").
-pub mod counts;
-pub mod regions;
-pub mod walk;
-
 use counts::pages_in_use;
 use counts::same_tally;
 use lent::limits_hold;
-use regions::whole_region;
 use shape::shape_number;
 use shape::widths_of;
 use store::Checked;
 use store::State;
-use walk::walk;
+use survey::regions::whole_region;
+use survey::walk;
 ghost use mathlib.Core.Path.{_≡_};
 ghost use mathlib.Core.Bool.{_&&_};
 ghost use lib.ListN.{length};
@@ -20,7 +16,7 @@ ghost use Rattle.store.specs.Store.{store};
 ghost use Rattle.store.specs.Answers.{checkedAnswer};
 ghost use Rattle.store.specs.Promises.{CheckPromise};
 ghost use Rattle.audit.specs.Test.{walkTest, sumsTest};
-ghost use Rattle.inspect.specs.Sums.{lacksMemory, StoreLent};
+ghost use Rattle.inspect.specs.Private.{lacksMemory, StoreLent};
 
 // Whether the lent store is sound: yes exactly for a sound store, otherwise no. Refused with 1 for a
 // shape outside its bounds, then with 2 for fewer than 2^L words or P pages. Writes nothing.

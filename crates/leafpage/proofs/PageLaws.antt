@@ -1,10 +1,11 @@
--- Laws of the test of a page: by case, as the code ends or goes on; it is the test over the page's records.
--- Assumes nothing.
+-- Laws of a page and its test: where the page ends; by case, as the code ends or goes on; it is the test over the
+-- page's records. Assumes nothing.
 use Prim.Native.Nat.{ℕ, zero, suc, _+_, _-_, _*_, _/_, _^_, _≤_, _<_}
 use mathlib.Core.Path.{_≡_, refl, sym, ap, _∙_}
 use mathlib.Core.Bool.{Bool, true, false, _&&_, and-false}
 use mathlib.Core.List.{List}
 use native.Mathlib.Omega.{arith}
+use native.Mathlib.Nat.{mul-le-mul-right, suc-mul}
 use lib.Dec.{leb, ltb, eqb}
 use lib.ListN.{length}
 use borrow.Author.Tests.{le-leb, lt-leb, lt-ltb, le-ltb}
@@ -18,6 +19,12 @@ use Rattle.page.proofs.FieldLaws.{length-recordsFrom}
 use Rattle.audit.specs.Codes.{code, recordHere, chainAfter, chain, pageChain}
 use Rattle.leafpage.specs.Private.{keyAt, keyCode, recordPasses, recordsAfter, recordsPass, pagePasses}
 use Rattle.leafpage.proofs.ByteLaws.{key-recordOf}
+
+-- ---- where it lies
+
+-- page g ends within the first n
+pub page-end : (g n size : ℕ) → g < n → g * size + size ≤ n * size
+page-end g n size h = rw suc-mul at (mul-le-mul-right size h)
 
 -- ---- by case
 

@@ -7,7 +7,7 @@ use lib.ListN.{length}
 use Rattle.shape.specs.Shape.{shapeNumber}
 use Rattle.store.specs.Answers.{checkedAnswer}
 use Rattle.lent.specs.Limits.{limitsHold}
-use Rattle.inspect.specs.Sums.{lacksMemory}
+use Rattle.inspect.specs.Private.{lacksMemory}
 use Rattle.inspect.proofs.CheckLaws.{check-shape-out, check-lacks, check-limits-fail, storeLent, check-shows}
 use Rattle.inspect.proofs.check.Statement.{statement}
 use Rattle.inspect.proofs.check.Tie as tie

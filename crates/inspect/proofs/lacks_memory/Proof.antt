@@ -1,8 +1,8 @@
 -- `inspect::lacks_memory` meets its contract, test by test. Assumes nothing.
 use native.Mathlib.Omega.{arith}
 use borrow.Author.Needs.{needs}
-use Rattle.inspect.proofs.CountLaws.{lacksMemory-deep, lacksMemory-words, lacksMemory-bytes}
-use Rattle.inspect.proofs.CountLaws.{pagesSize-lt}
+use Rattle.inspect.proofs.TallyLaws.{lacksMemory-deep, lacksMemory-words, lacksMemory-bytes}
+use Rattle.inspect.proofs.TallyLaws.{pagesSize-lt}
 use Rattle.shape.proofs.ShapeLaws.{capacity-bounds}
 use Rattle.inspect.proofs.lacks_memory.Statement.{statement}
 use Rattle.inspect.proofs.lacks_memory.Tie as tie

@@ -5,7 +5,7 @@ use borrow.Author.Tests.{not-true, not-false}
 use lib.ListN.{replicate}
 use Rattle.store.specs.Store.{store}
 use Rattle.audit.specs.Test.{shownDivision, walkTest}
-use Rattle.inspect.specs.Sums.{Tells}
+use Rattle.survey.specs.Sums.{Tells}
 use Rattle.inspect.proofs.CheckLaws.{walks-whole, tells-whole, shows-walk-fails, shows-depth-fails}
 use Rattle.inspect.proofs.CheckLaws.{shows-tally-fails, shows-pages}
 use Rattle.inspect.proofs.shows_leaves.Statement.{statement}

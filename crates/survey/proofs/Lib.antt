@@ -1,0 +1,4 @@
+pub mod DividedLaws
+pub mod LeafLaws
+pub mod RegionLaws
+pub mod SumLaws

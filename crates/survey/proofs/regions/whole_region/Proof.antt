@@ -1,0 +1,12 @@
+-- `survey::regions::whole_region` meets its contract: the fields are those of `wholeRegion`. Assumes nothing.
+use mathlib.Core.Path.{refl}
+use Rattle.survey.specs.Regions.{wholeRegion}
+use Rattle.survey.proofs.regions.whole_region.Statement.{statement}
+use Rattle.survey.proofs.regions.whole_region.Tie as tie
+
+returns : tie.Need-returns
+unfolding wholeRegion
+returns c = refl
+
+pub whole-region-spec : {M : Type 1} → statement M
+whole-region-spec = tie.close (tie.spec returns)
