@@ -19,7 +19,7 @@ pub fn rows(table: &mut Table, random: &mut Random) {
         doubling(table, random, widths);
     }
     for widths in [SHAPES[1], SHAPES[3]] {
-        for x in [12, 6, 0] {
+        for x in [12, 0] {
             region(table, random, widths, x);
         }
     }

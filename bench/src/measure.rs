@@ -168,13 +168,15 @@ impl Table {
         }
     }
 
-    /// Runs one pass of each form by itself, for a tool that counts instructions, and prints a line for each: step,
-    /// form and units, with tabs between.
+    /// Runs one pass of each form by itself, for a tool that counts instructions, and prints a line for each: section,
+    /// step, input, form and units, with tabs between.
     pub fn count(self) {
-        for Row { step, mut forms } in self.chosen_sections().into_iter().flat_map(|section| section.rows) {
-            for (form, _) in &mut forms {
-                black_box(counted(form.made_ready()));
-                println!("{}\t{}\t{}", step.label(), form.name, step.units);
+        for Section { title, rows, .. } in self.chosen_sections() {
+            for Row { step, forms } in rows {
+                for (mut form, _) in forms {
+                    black_box(counted(form.made_ready()));
+                    println!("{title}\t{}\t{}\t{}\t{}", step.label(), step.input, form.name, step.units);
+                }
             }
         }
     }

@@ -20,9 +20,7 @@ pub fn rows(table: &mut Table, random: &mut Random) {
             find(table, random, widths, hit);
         }
     }
-    for given in [1, 2] {
-        matches(table, random, given);
-    }
+    matches(table, random);
 }
 
 /// A full page of these keys.
@@ -59,25 +57,18 @@ fn find(table: &mut Table, random: &mut Random, widths: &'static [u32], hit: boo
     );
 }
 
-/// Queries that give some values, each of which a quarter of the records has.
-fn matches(table: &mut Table, random: &mut Random, given: usize) {
+/// Queries that give a value, which a quarter of the records has.
+fn matches(table: &mut Table, random: &mut Random) {
     let mut inputs = Vec::new();
     for _ in 0..PAGES {
         let keys = [(); RECORDS].map(|_| [0; 4].map(|_| random.between(0, 3) as u16));
-        let mut query = [None; 4];
-        query[..given].fill_with(|| Some(random.between(0, 3) as u32));
+        let query = [Some(random.between(0, 3) as u32), None, None, None];
         let page: &'static [u8] = full_page(random, &keys).leak();
         inputs.push((page, matching::pattern_of(query).unwrap(), plain::Pattern::new(query).unwrap()));
     }
     let inputs: &'static [_] = inputs.leak();
-    let value = if given == 1 { "value" } else { "values" };
     table.row(
-        Step::new(
-            format!("matching a page, {given} {value} given"),
-            shown(&[16; 4]),
-            "record",
-            PAGES * RECORDS,
-        ),
+        Step::new("matching a page, one value given", shown(&[16; 4]), "record", PAGES * RECORDS),
         vec![0; 12 * RECORDS],
         move |out| {
             sum(inputs, |&(page, pattern, _)| {

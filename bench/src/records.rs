@@ -22,7 +22,8 @@ const PAGES: usize = 4096;
 
 impl Sample {
     pub fn shape(&self) -> Shape {
-        Shape { capacity: 16, ..Shape::new(&self.widths) }
+        let [w0, w1, w2] = self.widths;
+        Shape { attributes: ATTRIBUTES as u32, widths: [w0, w1, w2, 0], capacity: 16 }
     }
 
     /// How many records are deleted: of so many more that are inserted at first, and by the calls that are measured.

@@ -36,10 +36,15 @@ impl Step {
 /// Prints the table of a section.
 pub fn print(title: &str, layout: Layout, lines: &[Line]) {
     let forms = distinct(lines.iter().flat_map(|line| &line.times).map(|time| time.form.to_string()));
-    println!("\n### {title}\n");
     match layout {
-        Layout::Forms => by_forms(&forms, lines),
-        Layout::Inputs => by_inputs(&forms, lines),
+        Layout::Forms => {
+            println!("\n## {title}\n");
+            by_forms(&forms, lines);
+        }
+        Layout::Inputs => {
+            println!("\n## {title} ({})\n", spread(lines));
+            by_inputs(&forms, lines);
+        }
     }
 }
 
@@ -96,10 +101,17 @@ fn by_inputs(forms: &[String], lines: &[Line]) {
         cells.extend(reading.then(|| by_reads(&own)));
         print_row(&cells);
     }
-    let mut spreads: Vec<f64> = lines.iter().map(|line| line.times[0].spread).collect();
-    spreads.sort_by(f64::total_cmp);
-    let [median, most] = [spreads[spreads.len() / 2], spreads[spreads.len() - 1]];
-    println!("\nSpread of {}: +{median:.0} % in the middle, +{most:.0} % at most.", forms[0]);
+}
+
+/// How the first form's spreads are.
+fn spread(lines: &[Line]) -> String {
+    let mut all: Vec<f64> = lines.iter().map(|line| line.times[0].spread).collect();
+    all.sort_by(f64::total_cmp);
+    format!(
+        "spread of proved +{:.0} % in the middle, +{:.0} % at most",
+        all[all.len() / 2],
+        all[all.len() - 1]
+    )
 }
 
 impl Line {
@@ -149,9 +161,10 @@ fn shown(number: f64) -> String {
     }
 }
 
-/// A ratio with two decimal places, and three below 0.1.
+/// A ratio with two decimal places, three below 0.1, and four below 0.01.
 fn ratio(number: f64) -> String {
-    format!("{number:.*}", if number < 0.095 { 3 } else { 2 })
+    let more = [0.095, 0.0095].iter().filter(|&&bound| number < bound).count();
+    format!("{number:.*}", 2 + more)
 }
 
 /// A number with a comma before each three digits.
