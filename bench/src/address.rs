@@ -14,12 +14,7 @@ pub fn rows(table: &mut Table, random: &mut Random) {
         let shape = Shape::new(widths, 1);
         let indices = vectors(random, widths, CALLS);
         table.row(
-            Step {
-                name: "address of an index vector".into(),
-                input: shown(widths),
-                unit: "call",
-                units: CALLS,
-            },
+            Step::new("address of an index vector", shown(widths), "call", CALLS),
             (),
             move |_| sum(indices, |index| host::address(shape, index.map(u64::from)).unwrap()),
             move |_| sum(indices, |index| plain::address(shape, index.map(u64::from)).unwrap()),

@@ -1,9 +1,9 @@
-//! The store's calls on 20,000 records of widths 8, 8, 10 with b = 16, beside the plain store, a scan of the packed
-//! records, and SQLite in memory with an index for each attribute.
+//! The store's calls beside the plain store, a scan of the packed records, and SQLite in memory with an index for each
+//! attribute.
 use crate::changes;
 use crate::inputs::{sum, vectors};
-use crate::measure::{Named, Step, Table, PLAIN, PROVED};
-use crate::records::{pack, packed, payload, stored_keys, Forms, RECORDS, WIDTHS};
+use crate::measure::{Found, Named, Step, Table, PLAIN, PROVED};
+use crate::records::{pack, packed, payload, stored_keys, Forms, Sample, ATTRIBUTES};
 use crate::sqlite::Statement;
 use mdeh_tests::host;
 use mdeh_tests::random::Random;
@@ -12,25 +12,26 @@ use mdeh_tests::random::Random;
 const LOOKUPS: usize = 256;
 const QUERIES: usize = 16;
 
+/// How many sets of attributes a query can give. Attribute j is in set n if bit j of n is 1.
+const SUBSETS: usize = 1 << ATTRIBUTES;
+
 const SCAN: &str = "scan";
 pub const SQLITE: &str = "SQLite";
 
-pub fn rows(table: &mut Table, random: &mut Random) {
-    table.section("Calls");
-    if !["lookup, hit", "lookup, miss", "query", "check", "insert", "delete"]
-        .iter()
-        .any(|name| table.has(name))
-    {
+pub fn rows(table: &mut Table, random: &mut Random, sample: Sample) {
+    let mut names = ["lookup, hit", "lookup, miss", "check", "insert", "delete"].map(String::from).to_vec();
+    names.extend((0..SUBSETS).map(query_name));
+    if !names.iter().any(|name| table.has(name)) {
         return;
     }
-    let forms = Forms::new(random);
+    let forms = Forms::new(random, sample);
     let stored = stored_keys(random, forms.records, LOOKUPS);
-    let absent: Vec<[u32; 4]> = vectors(random, &WIDTHS, LOOKUPS).to_vec();
+    let absent: Vec<[u32; 4]> = vectors(random, &sample.widths, LOOKUPS).to_vec();
     let absent =
         absent.into_iter().filter(|&key| forms.plain.lookup(key).is_err()).collect::<Vec<_>>().leak();
     lookup(table, forms, "lookup, hit", stored);
     lookup(table, forms, "lookup, miss", absent);
-    for subset in 0..1 << WIDTHS.len() {
+    for subset in 0..SUBSETS {
         query(table, forms, subset, stored);
     }
     check(table, forms);
@@ -39,7 +40,7 @@ pub fn rows(table: &mut Table, random: &mut Random) {
 
 /// The payloads of keys; 5 for an absent one.
 fn lookup(table: &mut Table, forms: Forms, name: &str, keys: &'static [[u32; 4]]) {
-    let Forms { plain, state, dir, pages, records, database } = forms;
+    let Forms { sample, plain, state, dir, pages, records, database } = forms;
     let number = |found: Result<u32, u32>| u64::from(found.unwrap_or_else(|number| number));
     let mut named: Vec<Named<()>> = vec![
         (
@@ -63,8 +64,7 @@ fn lookup(table: &mut Table, forms: Forms, name: &str, keys: &'static [[u32; 4]]
         let select = database.prepare("SELECT payload FROM r WHERE a0 = ? AND a1 = ? AND a2 = ?");
         named.push((SQLITE, Box::new(move |_| sum(keys, |key| sqlite_lookup(&select, key)))));
     }
-    let step = Step { name: name.into(), input: shown(), unit: "call", units: keys.len() };
-    table.forms(step, (), named);
+    table.forms(Step::new(name, sample.shown(), "call", keys.len()), (), named);
 }
 
 fn sqlite_lookup(select: &Statement, key: &[u32; 4]) -> u64 {
@@ -75,8 +75,7 @@ fn sqlite_lookup(select: &Statement, key: &[u32; 4]) -> u64 {
 
 /// Queries that give the attributes of a subset the values of stored keys; the output has room for all records.
 fn query(table: &mut Table, forms: Forms, subset: usize, keys: &'static [[u32; 4]]) {
-    let Forms { plain, state, dir, pages, records, database } = forms;
-    let given: Vec<usize> = (0..WIDTHS.len()).filter(|j| subset >> j & 1 == 1).collect();
+    let Forms { sample, plain, state, dir, pages, records, database } = forms;
     let count = if subset == 0 { 1 } else { QUERIES };
     let wanted = |key: &[u32; 4]| [0, 1, 2, 3].map(|j| (subset >> j & 1 == 1).then_some(key[j]));
     let queries: &[[Option<u32>; 4]] = keys[..count].iter().map(wanted).collect::<Vec<_>>().leak();
@@ -94,24 +93,32 @@ fn query(table: &mut Table, forms: Forms, subset: usize, keys: &'static [[u32; 4
         (SCAN, Box::new(move |out| sum(queries, |&query| scan(records, query, out)))),
     ];
     if let Some(database) = database {
-        let condition: Vec<String> = given.iter().map(|j| format!("a{j} = ?")).collect();
-        let condition = if given.is_empty() { "1".into() } else { condition.join(" AND ") };
+        let condition: Vec<String> = given(subset).map(|j| format!("a{j} = ?")).collect();
+        let condition = if subset == 0 { "1".into() } else { condition.join(" AND ") };
         let text = format!("SELECT a0, a1, a2, payload FROM r WHERE {condition} ORDER BY n");
         let select = database.prepare(&text);
         named.push((SQLITE, Box::new(move |out| sum(queries, |&query| sqlite_query(&select, query, out)))));
     }
-    let given: Vec<String> = given.iter().map(usize::to_string).collect();
-    let name = match given.len() {
-        0 => "query, nothing given".into(),
-        1 => format!("query, attribute {} given", given[0]),
-        _ => format!("query, attributes {} given", given.join(", ")),
-    };
     let found = queries.iter().map(|&query| plain.query(query, &mut []).expect("accepted"));
     let (total, reads) = found.fold((0, 0), |(t, r), (_, total, reads)| (t + total, r + reads));
     let each = |sum: usize| sum as f64 / count as f64;
-    let input = format!("{:.1} records on {:.1} pages", each(total), each(reads));
-    let step = Step { name, input, unit: "call", units: count };
-    table.forms(step, vec![0; 12 * RECORDS], named);
+    let found = Some(Found { records: each(total), reads: each(reads) });
+    let step = Step { found, ..Step::new(query_name(subset), sample.shown(), "call", count) };
+    table.forms(step, vec![0; 12 * sample.records], named);
+}
+
+fn query_name(subset: usize) -> String {
+    let given: Vec<String> = given(subset).map(|j| j.to_string()).collect();
+    match given.len() {
+        0 => "query, nothing given".into(),
+        1 => format!("query, attribute {} given", given[0]),
+        _ => format!("query, attributes {} given", given.join(", ")),
+    }
+}
+
+/// The attributes of a subset.
+fn given(subset: usize) -> impl Iterator<Item = usize> {
+    (0..ATTRIBUTES).filter(move |j| subset >> j & 1 == 1)
 }
 
 /// Writes the matching records, of all in turn.
@@ -148,7 +155,7 @@ fn sqlite_query(select: &Statement, query: [Option<u32>; 4], out: &mut [u8]) -> 
 
 /// Whether the store is sound; of SQLite, its own check of tables and indices.
 fn check(table: &mut Table, forms: Forms) {
-    let Forms { plain, state, dir, pages, database, .. } = forms;
+    let Forms { sample, plain, state, dir, pages, database, .. } = forms;
     let mut named: Vec<Named<()>> = vec![
         (PROVED, Box::new(move |_| u64::from(host::check(state, dir, pages) == Ok(true)))),
         (PLAIN, Box::new(move |_| u64::from(plain.check()))),
@@ -162,9 +169,5 @@ fn check(table: &mut Table, forms: Forms) {
         };
         named.push((SQLITE, Box::new(passes)));
     }
-    table.forms(Step { name: "check".into(), input: shown(), unit: "call", units: 1 }, (), named);
-}
-
-fn shown() -> String {
-    format!("{RECORDS} records")
+    table.forms(Step::new("check", sample.shown(), "record", sample.records), (), named);
 }

@@ -2,17 +2,14 @@
 //! store and SQLite in memory.
 use crate::calls::SQLITE;
 use crate::inputs::sum;
-use crate::measure::{Changing, Step, Table, PLAIN, PROVED};
-use crate::records::{payload, shape, values, Forms, BYTES, RECORDS, WORDS};
+use crate::measure::{Form, Step, Table, PLAIN, PROVED};
+use crate::records::{payload, values, Forms, Sample, BYTES, WORDS};
 use crate::sqlite::Database;
 use crate::store::Store;
 use mdeh_tests::host;
 use mdeh_tests::random::Random;
 use std::cell::RefCell;
 use std::rc::Rc;
-
-/// How many records are deleted.
-const DELETED: usize = 2_000;
 
 /// A key and a payload.
 type Input = ([u32; 4], u32);
@@ -22,17 +19,13 @@ pub fn rows(table: &mut Table, random: &mut Random, forms: Forms) {
     let mut inputs: Vec<Input> = forms.records.iter().map(record).collect();
     random.shuffle(&mut inputs);
     let inputs: &'static [Input] = inputs.leak();
-    let step = |name: &str, units| Step {
-        name: name.into(),
-        input: format!("{RECORDS} records"),
-        unit: "call",
-        units,
-    };
+    let step = |name: &str, units| Step::new(name, forms.sample.shown(), "call", units);
     if table.has("insert") {
-        table.changing(step("insert", RECORDS), inserts(inputs));
+        table.changing(step("insert", inputs.len()), inserts(forms.sample, inputs));
     }
     if table.has("delete") {
-        table.changing(step("delete", DELETED), deletes(forms, &inputs[..DELETED]));
+        let deleted = &inputs[..forms.sample.deleted()];
+        table.changing(step("delete", deleted.len()), deletes(forms, deleted));
     }
 }
 
@@ -44,8 +37,8 @@ struct Lent {
 }
 
 impl Lent {
-    fn fresh(&mut self) {
-        host::fresh(shape(), &mut self.state, &mut self.dir, &mut self.pages).expect("accepted");
+    fn fresh(&mut self, sample: Sample) {
+        host::fresh(sample.shape(), &mut self.state, &mut self.dir, &mut self.pages).expect("accepted");
     }
 
     fn insert(&mut self, &(key, payload): &Input) -> u64 {
@@ -57,8 +50,8 @@ impl Lent {
     }
 
     /// Panics unless the store has the plain one's records, in split order.
-    fn assert_same(&self, plain: &Store) {
-        let [mut own, mut other] = [vec![0; 12 * RECORDS], vec![0; 12 * RECORDS]];
+    fn assert_same(&self, plain: &Store, records: usize) {
+        let [mut own, mut other] = [vec![0; 12 * records], vec![0; 12 * records]];
         let found = host::query(&self.state, &self.dir, &self.pages, [None; 4], &mut own).expect("accepted");
         let expected = plain.query([None; 4], &mut other).expect("accepted");
         assert_eq!(
@@ -80,28 +73,29 @@ fn changing<M: 'static>(
     memory: M,
     ready: impl Fn(&mut M) + 'static,
     pass: impl Fn(&mut M) -> u64 + 'static,
-) -> Changing {
+) -> Form {
     let memory = Rc::new(RefCell::new(memory));
     let own = memory.clone();
-    Changing {
+    Form {
         name,
-        ready: Box::new(move || ready(&mut own.borrow_mut())),
+        ready: Some(Box::new(move || ready(&mut own.borrow_mut()))),
         pass: Box::new(move || pass(&mut memory.borrow_mut())),
     }
 }
 
 /// Inserts into a store without records.
-fn inserts(inputs: &'static [Input]) -> Vec<Changing> {
+fn inserts(sample: Sample, inputs: &'static [Input]) -> Vec<Form> {
     let mut lent = Lent { state: vec![0; host::STATE_WORDS], dir: vec![0; WORDS], pages: vec![0; BYTES] };
-    let new = || Store::new(shape(), WORDS, BYTES);
+    let new = move || Store::new(sample.shape(), WORDS, BYTES);
     let mut plain = new();
-    lent.fresh();
+    lent.fresh(sample);
     for &(key, payload) in inputs {
         assert_eq!((lent.insert(&(key, payload)), plain.insert(key, payload)), (1, Ok(())));
     }
-    lent.assert_same(&plain);
+    lent.assert_same(&plain, inputs.len());
+    let fresh = move |lent: &mut Lent| lent.fresh(sample);
     let mut forms = vec![
-        changing(PROVED, lent, Lent::fresh, |lent| sum(inputs, |input| lent.insert(input))),
+        changing(PROVED, lent, fresh, |lent| sum(inputs, |input| lent.insert(input))),
         changing(
             PLAIN,
             new(),
@@ -112,7 +106,7 @@ fn inserts(inputs: &'static [Input]) -> Vec<Changing> {
     if let Some(database) = table_of(&[]) {
         let insert = database.prepare(INSERT);
         inputs.iter().for_each(|input| insert.run(numbers(input), |_| {}));
-        assert_eq!(rows_of(database), RECORDS);
+        assert_eq!(rows_of(database), inputs.len());
         let pass = move |_: &mut ()| {
             sum(inputs, |input| {
                 insert.run(numbers(input), |_| {});
@@ -126,14 +120,14 @@ fn inserts(inputs: &'static [Input]) -> Vec<Changing> {
 }
 
 /// Deletes from the store of all records.
-fn deletes(forms: Forms, deleted: &'static [Input]) -> Vec<Changing> {
+fn deletes(forms: Forms, deleted: &'static [Input]) -> Vec<Form> {
     let Forms { plain, state, dir, pages, records, .. } = forms;
     let mut lent = Lent { state: state.to_vec(), dir: dir.to_vec(), pages: pages.to_vec() };
     let mut store = plain.clone();
     for &(key, _) in deleted {
         assert_eq!((lent.delete(key), store.delete(key)), (1, Ok(())));
     }
-    lent.assert_same(&store);
+    lent.assert_same(&store, records.len());
     let restore = |lent: &mut Lent| {
         lent.state.copy_from_slice(state);
         lent.dir.copy_from_slice(dir);
@@ -152,7 +146,7 @@ fn deletes(forms: Forms, deleted: &'static [Input]) -> Vec<Changing> {
         let delete = database.prepare("DELETE FROM s WHERE a0 = ? AND a1 = ? AND a2 = ?");
         let key = |input: &Input| input.0.map(i64::from);
         deleted.iter().for_each(|input| delete.run(key(input)[..3].iter().copied(), |_| {}));
-        assert_eq!(rows_of(database), RECORDS - DELETED);
+        assert_eq!(rows_of(database), records.len() - deleted.len());
         let pass = move |_: &mut ()| {
             sum(deleted, |input| {
                 delete.run(key(input)[..3].iter().copied(), |_| {});

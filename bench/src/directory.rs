@@ -13,15 +13,13 @@ const WORDS: usize = 1 << 12;
 
 pub fn rows(table: &mut Table, random: &mut Random) {
     for widths in SHAPES {
-        for t in [4, 8, 12] {
-            cell(table, random, widths, t);
-        }
+        cell(table, random, widths);
     }
     for widths in SHAPES {
         doubling(table, random, widths);
     }
     for widths in [SHAPES[1], SHAPES[3]] {
-        for x in [12, 9, 6, 3, 0] {
+        for x in [12, 0] {
             region(table, random, widths, x);
         }
     }
@@ -33,15 +31,15 @@ fn fitting(widths: &[u32]) -> (probe::Widths, plain::Widths) {
     (probe::Widths::new(widths).expect(none), plain::Widths::new(widths).expect(none))
 }
 
-/// The cells of random keys in a directory of depth t.
-fn cell(table: &mut Table, random: &mut Random, widths: &[u32], t: usize) {
+/// The cells of random keys in a directory of the greatest depth.
+fn cell(table: &mut Table, random: &mut Random, widths: &[u32]) {
     let keys = vectors(random, widths, KEYS);
     let (proved, plain) = fitting(widths);
     table.row(
-        Step { name: format!("cell of a key, T = {t}"), input: shown(widths), unit: "call", units: KEYS },
+        Step::new("cell of a key, T = 12", shown(widths), "call", KEYS),
         (),
-        move |_| sum(keys, |&key| probe::find_cell(&proved, key, t as u64).unwrap()),
-        move |_| sum(keys, |&key| plain::find_cell(&plain, key, t).unwrap()),
+        move |_| sum(keys, |&key| probe::find_cell(&proved, key, 12).unwrap()),
+        move |_| sum(keys, |&key| plain::find_cell(&plain, key, 12).unwrap()),
     );
 }
 
@@ -50,12 +48,7 @@ fn doubling(table: &mut Table, random: &mut Random, widths: &[u32]) {
     let words: Vec<u32> = (0..WORDS).map(|_| random.number() as u32).collect();
     let (proved, plain) = fitting(widths);
     table.row(
-        Step {
-            name: "doubling, T = 11 to 12".into(),
-            input: shown(widths),
-            unit: "new word",
-            units: WORDS / 2,
-        },
+        Step::new("doubling, T = 11 to 12", shown(widths), "new word", WORDS / 2),
         words,
         move |words| done(probe::double(&proved, 11, words)),
         move |words| done(plain::double(&plain, 11, words)),
@@ -69,12 +62,7 @@ fn region(table: &mut Table, random: &mut Random, widths: &[u32], x: usize) {
     let keys = vectors(random, widths, WORDS / size);
     let (proved, plain) = fitting(widths);
     table.row(
-        Step {
-            name: format!("setting a region of {size}, T = 12"),
-            input: shown(widths),
-            unit: "word",
-            units: WORDS,
-        },
+        Step::new(format!("setting a region of {size}, T = 12"), shown(widths), "word", WORDS),
         vec![0; WORDS],
         move |words| sum(keys, |&key| done(probe::fill(&proved, key, x as u64, 12, key[0], words))),
         move |words| sum(keys, |&key| done(plain::fill(&plain, key, x, 12, key[0], words))),

@@ -1,11 +1,12 @@
 //! Times the forms of each step on the same inputs, all steps turn by turn, so that each is timed all the
 //! while that the program runs.
+use crate::tables::{self, Layout, Line, Time};
 use std::fmt::Debug;
 use std::hint::black_box;
 use std::time::Instant;
 
 /// How many turns each form has.
-const RUNS: usize = 1001;
+const RUNS: usize = 501;
 
 /// How long one run lasts at least, in nanoseconds: much less than a turn of the system's scheduler.
 const RUN: f64 = 250_000.0;
@@ -17,23 +18,32 @@ const LONG_RUN: f64 = 1_000_000.0;
 pub const PROVED: &str = "proved";
 pub const PLAIN: &str = "plain Rust";
 
-/// What a row is about: the step, its input, the unit that a time is given for, and how many of them one
-/// pass over the inputs has.
+/// What a row is about: the step, its input, the unit that a time is given for, how many of them one pass over the
+/// inputs has, and for queries what they find.
 pub struct Step {
     pub name: String,
     pub input: String,
     pub unit: &'static str,
     pub units: usize,
+    pub found: Option<Found>,
+}
+
+/// What a query finds on average.
+#[derive(Clone, Copy)]
+pub struct Found {
+    pub records: f64,
+    pub reads: f64,
 }
 
 /// One form of a step by its name: a pass over the inputs on its memory, with a number that sums up what it
 /// computed.
 pub type Named<M> = (&'static str, Box<dyn FnMut(&mut M) -> u64>);
 
-/// One form of a step that changes its memory: what makes it ready, which is not timed, and a pass over the inputs.
-pub struct Changing {
+/// One form of a step: its name, what makes a run of a single pass ready, which is not timed, where a pass changes its
+/// memory, and a pass over the inputs.
+pub struct Form {
     pub name: &'static str,
-    pub ready: Box<dyn FnMut()>,
+    pub ready: Option<Box<dyn FnMut()>>,
     pub pass: Box<dyn FnMut() -> u64>,
 }
 
@@ -45,39 +55,44 @@ pub struct Table {
 
 struct Section {
     title: &'static str,
+    layout: Layout,
     rows: Vec<Row>,
 }
 
 struct Row {
     step: Step,
-    forms: Vec<Form>,
+    forms: Vec<(Form, Timing)>,
 }
 
-/// One form of a step: its name, what makes a run ready, a pass over the inputs, how many passes make a run, in which
-/// turns it runs, and the times of a unit.
-struct Form {
-    name: &'static str,
-    ready: Box<dyn FnMut()>,
-    pass: Box<dyn FnMut() -> u64>,
+/// How a form is timed: how many passes make a run, in which turns it runs, and the times of a unit.
+#[derive(Default)]
+struct Timing {
     passes: u32,
     every: usize,
     times: Vec<f64>,
 }
 
+impl Step {
+    pub fn new(name: impl Into<String>, input: String, unit: &'static str, units: usize) -> Step {
+        Step { name: name.into(), input, unit, units, found: None }
+    }
+}
+
 impl Table {
-    /// A table of the steps whose name has one of these words; of all steps if there is no word.
+    /// A table of the steps whose name or section has one of these words; of all steps if there is no word.
     pub fn new(chosen: Vec<String>) -> Table {
         Table { chosen, sections: Vec::new() }
     }
 
     /// Begins a section.
-    pub fn section(&mut self, title: &'static str) {
-        self.sections.push(Section { title, rows: Vec::new() });
+    pub fn section(&mut self, title: &'static str, layout: Layout) {
+        self.sections.push(Section { title, layout, rows: Vec::new() });
     }
 
-    /// Whether the steps of this name are measured.
+    /// Whether the present section's steps of this name are measured.
     pub fn has(&self, name: &str) -> bool {
-        self.chosen.is_empty() || self.chosen.iter().any(|word| name.contains(word))
+        let title = self.sections.last().expect("a section is begun").title;
+        self.chosen.is_empty() || self.chosen.iter().any(|word| name.contains(word) || title.contains(word))
     }
 
     /// Adds a row of two forms.
@@ -109,123 +124,108 @@ impl Table {
             let result = (pass(&mut own), own.clone());
             let same = first.get_or_insert_with(|| result.clone()) == &result;
             assert!(same, "{}, {}: {name} does something else than the first form", step.name, step.input);
-            forms.push(Form::new(name, move || pass(&mut own)));
+            forms.push(Form { name, ready: None, pass: Box::new(move || pass(&mut own)) });
         }
-        let section = self.sections.last_mut().expect("a section is begun");
-        section.rows.push(Row { step, forms });
+        self.push(step, forms);
     }
 
-    /// Adds a row of forms that change their memory: each run is one pass. The numbers have to be the same for all.
-    pub fn changing(&mut self, step: Step, forms: Vec<Changing>) {
+    /// Adds a row of forms that change their memory. The numbers after one pass have to be the same for all.
+    pub fn changing(&mut self, step: Step, mut forms: Vec<Form>) {
         if !self.has(&step.name) {
             return;
         }
-        let forms: Vec<(Form, u64)> = forms.into_iter().map(Form::changing).collect();
-        let same = forms.windows(2).all(|pair| pair[0].1 == pair[1].1);
-        assert!(same, "{}: the forms do different things", step.name);
-        let section = self.sections.last_mut().expect("a section is begun");
-        section.rows.push(Row { step, forms: forms.into_iter().map(|form| form.0).collect() });
+        let numbers: Vec<u64> = forms.iter_mut().map(|form| form.made_ready()()).collect();
+        assert!(numbers.iter().all(|&number| number == numbers[0]), "{}: different numbers", step.name);
+        self.push(step, forms);
+    }
+
+    fn push(&mut self, step: Step, forms: Vec<Form>) {
+        let forms = forms.into_iter().map(|form| (form, Timing::default())).collect();
+        self.sections.last_mut().expect("a section is begun").rows.push(Row { step, forms });
+    }
+
+    /// The sections that have rows.
+    fn chosen_sections(self) -> Vec<Section> {
+        let sections: Vec<_> = self.sections.into_iter().filter(|section| !section.rows.is_empty()).collect();
+        assert!(!sections.is_empty(), "no table or step has one of the words {:?}", self.chosen);
+        sections
     }
 
     /// Measures all rows and prints them.
-    pub fn measure(mut self) {
-        self.sections.retain(|section| !section.rows.is_empty());
-        assert!(!self.sections.is_empty(), "no step's name has one of the words {:?}", self.chosen);
+    pub fn measure(self) {
+        let mut sections = self.chosen_sections();
+        let mut rows: Vec<&mut Row> = sections.iter_mut().flat_map(|section| &mut section.rows).collect();
+        rows.iter_mut().flat_map(|row| &mut row.forms).for_each(|(form, timing)| timing.prepare(form));
         for turn in 0..RUNS {
-            for Row { step, forms } in self.sections.iter_mut().flat_map(|section| &mut section.rows) {
-                for form in forms.iter_mut().filter(|form| turn % form.every == 0) {
-                    form.run(step.units);
+            for Row { step, forms } in &mut rows {
+                for (form, timing) in forms.iter_mut().filter(|(_, timing)| turn % timing.every == 0) {
+                    timing.run(form, step.units);
                 }
             }
         }
-        self.sections.into_iter().for_each(Section::print);
+        for Section { title, layout, rows } in sections {
+            tables::print(title, layout, &rows.into_iter().map(Row::line).collect::<Vec<_>>());
+        }
+    }
+
+    /// Runs one pass of each form by itself, for a tool that counts instructions, and prints a line for each: section,
+    /// step, input, form and units, with tabs between.
+    pub fn count(self) {
+        for Section { title, rows, .. } in self.chosen_sections() {
+            for Row { step, forms } in rows {
+                for (mut form, _) in forms {
+                    black_box(counted(form.made_ready()));
+                    println!("{title}\t{}\t{}\t{}\t{}", step.label(), step.input, form.name, step.units);
+                }
+            }
+        }
     }
 }
 
-impl Section {
-    /// Prints the section's table: a column for each form that a row has, with its ratio to the first.
-    fn print(self) {
-        let mut names: Vec<&str> = Vec::new();
-        for form in self.rows.iter().flat_map(|row| &row.forms) {
-            if !names.contains(&form.name) {
-                names.push(form.name);
-            }
-        }
-        println!("\n### {}\n", self.title);
-        print!("| step | input | unit |");
-        for (i, name) in names.iter().enumerate() {
-            print!(" {name}, ns | spread |");
-            if i > 0 {
-                print!(" {} / {name} |", names[0]);
-            }
-        }
-        println!("\n|{}", "---|".repeat(3 + 3 * names.len() - 1));
-        self.rows.into_iter().for_each(|row| row.print(&names));
+/// A pass, in a function that can be told from the rest by its name.
+#[inline(never)]
+fn counted(pass: &mut dyn FnMut() -> u64) -> u64 {
+    black_box(pass())
+}
+
+impl Form {
+    /// A pass, for which the memory is ready.
+    fn made_ready(&mut self) -> &mut dyn FnMut() -> u64 {
+        self.ready.iter_mut().for_each(|ready| ready());
+        &mut self.pass
     }
 }
 
 impl Row {
-    /// Prints one line, with "–" for a form that the row does not have.
-    fn print(self, names: &[&str]) {
-        let Step { name, input, unit, .. } = self.step;
-        print!("| {name} | {input} | {unit} |");
-        let times: Vec<_> = self.forms.into_iter().map(|form| (form.name, form.best())).collect();
-        let first = times[0].1 .0;
-        for (i, name) in names.iter().enumerate() {
-            match times.iter().find(|time| time.0 == *name) {
-                None => print!(" – | – | – |"),
-                Some((_, (best, spread))) if i == 0 => print!(" {} | {spread} |", shown(*best)),
-                Some((_, (best, spread))) => print!(" {} | {spread} | {:.2} |", shown(*best), first / best),
-            }
-        }
-        println!();
+    fn line(self) -> Line {
+        let times = self.forms.into_iter().map(|(form, timing)| timing.best(form.name)).collect();
+        Line { step: self.step, times }
     }
 }
 
-impl Form {
-    fn new(name: &'static str, mut pass: impl FnMut() -> u64 + 'static) -> Form {
-        let one = (0..10).map(|_| time(&mut pass, 1)).fold(f64::INFINITY, f64::min);
-        let passes = (RUN / one).ceil() as u32;
-        let every = (one / LONG_RUN).ceil() as usize;
-        Form { name, ready: Box::new(|| {}), pass: Box::new(pass), passes, every, times: Vec::new() }
-    }
-
-    /// A form that changes its memory, and its number.
-    fn changing(form: Changing) -> (Form, u64) {
-        let Changing { name, mut ready, mut pass } = form;
-        ready();
-        let number = pass();
-        ready();
-        let one = time(&mut pass, 1);
-        let every = (one / LONG_RUN).ceil() as usize;
-        (Form { name, ready, pass, passes: 1, every, times: Vec::new() }, number)
+impl Timing {
+    /// Finds out how long a pass lasts.
+    fn prepare(&mut self, form: &mut Form) {
+        let one = (0..3).map(|_| time(form.made_ready(), 1)).fold(f64::INFINITY, f64::min);
+        self.passes = if form.ready.is_some() { 1 } else { (RUN / one).ceil() as u32 };
+        self.every = (one / LONG_RUN).ceil() as usize;
     }
 
     /// Times one run.
-    fn run(&mut self, units: usize) {
-        (self.ready)();
-        self.times.push(time(&mut self.pass, self.passes) / units as f64);
+    fn run(&mut self, form: &mut Form, units: usize) {
+        self.times.push(time(form.made_ready(), self.passes) / units as f64);
     }
 
     /// The best time, and how far the median is above it.
-    fn best(mut self) -> (f64, String) {
+    fn best(mut self, form: &'static str) -> Time {
         self.times.sort_by(f64::total_cmp);
         let (best, median) = (self.times[0], self.times[self.times.len() / 2]);
-        (best, format!("+{:.0} %", (median / best - 1.0) * 100.0))
-    }
-}
-
-/// Nanoseconds, with a decimal place below 1,000.
-fn shown(time: f64) -> String {
-    if time < 1000.0 {
-        format!("{time:.1}")
-    } else {
-        format!("{time:.0}")
+        Time { form, best, spread: (median / best - 1.0) * 100.0 }
     }
 }
 
 /// The time of one pass in nanoseconds, over so many.
-fn time(pass: &mut impl FnMut() -> u64, passes: u32) -> f64 {
+fn time(pass: &mut dyn FnMut() -> u64, passes: u32) -> f64 {
     let start = Instant::now();
     for _ in 0..passes {
         black_box(pass());

@@ -20,9 +20,7 @@ pub fn rows(table: &mut Table, random: &mut Random) {
             find(table, random, widths, hit);
         }
     }
-    for given in [1, 2] {
-        matches(table, random, given);
-    }
+    matches(table, random);
 }
 
 /// A full page of these keys.
@@ -42,42 +40,35 @@ fn find(table: &mut Table, random: &mut Random, widths: &'static [u32], hit: boo
         let keys = all.iter().copied().skip(usize::from(hit)).step_by(2);
         inputs.extend(keys.map(|values| (page, packed(values))));
     }
-    shuffle(random, &mut inputs);
+    random.shuffle(&mut inputs);
     let inputs: &'static [_] = inputs.leak();
     let (proved, plain) = (Widths::new(widths).unwrap(), plain::Widths::new(widths).unwrap());
     let place = |place: Result<usize, usize>| place.map_or_else(|i| i as u64, |i| 100 + i as u64);
     table.row(
-        Step {
-            name: format!("find in a full page, {}", if hit { "hit" } else { "miss" }),
-            input: shown(widths),
-            unit: "call",
-            units: inputs.len(),
-        },
+        Step::new(
+            format!("find in a full page, {}", if hit { "hit" } else { "miss" }),
+            shown(widths),
+            "call",
+            inputs.len(),
+        ),
         (),
         move |_| sum(inputs, |&(page, key)| place(keys::find(page, RECORDS, &proved, key).unwrap())),
         move |_| sum(inputs, |&(page, key)| place(plain::find(page, RECORDS, &plain, key).unwrap())),
     );
 }
 
-/// Queries that give some values, each of which a quarter of the records has.
-fn matches(table: &mut Table, random: &mut Random, given: usize) {
+/// Queries that give a value, which a quarter of the records has.
+fn matches(table: &mut Table, random: &mut Random) {
     let mut inputs = Vec::new();
     for _ in 0..PAGES {
         let keys = [(); RECORDS].map(|_| [0; 4].map(|_| random.between(0, 3) as u16));
-        let mut query = [None; 4];
-        query[..given].fill_with(|| Some(random.between(0, 3) as u32));
+        let query = [Some(random.between(0, 3) as u32), None, None, None];
         let page: &'static [u8] = full_page(random, &keys).leak();
         inputs.push((page, matching::pattern_of(query).unwrap(), plain::Pattern::new(query).unwrap()));
     }
     let inputs: &'static [_] = inputs.leak();
-    let value = if given == 1 { "value" } else { "values" };
     table.row(
-        Step {
-            name: "matching the records of a page".into(),
-            input: format!("{given} {value} given"),
-            unit: "record",
-            units: PAGES * RECORDS,
-        },
+        Step::new("matching a page, one value given", shown(&[16; 4]), "record", PAGES * RECORDS),
         vec![0; 12 * RECORDS],
         move |out| {
             sum(inputs, |&(page, pattern, _)| {
@@ -90,11 +81,4 @@ fn matches(table: &mut Table, random: &mut Random, given: usize) {
             })
         },
     );
-}
-
-/// Puts inputs in random order.
-fn shuffle<T>(random: &mut Random, inputs: &mut [T]) {
-    for i in (1..inputs.len()).rev() {
-        inputs.swap(i, random.between(0, i as u64) as usize);
-    }
 }

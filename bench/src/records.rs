@@ -1,27 +1,44 @@
-//! The same 20,000 records in every form that the calls are compared in.
+//! The same records in every form that the calls are compared in.
+use crate::inputs::shown;
 use crate::sqlite::Database;
 use crate::store::Store;
+use crate::tables::grouped;
 use mdeh_tests::host::{self, Shape};
 use mdeh_tests::random::Random;
 
-pub const WIDTHS: [u32; 3] = [8, 8, 10];
-pub const RECORDS: usize = 20_000;
+/// How many records there are, and of which widths.
+#[derive(Clone, Copy)]
+pub struct Sample {
+    pub widths: [u32; ATTRIBUTES],
+    pub records: usize,
+}
 
-/// How many more are inserted and deleted again.
-const DELETED: usize = 2_000;
+pub const ATTRIBUTES: usize = 3;
 
 /// The lent memory: the words of a directory of depth 12, and the bytes of 4,096 pages.
 pub const WORDS: usize = 1 << 12;
 pub const BYTES: usize = PAGES * (2 + 12 * 16);
 const PAGES: usize = 4096;
 
-pub fn shape() -> Shape {
-    Shape::new(&WIDTHS, 16)
+impl Sample {
+    pub fn shape(&self) -> Shape {
+        Shape::new(&self.widths, 16)
+    }
+
+    /// How many records are deleted: of so many more that are inserted at first, and by the calls that are measured.
+    pub fn deleted(&self) -> usize {
+        self.records / 10
+    }
+
+    pub fn shown(&self) -> String {
+        format!("{} records", grouped(self.records))
+    }
 }
 
 /// The same records in every form, kept as long as the program runs.
 #[derive(Clone, Copy)]
 pub struct Forms {
+    pub sample: Sample,
     pub plain: &'static Store,
     pub state: &'static [u32],
     pub dir: &'static [u32],
@@ -32,14 +49,16 @@ pub struct Forms {
 }
 
 impl Forms {
-    /// Random records, some of them deleted again: the plain store is filled by its inserts, the proved store is lent a copy of its memory.
-    pub fn new(random: &mut Random) -> Forms {
-        let mut plain = Store::new(shape(), WORDS, BYTES);
+    /// Random records, some of them deleted again: the plain store is filled by its inserts, the proved store is lent a
+    /// copy of its memory.
+    pub fn new(random: &mut Random, sample: Sample) -> Forms {
+        let Sample { widths, records: count } = sample;
+        let mut plain = Store::new(sample.shape(), WORDS, BYTES);
         let mut keys = Vec::new();
         let mut refused = 0;
-        while keys.len() < RECORDS + DELETED {
-            let key = WIDTHS.map(|width| random.below(1 << width) as u32);
-            let key = [key[0], key[1], key[2], 0];
+        while keys.len() < count + sample.deleted() {
+            let [a0, a1, a2] = widths.map(|width| random.below(1 << width) as u32);
+            let key = [a0, a1, a2, 0];
             match plain.insert(key, random.number() as u32) {
                 Ok(()) => keys.push(key),
                 Err(4) => {}
@@ -47,15 +66,17 @@ impl Forms {
             }
         }
         random.shuffle(&mut keys);
-        keys[RECORDS..].iter().for_each(|&key| plain.delete(key).expect("the key is stored"));
+        keys[count..].iter().for_each(|&key| plain.delete(key).expect("the key is stored"));
         let (pages, depth) = plain.extent();
-        println!("{RECORDS} records on {pages} of {PAGES} pages, T = {depth}, {refused} inserts refused");
-        let mut records = vec![[0; 12]; RECORDS];
+        let text = format!("{}: {} on {} pages", shown(&widths), sample.shown(), grouped(pages));
+        println!("{text}, T = {depth}, {refused} inserts refused");
+        let mut records = vec![[0; 12]; count];
         let all = plain.query([None; 4], records.as_flattened_mut());
-        assert_eq!(all, Ok((RECORDS, RECORDS, pages)));
+        assert_eq!(all, Ok((count, count, pages)));
         let (state, dir, bytes) = plain.image();
         assert_eq!(host::check(&state, &dir, &bytes), Ok(true));
         Forms {
+            sample,
             plain: Box::leak(Box::new(plain)),
             state: state.leak(),
             dir: dir.leak(),
@@ -68,11 +89,7 @@ impl Forms {
 
 /// A database of the records, numbered in split order; none where SQLite is not installed.
 fn fill_database(records: &[[u8; 12]]) -> Option<&'static Database> {
-    let Some(database) = Database::open() else {
-        println!("SQLite is skipped: libsqlite3.so.0 is not installed");
-        return None;
-    };
-    println!("SQLite {}", database.version());
+    let database = Database::open()?;
     database.run("CREATE TABLE r (n INTEGER PRIMARY KEY, a0 INT, a1 INT, a2 INT, payload INT); BEGIN");
     let insert = database.prepare("INSERT INTO r VALUES (?, ?, ?, ?, ?)");
     for (n, record) in records.iter().enumerate() {
@@ -88,7 +105,7 @@ fn fill_database(records: &[[u8; 12]]) -> Option<&'static Database> {
 /// The keys of random records.
 pub fn stored_keys(random: &mut Random, records: &[[u8; 12]], count: usize) -> &'static [[u32; 4]] {
     let key = |record| values(record).map(|value| value as u32);
-    let keys: Vec<[u32; 4]> = (0..count).map(|_| key(&records[random.below(RECORDS)])).collect();
+    let keys: Vec<[u32; 4]> = (0..count).map(|_| key(&records[random.below(records.len())])).collect();
     keys.leak()
 }
 
