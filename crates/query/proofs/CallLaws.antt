@@ -9,7 +9,7 @@ use lib.ListN.{length, getD, take}
 use lib.Pow.{pow-mono}
 use Rattle.lists.specs.Filter.{filter}
 use Rattle.lists.specs.Members.{All}
-use Rattle.shape.specs.Shape.{shapeNumber}
+use Rattle.shape.specs.Shape.{shapeNumber, inBounds, widthsOf, total}
 use Rattle.shape.specs.Refusal.{accepted, refused}
 use Rattle.shape.specs.Key.{queryFits}
 use Rattle.shape.proofs.ShapeLaws.{inBounds-of, capacity-bounds}
@@ -24,7 +24,7 @@ use Rattle.page.specs.Page.{pageAt, recordsOf}
 use Rattle.select.specs.Pattern.{GivenSixteenBits, bitsOf, patternOf}
 use Rattle.select.specs.Output.{emit}
 use Rattle.store.specs.declared.State.{State}
-use Rattle.store.specs.Store.{store}
+use Rattle.store.specs.Store.{store, pagesSize}
 use Rattle.store.specs.Promises.{QueryPromise, SoundWhereRead, withBytes}
 use Rattle.lent.specs.Limits.{limitsHold}
 use Rattle.lent.specs.Private.{lentNumberBy}
@@ -32,8 +32,11 @@ use Rattle.lent.proofs.LentLaws.{shape-of-lentNumberBy}
 use Rattle.lent.proofs.LimitsLaws.{limits-parts, limits-of-sound}
 use Rattle.walk.specs.declared.Noted.{Noted}
 use Rattle.walk.specs.declared.Noted.the-variants.{Pages, Damaged}
+use Rattle.walk.specs.Rows.{Rows, mostPages}
 use Rattle.walk.specs.Seen.{walkSeen, Put, Walkable}
-use Rattle.walk.proofs.NotedLaws.{noted-le, noted-readable, noted-reads, noted-records}
+use Rattle.walk.proofs.BoundLaws.{mostPages-le}
+use Rattle.walk.proofs.StartLaws.{length-walkSeen-le}
+use Rattle.walk.proofs.NotedLaws.{length-noted, noted-le, noted-readable, noted-reads, noted-records}
 use Rattle.query.specs.Private.{queryNumberBy, PagesListed, listHits}
 use Rattle.query.proofs.EarlyLaws.{parts-of-queryNumberBy, lent-of-lentNumberBy, indexFits-query}
 use Rattle.query.proofs.NotedLaws.{Lent, Lent-readable, All-take-of, IsField-listHits, map-listHits}
@@ -68,24 +71,53 @@ module _ (st : State) (words bytes : List ℕ) (q : List (Option ℕ))
       (λ S h. true≢false (sym (limits-of-sound (withBytes (store st words bytes) (h .0)) S (h .1)) ∙ e))
 
   module _ (can : limitsHold st ≡ true) where
-    pub walkable-none : Walkable st (length words) (length bytes) 4096
-    walkable-none =
+    -- what the walk asks besides its rows
+    pub limits-walk : (inBounds (st .shape) ≡ true) × (st .depth ≤ 12) × (st .depth ≤ total (widthsOf (st .shape)))
+        × (2 ^ st .depth ≤ length words) × (st .limits .pages ≤ 4096) × (pagesSize st ≤ length bytes)
+    limits-walk =
         let b = limits-parts st can in
         let l = lent-of-lentNumberBy st (length words) (length bytes) q lent in
-        let p : 2 ^ st .depth ≤ 2 ^ st .limits .depth = pow-mono {i = st .depth} {j = st .limits .depth} (b .4) in
-        record {
-          shape = inBounds-of (st .shape) shape-of-none;
-          depth-twelve = omega (arith, b .4, b .2);
-          depth-bits = omega (arith, b .4, b .3);
-          words-lent = omega (arith, l .0, p);
-          most-pages = b .1;
-          pages-lent = l .1;
-          list-lent = omega arith;
-        }
+        let p : 2 ^ st .depth ≤ 2 ^ st .limits .depth = pow-mono {i = st .depth} {j = st .limits .depth} (b .4) in (
+          inBounds-of (st .shape) shape-of-none,
+          omega (arith, b .4, b .2),
+          omega (arith, b .4, b .3),
+          omega (arith, l .0, p),
+          b .1,
+          l .1,
+        )
+
+    -- no walk notes more pages than the longer list has room for
+    pub rows-few : (rows : List ℕ) → mostPages rows (st .depth) 0 ≤ 4096
+    rows-few rows =
+        let p : 2 ^ st .depth ≤ 2 ^ 12 = pow-mono {i = st .depth} {j = 12} (limits-walk .1) in
+        omega (arith, p, mostPages-le rows (st .depth) 0)
+
+    pub walkable : (rows : List ℕ) (room : ℕ)
+        → Rows (widthsOf (st .shape)) (queryBits (st .shape) q) (st .depth) rows → mostPages rows (st .depth) 0 ≤ room
+        → Walkable st rows (length words) (length bytes) room
+    walkable rows room t l = record {
+      shape = limits-walk .0;
+      depth-twelve = limits-walk .1;
+      depth-bits = limits-walk .2;
+      words-lent = limits-walk .3;
+      most-pages = limits-walk .4;
+      pages-lent = limits-walk .5;
+      query = queryBits (st .shape) q;
+      table = t;
+      list-lent = l;
+    }
+
+    -- the list has room for what the walk sees
+    pub seen-room : (rows : List ℕ) (room : ℕ)
+        → Rows (widthsOf (st .shape)) (queryBits (st .shape) q) (st .depth) rows → mostPages rows (st .depth) 0 ≤ room
+        → length (walkSeen st words bytes (queryBits (st .shape) q) .pages) ≤ room
+    seen-room rows room t l =
+        length-walkSeen-le st rows words bytes room (walkable rows room t l) (queryBits (st .shape) q) t .0
 
     module _ (list : List ℕ) (r : Noted) (later : List ℕ)
         (o : Put list (walkSeen st words bytes (queryBits (st .shape) q)) r later)
-        (long : length list ≡ 4096) (long-later : length later ≡ 4096) where
+        (long : length later ≡ length list)
+        (room : length (walkSeen st words bytes (queryBits (st .shape) q) .pages) ≤ length list) where
       pub nine-damaged : (out : List ℕ) → r ≡ Damaged → QueryPromise (store st words bytes) q out (refused 9) out
       nine-damaged out e =
           promise-nine st words bytes q out (sym none)
@@ -98,16 +130,20 @@ module _ (st : State) (words bytes : List ℕ) (q : List (Option ℕ))
             let p : 2 ^ st .depth ≤ 2 ^ 12 = pow-mono {i = st .depth} {j = 12} (omega (arith, b .4, b .2)) in
             omega (arith, p, noted-le st words bytes (queryBits (st .shape) q) list r later o n e)
 
+        within : n ≤ length list
+        within =
+            omega (arith, room, length-noted st words bytes (queryBits (st .shape) q) list r later o n e)
+
         each-lent : (i : ℕ) → i < n → Lent (st .shape .capacity) bytes (getD later i 0)
         each-lent i l =
-            Lent-readable (st .shape .capacity) (st .limits .pages) bytes (getD later i 0) (walkable-none .pages-lent)
-            (noted-readable st words bytes (queryBits (st .shape) q) list r later o n e (omega (arith, few, long)) i l)
+            Lent-readable (st .shape .capacity) (st .limits .pages) bytes (getD later i 0) (limits-walk .5)
+            (noted-readable st words bytes (queryBits (st .shape) q) list r later o n e within i l)
 
         pub pages-listed : PagesListed (st .shape .capacity) bytes n later
         pages-listed = record {
           capacity = capacity-bounds (st .shape) shape-of-none .1;
           few = few;
-          within = omega (arith, few, long-later);
+          within = omega (arith, within, long);
           lent = λ i l. each-lent i l .0;
           counted = λ i l. each-lent i l .1;
         }
@@ -117,7 +153,7 @@ module _ (st : State) (words bytes : List ℕ) (q : List (Option ℕ))
           fs = listHits (patternOf q) (st .shape .capacity) bytes (take n later)
 
           all-lent : All (Lent (st .shape .capacity) bytes) (take n later)
-          all-lent = All-take-of (Lent (st .shape .capacity) bytes) later n (omega (arith, few, long-later)) each-lent
+          all-lent = All-take-of (Lent (st .shape .capacity) bytes) later n (omega (arith, within, long)) each-lent
 
           -- the matching records of the first k pages noted
           abbrev gathered : ℕ → List Record
@@ -133,7 +169,7 @@ module _ (st : State) (words bytes : List ℕ) (q : List (Option ℕ))
                 reads,
                 map-listHits (st .shape .capacity) bytes are (st .shape) q six-of-none (take n later) all-lent
                     ∙ subst (λ k. _≡_ (gathered k) (filter (matches (st .shape) q) S)) (sym reads)
-                    (noted-records (store st words bytes) q S h list r later o (omega (arith, few, long, reads))
+                    (noted-records (store st words bytes) q S h list r later o (omega (arith, within, reads))
                     (λ x f. matches-agrees (st .shape) shape-of-none q x f fits)),
               )
 

@@ -1,13 +1,20 @@
--- Early refusals by the lengths of the lent slices; the records that match in some pages, one page after the other.
+-- Early refusals by the lengths of the lent slices; what the walk needs; the records that match in some pages, one page
+-- after the other.
 -- Assumes nothing.
 use Prim.Native.Nat.{ℕ, _+_, _*_, _≤_, _<_}
+use mathlib.Core.Path.{_≡_}
+use mathlib.Core.Bool.{true}
 use mathlib.Core.List.{List, _++_, flatMap}
 use mathlib.Core.Option.{Option}
 use lib.ListN.{length, getD}
+use Rattle.shape.specs.Shape.{widthsOf}
 use Rattle.shape.specs.Refusal.{firstNumber}
 use Rattle.model.specs.Model.{queryConditions}
+use Rattle.model.specs.Sets.{queryBits}
 use Rattle.store.specs.declared.State.{State}
+use Rattle.lent.specs.Limits.{limitsHold}
 use Rattle.lent.specs.Private.{lentBy}
+use Rattle.walk.specs.Rows.{Rows, mostPages}
 use Rattle.page.specs.Page.{countOf, pageSize, pageAt}
 use Rattle.page.specs.Fields.{recordOffset}
 use Rattle.select.specs.declared.Pattern.{Pattern}
@@ -18,6 +25,15 @@ use Rattle.select.specs.Output.{hits}
 -- 1, 2, 8, 3 of a state with so many words and bytes lent
 unfoldable pub queryNumberBy : State → ℕ → ℕ → List (Option ℕ) → ℕ
 queryNumberBy st words bytes q = firstNumber (lentBy st words bytes ++ queryConditions (st .shape) q)
+
+-- ---- the walk
+
+-- nothing is refused and the limits hold; the rows are the query's, and the list has room for the pages that they let in
+pub record Tested (st : State) (q : List (Option ℕ)) (rows : List ℕ) (words bytes room : ℕ) : Type 0 where
+  pub none : queryNumberBy st words bytes q ≡ 0
+  pub can : limitsHold st ≡ true
+  pub table : Rows (widthsOf (st .shape)) (queryBits (st .shape) q) (st .depth) rows
+  pub room-left : mostPages rows (st .depth) 0 ≤ room
 
 -- ---- pages
 

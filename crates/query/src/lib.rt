@@ -16,6 +16,8 @@ use store::Listed;
 use store::State;
 use walk::Noted;
 use walk::note_pages;
+use walk::steps::fill_rows;
+use walk::steps::most_pages;
 ghost use mathlib.Core.Path.{_≡_};
 ghost use Prim.Native.Nat.{_+_, _*_, _<_, _≤_, min};
 ghost use mathlib.Core.Bool.{_||_, not};
@@ -30,7 +32,7 @@ ghost use Rattle.select.specs.Pattern.{wantedBits};
 ghost use Rattle.store.specs.Store.{store};
 ghost use Rattle.store.specs.Promises.{QueryPromise};
 ghost use Rattle.store.specs.Answers.{listedAnswer};
-ghost use Rattle.query.specs.Private.{queryNumberBy, CountLent, PagesListed, pageHits, listHits};
+ghost use Rattle.query.specs.Private.{queryNumberBy, Tested, CountLent, PagesListed, pageHits, listHits};
 
 // The records that match a partial-match query, written into the output in split order while whole
 // ones fit; how many were written, how many match, how many pages were read. Refused with 1, 2, 8, 3
@@ -46,8 +48,33 @@ pub fn query(state: State, dir: &[u32], pages: &[u8], query: Query, out: &mut [u
     if !limits_hold(state) {
         return Listed::Refused(9);
     }
+    let depth = state.depth as usize;
+    let mut rows = [0u64; 72];
+    fill_rows(state.shape, query, depth, &mut rows);
+    if most_pages(&rows, depth) <= 64 {
+        let mut few = [0u32; 64];
+        return read_pages(state, query, &rows, dir, pages, &mut few, out);
+    }
     let mut list = [0u32; 4096];
-    let noted = note_pages(state, query, dir, pages, &mut list);
+    read_pages(state, query, &rows, dir, pages, &mut list, out)
+}
+
+// The same once the state, the query and the limits are tested and the query's rows are made, with a
+// list for the pages that are read.
+fn read_pages(
+    state: State,
+    query: Query,
+    rows: &[u64; 72],
+    dir: &[u32],
+    pages: &[u8],
+    list: &mut [u32],
+    out: &mut [u8],
+) -> Listed
+    requires { ⌜ Tested state (wantedValues query) (now rows) (length (now dir)) (length (now pages)) (length (now list)) ⌝ }
+    ensures { λ r. ⌜ QueryPromise (store state (now (dir .entry)) (now (pages .entry))) (wantedValues query)
+        (now (out .entry)) (listedAnswer r) (now (out .exit)) ⌝ }
+{
+    let noted = note_pages(state, rows, dir, pages, list);
     let Noted::Pages(n) = noted else {
         return Listed::Refused(9);
     };
@@ -56,7 +83,7 @@ pub fn query(state: State, dir: &[u32], pages: &[u8], query: Query, out: &mut [u
         pages,
         shape.capacity as usize,
         pattern_of(query),
-        &list,
+        list,
         n,
         out,
     );

@@ -7,18 +7,32 @@ use native.Mathlib.Numerals.{add-one}
 use native.Mathlib.Omega.{arith}
 use lib.Bits.{bitAnd}
 use lib.Dec.{eqb, leb}
-use lib.ListN.{length, take, drop}
-use lib.Seq.{paste, length-paste, take-take}
+use lib.ListN.{length, drop, length-drop}
+use lib.Seq.{paste, length-paste, length-take-le}
 use borrow.Author.Tests.{eq-eqb, ne-eqb, le-leb, lt-leb, leb-true}
 use Rattle.lists.specs.Filter.{filter}
-use Rattle.record.specs.Bytes.{recordSize, numberOf, field}
+use Rattle.shape.specs.declared.Shape.{Shape}
+use Rattle.record.specs.declared.Content.{Content}
+use Rattle.record.specs.Bytes.{recordSize, numberOf, field, recordOf}
+use Rattle.record.specs.Packed.{keyIn, contentIn, packedBytes}
 use Rattle.record.proofs.PackedLaws.{keyIn-field}
+use Rattle.record.proofs.CodecLaws.{AreBytes, AreBytes-field, packedKey-recordOf, recordOf-content, recordBytes-packed}
+use Rattle.record.proofs.CodecLaws.{SixteenBits-recordOf, recordBytes-recordOf}
 use Rattle.page.specs.Fields.{recordOffset, fieldsFrom}
 use Rattle.select.specs.declared.Pattern.{Pattern}
 use Rattle.select.specs.Pattern.{passes}
 use Rattle.select.specs.Output.{hits, emitOne, emit, afterMatch, emitMatch}
 
 -- ---- one record
+
+-- a record's bytes, read and written again
+packedBytes-read : (bytes : List ℕ) → AreBytes bytes → length bytes ≡ recordSize
+    → packedBytes (keyIn bytes) (contentIn bytes) ≡ bytes
+packedBytes-read bytes are e =
+    let s : Shape = record { attributes = 0; widths = []; capacity = 0 } in
+    sym (λ i. packedBytes (packedKey-recordOf s bytes i) (recordOf-content s bytes i))
+    ∙ sym (recordBytes-packed s (recordOf s bytes) (SixteenBits-recordOf s bytes are))
+    ∙ recordBytes-recordOf s bytes are e
 
 module _ (p : Pattern) (page out : List ℕ) (at total key : ℕ) (e : key ≡ numberOf (field page at 8)) where
   abbrev bytes : List ℕ
@@ -45,16 +59,20 @@ module _ (p : Pattern) (page out : List ℕ) (at total key : ℕ) (e : key ≡ n
       let yes = passes-key ∙ eq-eqb (bitAnd key (p .mask)) (p .value) q in
       (rw (yes, add-one total), rw (yes, lt-leb (recordSize * total + recordSize) (length out) l))
 
-  pub match-put : bitAnd key (p .mask) ≡ p .value → recordSize * total + recordSize ≤ length out
-      → (after : List ℕ) → after ≡ paste out (recordSize * total) (drop at page) recordSize → Promised (total + 1) after
+  pub match-put : AreBytes page → at + recordSize ≤ length page → bitAnd key (p .mask) ≡ p .value
+      → recordSize * total + recordSize ≤ length out → (content : Content) → content ≡ contentIn bytes
+      → (after : List ℕ) → after ≡ paste out (recordSize * total) (packedBytes key content) recordSize
+      → Promised (total + 1) after
   unfolding afterMatch emitMatch emitOne
-  match-put q l after w =
+  match-put are h q l content d after w =
       let yes = passes-key ∙ eq-eqb (bitAnd key (p .mask)) (p .value) q in
       let to = recordSize * total in
-      let same : paste out to (drop at page) recordSize ≡ paste out to bytes recordSize =
-      ap (λ z. take to out ++ z ++ drop (to + recordSize) out)
-      (sym (take-take recordSize recordSize (drop at page) (omega arith))) in
-      (rw (yes, add-one total), w ∙ same ∙ sym (rw (yes, le-leb (to + recordSize) (length out) l)))
+      let read = e ∙ sym (keyIn-field page at) in
+      let whole = length-take-le recordSize (drop at page) (simp length-drop (omega arith)) in
+      let same = (λ i. packedBytes (read i) (d i)) ∙ packedBytes-read bytes (AreBytes-field page at recordSize are) whole in (
+        rw (yes, add-one total),
+        w ∙ ap (λ l. paste out to l recordSize) same ∙ sym (rw (yes, le-leb (to + recordSize) (length out) l)),
+      )
 
 pub length-emitOne : (i : ℕ) (bytes out : List ℕ) → length bytes ≡ recordSize
     → length (emitOne i bytes out) ≡ length out

@@ -3,7 +3,9 @@
 use page::key_at;
 use record::RECORD_SIZE;
 use record::pack_key;
+use record::read_content;
 use record::read_key;
+use record::write_record;
 use shape::Key;
 use shape::Query;
 use shape::Wanted;
@@ -89,14 +91,15 @@ fn put_match(page: &[u8], at: usize, pattern: Pattern, out: &mut [u8], total: us
     ensures { λ _. ⌜ now (out .exit)
         ≡ emitMatch pattern (field (now (page .entry)) at recordSize) total (now (out .entry)) ⌝ }
 {
-    if read_key(page, at) & pattern.mask != pattern.value {
+    let key = read_key(page, at);
+    if key & pattern.mask != pattern.value {
         return total;
     }
     let to = RECORD_SIZE * total;
     if out.len() < to + RECORD_SIZE {
         return total + 1;
     }
-    moves::copy(page, at, out, to, RECORD_SIZE);
+    write_record(out, to, key, read_content(page, at));
     total + 1
 }
 

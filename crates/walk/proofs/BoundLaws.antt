@@ -1,19 +1,21 @@
--- Laws of what a walk sees in any store: at most 2^T pages, each below P and with a count from 1 to b. Assumes nothing.
+-- Laws of what a walk sees in any store: at most 2^T pages, and as many as the rows let in, each below P and with a count
+-- from 1 to b. Assumes nothing.
 use Prim.Native.Nat.{ℕ, zero, suc, _+_, _*_, _-_, _^_, _≤_, _<_}
-use mathlib.Core.Path.{_≡_, refl}
+use mathlib.Core.Path.{_≡_, refl, sym, ap, _∙_, subst}
 use mathlib.Core.Bool.{Bool, true, false, cond}
 use mathlib.Core.List.{List, _++_}
 use native.Mathlib.Omega.{arith}
-use native.Mathlib.Nat.{pow-suc}
+use native.Mathlib.Nat.{pow-suc, le-trans, mul-one, mul-le-mul-left, mul-le-mul-right}
 use lib.Dec.{eqb, ltb}
 use lib.Pow.{pow-pos}
-use lib.ListN.{length, length-append}
-use borrow.Author.Tests.{eqb-false, ltb-false}
+use lib.ListN.{getD, length, length-append}
+use borrow.Author.Tests.{eqb-true, eqb-false, ltb-false, lt-ltb, le-ltb}
 use Rattle.lists.specs.Members.{All}
 use Rattle.lists.proofs.Bools.{cond-cases}
 use Rattle.lists.proofs.MemberLaws.{All-append}
 use Rattle.region.specs.Strings.{withBit}
 use Rattle.walk.specs.Seen.{Seen, nothing, damaged, single, after, fieldOf, depthOf, noted, met, seen}
+use Rattle.walk.specs.Rows.{mostPages}
 use Rattle.walk.specs.Private.{sides, seenBy}
 
 -- ---- how many
@@ -70,24 +72,87 @@ module _ (word : ℕ → (ℕ → Bool) → ℕ) (fair : ℕ → Bool) (enter : 
           cond-cases (λ s. length (s .pages) ≤ 2 ^ f) (enter (suc x) (withBit p x β)) _ nothing (λ e. h)
           (λ e. omega arith)
 
+-- ---- how many the rows let in
+
+-- the sides of a step that are entered
+abbrev entered : List ℕ → ℕ → ℕ
+entered rows x = cond (ltb 1 (getD rows (x * 6 + 5) 0)) 2 1
+
+entered-bounds : (rows : List ℕ) (x : ℕ) → (1 ≤ entered rows x) × (entered rows x ≤ 2)
+entered-bounds rows x = go (ltb 1 (getD rows (x * 6 + 5) 0))
+  where
+    go : (β : Bool) → (1 ≤ cond β 2 1) × (cond β 2 1 ≤ 2)
+    go true = (omega arith, omega arith)
+    go false = (omega arith, omega arith)
+
+pub mostPages-next : (rows : List ℕ) (f x : ℕ) → mostPages rows f (x + 1) ≤ mostPages rows (suc f) x
+unfolding mostPages
+mostPages-next rows f x =
+    subst (λ n. n ≤ mostPages rows (suc f) x) (mul-one (mostPages rows f (x + 1)))
+    (mul-le-mul-left (mostPages rows f (x + 1)) (entered-bounds rows x .0))
+
+-- both sides
+pub mostPages-free : (rows : List ℕ) (f x : ℕ) → (getD rows (x * 6 + 5) 0 ≡ 0 → ⊥) → (getD rows (x * 6 + 5) 0 ≡ 1 → ⊥)
+    → mostPages rows (suc f) x ≡ mostPages rows f (x + 1) * 2
+unfolding mostPages
+mostPages-free rows f x n0 n1 =
+    let more : 1 < getD rows (x * 6 + 5) 0 = omega arith in
+    rw (lt-ltb 1 (getD rows (x * 6 + 5) 0) more)
+
+pub mostPages-pos : (rows : List ℕ) (f x : ℕ) → 1 ≤ mostPages rows f x
+unfolding mostPages
+mostPages-pos rows zero x = omega arith
+mostPages-pos rows (suc f) x = le-trans (mostPages-pos rows f (x + 1)) (mostPages-next rows f x)
+
+pub mostPages-le : (rows : List ℕ) (f x : ℕ) → mostPages rows f x ≤ 2 ^ f
+unfolding mostPages
+mostPages-le rows zero x = omega arith
+mostPages-le rows (suc f) x =
+    rw pow-suc
+    (le-trans (mul-le-mul-left (mostPages rows f (x + 1)) (entered-bounds rows x .1))
+    (mul-le-mul-right 2 (mostPages-le rows f (x + 1))))
+
+-- counted from depth T down: one step more
+module _ (rows : List ℕ) (T x most : ℕ) (above : 0 < x) (deep : x ≤ T) (e : most ≡ mostPages rows (T - x) x) where
+  mostPages-down : mostPages rows (T - (x - 1)) (x - 1) ≡ most * entered rows (x - 1)
+  unfolding mostPages
+  mostPages-down =
+      let fuel : T - (x - 1) ≡ suc (T - x) = omega arith in
+      let next : x - 1 + 1 ≡ x = omega arith in
+      ap (λ f. mostPages rows f (x - 1)) fuel
+      ∙ ap (λ y. mostPages rows (T - x) y * entered rows (x - 1)) next
+      ∙ ap (λ n. n * entered rows (x - 1)) (sym e)
+
+  pub counted-free : 1 < getD rows ((x - 1) * 6 + 5) 0 → most * 2 ≡ mostPages rows (T - (x - 1)) (x - 1)
+  counted-free h = sym (mostPages-down ∙ rw (lt-ltb 1 (getD rows ((x - 1) * 6 + 5) 0) h))
+
+  pub counted-given : getD rows ((x - 1) * 6 + 5) 0 ≤ 1 → most ≡ mostPages rows (T - (x - 1)) (x - 1)
+  counted-given h =
+      sym (mostPages-down ∙ rw (le-ltb 1 (getD rows ((x - 1) * 6 + 5) 0) h) (mul-one most))
+
 module _ (rows words : List ℕ) (fair : ℕ → Bool) (P T : ℕ) where
   length-sides-le : (wanted : ℕ) (s u : Seen) (k : ℕ) → length (s .pages) ≤ k → length (u .pages) ≤ k
-      → length (sides wanted s u .pages) ≤ k * 2
+      → length (sides wanted s u .pages) ≤ k * cond (ltb 1 wanted) 2 1
   unfolding sides
-  length-sides-le wanted s u k h l = go (eqb wanted 0) (eqb wanted 1)
+  length-sides-le wanted s u k h l = go (eqb wanted 0) refl (eqb wanted 1) refl
     where
-      go : (β γ : Bool) → length (cond β s (cond γ u (after s u)) .pages) ≤ k * 2
-      go true γ = omega arith
-      go false true = omega arith
-      go false false = length-after-le s u k h l
+      go : (β : Bool) → eqb wanted 0 ≡ β → (γ : Bool) → eqb wanted 1 ≡ γ
+          → length (cond β s (cond γ u (after s u)) .pages) ≤ k * cond (ltb 1 wanted) 2 1
+      go true e γ d = rw (le-ltb 1 wanted (omega (arith, eqb-true wanted 0 e))) (omega arith)
+      go false e true d = rw (le-ltb 1 wanted (omega (arith, eqb-true wanted 1 d))) (omega arith)
+      go false e false d =
+          let n0 = eqb-false wanted 0 e in
+          let n1 = eqb-false wanted 1 d in
+          let more : 1 < wanted = omega arith in
+          rw (lt-ltb 1 wanted more) (length-after-le s u k h l)
 
-  pub length-seenBy-le : (f x v word : ℕ) → length (seenBy rows words fair P T f x v word .pages) ≤ 2 ^ f
-  unfolding seenBy
+  pub length-seenBy-le : (f x v word : ℕ) → length (seenBy rows words fair P T f x v word .pages) ≤ mostPages rows f x
+  unfolding seenBy mostPages
   length-seenBy-le zero x v word = length-met-le P fair T x word damaged 1 (omega arith) (omega arith)
   length-seenBy-le (suc f) x v word =
-      rw pow-suc
-      (length-met-le P fair T x word _ (2 ^ f * 2) (omega (arith, pow-pos f))
-      (length-sides-le _ _ _ (2 ^ f) (length-seenBy-le f (x + 1) v word) (length-seenBy-le f (x + 1) _ _)))
+      length-met-le P fair T x word _ (mostPages rows (suc f) x) (mostPages-pos rows (suc f) x)
+      (length-sides-le _ _ _ (mostPages rows f (x + 1)) (length-seenBy-le f (x + 1) v word)
+      (length-seenBy-le f (x + 1) _ _))
 
 -- ---- which
 

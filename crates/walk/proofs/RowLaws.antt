@@ -25,7 +25,7 @@ use Rattle.split.proofs.DepthLaws.{step-here, depth-here}
 use Rattle.region.specs.Query.{QueryBit, given}
 use Rattle.model.specs.Sets.{queryBitOf, queryBits, encodeWanted}
 use Rattle.walk.specs.Seen.{emit}
-use Rattle.walk.specs.Private.{shiftOf, otherDepth, wantedNumber, wantedAt, stepRow, Rows}
+use Rattle.walk.specs.Rows.{shiftOf, otherDepth, wantedNumber, wantedAt, stepRow, Rows}
 use Rattle.walk.proofs.SeenLaws.{length-emit, getD-emit-before, getD-emit}
 use Rattle.walk.proofs.LaneLaws.{four}
 

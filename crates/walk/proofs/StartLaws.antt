@@ -19,13 +19,13 @@ use Rattle.region.specs.Query.{QueryBit, free, given, bitAgrees, agrees, queryE
 use Rattle.region.proofs.StringLaws.{withBit-same}
 use Rattle.region.proofs.QueryLaws.{queryEnters-side}
 use Rattle.store.specs.declared.State.{State}
-use Rattle.store.specs.Store.{wordAt}
 use Rattle.shape.proofs.ShapeLaws.{shapeNumber-true, capacity-bounds}
 use Rattle.walk.specs.declared.Noted.the-variants.{Pages, Damaged}
 use Rattle.walk.specs.Seen.{Seen, nothing, after, met, seen, fairPage, walkSeen, Put, Walkable}
-use Rattle.walk.specs.Private.{wantedNumber, stepRow, Rows, packed, weighed, sides, seenBy, Wrote, Turn}
+use Rattle.walk.specs.Rows.{wantedNumber, stepRow, Rows, mostPages}
+use Rattle.walk.specs.Private.{packed, weighed, sides, seenBy, Wrote, Turn}
 use Rattle.walk.proofs.SeenLaws.{after-nothing, nothing-after, sound-of-next, damaged-of-next}
-use Rattle.walk.proofs.BoundLaws.{length-seen-le}
+use Rattle.walk.proofs.BoundLaws.{length-seenBy-le, mostPages-le}
 use Rattle.walk.proofs.RowLaws.{fit-steps}
 use Rattle.walk.proofs.VectorLaws.{cell-lower, packed-upper, weighed-cell}
 
@@ -104,8 +104,8 @@ module _ (ws : List ℕ) (fit : Fit ws) (q : ℕ → QueryBit) (T : ℕ) (bits :
 
 -- ---- from the empty string
 
-module _ (st : State) (words bytes : List ℕ) (room : ℕ) (h : Walkable st (length words) (length bytes) room)
-    (q : ℕ → QueryBit) (rows : List ℕ) (table : Rows (widthsOf (st .shape)) q (st .depth) rows) where
+module _ (st : State) (rows words bytes : List ℕ) (room : ℕ)
+    (h : Walkable st rows (length words) (length bytes) room) where
   abbrev ws : List ℕ
   ws = widthsOf (st .shape)
 
@@ -119,7 +119,6 @@ module _ (st : State) (words bytes : List ℕ) (room : ℕ) (h : Walkable st (le
       let all : st .depth - 0 ≡ st .depth = omega arith in
       record {
         lent = record {
-          list-lent = h .list-lent;
           most-pages = h .most-pages;
           capacity = capacity-bounds (st .shape) (shapeNumber-true (st .shape) (h .shape)) .1;
           pages-lent = h .pages-lent;
@@ -127,14 +126,15 @@ module _ (st : State) (words bytes : List ℕ) (room : ℕ) (h : Walkable st (le
         depth-twelve = h .depth-twelve;
         words-lent = h .words-lent;
         widths = ws;
-        query = q;
+        query = h .query;
         string = emptyString;
         fit = fits .0;
         bits = fits .1;
-        table = table;
+        table = h .table;
         vector = sym (ap packed (cell-zero ws emptyString));
         deep = omega arith;
         count = rw all (omega arith);
+        left = rw all (omega (arith, h .list-lent));
       }
 
   -- the walk by rows from the zero vector
@@ -143,41 +143,50 @@ module _ (st : State) (words bytes : List ℕ) (room : ℕ) (h : Walkable st (le
       seenBy rows words (fairPage (st .shape .capacity) bytes) (st .limits .pages) (st .depth) (st .depth - 0) 0 0
       (getD words 0 0)
 
-  byRows-walkSeen : byRows ≡ walkSeen st words bytes q
-  unfolding walkSeen cellAddress
-  byRows-walkSeen =
-      let fair = fairPage (st .shape .capacity) bytes in
-      let P = st .limits .pages in
-      let T = st .depth in
-      let all : T - 0 ≡ T = omega arith in
-      let none = cell-zero ws emptyString in
-      ap (λ f. seenBy rows words fair P T f 0 0 (getD words 0 0)) all
-      ∙ ap (λ v. seenBy rows words fair P T T 0 v (getD words 0 0)) (sym (ap packed none))
-      ∙ ap (λ a. seenBy rows words fair P T T 0 (packed (cell ws 0 emptyString)) (getD words a 0))
-      (sym (ap (address ws) none ∙ address-zero ws))
-      ∙ seenBy-seen ws (fits .0) q T (fits .1) rows table words fair P T 0 emptyString (omega arith) refl
-
-  pub length-walkSeen-le : length (walkSeen st words bytes q .pages) ≤ 4096
-  unfolding walkSeen
-  length-walkSeen-le =
+  length-byRows-le : (length (byRows .pages) ≤ room) × (length (byRows .pages) ≤ 4096)
+  length-byRows-le =
+      let all : st .depth - 0 ≡ st .depth = omega arith in
       let most = pow-mono {j = 12} (h .depth-twelve) in
-      omega (
-        arith,
-        length-seen-le (λ x p. wordAt (st .shape) x words p) (fairPage (st .shape .capacity) bytes) (queryEnters q)
-            (st .limits .pages) (st .depth) (st .depth) emptyString 0,
+      let l = length-seenBy-le rows words (fairPage (st .shape .capacity) bytes) (st .limits .pages) (st .depth)
+      (st .depth - 0) 0 0 (getD words 0 0) in
+      let e = ap (λ f. mostPages rows f 0) all in (
+        omega (arith, l, e, h .list-lent),
+        omega (arith, l, e, most, mostPages-le rows (st .depth) 0),
       )
 
-  module _ (list later : List ℕ) (r : ℕ) (o : Wrote list 0 byRows r later) where
-    here : Wrote list 0 (walkSeen st words bytes q) r later
-    here = subst (λ s. Wrote list 0 s r later) byRows-walkSeen o
+  -- the rows are those of this query
+  module _ (q : ℕ → QueryBit) (table : Rows ws q (st .depth) rows) where
+    byRows-walkSeen : byRows ≡ walkSeen st words bytes q
+    unfolding walkSeen cellAddress
+    byRows-walkSeen =
+        let fair = fairPage (st .shape .capacity) bytes in
+        let P = st .limits .pages in
+        let T = st .depth in
+        let all : T - 0 ≡ T = omega arith in
+        let none = cell-zero ws emptyString in
+        ap (λ f. seenBy rows words fair P T f 0 0 (getD words 0 0)) all
+        ∙ ap (λ v. seenBy rows words fair P T T 0 v (getD words 0 0)) (sym (ap packed none))
+        ∙ ap (λ a. seenBy rows words fair P T T 0 (packed (cell ws 0 emptyString)) (getD words a 0))
+        (sym (ap (address ws) none ∙ address-zero ws))
+        ∙ seenBy-seen ws (fits .0) q T (fits .1) rows table words fair P T 0 emptyString (omega arith) refl
 
-    pub Put-pages : r ≤ 4096 → Put list (walkSeen st words bytes q) (Pages r) later
-    Put-pages k =
-        let s = walkSeen st words bytes q in
-        let d = sound-of-next list later 0 s r here k in
-        record { answer = ap Pages (d .1 ∙ zero-add (length (s .pages))) ∙ rw (d .0); lines = here .lines }
+    -- they have room in the list
+    pub length-walkSeen-le : (length (walkSeen st words bytes q .pages) ≤ room)
+        × (length (walkSeen st words bytes q .pages) ≤ 4096)
+    length-walkSeen-le =
+        subst (λ s. (length (s .pages) ≤ room) × (length (s .pages) ≤ 4096)) byRows-walkSeen length-byRows-le
 
-    pub Put-damaged : 4096 < r → Put list (walkSeen st words bytes q) Damaged later
-    Put-damaged k =
-        let d = damaged-of-next list later 0 (walkSeen st words bytes q) r here k (omega (arith, length-walkSeen-le)) in
-        record { answer = rw d; lines = here .lines }
+    module _ (list later : List ℕ) (r : ℕ) (o : Wrote list 0 byRows r later) where
+      here : Wrote list 0 (walkSeen st words bytes q) r later
+      here = subst (λ s. Wrote list 0 s r later) byRows-walkSeen o
+
+      pub Put-pages : r ≤ 4096 → Put list (walkSeen st words bytes q) (Pages r) later
+      Put-pages k =
+          let s = walkSeen st words bytes q in
+          let d = sound-of-next list later 0 s r here k in
+          record { answer = ap Pages (d .1 ∙ zero-add (length (s .pages))) ∙ rw (d .0); lines = here .lines }
+
+      pub Put-damaged : 4096 < r → Put list (walkSeen st words bytes q) Damaged later
+      Put-damaged k =
+          let d = damaged-of-next list later 0 (walkSeen st words bytes q) r here k (omega (arith, length-walkSeen-le .1)) in
+          record { answer = rw d; lines = here .lines }

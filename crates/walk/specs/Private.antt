@@ -1,66 +1,18 @@
--- Definitions that only private functions' contracts cite: the rows of the table by step, index vectors in one number,
--- and the walk by these. Assumes nothing.
-use Prim.Native.Nat.{ℕ, zero, suc, _+_, _*_, _-_, _/_, _%_, _^_, _≤_, _<_, min}
+-- Definitions that only private functions' contracts cite: index vectors in one number, and the walk by rows.
+-- Assumes nothing.
+use Prim.Native.Nat.{ℕ, zero, suc, _+_, _*_, _-_, _/_, _%_, _^_, _≤_, _<_}
 use mathlib.Core.Path.{_≡_}
-use mathlib.Core.Bool.{Bool, true, false, cond}
+use mathlib.Core.Bool.{Bool, cond}
 use mathlib.Core.List.{List, [], _∷_}
-use mathlib.Core.Option.{Option, none}
 use lib.Dec.{eqb}
-use lib.ListN.{getD, length, set, drop}
-use Rattle.shape.specs.Shape.{Fit, total}
-use Rattle.split.specs.Steps.{step, steps, depth}
+use lib.ListN.{getD, length}
+use Rattle.shape.specs.Shape.{Fit}
+use Rattle.split.specs.Steps.{steps}
 use Rattle.cell.specs.Cell.{cell}
-use Rattle.region.specs.Query.{QueryBit, free, given}
+use Rattle.region.specs.Query.{QueryBit}
 use Rattle.page.specs.Page.{pageSize}
-use Rattle.model.specs.Sets.{queryBitOf}
 use Rattle.walk.specs.Seen.{Seen, damaged, after, met, emit}
-use Rattle.walk.specs.declared.steps.Row.{Row}
-
--- ---- rows
-
--- the depths of the four attributes after t steps
-abbrev pub depths : List ℕ → ℕ → List ℕ
-depths ws t = depth ws t 0 ∷ depth ws t 1 ∷ depth ws t 2 ∷ depth ws t 3 ∷ []
-
--- how far index j is shifted in the address of a cell that a step of attribute z appended, before which the depths are
--- hs: "the product of all J_j with j ≠ z" for z, "the product of those J_r with r > j and r ≠ z" for another
-unfoldable pub shiftOf : ℕ → List ℕ → ℕ → ℕ
-shiftOf z hs j = cond (eqb j z) (total (set hs z 0)) (total (drop (suc j) (set hs z 0)))
-
--- the depth of attribute j of w bits just before the pair at place g; 0 for the attribute of the pair
-abbrev pub otherDepth : ℕ → ℕ → ℕ → ℕ
-otherDepth w g j = cond (eqb j (g % 4)) 0 (min w ((g + 3 - j) / 4))
-
--- what a query says of a bit, as a number
-abbrev pub wantedNumber : QueryBit → ℕ
-wantedNumber free = 2
-wantedNumber (given false) = 0
-wantedNumber (given true) = 1
-
--- what a query says of split step t, by the widths and its values' encodings
-abbrev pub wantedAt : List ℕ → List (Option ℕ) → ℕ → QueryBit
-wantedAt ws wanted t =
-    queryBitOf (getD ws (step ws t .attribute) 0) (step ws t .bit) (getD wanted (step ws t .attribute) none)
-
--- six numbers for a step: four shifts, the bit that it sets in a vector of 16-bit lanes, and what the query wants
-unfoldable pub stepRow : List ℕ → (ℕ → QueryBit) → ℕ → List ℕ
-stepRow ws q t =
-    let z = step ws t .attribute in
-    shiftOf z (depths ws t) 0
-    ∷ shiftOf z (depths ws t) 1
-    ∷ shiftOf z (depths ws t) 2
-    ∷ shiftOf z (depths ws t) 3
-    ∷ 2 ^ (16 * z + step ws t .bit)
-    ∷ wantedNumber (q t)
-    ∷ []
-
--- a row as a list
-abbrev pub rowList : Row → List ℕ
-rowList r = r .s0 ∷ r .s1 ∷ r .s2 ∷ r .s3 ∷ r .bit ∷ r .wanted ∷ []
-
--- the table holds the rows of the steps below t
-abbrev pub Rows : List ℕ → (ℕ → QueryBit) → ℕ → List ℕ → Type 0
-Rows ws q t rows = (x i : ℕ) → x < t → i < 6 → getD rows (x * 6 + i) 0 ≡ getD (stepRow ws q x) i 0
+use Rattle.walk.specs.Rows.{Rows, mostPages}
 
 -- ---- index vectors in one number
 
@@ -111,16 +63,16 @@ pub record Wrote (list : List ℕ) (n : ℕ) (s : Seen) (r : ℕ) (later : List 
   pub next : r ≡ cond (s .sound) (n + length (s .pages)) 65535
   pub lines : later ≡ emit list n (s .pages)
 
--- room in the list, and P pages of capacity b
-pub record Lent (bytes room P b : ℕ) : Type 0 where
-  pub list-lent : 4096 ≤ room
+-- P pages of capacity b
+pub record Lent (bytes P b : ℕ) : Type 0 where
   pub most-pages : P ≤ 4096
   pub capacity : b ≤ 16
   pub pages-lent : P * pageSize b ≤ bytes
 
--- what a turn asks: the rows are those of some widths and query, the vector is that of some string of x bits
+-- what a turn asks: the rows are those of some widths and query, the vector is that of some string of x bits, and the
+-- list has room for what is left
 pub record Turn (rows words : List ℕ) (bytes room P b T v x n : ℕ) : Type 0 where
-  pub lent : Lent bytes room P b
+  pub lent : Lent bytes P b
   pub depth-twelve : T ≤ 12
   pub words-lent : 2 ^ T ≤ length words
   pub widths : List ℕ
@@ -132,3 +84,4 @@ pub record Turn (rows words : List ℕ) (bytes room P b T v x n : ℕ) : Type 0 
   pub vector : v ≡ packed (cell widths x string)
   pub deep : x ≤ T
   pub count : n + 2 ^ (T - x) ≤ 4096
+  pub left : n + mostPages rows (T - x) x ≤ room

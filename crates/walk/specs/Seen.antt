@@ -13,6 +13,7 @@ use Rattle.region.specs.Query.{QueryBit, queryEnters}
 use Rattle.page.specs.Page.{countOf, pageAt}
 use Rattle.store.specs.declared.State.{State}
 use Rattle.store.specs.Store.{pagesSize, wordAt}
+use Rattle.walk.specs.Rows.{Rows, mostPages}
 use Rattle.walk.specs.declared.Noted.{Noted}
 use Rattle.walk.specs.declared.Noted.the-variants.{Pages, Damaged}
 
@@ -100,12 +101,20 @@ pub record Put (list : List ℕ) (s : Seen) (r : Noted) (later : List ℕ) : Typ
   pub answer : r ≡ answerOf s
   pub lines : later ≡ emit list 0 (s .pages)
 
--- what the walk asks of a state, the lengths of its slices and the room in the list
-pub record Walkable (st : State) (words bytes room : ℕ) : Type 0 where
+-- of each query whose rows these are
+abbrev pub Noting : State → (rows words bytes list : List ℕ) → Noted → List ℕ → Type 0
+Noting st rows words bytes list r later =
+    (q : ℕ → QueryBit) → Rows (widthsOf (st .shape)) q (st .depth) rows
+    → Put list (walkSeen st words bytes q) r later
+
+-- what the walk asks of a state, its rows, the lengths of its slices and the room in the list
+pub record Walkable (st : State) (rows : List ℕ) (words bytes room : ℕ) : Type 0 where
   pub shape : inBounds (st .shape) ≡ true
   pub depth-twelve : st .depth ≤ 12
   pub depth-bits : st .depth ≤ total (widthsOf (st .shape))
   pub words-lent : 2 ^ st .depth ≤ words
   pub most-pages : st .limits .pages ≤ 4096
   pub pages-lent : pagesSize st ≤ bytes
-  pub list-lent : 4096 ≤ room
+  pub query : ℕ → QueryBit
+  pub table : Rows (widthsOf (st .shape)) query (st .depth) rows
+  pub list-lent : mostPages rows (st .depth) 0 ≤ room

@@ -18,7 +18,7 @@ ghost use Rattle.shape.specs.Key.{wantedValues};
 ghost use Rattle.split.specs.Steps.{stepsBelow};
 ghost use Rattle.model.specs.Sets.{queryBits, queryBitOf};
 ghost use Rattle.walk.specs.Seen.{emit};
-ghost use Rattle.walk.specs.Private.{Rows, stepRow, rowList, wantedAt, wantedNumber, otherDepth};
+ghost use Rattle.walk.specs.Rows.{Rows, stepRow, rowList, wantedAt, wantedNumber, otherDepth, mostPages};
 
 // What the walk needs of a step: how far each index is shifted in the address of a cell that the step
 // appended, the bit that the step sets in a vector of 16-bit lanes, and the query's bit (0, 1, or 2
@@ -49,6 +49,23 @@ pub fn fill_rows(shape: Shape, query: Query, t: usize, rows: &mut [u64; 72])
         }
         g += 1;
     }
+}
+
+// How many pages a walk by the rows of the steps below t notes at most: twice as many for each step in
+// which the query is free.
+pub fn most_pages(rows: &[u64; 72], t: usize) -> usize
+    requires { ⌜ t ≤ 12 ⌝ }
+    ensures { λ r. ⌜ r ≡ mostPages (now (rows .entry)) t 0 ⌝ }
+{
+    let mut most = 1;
+    let mut x = t;
+    while 0 < x {
+        x -= 1;
+        if 1 < rows[x * 6 + 5] {
+            most *= 2;
+        }
+    }
+    most
 }
 
 // The row of the step at place g.

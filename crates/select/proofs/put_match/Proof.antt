@@ -1,4 +1,4 @@
--- `select::put_match` meets its contract: no match, no room, or the record is copied. Assumes nothing.
+-- `select::put_match` meets its contract: no match, no room, or the record is read and written. Assumes nothing.
 use native.Mathlib.Omega.{arith}
 use Rattle.select.proofs.MatchLaws.{no-match, match-full, match-put}
 use borrow.Author.Needs.{needs}
@@ -30,8 +30,11 @@ returns-2 c =
     match-full (a .pattern) (a .page .now) (a .out .now) (a .at) (a .total) _ (read .read-key .ensures)
     (c .before .if1 .left) (omega arith)
 
-copy-requires : tie.Need-copy-requires
-copy-requires c κs = search needs
+read-content-requires : tie.Need-read-content-requires
+read-content-requires c κs = search needs
+
+write-record-requires : tie.Need-write-record-requires
+write-record-requires c κs = search needs
 
 add-result-2 : tie.Need-add-result-2
 add-result-2 c = search needs
@@ -41,12 +44,14 @@ same-length c = search needs
 
 returns-3 : tie.Need-returns-3
 returns-3 c =
-    let matched = c .before .before .before .before .before in
+    let matched = c .before .before .before .before .before .before in
     let read = matched .before .before .before in
-    let a = read .before .before .before .args in
+    let known = read .before .before .shared-slice-known .given in
+    let start = read .before .before .before in
+    let a = start .args in
     match-put (a .pattern) (a .page .now) (a .out .now) (a .at) (a .total) _ (read .read-key .ensures)
-    (matched .if1 .left)
-    (omega arith) _ (c .before .before .copy .ensures)
+    (λ i. omega (arith, known i)) (start .pre .0) (matched .if1 .left) (omega arith)
+    _ (c .before .before .before .read-content .ensures) _ (c .before .before .write-record .ensures)
 
 pub put-match-spec : {M : Type 1} → statement M
 put-match-spec =
@@ -58,7 +63,8 @@ put-match-spec =
     add-if2
     add-result
     returns-2
-    copy-requires
+    read-content-requires
+    write-record-requires
     add-result-2
     same-length
     returns-3)

@@ -8,7 +8,7 @@ use lib.ListN.{length}
 use Rattle.shape.specs.Shape.{Fit, widthList}
 use Rattle.shape.specs.Key.{wantedValues}
 use Rattle.split.specs.Steps.{steps}
-use Rattle.walk.specs.Private.{wantedAt}
+use Rattle.walk.specs.Rows.{wantedAt}
 use Rattle.walk.proofs.RowLaws.{Filled, filled-zero, filled-live, filled-skip, filled-step, rows-filled}
 use Rattle.walk.proofs.RowLaws.{fit-steps}
 use Rattle.walk.proofs.steps.fill_rows.Statement.{statement}
