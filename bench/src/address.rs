@@ -11,7 +11,7 @@ const CALLS: usize = 1024;
 /// Index vectors of all the shape's bits.
 pub fn rows(table: &mut Table, random: &mut Random) {
     for widths in SHAPES {
-        let shape = Shape::new(widths);
+        let shape = Shape::new(widths, 1);
         let indices = vectors(random, widths, CALLS);
         table.row(
             Step {

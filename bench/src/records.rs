@@ -16,7 +16,7 @@ pub const BYTES: usize = PAGES * (2 + 12 * 16);
 const PAGES: usize = 4096;
 
 pub fn shape() -> Shape {
-    Shape { capacity: 16, ..Shape::new(&WIDTHS) }
+    Shape::new(&WIDTHS, 16)
 }
 
 /// The same records in every form, kept as long as the program runs.

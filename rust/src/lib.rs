@@ -2,7 +2,6 @@
 pub mod cells;
 pub mod compare;
 pub mod followed;
-pub mod host;
 pub mod lent;
 pub mod pages;
 pub mod plain;
@@ -11,3 +10,6 @@ pub mod random;
 pub mod reference;
 pub mod samples;
 pub mod shapes;
+
+/// The calls on lent slices.
+pub use mdeh::raw as host;

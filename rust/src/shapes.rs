@@ -1,4 +1,5 @@
-//! Widths of shapes: all of a size, and random ones.
+//! Shapes and their widths: all of a size, and random ones.
+use crate::host::Shape;
 use crate::random::Random;
 
 /// All widths of `count` attributes with a sum of at most `total`.
@@ -35,4 +36,11 @@ pub fn random_widths(random: &mut Random, total: u32) -> Vec<u32> {
         widths[j] = (widths[j] + 1).min(16);
     }
     widths
+}
+
+/// A random shape of up to so many bits, and with a capacity up to `most`.
+pub fn random_shape(random: &mut Random, bits: u32, most: u64) -> Shape {
+    let total = random.between(1, bits.into()) as u32;
+    let widths = random_widths(random, total);
+    Shape::new(&widths, random.between(1, most) as u32)
 }

@@ -31,7 +31,7 @@ fn every_entry_of_every_shape_of_up_to_ten_bits() {
     for d in 1..=4 {
         for widths in all_widths(d, 10) {
             shapes += 1;
-            let shape = Shape::new(&widths);
+            let shape = Shape::new(&widths, 1);
             let total = widths.iter().sum::<u32>();
             let array = DoublingArray::new(&widths, total as usize);
             assert_eq!(array.vectors.len(), 1 << total);
@@ -58,7 +58,7 @@ fn first_entries_of_shapes_of_11_to_64_bits() {
     for total in 11..=64 {
         for _ in 0..4 {
             let widths = random_widths(&mut random, total);
-            compare_with_array(&mut count, Shape::new(&widths), &DoublingArray::new(&widths, 11));
+            compare_with_array(&mut count, Shape::new(&widths, 1), &DoublingArray::new(&widths, 11));
         }
     }
     count.end(54 * 4 * 2048 * 2);
@@ -71,7 +71,7 @@ fn random_vectors_of_shapes_of_11_to_64_bits() {
     for total in 11..=64 {
         for _ in 0..40 {
             let widths = random_widths(&mut random, total);
-            let shape = Shape::new(&widths);
+            let shape = Shape::new(&widths, 1);
             let steps = steps(&widths);
             for _ in 0..500 {
                 let mut index = [0; 4];
@@ -95,7 +95,7 @@ fn random_addresses_of_shapes_of_11_to_64_bits() {
     for total in 11..=64 {
         for _ in 0..40 {
             let widths = random_widths(&mut random, total);
-            let shape = Shape::new(&widths);
+            let shape = Shape::new(&widths, 1);
             let steps = steps(&widths);
             for _ in 0..500 {
                 let a = random.short(total);
@@ -117,7 +117,7 @@ fn last_vector_and_first_address_past_it() {
     for total in 1..=64 {
         for _ in 0..40 {
             let widths = random_widths(&mut random, total);
-            let shape = Shape::new(&widths);
+            let shape = Shape::new(&widths, 1);
             let about = format_args!("{shape:?}");
             let ones = shape.widths.map(|width| (1 << width) - 1);
             let last = u64::MAX >> (64 - total);
@@ -131,7 +131,7 @@ fn last_vector_and_first_address_past_it() {
             }
         }
     }
-    let widest = Shape::new(&[16; 4]);
+    let widest = Shape::new(&[16; 4], 1);
     count.same(host::index(widest, u64::MAX), Ok([65_535; 4]), format_args!("{widest:?}"));
     count.same(host::address(widest, [65_535; 4]), Ok(u64::MAX), format_args!("{widest:?}"));
     count.end(64 * 40 * 3 + 63 * 40 * 4 + 2);
@@ -221,7 +221,7 @@ fn widths_past_d_are_ignored() {
         let array = DoublingArray::new(&used, 3 * d);
         for unused in BAD_WIDTHS.into_iter().chain(1..=16) {
             for places in 1..1 << (4 - d) {
-                let mut shape = Shape::new(&used);
+                let mut shape = Shape::new(&used, 1);
                 for j in d..4 {
                     if places & (1 << (j - d)) != 0 {
                         shape.widths[j] = unused;
@@ -248,7 +248,7 @@ fn index_out_of_range_is_refused_with_3() {
             for width in 1..=16 {
                 let mut widths = vec![3; d];
                 widths[j] = width;
-                let shape = Shape::new(&widths);
+                let shape = Shape::new(&widths, 1);
                 let steps = steps(&widths);
                 let ones = shape.widths.map(|width| (1 << width) - 1);
                 for mut index in [[0; 4], ones] {
@@ -272,7 +272,7 @@ fn index_out_of_range_is_refused_with_3() {
 fn unused_index_other_than_0_is_refused_with_3() {
     let mut count = Comparisons::default();
     for d in 1..4 {
-        let shape = Shape::new(&vec![3; d]);
+        let shape = Shape::new(&vec![3; d], 1);
         let ones = shape.widths.map(|width| (1 << width) - 1);
         for j in d..4 {
             for mut index in [[0; 4], ones] {
@@ -302,7 +302,7 @@ fn entries_of_the_proof_table() {
         (&[1, 3, 2], [0, 7, 3, 0], 59),
     ];
     for (widths, index, a) in entries {
-        let shape = Shape::new(widths);
+        let shape = Shape::new(widths, 1);
         let array = DoublingArray::new(widths, widths.iter().sum::<u32>() as usize);
         let about = format_args!("{shape:?}, {index:?}");
         count.same(host::address(shape, index), Ok(a), about);

@@ -150,7 +150,9 @@ fn ordinary_calls(count: &mut Comparisons, random: &mut Random, model: &Model, i
 fn each_clause_broken_in_turn() {
     let mut count = Comparisons::default();
     let mut random = Random::new(SEED);
-    unsound::clause_broken(&mut random, 100, |random, model, image| ordinary_calls(&mut count, random, model, image));
+    unsound::clause_broken(&mut random, 100, |random, model, image| {
+        ordinary_calls(&mut count, random, model, image)
+    });
     count.end(25 * 100 * COMPARED);
 }
 
@@ -158,7 +160,9 @@ fn each_clause_broken_in_turn() {
 fn several_clauses_broken_at_once() {
     let mut count = Comparisons::default();
     let mut random = Random::new(SEED);
-    unsound::clauses_broken(&mut random, 1500, |random, model, image| ordinary_calls(&mut count, random, model, image));
+    unsound::clauses_broken(&mut random, 1500, |random, model, image| {
+        ordinary_calls(&mut count, random, model, image)
+    });
     count.end(1500 * COMPARED);
 }
 
@@ -166,7 +170,9 @@ fn several_clauses_broken_at_once() {
 fn random_words_and_pages() {
     let mut count = Comparisons::default();
     let mut random = Random::new(SEED);
-    unsound::random_memory(&mut random, 2000, 0x0003_000f, |random, model, image| ordinary_calls(&mut count, random, model, image));
+    unsound::random_memory(&mut random, 2000, 0x0003_000f, |random, model, image| {
+        ordinary_calls(&mut count, random, model, image)
+    });
     count.end(2000 * COMPARED);
 }
 
@@ -174,7 +180,9 @@ fn random_words_and_pages() {
 fn random_states() {
     let mut count = Comparisons::default();
     let mut random = Random::new(SEED);
-    unsound::random_states(&mut random, 2000, |random, model, image| ordinary_calls(&mut count, random, model, image));
+    unsound::random_states(&mut random, 2000, |random, model, image| {
+        ordinary_calls(&mut count, random, model, image)
+    });
     count.end(2000 * COMPARED);
 }
 
@@ -182,6 +190,8 @@ fn random_states() {
 fn wild_limits() {
     let mut count = Comparisons::default();
     let mut random = Random::new(SEED);
-    unsound::wild_limits(&mut random, |random, model, image| ordinary_calls(&mut count, random, model, image));
+    unsound::wild_limits(&mut random, |random, model, image| {
+        ordinary_calls(&mut count, random, model, image)
+    });
     count.end(unsound::WILD * COMPARED);
 }

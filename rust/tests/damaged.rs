@@ -62,7 +62,9 @@ fn query_is_ordinary(
 fn each_clause_broken_in_turn() {
     let mut count = Comparisons::default();
     let mut random = Random::new(SEED);
-    unsound::clause_broken(&mut random, 60, |random, model, image| both_calls(&mut count, random, model, image));
+    unsound::clause_broken(&mut random, 60, |random, model, image| {
+        both_calls(&mut count, random, model, image)
+    });
     count.end(25 * 60 * COMPARED);
 }
 
@@ -70,7 +72,9 @@ fn each_clause_broken_in_turn() {
 fn several_clauses_broken_at_once() {
     let mut count = Comparisons::default();
     let mut random = Random::new(SEED);
-    unsound::clauses_broken(&mut random, 1000, |random, model, image| both_calls(&mut count, random, model, image));
+    unsound::clauses_broken(&mut random, 1000, |random, model, image| {
+        both_calls(&mut count, random, model, image)
+    });
     count.end(1000 * COMPARED);
 }
 
@@ -78,7 +82,9 @@ fn several_clauses_broken_at_once() {
 fn random_words_and_pages() {
     let mut count = Comparisons::default();
     let mut random = Random::new(SEED);
-    unsound::random_memory(&mut random, 1500, 0x000f_003f, |random, model, image| both_calls(&mut count, random, model, image));
+    unsound::random_memory(&mut random, 1500, 0x000f_003f, |random, model, image| {
+        both_calls(&mut count, random, model, image)
+    });
     count.end(1500 * COMPARED);
 }
 
@@ -86,7 +92,9 @@ fn random_words_and_pages() {
 fn random_states() {
     let mut count = Comparisons::default();
     let mut random = Random::new(SEED);
-    unsound::random_states(&mut random, 1500, |random, model, image| both_calls(&mut count, random, model, image));
+    unsound::random_states(&mut random, 1500, |random, model, image| {
+        both_calls(&mut count, random, model, image)
+    });
     count.end(1500 * COMPARED);
 }
 

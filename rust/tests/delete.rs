@@ -9,11 +9,6 @@ use mdeh_tests::random::Random;
 
 const SEED: u64 = 0x6d64_6568_2d30_3131;
 
-/// A shape of these widths and capacity.
-fn shape(widths: &[u32], capacity: u32) -> Shape {
-    Shape { capacity, ..Shape::new(widths) }
-}
-
 /// A stored key.
 fn stored_key(random: &mut Random, model: &Model) -> [u32; 4] {
     model.records[random.below(model.records.len())].key
@@ -47,7 +42,7 @@ fn all_records_in_turn() {
     for capacity in 1..=16 {
         for widths in [&[1][..], &[5], &[2, 2], &[1, 16], &[16, 1, 1, 1], &[3, 4, 5, 2], &[16; 4]] {
             let mut model =
-                Model::new(shape(widths, capacity), 40, 6.min(widths.iter().sum::<u32>() as usize));
+                Model::new(Shape::new(widths, capacity), 40, 6.min(widths.iter().sum::<u32>() as usize));
             for _ in 0..120 {
                 let key = random_key(&mut random, &model);
                 let _ = model.insert(key, random.number() as u32);
@@ -87,7 +82,7 @@ fn leaves_are_joined_over_several_levels() {
     let mut random = Random::new(SEED);
     for m in 0..12 {
         for capacity in 1..=16 {
-            let mut model = Model::new(shape(&[7, 9], capacity), 3, 12);
+            let mut model = Model::new(Shape::new(&[7, 9], capacity), 3, 12);
             let first: Vec<bool> = (0..m).map(|_| random.below(2) == 1).collect();
             for bit in [false, true] {
                 add_random(&mut random, &mut model, &[&first[..], &[bit]].concat());
@@ -114,7 +109,7 @@ fn a_divided_sibling_is_not_joined() {
     let mut stores = 0;
     while stores < 300 {
         let capacity = random.between(2, 16) as usize;
-        let mut model = Model::new(shape(&[6, 6], capacity as u32), 10, 8);
+        let mut model = Model::new(Shape::new(&[6, 6], capacity as u32), 10, 8);
         while model.records.len() < 2 {
             add_random(&mut random, &mut model, &[false]);
         }
@@ -140,7 +135,7 @@ fn a_divided_sibling_is_not_joined() {
 fn the_run_of_the_proof_table() {
     let mut count = Comparisons::default();
     let mut random = Random::new(SEED);
-    let mut model = Model::new(shape(&[2, 2], 2), 3, 3);
+    let mut model = Model::new(Shape::new(&[2, 2], 2), 3, 3);
     for key in [[0, 0, 0, 0], [2, 0, 0, 0], [3, 1, 0, 0], [2, 1, 0, 0]] {
         model.insert(key, key[0]).expect("accepted");
     }

@@ -59,9 +59,9 @@ fn compare(
 /// A shape of random widths; of those past d any number.
 fn random_shape(random: &mut Random) -> Shape {
     let total = random.between(1, 64) as u32;
-    let mut shape = Shape::new(&random_widths(random, total));
-    shape.widths[shape.attributes as usize..].fill_with(|| random.number() as u32);
-    shape.capacity = random.between(1, 16) as u32;
+    let widths = random_widths(random, total);
+    let mut shape = Shape::new(&widths, random.between(1, 16) as u32);
+    shape.widths[widths.len()..].fill_with(|| random.number() as u32);
     shape
 }
 
@@ -104,8 +104,8 @@ fn few_split_bits_limit_the_depth() {
     let mut random = Random::new(SEED);
     for total in 1..=64 {
         for words in [1, 100, 4096, 10_000] {
-            let mut shape = Shape::new(&random_widths(&mut random, total));
-            shape.capacity = random.between(1, 16) as u32;
+            let widths = random_widths(&mut random, total);
+            let shape = Shape::new(&widths, random.between(1, 16) as u32);
             let after = compare(&mut count, &mut random, shape, STATE, words, 3 * page_size(shape));
             let logarithm = [(1, 0), (100, 6), (4096, 12), (10_000, 13)].iter().find(|&&(n, _)| n == words);
             count.same(after.state[7], total.min(logarithm.unwrap().1).min(12), format_args!("{total} bits"));

@@ -8,11 +8,6 @@ use mdeh_tests::random::Random;
 
 const SEED: u64 = 0x6d64_6568_2d30_3130;
 
-/// A shape of these widths and capacity.
-fn shape(widths: &[u32], capacity: u32) -> Shape {
-    Shape { capacity, ..Shape::new(widths) }
-}
-
 #[test]
 fn keys_into_random_stores() {
     let mut count = Comparisons::default();
@@ -35,7 +30,7 @@ fn long_lists_for_each_capacity() {
     let mut accepted = 0;
     for capacity in 1..=16 {
         for widths in [&[1][..], &[5], &[2, 2], &[1, 16], &[16, 1, 1, 1], &[3, 4, 5, 2], &[16; 4]] {
-            let mut followed = Followed::fresh(&mut random, shape(widths, capacity), 64, 40);
+            let mut followed = Followed::fresh(&mut random, Shape::new(widths, capacity), 64, 40);
             for _ in 0..120 {
                 let key = random_key(&mut random, &followed.model);
                 accepted += u64::from(followed.insert(&mut count, key, random.number() as u32).is_ok());
@@ -58,7 +53,7 @@ fn every_order_of_few_keys() {
         for capacity in 1..1u32 << (total - 1) {
             for seed in 0..200 {
                 let mut followed =
-                    Followed::fresh(&mut random, shape(widths, capacity), 1 << total, 1 << total);
+                    Followed::fresh(&mut random, Shape::new(widths, capacity), 1 << total, 1 << total);
                 let mut keys: Vec<[u32; 4]> = (0..1 << total)
                     .map(|code| followed.model.key_of(&bits_of(code, total as usize)))
                     .collect();
@@ -88,7 +83,7 @@ fn keys_that_share_their_first_bits_are_refused_with_6() {
     let mut refused = 0;
     for depth_limit in 0..=12 {
         for capacity in [1, 2, 5, 16] {
-            let shape = shape(&[[16, 16], [3, 16]][random.below(2)], capacity);
+            let shape = Shape::new(&[[16, 16], [3, 16]][random.below(2)], capacity);
             let mut followed = Followed::fresh(&mut random, shape, 1 << depth_limit, 60);
             let total = followed.model.widths().iter().sum::<u32>() as usize;
             let first: Vec<bool> = (0..total).map(|_| random.below(2) == 1).collect();
@@ -115,7 +110,7 @@ fn without_a_free_page_a_new_leaf_is_refused_with_7() {
     let mut refused = 0;
     for pages in 1..=12 {
         for capacity in [1, 2, 3, 8] {
-            let mut followed = Followed::fresh(&mut random, shape(&[5, 7, 4], capacity), 256, pages);
+            let mut followed = Followed::fresh(&mut random, Shape::new(&[5, 7, 4], capacity), 256, pages);
             for _ in 0..40 {
                 let key = random_key(&mut random, &followed.model);
                 let answer = followed.insert(&mut count, key, random.number() as u32);
@@ -136,7 +131,7 @@ fn the_runs_of_the_proof_table() {
     let mut random = Random::new(SEED);
     let runs = [(8, 3, Ok(())), (4, 3, Err(6)), (7, 3, Err(6)), (8, 2, Err(7)), (4, 2, Err(6))];
     for (words, pages, fourth) in runs {
-        let mut followed = Followed::fresh(&mut random, shape(&[2, 2], 2), words, pages);
+        let mut followed = Followed::fresh(&mut random, Shape::new(&[2, 2], 2), words, pages);
         for key in [[0, 0, 0, 0], [2, 0, 0, 0], [3, 1, 0, 0]] {
             assert_eq!(followed.insert(&mut count, key, 10), Ok(()));
         }

@@ -1,5 +1,6 @@
 //! The call lookup on sound stores and on what it meets of unsound ones, compared with a list scanned in full.
 use mdeh_tests::compare::Comparisons;
+use mdeh_tests::host::Shape;
 use mdeh_tests::lent::LentStore;
 use mdeh_tests::plain::image::{word_of, Image, Laid, DEPTH, PAGE_LIMIT};
 use mdeh_tests::plain::model::Model;
@@ -28,9 +29,7 @@ fn every_key_of_a_large_store() {
     let mut count = Comparisons::default();
     let mut random = Random::new(SEED);
     for widths in [&[8, 8, 10][..], &[16], &[3, 4, 5, 2], &[16; 4]] {
-        let mut shape = mdeh_tests::host::Shape::new(widths);
-        shape.capacity = 8;
-        let mut model = Model::new(shape, 4096, 12);
+        let mut model = Model::new(Shape::new(widths, 8), 4096, 12);
         while model.records.len() < 3000 {
             let bits: Vec<bool> = (0..widths.iter().sum()).map(|_| random.below(2) == 1).collect();
             let record = model.record(model.key_of(&bits), random.number() as u32);

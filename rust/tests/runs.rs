@@ -10,17 +10,9 @@ use mdeh_tests::plain::ordered::Ordered;
 use mdeh_tests::plain::refusal::page_size;
 use mdeh_tests::plain::samples::{query_of, random_key};
 use mdeh_tests::random::Random;
-use mdeh_tests::shapes::random_widths;
+use mdeh_tests::shapes::random_shape;
 
 const SEED: u64 = 0x6d64_6568_2d30_3133;
-
-/// A random shape with so many bits, and capacity up to `most`.
-fn random_shape(random: &mut Random, bits: u32, most: u64) -> Shape {
-    let total = random.between(1, bits.into()) as u32;
-    let mut shape = Shape::new(&random_widths(random, total));
-    shape.capacity = random.between(1, most) as u32;
-    shape
-}
 
 // ---- a list scanned in full
 
@@ -201,7 +193,7 @@ fn stores_of_many_records() {
 #[test]
 fn the_greatest_store() {
     let mut count = Comparisons::default();
-    let shape = Shape { capacity: 16, ..Shape::new(&[8, 8, 10]) };
+    let shape = Shape::new(&[8, 8, 10], 16);
     let mut run = Run::new(Random::new(SEED), shape, 4096, 4096);
     for turn in 0..40_000 {
         run.change(&mut count, if turn < 26_000 { 15 } else { 4 });

@@ -1,23 +1,20 @@
 //! The plain store, call by call, against the list scanned in full and the judge of soundness.
 use super::Store;
 use mdeh_tests::compare::Comparisons;
-use mdeh_tests::host::Shape;
 use mdeh_tests::plain::image::Image;
 use mdeh_tests::plain::judge::judge;
 use mdeh_tests::plain::model::Model;
 use mdeh_tests::plain::refusal::page_size;
 use mdeh_tests::plain::samples::{query_of, random_key};
 use mdeh_tests::random::Random;
-use mdeh_tests::shapes::random_widths;
+use mdeh_tests::shapes::random_shape;
 
 #[test]
 fn random_calls_are_answered_as_the_list_answers_them() {
     let mut count = Comparisons::default();
     let mut random = Random::new(0x6d64_6568_2d30_3039);
     for _ in 0..400 {
-        let total = random.between(1, 20) as u32;
-        let mut shape = Shape::new(&random_widths(&mut random, total));
-        shape.capacity = random.between(1, 5) as u32;
+        let shape = random_shape(&mut random, 20, 5);
         let (words, bytes) = (1 + random.below(300), (1 + random.below(30)) * page_size(shape));
         let mut store = Store::new(shape, words, bytes);
         let mut model = Model::fresh(shape, words, bytes).expect("the shape is within its bounds");

@@ -87,7 +87,7 @@ fn join_tally(state: State, found: Stored, join: Join) -> Tally
     requires { ⌜ (state .depth ≤ 12) × LeavesLent state found join ⌝ }
     ensures { λ r. ⌜ r .leaves ≡ joinedTally (join .top) (suc (join .step) - join .top) (state .tally .leaves) ⌝ }
 {
-    tally::join(
+    lent_tally::joined(
         state.tally,
         join.top as usize,
         (found.depth - join.top) as usize,

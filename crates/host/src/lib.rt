@@ -1,31 +1,116 @@
-// The C interface: what Rust or C links. A number of 0 stands for an accepted call; any other is the
-// refusal's (document 01, "Refused calls"), and the values beside it are 0. The address map is here,
-// the store's calls are in `calls` and `changes`.
-pub mod calls;
-pub mod changes;
-
-use address::AddressAnswer;
+// The C interface: what Rust or C links. Each call is that of `host_map`, `host_reads` or `host_changes`, with
+// its contract, exported.
 use address::Index;
-use address::IndexAnswer;
-use address::address_of;
-use address::index_at;
+use host_changes::delete_in_words;
+use host_changes::fresh_in_words;
+use host_changes::insert_in_words;
+use host_map::AddressResult;
+use host_map::IndexResult;
+use host_map::address_result;
+use host_map::index_result;
+use host_reads::CheckResult;
+use host_reads::HostQuery;
+use host_reads::LookupResult;
+use host_reads::QueryResult;
+use host_reads::check_result;
+use host_reads::lookup_result;
+use host_reads::query_result;
+use shape::Key;
 use shape::Shape;
 ghost use mathlib.Core.List.{[], _∷_};
 ghost use Rattle.address.specs.Answers.{indexList, addressAnswer, indexAnswer};
-ghost use Rattle.host.specs.Result.{Reports};
+ghost use Rattle.host_map.specs.Result.{Reports};
+ghost use Prim.Native.Nat.{_≤_};
+ghost use Rattle.model.specs.Model.{found, listed};
+ghost use Rattle.store.specs.Store.{store, memory};
+ghost use Rattle.store.specs.Promises.{LookupPromise, QueryPromise, CheckPromise, InsertPromise, DeletePromise};
+ghost use Rattle.image.specs.Image.{stateIn};
+ghost use Rattle.host_reads.specs.Result.{Keeps, isYes, wantedOf};
+ghost use Rattle.host_changes.specs.Changes.{LentChangePromise};
+ghost use Rattle.host_changes.specs.Fresh.{LentFreshPromise};
 
-// The address of an index vector.
-#[repr(C)]
-pub struct AddressResult {
-    pub number: u32,
-    pub address: u64,
+// Makes a store without records in lent memory: the first 22 state words, word 0 and the counts of
+// the P pages. Refused with 1 for a shape outside its bounds, then with 2 for fewer than 22 state
+// words, no directory word or no whole page; a refused call changes nothing.
+#[no_mangle]
+pub extern "C" fn mdeh_fresh(
+    shape: Shape,
+    state: &mut [u32],
+    dir: &mut [u32],
+    pages: &mut [u8],
+) -> u32
+    ensures { λ r. ⌜ LentFreshPromise shape (now (state .entry)) (memory (now (dir .entry)) (now (pages .entry))) r
+        (now (state .exit)) (memory (now (dir .exit)) (now (pages .exit))) ⌝ }
+{
+    fresh_in_words(shape, state, dir, pages)
 }
 
-// The index vector at an address.
-#[repr(C)]
-pub struct IndexResult {
-    pub number: u32,
-    pub index: Index,
+// Adds a record, and divides regions until no leaf has more than b. Refused with 1, 2, 3, 4, 6, 7 or
+// 9, the first that holds in this order; a refused call changes nothing.
+#[no_mangle]
+pub extern "C" fn mdeh_insert(
+    state: &mut [u32],
+    dir: &mut [u32],
+    pages: &mut [u8],
+    key: Key,
+    payload: u32,
+) -> u32
+    ensures { λ r. ⌜ LentChangePromise (λ before answer after. InsertPromise
+        (store before (now (dir .entry)) (now (pages .entry))) (key .values) (record { payload = payload }) answer
+        (store after (now (dir .exit)) (now (pages .exit)))) (now (state .entry)) r (now (state .exit)) ⌝ }
+{
+    insert_in_words(state, dir, pages, key, payload)
+}
+
+// Removes the record of a key, and joins leaves until the set's own leaves stand. Refused with 1, 2, 3,
+// 5 or 9, the first that holds in this order; a refused call changes nothing.
+#[no_mangle]
+pub extern "C" fn mdeh_delete(state: &mut [u32], dir: &mut [u32], pages: &mut [u8], key: Key) -> u32
+    ensures { λ r. ⌜ LentChangePromise (λ before answer after. DeletePromise
+        (store before (now (dir .entry)) (now (pages .entry))) (key .values) answer
+        (store after (now (dir .exit)) (now (pages .exit)))) (now (state .entry)) r (now (state .exit)) ⌝ }
+{
+    delete_in_words(state, dir, pages, key)
+}
+
+// The payload of a key's record, and the pages read: 1. Refused with 1, 2, 3, 5 or 9, the first
+// that holds in this order. Writes nothing.
+#[no_mangle]
+pub extern "C" fn mdeh_lookup(state: &[u32], dir: &[u32], pages: &[u8], key: Key) -> LookupResult
+    ensures { λ r. ⌜ Keeps (r .number) (found (record { payload = r .payload }) (r .reads))
+        (found (record { payload = 0 }) 0)
+        (LookupPromise (store (stateIn (now (state .entry))) (now (dir .entry)) (now (pages .entry))) (key .values)) ⌝ }
+{
+    lookup_result(state, dir, pages, key)
+}
+
+// The records that match a partial-match query, written into the output in split order while whole
+// ones fit; how many were written, how many match, how many pages were read. Refused with 1, 2, 8,
+// 3 or 9, the first that holds in this order; a refused call leaves the output as it came.
+#[no_mangle]
+pub extern "C" fn mdeh_query(
+    state: &[u32],
+    dir: &[u32],
+    pages: &[u8],
+    wanted: HostQuery,
+    out: &mut [u8],
+) -> QueryResult
+    ensures { λ r. ⌜ Keeps (r .number) (listed (r .written) (r .total) (r .reads)) (listed 0 0 0)
+        (λ answer. QueryPromise (store (stateIn (now (state .entry))) (now (dir .entry)) (now (pages .entry)))
+        (wantedOf (wanted .given) (wanted .values)) (now (out .entry)) answer (now (out .exit))) ⌝ }
+{
+    query_result(state, dir, pages, wanted, out)
+}
+
+// Whether the lent store is sound. Refused with 1 for a shape outside its bounds, then with 2 for
+// fewer than 2^L words or P pages. Writes nothing.
+#[no_mangle]
+pub extern "C" fn mdeh_check(state: &[u32], dir: &[u32], pages: &[u8]) -> CheckResult
+    ensures { λ r. ⌜ Keeps (r .number) (isYes (r .sound)) (isYes 0)
+        (CheckPromise (store (stateIn (now (state .entry))) (now (dir .entry)) (now (pages .entry)))) ⌝ }
+    ensures { λ r. ⌜ r .sound ≤ 1 ⌝ }
+{
+    check_result(state, dir, pages)
 }
 
 // The address of an index vector. Refused with 1 for a shape outside its bounds, then with 3 for an
@@ -34,11 +119,7 @@ pub struct IndexResult {
 pub extern "C" fn mdeh_address(shape: Shape, index: Index) -> AddressResult
     ensures { λ r. ⌜ Reports (r .number) (r .address) 0 (addressAnswer shape (indexList index)) ⌝ }
 {
-    let answer = address_of(shape, index);
-    match answer {
-        AddressAnswer::Address(address) => AddressResult { number: 0, address },
-        AddressAnswer::Refused(number) => AddressResult { number, address: 0 },
-    }
+    address_result(shape, index)
 }
 
 // The index vector at an address. Refused with 1 for a shape outside its bounds, then with 3 for an
@@ -47,17 +128,5 @@ pub extern "C" fn mdeh_address(shape: Shape, index: Index) -> AddressResult
 pub extern "C" fn mdeh_index(shape: Shape, address: u64) -> IndexResult
     ensures { λ r. ⌜ Reports (r .number) (indexList (r .index)) (0 ∷ 0 ∷ 0 ∷ 0 ∷ []) (indexAnswer shape address) ⌝ }
 {
-    let answer = index_at(shape, address);
-    match answer {
-        IndexAnswer::Index(index) => IndexResult { number: 0, index },
-        IndexAnswer::Refused(number) => {
-            let index = Index {
-                i0: 0,
-                i1: 0,
-                i2: 0,
-                i3: 0,
-            };
-            IndexResult { number, index }
-        }
-    }
+    index_result(shape, address)
 }

@@ -80,7 +80,7 @@ pub fn divide_words(
     deepen(widths, old, depth, dir);
     set_leaves(widths, values, x, m, depth, split.page, free, bit, dir);
     let levels = m + 1 - x;
-    let tally = tally::divide(state.tally, x as usize, levels as usize);
+    let tally = lent_tally::divided(state.tally, x as usize, levels as usize);
     let top = depth as u32;
     State {
         shape,

@@ -6,6 +6,7 @@ pub mod damage;
 pub mod image;
 pub mod judge;
 pub mod leaves;
+pub mod lines;
 pub mod model;
 pub mod ordered;
 pub mod refusal;

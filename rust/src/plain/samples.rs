@@ -11,9 +11,8 @@ pub fn random_model(random: &mut Random) -> Model {
     let most = [6, 14, 64][random.below(3)];
     let total = random.between(1, most) as u32;
     let widths = random_widths(random, total);
-    let mut shape = Shape::new(&widths);
     let most = [3, 16][random.below(2)];
-    shape.capacity = random.between(1, most) as u32;
+    let shape = Shape::new(&widths, random.between(1, most) as u32);
     let depth_limit = [total.min(12) as usize, random.below(total.min(12) as usize + 1)][random.below(2)];
     let page_limit = 1 + random.below(40);
     let mut model = Model::new(shape, page_limit, depth_limit);

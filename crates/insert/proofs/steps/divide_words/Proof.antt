@@ -77,8 +77,8 @@ sub-levels c =
     let s = g .before .before .before .before .before .before .before in
     omega (arith, s .pre .below)
 
-divide-requires : tie.Need-divide-requires
-divide-requires c κs =
+divided-requires : tie.Need-divided-requires
+divided-requires c κs =
     let g = c .before .before .before .before .before .before .before .before in
     let s = g .before .before .before .before .before .before .before in
     (omega (arith, s .pre .below, s .pre .deep, s .pre .short), s .pre .tally)
@@ -106,7 +106,7 @@ returns c =
       state = refl;
       deeper = omega (arith, g .greater .ensures);
       tallied =
-          c .divide .ensures ∙ ap (λ n. dividedTally (a .split .depth) n (a .state .tally .leaves)) levels;
+          c .divided .ensures ∙ ap (λ n. dividedTally (a .split .depth) n (a .state .tally .leaves)) levels;
       deepened =
           subst (λ ws. Deepened ws (a .state .depth) (g .greater .result) (a .dir .now) (d .last .1 .1 .1 .0)) w
           (d .ensures);
@@ -130,7 +130,7 @@ divide-words-spec =
     set-leaves-requires
     add-levels
     sub-levels
-    divide-requires
+    divided-requires
     cast-top
     same-length
     returns)

@@ -1,3 +1,0 @@
-pub mod ChangeLaws
-pub mod FreshLaws
-pub mod ResultLaws

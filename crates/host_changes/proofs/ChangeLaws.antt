@@ -1,0 +1,155 @@
+-- Laws of changes on a state in lent words: an accepted one has 22 words; the promise over the words from that of the
+-- call. Assumes nothing.
+use Prim.Native.Nat.{ℕ, zero, suc, _≤_, _<_}
+use mathlib.Core.Path.{_≡_, refl, sym, ap, subst, _∙_}
+use mathlib.Core.Bool.{false≢true, true, false}
+use mathlib.Core.List.{List, [], _∷_}
+use mathlib.Core.Logic.{⊎-elim}
+use native.Mathlib.Decide.{decLt}
+use native.Mathlib.Omega.{arith}
+use lib.ListN.{length, drop}
+use Rattle.lists.specs.Members.{Member}
+use Rattle.shape.specs.Refusal.{Answer, accepted, refused, answered, firstNumber}
+use Rattle.shape.specs.Shape.{inBounds, shapeConditions}
+use Rattle.model.specs.Model.{Call, Reply, changed}
+use Rattle.store.specs.Answers.{changedAnswer}
+use Rattle.store.specs.Fresh.{noState}
+use Rattle.store.specs.Store.{Store, store, lentConditions}
+use Rattle.store.specs.Promises.{keyNumber, ChangePromise}
+use Rattle.store.specs.declared.Change.{Change}
+use Rattle.store.specs.declared.Changed.{Changed}
+use Rattle.store.specs.declared.Changed.the-variants.{Done, Refused}
+use Rattle.store.specs.declared.State.{State}
+use Rattle.image.specs.Image.{stateSize, stateIn, statePut}
+use Rattle.image.proofs.ImageLaws.{stateIn-short, drop-statePut, stateIn-statePut}
+use Rattle.host_changes.specs.Changes.{LentChangePromise}
+use Rattle.host_changes.specs.Private.{Settled}
+
+-- ---- numbers
+
+pub keyNumber-noState : (ds bs values : List ℕ) → keyNumber (store noState ds bs) values ≡ 1
+unfolding keyNumber firstNumber lentConditions shapeConditions inBounds noState
+keyNumber-noState ds bs values = refl
+
+accepted-refused : (n : ℕ) → _≡_ {A = Answer Reply} (accepted changed) (refused n) → ⊥
+accepted-refused n e = let z : false ≡ true = cc in false≢true z
+
+refused-same : (n m : ℕ) → _≡_ {A = Answer Reply} (refused n) (refused m) → n ≡ m
+refused-same n m e = cc
+
+-- 0 is none of an insert's numbers, and none of a delete's
+pub insert-not-zero : Member {A = ℕ} 0 (4 ∷ 6 ∷ 7 ∷ 9 ∷ []) → ⊥
+insert-not-zero =
+    ⊎-elim (λ e. omega arith) (⊎-elim (λ e. omega arith) (⊎-elim (λ e. omega arith) (⊎-elim (λ e. omega arith) (λ e. e))))
+
+pub delete-not-zero : Member {A = ℕ} 0 (5 ∷ 9 ∷ []) → ⊥
+delete-not-zero = ⊎-elim (λ e. omega arith) (⊎-elim (λ e. omega arith) (λ e. e))
+
+-- no refusal has the number 0
+pub change-not-zero : (c : Call) (early : ℕ) (numbers : List ℕ) (before after : Store) → (Member 0 numbers → ⊥)
+    → ChangePromise c early numbers before (refused 0) after → ⊥
+change-not-zero c early numbers before after none p = go early refl
+  where
+    go : (n : ℕ) → early ≡ n → ⊥
+    go zero e =
+        ⊎-elim (λ a. accepted-refused 0 (sym a))
+        (λ h. none (subst (λ n. Member n numbers) (sym (refused-same 0 (h .0) (h .1))) (h .2)))
+        (p .ordinary e)
+    go (suc n) e =
+        let z : 0 ≡ suc n = refused-same 0 (suc n) (p .early-refused n e) in
+        omega arith
+
+-- ---- the words after a change
+
+module _ (change : Change) (words : List ℕ) where
+  pub settled-done : changedAnswer (change .answer) ≡ accepted changed
+      → length (change .state .shape .widths) ≡ 4 → length (change .state .tally .leaves) ≡ 13
+      → (words′ : List ℕ) → words′ ≡ statePut (change .state) words → Settled change words 0 words′
+  settled-done done four thirteen words′ e =
+      record {
+        number-done = λ _. refl;
+        words-done = λ _. e;
+        state-done = λ _. ap stateIn e ∙ stateIn-statePut (change .state) words four thirteen;
+        past-done = λ _. ap (drop stateSize) e ∙ drop-statePut (change .state) words;
+        number-refused = λ n f. absurd (accepted-refused n (sym done ∙ f));
+        words-refused = λ n f. absurd (accepted-refused n (sym done ∙ f));
+      }
+
+  pub settled-refused : (n : ℕ) → changedAnswer (change .answer) ≡ refused n → Settled change words n words
+  settled-refused n e =
+      record {
+        number-done = λ f. absurd (accepted-refused n (sym f ∙ e));
+        words-done = λ f. absurd (accepted-refused n (sym f ∙ e));
+        state-done = λ f. absurd (accepted-refused n (sym f ∙ e));
+        past-done = λ f. absurd (accepted-refused n (sym f ∙ e));
+        number-refused = λ m f. refused-same n m (sym e ∙ f);
+        words-refused = λ _ _. refl;
+      }
+
+-- ---- a call on the state that the words show
+
+module _ (c : Call) (values numbers words ds bs ds′ bs′ : List ℕ) where
+  -- what the call promises, of the states before and after
+  abbrev pub Promise : State → Answer Reply → State → Type 0
+  Promise s answer s′ =
+      ChangePromise c (keyNumber (store s ds bs) values) numbers (store s ds bs) answer (store s′ ds′ bs′)
+
+  module _ (state : State) (read : state ≡ stateIn words) (change : Change)
+      (p : Promise state (changedAnswer (change .answer)) (change .state)) where
+    -- fewer than 22 words show no shape, so that the call is refused
+    pub words-of-done : changedAnswer (change .answer) ≡ accepted changed → stateSize ≤ length words
+    words-of-done done = go (decLt (length words) stateSize)
+      where
+        go : Dec (length words < stateSize) → stateSize ≤ length words
+        go (yes short) =
+            let none : state ≡ noState = read ∙ stateIn-short words short in
+            let number : keyNumber (store state ds bs) values ≡ 1 =
+            ap (λ s. keyNumber (store s ds bs) values) none ∙ keyNumber-noState ds bs values in
+            absurd (accepted-refused 1 (sym done ∙ p .early-refused 0 number))
+        go (no long) = omega arith
+
+    -- a refused call leaves the state
+    state-of-refused : (n : ℕ) → changedAnswer (change .answer) ≡ refused n → change .state ≡ stateIn words
+    state-of-refused n e = ap (λ s. s .state) (p .unchanged n e) ∙ read
+
+    -- the promise over the words
+    pub promise-settled : (Member 0 numbers → ⊥) → (number : ℕ) (words′ : List ℕ)
+        → Settled change words number words′ → LentChangePromise Promise words number words′
+    unfolding changedAnswer
+    promise-settled none number words′ s = go (change .answer) refl
+      where
+        kept : (a : Answer Reply) (after : State) → changedAnswer (change .answer) ≡ a → change .state ≡ after
+            → Promise (stateIn words) a after
+        kept a after e f =
+            subst (λ t. Promise t a after) read
+            (subst (λ t. Promise state t after) e (subst (Promise state (changedAnswer (change .answer))) f p))
+
+        go-refused : (n : ℕ) → changedAnswer (change .answer) ≡ refused n
+            → LentChangePromise Promise words number words′
+        go-refused zero e =
+            absurd (change-not-zero c _ numbers _ _ none (kept (refused 0) (change .state) e refl))
+        go-refused (suc n) e =
+            let same : words′ ≡ words = s .words-refused (suc n) e in
+            let known : number ≡ suc n = s .number-refused (suc n) e in
+            record {
+              promise-kept =
+                  subst (λ k. Promise (stateIn words) (answered k changed) (stateIn words′)) (sym known)
+                  (kept (refused (suc n)) (stateIn words′) e (state-of-refused (suc n) e ∙ sym (ap stateIn same)));
+              words-kept = λ _ _. same;
+              words-past = ap (drop stateSize) same;
+            }
+
+        go-done : changedAnswer (change .answer) ≡ accepted changed → LentChangePromise Promise words number words′
+        go-done e =
+            let known : number ≡ 0 = s .number-done e in
+            record {
+              promise-kept =
+                  subst (λ k. Promise (stateIn words) (answered k changed) (stateIn words′)) (sym known)
+                  (kept (accepted changed) (stateIn words′) e (sym (s .state-done e)));
+              words-kept = λ n f. absurd (omega arith);
+              words-past = s .past-done e;
+            }
+
+        go : (a : Changed) → change .answer ≡ a → LentChangePromise Promise words number words′
+        go Done e = go-done (ap changedAnswer e)
+        go (Refused n) e = go-refused n (ap changedAnswer e)

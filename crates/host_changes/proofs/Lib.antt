@@ -1,0 +1,2 @@
+pub mod ChangeLaws
+pub mod FreshLaws

@@ -1,0 +1,88 @@
+// Fresh and the calls that change a store, for hosts: the state lies in lent words (crate `image`), and
+// the answer is a number, 0 for an accepted call. Fewer than 22 state words show no shape, so that
+// insert and delete are refused with 1.
+use delete::delete;
+use fresh::fresh;
+use image::STATE_SIZE;
+use image::put_state;
+use image::state_in;
+use insert::insert;
+use record::Content;
+use shape::Key;
+use shape::Shape;
+use shape::shape_number;
+use store::Change;
+use store::Changed;
+ghost use mathlib.Core.Path.{_≡_};
+ghost use Prim.Native.Nat.{_≤_};
+ghost use lib.ListN.{length};
+ghost use Rattle.shape.specs.Refusal.{accepted};
+ghost use Rattle.model.specs.Model.{changed};
+ghost use Rattle.store.specs.Answers.{changedAnswer};
+ghost use Rattle.store.specs.Store.{memory, store};
+ghost use Rattle.store.specs.Promises.{InsertPromise, DeletePromise};
+ghost use Rattle.host_changes.specs.Changes.{LentChangePromise};
+ghost use Rattle.host_changes.specs.Fresh.{LentFreshPromise};
+ghost use Rattle.host_changes.specs.Private.{Settled};
+
+// Makes a store without records in lent memory: the first 22 state words, word 0 and the counts of
+// the P pages. Refused with 1 for a shape outside its bounds, then with 2 for fewer than 22 state
+// words, no directory word or no whole page; a refused call changes nothing.
+pub fn fresh_in_words(shape: Shape, state: &mut [u32], dir: &mut [u32], pages: &mut [u8]) -> u32
+    ensures { λ r. ⌜ LentFreshPromise shape (now (state .entry)) (memory (now (dir .entry)) (now (pages .entry))) r
+        (now (state .exit)) (memory (now (dir .exit)) (now (pages .exit))) ⌝ }
+{
+    let number = shape_number(shape);
+    if number != 0 {
+        return number;
+    }
+    if state.len() < STATE_SIZE {
+        return 2;
+    }
+    let change = fresh(shape, dir, pages);
+    settle(state, change)
+}
+
+// Adds a record, and divides regions until no leaf has more than b. Refused with 1, 2, 3, 4, 6, 7 or
+// 9, the first that holds in this order; a refused call changes nothing.
+pub fn insert_in_words(
+    state: &mut [u32],
+    dir: &mut [u32],
+    pages: &mut [u8],
+    key: Key,
+    payload: u32,
+) -> u32
+    ensures { λ r. ⌜ LentChangePromise (λ before answer after. InsertPromise
+        (store before (now (dir .entry)) (now (pages .entry))) (key .values) (record { payload = payload }) answer
+        (store after (now (dir .exit)) (now (pages .exit)))) (now (state .entry)) r (now (state .exit)) ⌝ }
+{
+    let content = Content { payload };
+    let inserted = insert(state_in(state), dir, pages, key, content);
+    settle(state, inserted)
+}
+
+// Removes the record of a key, and joins leaves until the set's own leaves stand. Refused with 1, 2, 3,
+// 5 or 9, the first that holds in this order; a refused call changes nothing.
+pub fn delete_in_words(state: &mut [u32], dir: &mut [u32], pages: &mut [u8], key: Key) -> u32
+    ensures { λ r. ⌜ LentChangePromise (λ before answer after. DeletePromise
+        (store before (now (dir .entry)) (now (pages .entry))) (key .values) answer
+        (store after (now (dir .exit)) (now (pages .exit)))) (now (state .entry)) r (now (state .exit)) ⌝ }
+{
+    let deleted = delete(state_in(state), dir, pages, key);
+    settle(state, deleted)
+}
+
+// Writes the state of an accepted change into its words, and returns the number of the change.
+fn settle(words: &mut [u32], change: Change) -> u32
+    requires { ⌜ (changedAnswer (change .answer) ≡ accepted changed → 22 ≤ length (now words)) ⌝ }
+    ensures { λ r. ⌜ Settled change (now (words .entry)) r (now (words .exit)) ⌝ }
+{
+    let answer = change.answer;
+    match answer {
+        Changed::Done => {
+            put_state(words, change.state);
+            0
+        }
+        Changed::Refused(number) => number,
+    }
+}

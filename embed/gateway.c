@@ -1,0 +1,68 @@
+/*
+ * A gateway's records: which display code came from which container slot under which image release, and how often.
+ * Fills a store, asks for code 30, and prints the slots and releases.
+ */
+#include "mdeh.h"
+
+#include <inttypes.h>
+#include <stdio.h>
+
+#define CAPACITY 4
+#define WORDS 256
+#define PAGES 24
+
+/* codes are below 2^7, slots below 2^5, releases below 2^9 */
+static const MdehShape shape = {3, {7, 5, 9, 0}, CAPACITY};
+
+/* The lent memory, kept as long as the store is used. */
+static uint32_t state[MDEH_STATE_WORDS];
+static uint32_t directory[WORDS];
+static uint8_t pages[PAGES * MDEH_PAGE_BYTES(CAPACITY)];
+
+static const struct {
+    uint32_t code, slot, release, count;
+} seen[] = {
+    {10, 1, 412, 1},  {10, 2, 412, 1},  {10, 5, 431, 1},  {10, 9, 431, 2},  {10, 17, 479, 1}, {12, 5, 431, 3},
+    {20, 1, 412, 96}, {20, 2, 412, 88}, {20, 5, 431, 41}, {20, 9, 431, 40}, {20, 17, 479, 7}, {30, 2, 405, 6},
+    {30, 2, 412, 2},  {30, 5, 431, 14}, {30, 9, 398, 1},  {30, 9, 431, 3},  {30, 17, 479, 1}, {31, 9, 431, 1},
+    {41, 2, 405, 2},  {41, 5, 431, 1},  {41, 17, 479, 4}, {77, 5, 398, 1},
+};
+
+/* Says why a call is refused, as the program's status. */
+static int refused(const char *call, uint32_t number) {
+    fprintf(stderr, "%s: %s\n", call, mdeh_reason(number));
+    return 1;
+}
+
+/* Stores what was seen. */
+static uint32_t fill(void) {
+    size_t i;
+    uint32_t number = mdeh_fresh(shape, state, MDEH_STATE_WORDS, directory, WORDS, pages, sizeof pages);
+    for (i = 0; number == MDEH_ACCEPTED && i < sizeof seen / sizeof *seen; i++) {
+        MdehKey key = {{seen[i].code, seen[i].slot, seen[i].release, 0}};
+        number = mdeh_insert(state, MDEH_STATE_WORDS, directory, WORDS, pages, sizeof pages, key, seen[i].count);
+    }
+    return number;
+}
+
+int main(void) {
+    static const MdehQuery code_30 = {{1, 0, 0, 0}, {30, 0, 0, 0}};
+    uint8_t out[16 * MDEH_RECORD_BYTES];
+    MdehQueryResult found;
+    uint64_t i;
+    uint32_t number = fill();
+    if (number != MDEH_ACCEPTED)
+        return refused("fill", number);
+    found = mdeh_query(state, MDEH_STATE_WORDS, directory, WORDS, pages, sizeof pages, code_30, out, sizeof out);
+    if (found.number != MDEH_ACCEPTED)
+        return refused("query", found.number);
+    printf("code 30: %" PRIu64 " records, %" PRIu64 " pages read\n", found.total, found.reads);
+    for (i = 0; i < found.written; i++) {
+        MdehRecord record = mdeh_record(out, i);
+        printf("slot %" PRIu32 ", release %" PRIu32 ", count %" PRIu32 "\n", record.values[1], record.values[2],
+               record.payload);
+    }
+    if (found.written < found.total)
+        printf("and %" PRIu64 " more\n", found.total - found.written);
+    return 0;
+}

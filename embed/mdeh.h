@@ -1,0 +1,213 @@
+/*
+ * A multidimensional extendible hash store in memory that its host lends: the C interface.
+ *
+ * Records have a key of one to four values and a payload of 32 bits. A query gives some of the values and leaves the
+ * others free. Link target/staticlib/libhost.a, which `rt staticlib host` writes: code for x86-64 (System V) that calls
+ * memcpy, memmove and memset alone. C99 or later, or C++.
+ *
+ * SLICES. A lent slice is two arguments, a pointer and how many elements it has. The memory is the host's, of any kind:
+ * it is lent for the call, and no call keeps a pointer, allocates or frees.
+ *   - Nothing past the lengths is read or written, whatever the slices hold: random words are refused or answered too.
+ *   - The slices of one call must not overlap, and nothing else may write them until it returns.
+ *   - uint32_t slices are aligned as uint32_t, byte slices in any way.
+ *   - A slice of length 0 may have any pointer, NULL too.
+ *
+ * STORE. Three slices make up a store: its state (22 words), its directory (words) and its pages (bytes). mdeh_fresh
+ * writes the state and fixes two limits from the lengths, P pages and the depth L:
+ *   P is the smaller of 4,096 and the whole pages lent, a page having MDEH_PAGE_BYTES(capacity) bytes;
+ *   L is the smallest of 12, the sum of the widths, and the base-2 logarithm of the directory's length, rounded down.
+ * Later calls need at least 2^L words and P pages, and may be lent more. Directory words past the first 2^L, bytes past
+ * the P pages and state words past the first 22 are never changed. The host changes none of a store itself.
+ *
+ * NUMBERS. Every call returns a number, alone or first in a struct: 0 for an accepted call, otherwise the reason for
+ * its refusal (enum below). A refused call has changed nothing, and the values beside its number are 0. Where several
+ * reasons hold, the first in the order that stands at the call is given.
+ *
+ * SOUND. A store is sound if it shows a set of records as the layouts below say. mdeh_fresh makes a sound store, and
+ * every call leaves a sound store sound. On an unsound one (memory that something else wrote) a call still ends and
+ * keeps to the slices, but gives 9 or answers from what it meets. mdeh_check tells the two apart.
+ *
+ * KEEPING. A store is its 22 state words, its directory and its pages, as they are; it has no pointers, and may be
+ * copied, moved and written to a file. Words of the directory from 2^T on need not be kept (T is state word 8). To open
+ * it again, read the three into slices that are as long as before or longer and ask mdeh_check: number 0 and sound 1.
+ * It does not tell a changed payload or an older copy; add a sum of your own where the medium may alter bytes.
+ *
+ * THREADS. There is no hidden state. Calls on different stores may run at once; on one store, lookups, checks and
+ * queries with outputs of their own may, while mdeh_fresh, mdeh_insert and mdeh_delete need it alone. A call takes up
+ * to 32 KiB of stack (measured), never a signal, a lock or a system call.
+ *
+ * LAYOUTS. Bit 0 is the least significant; numbers of several bytes are little-endian.
+ *   state      word 0 attribute count d; 1-4 widths (0 past d); 5 page capacity b; 6 P; 7 L; 8 directory depth T; 9-21
+ *              how many leaves there are at depths 0 to 12. A leaf is a part of the key space with at most b records.
+ *   directory  the first 2^T words are in use, each for one cell: bits 0-15 the page number plus one, or 0 for a leaf
+ *              without records, bits 16-19 the leaf's depth, the others 0. A leaf of depth x has 2^(T-x) cells, all
+ *              with one word. mdeh_address gives a cell's place from its index vector. That of a key's cell has for
+ *              each attribute the highest bits of its value, as many as the first T split bits have of it, in
+ *              reverse: the highest bit counts 1, the next 2, and so on.
+ *   page       bytes 0-1 the record count, 0 for a free page; then the records, in split order.
+ *   record     bytes 0-7 four values of 16 bits, unused ones 0; bytes 8-11 the payload.
+ *   order      the split bits of a key are the highest bit of each value in turn, then the next of each; a used-up
+ *              attribute is passed over. Two bits each of values 2 and 1 give 1, 0, 0, 1. Split order compares keys at
+ *              their first differing split bit, 0 before 1.
+ */
+#ifndef MDEH_H
+#define MDEH_H
+
+#include <stddef.h>
+#include <stdint.h>
+
+#ifdef __cplusplus
+extern "C" {
+#endif
+
+/* The words of a state. */
+#define MDEH_STATE_WORDS 22
+
+/* The bytes of a record in an output or a page. */
+#define MDEH_RECORD_BYTES 12
+
+/* The bytes of a page that holds up to `capacity` records. */
+#define MDEH_PAGE_BYTES(capacity) (2 + MDEH_RECORD_BYTES * (size_t)(capacity))
+
+/* A store has use for so many directory words and pages at most. */
+#define MDEH_MOST_WORDS 4096
+#define MDEH_MOST_PAGES 4096
+
+/* What a number says. */
+enum {
+    MDEH_ACCEPTED = 0,          /* the call did what it was asked */
+    MDEH_REFUSED_SHAPE = 1,     /* shape outside its bounds, also that of a state; fewer than 22 state words */
+    MDEH_REFUSED_MEMORY = 2,    /* fresh: fewer than 22 state words, no directory word, no whole page; later: fewer than
+                                   2^L words or P pages */
+    MDEH_REFUSED_VALUE = 3,     /* value or index of 2^width or more, address past the last, unused value not 0 */
+    MDEH_REFUSED_STORED = 4,    /* insert: the key is stored already */
+    MDEH_REFUSED_ABSENT = 5,    /* lookup, delete: the key is not stored */
+    MDEH_REFUSED_DEPTH = 6,     /* insert: `capacity` stored keys agree with this one in their first L split bits */
+    MDEH_REFUSED_PAGES = 7,     /* insert: the records would need more than P pages */
+    MDEH_REFUSED_ATTRIBUTE = 8, /* query: an attribute is given that the shape does not have */
+    MDEH_REFUSED_UNSOUND = 9    /* the store is not sound, and the call met it */
+};
+
+/* What records look like. In bounds: 1 to 4 attributes, widths of 1 to 16 bits, a capacity of 1 to 16 records. */
+typedef struct {
+    uint32_t attributes;
+    uint32_t widths[4]; /* those past `attributes` are ignored */
+    uint32_t capacity;
+} MdehShape;
+
+/* A value for each attribute, below 2^width; 0 for an unused one. */
+typedef struct {
+    uint32_t values[4];
+} MdehKey;
+
+/* A partial-match query: attribute j is to have values[j] where given[j] is not 0, and is free where it is 0. */
+typedef struct {
+    uint32_t given[4];
+    uint32_t values[4]; /* ignored where free */
+} MdehQuery;
+
+/* An index for each attribute: a cell of the directory; 0 for an unused attribute. */
+typedef struct {
+    uint64_t indices[4];
+} MdehIndex;
+
+typedef struct {
+    uint32_t number;
+    uint32_t payload; /* of the key's record */
+    uint32_t reads;   /* pages read: 1 */
+} MdehLookupResult;
+
+typedef struct {
+    uint32_t number;
+    uint64_t written; /* records in the output */
+    uint64_t total;   /* records that match: more than written where the output is short */
+    uint64_t reads;   /* pages read */
+} MdehQueryResult;
+
+typedef struct {
+    uint32_t number;
+    uint32_t sound; /* 1 for a sound store, 0 for any other */
+} MdehCheckResult;
+
+typedef struct {
+    uint32_t number;
+    uint64_t address;
+} MdehAddressResult;
+
+typedef struct {
+    uint32_t number;
+    MdehIndex index;
+} MdehIndexResult;
+
+/* Makes a store without records, whatever the slices held: writes the first 22 state words, directory word 0 and the
+   count of each of the P pages. Refused with 1, 2. */
+uint32_t mdeh_fresh(MdehShape shape, uint32_t *state, size_t state_words, uint32_t *directory, size_t words,
+                    uint8_t *pages, size_t bytes);
+
+/* Adds a record. Refused with 1, 2, 3, 4, 6, 7, 9. */
+uint32_t mdeh_insert(uint32_t *state, size_t state_words, uint32_t *directory, size_t words,
+                     uint8_t *pages, size_t bytes, MdehKey key, uint32_t payload);
+
+/* Removes the record of a key. Refused with 1, 2, 3, 5, 9. */
+uint32_t mdeh_delete(uint32_t *state, size_t state_words, uint32_t *directory, size_t words,
+                     uint8_t *pages, size_t bytes, MdehKey key);
+
+/* The payload of a key's record. Writes nothing. Refused with 1, 2, 3, 5, 9. */
+MdehLookupResult mdeh_lookup(const uint32_t *state, size_t state_words, const uint32_t *directory, size_t words,
+                             const uint8_t *pages, size_t bytes, MdehKey key);
+
+/* Writes the matching records into the output, in split order, while whole ones fit; leaves its other bytes and the
+   store as they are. A short output is no refusal. Refused with 1, 2, 8, 3, 9. */
+MdehQueryResult mdeh_query(const uint32_t *state, size_t state_words, const uint32_t *directory, size_t words,
+                           const uint8_t *pages, size_t bytes, MdehQuery query, uint8_t *out, size_t out_bytes);
+
+/* Whether the slices hold a sound store. Reads all of it, writes nothing. Refused with 1, 2. */
+MdehCheckResult mdeh_check(const uint32_t *state, size_t state_words, const uint32_t *directory, size_t words,
+                           const uint8_t *pages, size_t bytes);
+
+/* The directory address of an index vector, below 2 to the sum of the widths; the same at every size of the directory.
+   Refused with 1, 3. */
+MdehAddressResult mdeh_address(MdehShape shape, MdehIndex index);
+
+/* The index vector at a directory address. Refused with 1, 3. */
+MdehIndexResult mdeh_index(MdehShape shape, uint64_t address);
+
+/* A record as it lies in an output or a page. */
+typedef struct {
+    uint32_t values[4];
+    uint32_t payload;
+} MdehRecord;
+
+/* Record i of those that begin at `records`: an output, or a page past its two first bytes. */
+static inline MdehRecord mdeh_record(const uint8_t *records, size_t i) {
+    const uint8_t *p = records + MDEH_RECORD_BYTES * i;
+    MdehRecord record;
+    int j;
+    for (j = 0; j < 4; j++)
+        record.values[j] = p[2 * j] | (uint32_t)p[2 * j + 1] << 8;
+    record.payload = p[8] | (uint32_t)p[9] << 8 | (uint32_t)p[10] << 16 | (uint32_t)p[11] << 24;
+    return record;
+}
+
+/* What a number says, in words. */
+static inline const char *mdeh_reason(uint32_t number) {
+    switch (number) {
+    case MDEH_ACCEPTED: return "accepted";
+    case MDEH_REFUSED_SHAPE: return "the shape is outside its bounds";
+    case MDEH_REFUSED_MEMORY: return "too few directory words or page bytes are lent";
+    case MDEH_REFUSED_VALUE: return "a value, index or address is too large, or an unused value is not 0";
+    case MDEH_REFUSED_STORED: return "the key is stored already";
+    case MDEH_REFUSED_ABSENT: return "the key is not stored";
+    case MDEH_REFUSED_DEPTH: return "the directory cannot grow deep enough to tell the keys apart";
+    case MDEH_REFUSED_PAGES: return "there are too few pages";
+    case MDEH_REFUSED_ATTRIBUTE: return "the query gives an attribute that the shape does not have";
+    case MDEH_REFUSED_UNSOUND: return "the store is not sound";
+    default: return "no number of this library";
+    }
+}
+
+#ifdef __cplusplus
+}
+#endif
+
+#endif

@@ -1,0 +1,6 @@
+//! Links the store's static library.
+mod link;
+
+fn main() {
+    link::library("../..", "host");
+}

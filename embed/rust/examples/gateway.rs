@@ -1,0 +1,52 @@
+//! A gateway's records: which display code came from which container slot under which image release, and how often.
+//! Fills a store, asks for code 30, and prints the slots and releases.
+use mdeh::{Query, Refusal, Shape, Store, RECORD_BYTES};
+
+/// Codes are below 2^7, slots below 2^5, releases below 2^9; a page holds four records.
+const SHAPE: Shape = Shape::new(&[7, 5, 9], 4);
+
+/// Code, slot and release, and how often they came.
+const SEEN: [([u32; 3], u32); 22] = [
+    ([10, 1, 412], 1),
+    ([10, 2, 412], 1),
+    ([10, 5, 431], 1),
+    ([10, 9, 431], 2),
+    ([10, 17, 479], 1),
+    ([12, 5, 431], 3),
+    ([20, 1, 412], 96),
+    ([20, 2, 412], 88),
+    ([20, 5, 431], 41),
+    ([20, 9, 431], 40),
+    ([20, 17, 479], 7),
+    ([30, 2, 405], 6),
+    ([30, 2, 412], 2),
+    ([30, 5, 431], 14),
+    ([30, 9, 398], 1),
+    ([30, 9, 431], 3),
+    ([30, 17, 479], 1),
+    ([31, 9, 431], 1),
+    ([41, 2, 405], 2),
+    ([41, 5, 431], 1),
+    ([41, 17, 479], 4),
+    ([77, 5, 398], 1),
+];
+
+fn main() -> Result<(), Refusal> {
+    let mut directory = [0; 256];
+    let mut pages = [0; 24 * SHAPE.page_bytes()];
+    let mut store = Store::fresh(SHAPE, &mut directory, &mut pages)?;
+    for (key, count) in SEEN {
+        store.insert(key, count)?;
+    }
+    let mut out = [0; 16 * RECORD_BYTES];
+    let found = store.query(Query::all().given(0, 30), &mut out)?;
+    println!("code 30: {} records, {} pages read", found.total, found.reads);
+    for record in found.records() {
+        let [_, slot, release, _] = record.values;
+        println!("slot {slot}, release {release}, count {}", record.payload);
+    }
+    if found.written < found.total {
+        println!("and {} more", found.total - found.written);
+    }
+    Ok(())
+}

@@ -1,0 +1,95 @@
+//! A multidimensional extendible hash store in memory that its host lends, behind safe types.
+//!
+//! Records have a key of one to four values and a payload of 32 bits. A [`Query`] gives some of the values and leaves
+//! the others open; it reads only the pages whose records can match. The store needs no heap and never panics; each
+//! call is answered as its proved contract says, whatever the memory holds. This crate adds types and no copies.
+//!
+//! ```
+//! use mdeh::{Query, Refusal, Shape, Store};
+//!
+//! const SHAPE: Shape = Shape::new(&[2, 2], 2); // two attributes of two bits each, two records a page
+//! let mut directory = [0u32; 8];
+//! let mut pages = [0u8; 4 * SHAPE.page_bytes()];
+//! let mut store = Store::fresh(SHAPE, &mut directory, &mut pages)?;
+//!
+//! store.insert([0, 0], 10)?;
+//! store.insert([2, 0], 11)?;
+//! store.insert([3, 1], 12)?;
+//! store.insert([2, 1], 13)?;
+//! assert_eq!(store.insert([2, 1], 14), Err(Refusal::Stored));
+//! assert_eq!(store.lookup([3, 1])?.payload, 12);
+//!
+//! let mut out = [0; 256 * mdeh::RECORD_BYTES];
+//! let listing = store.query(Query::all().given(1, 1), &mut out)?;
+//! let found: Vec<_> = listing.records().map(|record| (record.values, record.payload)).collect();
+//! assert_eq!(found, [([2, 1, 0, 0], 13), ([3, 1, 0, 0], 12)]);
+//! assert_eq!((listing.total, listing.reads), (2, 3));
+//! # Ok::<(), Refusal>(())
+//! ```
+//!
+//! # Memory
+//!
+//! A store of page capacity b has use for up to 4,096 directory words and 4,096 pages of 2 + 12b bytes
+//! ([`Shape::page_bytes`]). Fewer limit how far it can grow, more are left alone. Both slices are borrowed as long as
+//! the [`Store`] lives, which itself holds the 22 words of the state. To keep a store, keep all three
+//! ([`Store::state`], [`Store::directory`], [`Store::pages`]); [`Store::reopen`] takes them up again.
+//! The layouts are in `embed/mdeh.h`.
+//!
+//! # Linking
+//!
+//! `rt staticlib host` in the repository writes the library that this crate's build script links. It is code for x86-64
+//! and needs nothing but `memcpy`, `memmove` and `memset`.
+#![no_std]
+#![deny(missing_docs, unsafe_code)]
+
+mod key;
+mod query;
+#[allow(unsafe_code)]
+pub mod raw;
+mod record;
+mod refusal;
+mod shape;
+mod store;
+
+pub use key::{Index, Key};
+pub use query::Query;
+pub use record::{Record, Records, RECORD_BYTES};
+pub use refusal::Refusal;
+pub use shape::Shape;
+pub use store::{Found, Listing, Store, STATE_WORDS};
+
+/// The address of an index vector in the directory of a shape.
+///
+/// The directory grows by doubling and moves no word: an index vector has one address at every size. Refused with
+/// [`Refusal::Shape`], or with [`Refusal::Value`] for an index past its width.
+///
+/// ```
+/// use mdeh::{address, Refusal, Shape};
+///
+/// let shape = Shape::new(&[1, 3, 2], 1);
+/// assert_eq!(address(shape, [1, 2, 1]), Ok(11));
+/// assert_eq!(address(shape, [0, 7, 3]), Ok(59));
+/// assert_eq!(address(shape, [2, 0, 0]), Err(Refusal::Value));
+/// ```
+#[inline]
+pub fn address(shape: Shape, index: impl Into<Index>) -> Result<u64, Refusal> {
+    raw::address(shape, index.into().into()).map_err(Refusal::of)
+}
+
+/// The index vector at an address, 0 for an unused attribute: the inverse of [`address`].
+///
+/// Refused with [`Refusal::Shape`], or with [`Refusal::Value`] for an address of 2^W or more, W being the sum of the
+/// widths.
+///
+/// ```
+/// use mdeh::{index, Refusal, Shape};
+///
+/// let shape = Shape::new(&[2, 2], 1);
+/// assert_eq!(index(shape, 7), Ok([3, 1, 0, 0]));
+/// assert_eq!(index(shape, 8), Ok([0, 2, 0, 0]));
+/// assert_eq!(index(shape, 16), Err(Refusal::Value));
+/// ```
+#[inline]
+pub fn index(shape: Shape, address: u64) -> Result<[u64; 4], Refusal> {
+    raw::index(shape, address).map_err(Refusal::of)
+}

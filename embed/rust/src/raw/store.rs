@@ -1,0 +1,217 @@
+//! Fresh and the calls that read, over lent memory. The state lies in 32-bit words, the directory too, the pages in
+//! bytes.
+use super::changes::done;
+use super::{Key, Shape};
+
+/// The words of a state: d, the four widths, b, P, L, T and the tally of depths 0 to 12.
+pub const STATE_WORDS: usize = 22;
+
+/// A query: attribute j is given the value `values[j]` where `given[j]` is not 0, and free otherwise.
+#[repr(C)]
+#[derive(Clone, Copy, Debug, PartialEq, Eq)]
+pub struct HostQuery {
+    /// whether each attribute is given
+    pub given: [u32; 4],
+    /// the value wanted of each; ignored where it is free
+    pub values: [u32; 4],
+}
+
+/// Number 0, the payload and the pages read, or the number of the refusal and zeros.
+#[repr(C)]
+#[derive(Clone, Copy, Debug, PartialEq, Eq)]
+pub struct LookupResult {
+    /// 0, or the refusal's number
+    pub number: u32,
+    /// of the key's record
+    pub payload: u32,
+    /// pages read
+    pub reads: u32,
+}
+
+/// Number 0 and how many records were written, how many match, how many pages were read, or the number of
+/// the refusal and zeros.
+#[repr(C)]
+#[derive(Clone, Copy, Debug, PartialEq, Eq)]
+pub struct QueryResult {
+    /// 0, or the refusal's number
+    pub number: u32,
+    /// records in the output
+    pub written: u64,
+    /// records that match
+    pub total: u64,
+    /// pages read
+    pub reads: u64,
+}
+
+/// Number 0 and 1 for a sound store, 0 for any other, or the number of the refusal and 0.
+#[repr(C)]
+#[derive(Clone, Copy, Debug, PartialEq, Eq)]
+pub struct CheckResult {
+    /// 0, or the refusal's number
+    pub number: u32,
+    /// 1 for a sound store
+    pub sound: u32,
+}
+
+/// What an accepted query counts.
+#[derive(Clone, Copy, Debug, PartialEq, Eq)]
+pub struct Counts {
+    /// records in the output
+    pub written: u64,
+    /// records that match
+    pub total: u64,
+    /// pages read
+    pub reads: u64,
+}
+
+extern "C" {
+    fn mdeh_fresh(
+        shape: Shape,
+        state: *mut u32,
+        state_words: usize,
+        dir: *mut u32,
+        words: usize,
+        pages: *mut u8,
+        bytes: usize,
+    ) -> u32;
+    fn mdeh_lookup(
+        state: *const u32,
+        state_words: usize,
+        dir: *const u32,
+        words: usize,
+        pages: *const u8,
+        bytes: usize,
+        key: Key,
+    ) -> LookupResult;
+    fn mdeh_query(
+        state: *const u32,
+        state_words: usize,
+        dir: *const u32,
+        words: usize,
+        pages: *const u8,
+        bytes: usize,
+        query: HostQuery,
+        out: *mut u8,
+        out_bytes: usize,
+    ) -> QueryResult;
+    fn mdeh_check(
+        state: *const u32,
+        state_words: usize,
+        dir: *const u32,
+        words: usize,
+        pages: *const u8,
+        bytes: usize,
+    ) -> CheckResult;
+}
+
+impl HostQuery {
+    /// The query that wants these values; the value of a free attribute is 0.
+    #[inline]
+    pub fn new(query: [Option<u32>; 4]) -> HostQuery {
+        let given = query.map(|wanted| u32::from(wanted.is_some()));
+        HostQuery { given, values: query.map(|wanted| wanted.unwrap_or(0)) }
+    }
+}
+
+/// Makes a store without records, or returns the number of the refusal.
+#[inline]
+pub fn fresh(shape: Shape, state: &mut [u32], dir: &mut [u32], pages: &mut [u8]) -> Result<(), u32> {
+    // SAFETY: each pointer and length are of one slice, the slices do not overlap, and the function has no
+    // `requires`.
+    let number = unsafe {
+        mdeh_fresh(
+            shape,
+            state.as_mut_ptr(),
+            state.len(),
+            dir.as_mut_ptr(),
+            dir.len(),
+            pages.as_mut_ptr(),
+            pages.len(),
+        )
+    };
+    done(number)
+}
+
+/// The payload of a key's record and the pages read, as the library returns them.
+#[inline]
+pub fn lookup_result(state: &[u32], dir: &[u32], pages: &[u8], key: [u32; 4]) -> LookupResult {
+    // SAFETY: each pointer and length are of one slice, and the function has no `requires`.
+    unsafe {
+        mdeh_lookup(
+            state.as_ptr(),
+            state.len(),
+            dir.as_ptr(),
+            dir.len(),
+            pages.as_ptr(),
+            pages.len(),
+            Key { values: key },
+        )
+    }
+}
+
+/// The records that match a query, written into `out`, and their counts, as the library returns them.
+#[inline]
+pub fn query_result(
+    state: &[u32],
+    dir: &[u32],
+    pages: &[u8],
+    query: HostQuery,
+    out: &mut [u8],
+) -> QueryResult {
+    // SAFETY: each pointer and length are of one slice, `out` overlaps none, and the function has no
+    // `requires`.
+    unsafe {
+        mdeh_query(
+            state.as_ptr(),
+            state.len(),
+            dir.as_ptr(),
+            dir.len(),
+            pages.as_ptr(),
+            pages.len(),
+            query,
+            out.as_mut_ptr(),
+            out.len(),
+        )
+    }
+}
+
+/// Whether the lent store is sound, as the library returns it.
+#[inline]
+pub fn check_result(state: &[u32], dir: &[u32], pages: &[u8]) -> CheckResult {
+    // SAFETY: each pointer and length are of one slice, and the function has no `requires`.
+    unsafe { mdeh_check(state.as_ptr(), state.len(), dir.as_ptr(), dir.len(), pages.as_ptr(), pages.len()) }
+}
+
+/// The payload of a key's record and the pages read, or the number of the refusal.
+#[inline]
+pub fn lookup(state: &[u32], dir: &[u32], pages: &[u8], key: [u32; 4]) -> Result<(u32, u32), u32> {
+    match lookup_result(state, dir, pages, key) {
+        LookupResult { number: 0, payload, reads } => Ok((payload, reads)),
+        LookupResult { number, .. } => Err(number),
+    }
+}
+
+/// Writes the records that match a query into `out` while whole ones fit, and returns the counts or the number
+/// of the refusal.
+#[inline]
+pub fn query(
+    state: &[u32],
+    dir: &[u32],
+    pages: &[u8],
+    query: [Option<u32>; 4],
+    out: &mut [u8],
+) -> Result<Counts, u32> {
+    match query_result(state, dir, pages, HostQuery::new(query), out) {
+        QueryResult { number: 0, written, total, reads } => Ok(Counts { written, total, reads }),
+        QueryResult { number, .. } => Err(number),
+    }
+}
+
+/// Whether the lent store is sound, or the number of the refusal.
+#[inline]
+pub fn check(state: &[u32], dir: &[u32], pages: &[u8]) -> Result<bool, u32> {
+    match check_result(state, dir, pages) {
+        CheckResult { number: 0, sound } => Ok(sound != 0),
+        CheckResult { number, .. } => Err(number),
+    }
+}

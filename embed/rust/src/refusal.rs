@@ -1,0 +1,84 @@
+//! Why a call is refused.
+use core::error::Error;
+use core::fmt::{self, Display, Formatter};
+
+/// The reason for a refusal, the first that holds in the order of the calls' documentation. A refused call has changed
+/// nothing.
+///
+/// ```
+/// use mdeh::{Refusal, Shape, Store};
+///
+/// let (mut directory, mut pages) = ([0; 1], [0; 14]);
+/// let mut store = Store::fresh(Shape::new(&[4, 4], 1), &mut directory, &mut pages)?;
+/// store.insert([3, 9], 7)?;
+///
+/// let refusal = store.insert([3, 16], 8).unwrap_err();
+/// assert_eq!(refusal, Refusal::Value);
+/// assert_eq!(refusal.number(), 3);
+/// assert_eq!(refusal.to_string(), "a value, index or address is too large, or an unused value is not 0");
+/// # Ok::<(), Refusal>(())
+/// ```
+#[repr(u32)]
+#[derive(Clone, Copy, Debug, PartialEq, Eq, Hash)]
+pub enum Refusal {
+    /// A shape outside its bounds, also in the state of a reopened store.
+    Shape = 1,
+    /// Fresh: no directory word or no whole page. Later: fewer words or pages than the store has use for.
+    Memory = 2,
+    /// A value or an index past its attribute's width, an address past the last, or an unused value other than 0.
+    Value = 3,
+    /// Insert: the key is stored already.
+    Stored = 4,
+    /// Lookup and delete: the key is not stored.
+    Absent = 5,
+    /// Insert: a full page holds keys that the directory cannot tell from this one at its greatest depth.
+    Depth = 6,
+    /// Insert: the records would need more pages than are lent.
+    Pages = 7,
+    /// Query: an attribute is given that the shape does not have.
+    Attribute = 8,
+    /// The memory does not hold a sound store, as [`Store::check`](crate::Store::check) finds it.
+    Unsound = 9,
+}
+
+impl Refusal {
+    /// The number of the C interface.
+    #[inline]
+    pub const fn number(self) -> u32 {
+        self as u32
+    }
+
+    /// The reason with a number from 1 to 9; the library gives no other.
+    #[inline]
+    pub(crate) fn of(number: u32) -> Refusal {
+        match number {
+            1 => Refusal::Shape,
+            2 => Refusal::Memory,
+            3 => Refusal::Value,
+            4 => Refusal::Stored,
+            5 => Refusal::Absent,
+            6 => Refusal::Depth,
+            7 => Refusal::Pages,
+            8 => Refusal::Attribute,
+            _ => Refusal::Unsound,
+        }
+    }
+}
+
+impl Display for Refusal {
+    fn fmt(&self, f: &mut Formatter<'_>) -> fmt::Result {
+        f.write_str(match self {
+            Refusal::Shape => "the shape is outside its bounds",
+            Refusal::Memory => "too few directory words or page bytes are lent",
+            Refusal::Value => "a value, index or address is too large, or an unused value is not 0",
+            Refusal::Stored => "the key is stored already",
+            Refusal::Absent => "the key is not stored",
+            Refusal::Depth => "the directory cannot grow deep enough to tell the keys apart",
+            Refusal::Pages => "there are too few pages",
+            Refusal::Attribute => "the query gives an attribute that the shape does not have",
+            Refusal::Unsound => "the store is not sound",
+        })
+    }
+}
+
+impl Error for Refusal {}

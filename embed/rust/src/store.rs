@@ -1,0 +1,209 @@
+//! A store over borrowed memory.
+use crate::key::Key;
+use crate::query::Query;
+use crate::raw::{self, LookupResult, QueryResult};
+use crate::record::{Record, Records};
+use crate::refusal::Refusal;
+use crate::shape::Shape;
+use core::fmt::{self, Debug, Formatter};
+
+pub use crate::raw::STATE_WORDS;
+
+/// A store: its state, and the directory and pages that the host lends.
+///
+/// Calls that read take `&self` and write nothing in the store, so threads may share it. Refusals are listed in the
+/// order in which they are looked for; a refused call has changed nothing. [`Refusal::Unsound`] is never given on a
+/// store that [`Store::check`] finds sound; [`Store::fresh`] makes a sound store, and every call leaves it sound.
+pub struct Store<'m> {
+    state: [u32; STATE_WORDS],
+    directory: &'m mut [u32],
+    pages: &'m mut [u8],
+}
+
+/// What a lookup finds.
+#[derive(Clone, Copy, Debug, PartialEq, Eq)]
+pub struct Found {
+    /// the payload of the key's record
+    pub payload: u32,
+    /// how many pages were read: 1
+    pub reads: u32,
+}
+
+/// What a query finds: its counts, and the records that fit the output.
+#[derive(Clone, Copy, Debug)]
+pub struct Listing<'o> {
+    /// how many records were written into the output
+    pub written: u64,
+    /// how many records match; more than written where the output was short
+    pub total: u64,
+    /// how many pages were read
+    pub reads: u64,
+    out: &'o [u8],
+}
+
+impl<'m> Store<'m> {
+    /// Makes a store without records in lent memory, whatever it held before.
+    ///
+    /// Refused with [`Refusal::Shape`], or with [`Refusal::Memory`] where there is no directory word or no whole page.
+    #[inline]
+    pub fn fresh(shape: Shape, directory: &'m mut [u32], pages: &'m mut [u8]) -> Result<Store<'m>, Refusal> {
+        let mut state = [0; STATE_WORDS];
+        raw::fresh(shape, &mut state, directory, pages).map_err(Refusal::of)?;
+        Ok(Store { state, directory, pages })
+    }
+
+    /// Takes up a store that was kept: its state, and its directory and pages, which may be longer now.
+    ///
+    /// Nothing is tested and nothing is trusted: every call stays within the memory and ends, whatever it holds. Ask
+    /// [`Store::check`] whether it is a sound store.
+    ///
+    /// ```
+    /// use mdeh::{Shape, Store};
+    ///
+    /// let (mut directory, mut pages) = ([0; 8], [0; 60]);
+    /// let mut store = Store::fresh(Shape::new(&[2, 2], 2), &mut directory, &mut pages)?;
+    /// store.insert([2, 1], 13)?;
+    /// let state = *store.state(); // kept beside directory and pages
+    ///
+    /// let store = Store::reopen(state, &mut directory, &mut pages);
+    /// assert_eq!(store.check(), Ok(true));
+    /// assert_eq!(store.lookup([2, 1])?.payload, 13);
+    ///
+    /// directory[0] = 99; // a page number that the store does not have
+    /// assert_eq!(Store::reopen(state, &mut directory, &mut pages).check(), Ok(false));
+    /// # Ok::<(), mdeh::Refusal>(())
+    /// ```
+    #[inline]
+    pub fn reopen(state: [u32; STATE_WORDS], directory: &'m mut [u32], pages: &'m mut [u8]) -> Store<'m> {
+        Store { state, directory, pages }
+    }
+
+    /// Adds a record.
+    ///
+    /// Refused with [`Refusal::Shape`], [`Refusal::Memory`], [`Refusal::Value`], [`Refusal::Stored`],
+    /// [`Refusal::Depth`], [`Refusal::Pages`] or [`Refusal::Unsound`].
+    #[inline]
+    pub fn insert(&mut self, key: impl Into<Key>, payload: u32) -> Result<(), Refusal> {
+        raw::insert(&mut self.state, self.directory, self.pages, key.into().values, payload)
+            .map_err(Refusal::of)
+    }
+
+    /// Removes the record of a key.
+    ///
+    /// Refused with [`Refusal::Shape`], [`Refusal::Memory`], [`Refusal::Value`], [`Refusal::Absent`] or
+    /// [`Refusal::Unsound`].
+    #[inline]
+    pub fn delete(&mut self, key: impl Into<Key>) -> Result<(), Refusal> {
+        raw::delete(&mut self.state, self.directory, self.pages, key.into().values).map_err(Refusal::of)
+    }
+
+    /// The payload of a key's record.
+    ///
+    /// Refused with [`Refusal::Shape`], [`Refusal::Memory`], [`Refusal::Value`], [`Refusal::Absent`] or
+    /// [`Refusal::Unsound`].
+    #[inline]
+    pub fn lookup(&self, key: impl Into<Key>) -> Result<Found, Refusal> {
+        match raw::lookup_result(&self.state, self.directory, self.pages, key.into().values) {
+            LookupResult { number: 0, payload, reads } => Ok(Found { payload, reads }),
+            LookupResult { number, .. } => Err(Refusal::of(number)),
+        }
+    }
+
+    /// Writes the records that match a query into `out`, in split order, while whole ones fit.
+    ///
+    /// A short output is no refusal: [`Listing::total`] then is more than [`Listing::written`]. Refused with
+    /// [`Refusal::Shape`], [`Refusal::Memory`], [`Refusal::Attribute`], [`Refusal::Value`] or [`Refusal::Unsound`];
+    /// `out` is then as it was.
+    ///
+    /// ```
+    /// use mdeh::{Query, Shape, Store, RECORD_BYTES};
+    ///
+    /// let (mut directory, mut pages) = ([0; 8], [0; 60]);
+    /// let mut store = Store::fresh(Shape::new(&[2, 2], 2), &mut directory, &mut pages)?;
+    /// store.insert([2, 1], 13)?;
+    /// store.insert([3, 1], 12)?;
+    ///
+    /// let mut out = [0; RECORD_BYTES + 5]; // room for one record
+    /// let listing = store.query([None, Some(1)], &mut out)?;
+    /// assert_eq!((listing.written, listing.total), (1, 2));
+    /// for record in listing.records() {
+    ///     assert_eq!((record.values, record.payload), ([2, 1, 0, 0], 13));
+    /// }
+    /// # Ok::<(), mdeh::Refusal>(())
+    /// ```
+    #[inline]
+    pub fn query<'o>(&self, query: impl Into<Query>, out: &'o mut [u8]) -> Result<Listing<'o>, Refusal> {
+        let query = query.into();
+        if query.beyond {
+            // after the reasons that check has too
+            return Err(self.check().err().unwrap_or(Refusal::Attribute));
+        }
+        match raw::query_result(&self.state, self.directory, self.pages, query.raw, out) {
+            QueryResult { number: 0, written, total, reads } => Ok(Listing { written, total, reads, out }),
+            QueryResult { number, .. } => Err(Refusal::of(number)),
+        }
+    }
+
+    /// Whether the memory holds a sound store: state, words and pages show one set of records, from which every call is
+    /// then answered.
+    ///
+    /// Refused with [`Refusal::Shape`] or [`Refusal::Memory`].
+    #[inline]
+    pub fn check(&self) -> Result<bool, Refusal> {
+        raw::check(&self.state, self.directory, self.pages).map_err(Refusal::of)
+    }
+
+    /// The words of the state: d, the four widths, b, P, L, T, and how many leaves there are at depths 0 to 12.
+    #[inline]
+    pub fn state(&self) -> &[u32; STATE_WORDS] {
+        &self.state
+    }
+
+    /// The directory as it was lent, of which the first 2^T words are in use.
+    #[inline]
+    pub fn directory(&self) -> &[u32] {
+        self.directory
+    }
+
+    /// The bytes of the pages as they were lent.
+    #[inline]
+    pub fn pages(&self) -> &[u8] {
+        self.pages
+    }
+
+    /// The shape that the state has.
+    #[inline]
+    pub fn shape(&self) -> Shape {
+        let [attributes, a, b, c, d, capacity, ..] = self.state;
+        Shape { attributes, widths: [a, b, c, d], capacity }
+    }
+}
+
+/// The state and the lengths of the lent slices.
+impl Debug for Store<'_> {
+    fn fmt(&self, f: &mut Formatter<'_>) -> fmt::Result {
+        f.debug_struct("Store")
+            .field("state", &self.state)
+            .field("words", &self.directory.len())
+            .field("bytes", &self.pages.len())
+            .finish()
+    }
+}
+
+impl<'o> Listing<'o> {
+    /// The records that were written, in split order.
+    #[inline]
+    pub fn records(&self) -> Records<'o> {
+        Records::new(self.out, self.written as usize)
+    }
+}
+
+impl<'o> IntoIterator for Listing<'o> {
+    type Item = Record;
+    type IntoIter = Records<'o>;
+
+    #[inline]
+    fn into_iter(self) -> Records<'o> {
+        self.records()
+    }
+}

@@ -1,0 +1,95 @@
+#include "edges.h"
+
+#include "lent.h"
+#include "model.h"
+
+/* The layout of what crosses, as the library has it. */
+#define LAID(name, condition) typedef char name[(condition) ? 1 : -1]
+LAID(shape_laid, sizeof(MdehShape) == 24 && offsetof(MdehShape, widths) == 4 && offsetof(MdehShape, capacity) == 20);
+LAID(key_laid, sizeof(MdehKey) == 16 && sizeof(MdehIndex) == 32);
+LAID(query_laid, sizeof(MdehQuery) == 32 && offsetof(MdehQuery, values) == 16);
+LAID(lookup_laid, sizeof(MdehLookupResult) == 12 && offsetof(MdehLookupResult, reads) == 8);
+LAID(listed_laid, sizeof(MdehQueryResult) == 32 && offsetof(MdehQueryResult, written) == 8);
+LAID(counts_laid, offsetof(MdehQueryResult, total) == 16 && offsetof(MdehQueryResult, reads) == 24);
+LAID(check_laid, sizeof(MdehCheckResult) == 8 && offsetof(MdehCheckResult, sound) == 4);
+LAID(address_laid, sizeof(MdehAddressResult) == 16 && offsetof(MdehAddressResult, address) == 8);
+LAID(index_laid, sizeof(MdehIndexResult) == 40 && offsetof(MdehIndexResult, index) == 8);
+
+static const MdehShape small = {2, {2, 2, 0, 0}, 2};
+static const MdehKey key = {{2, 1, 0, 0}};
+static const MdehQuery all = {{0, 0, 0, 0}, {0, 0, 0, 0}};
+
+void empty_slices(void) {
+    uint32_t state[MDEH_STATE_WORDS], directory[8], gone;
+    uint8_t pages[4 * MDEH_PAGE_BYTES(2)], out[MDEH_RECORD_BYTES];
+    MdehQueryResult found;
+    for (gone = 0; gone < 3; gone++) {
+        uint32_t *s = gone == 0 ? NULL : state, *d = gone == 1 ? NULL : directory, number = gone == 0 ? 1 : 2;
+        uint8_t *p = gone == 2 ? NULL : pages;
+        size_t words = gone == 1 ? 0 : 8, bytes = gone == 2 ? 0 : sizeof pages, n = gone == 0 ? 0 : MDEH_STATE_WORDS;
+        HOLDS(mdeh_fresh(small, s, n, d, words, p, bytes) == MDEH_REFUSED_MEMORY);
+        HOLDS(mdeh_fresh(small, state, MDEH_STATE_WORDS, directory, 8, pages, sizeof pages) == MDEH_ACCEPTED);
+        HOLDS(mdeh_insert(s, n, d, words, p, bytes, key, 13) == number);
+        HOLDS(mdeh_delete(s, n, d, words, p, bytes, key) == number);
+        HOLDS(mdeh_lookup(s, n, d, words, p, bytes, key).number == number);
+        HOLDS(mdeh_check(s, n, d, words, p, bytes).number == number);
+        HOLDS(mdeh_query(s, n, d, words, p, bytes, all, out, sizeof out).number == number);
+    }
+    HOLDS(mdeh_insert(state, MDEH_STATE_WORDS, directory, 8, pages, sizeof pages, key, 13) == MDEH_ACCEPTED);
+    found = mdeh_query(state, MDEH_STATE_WORDS, directory, 8, pages, sizeof pages, all, NULL, 0);
+    HOLDS(found.number == MDEH_ACCEPTED && found.written == 0 && found.total == 1 && found.reads == 1);
+}
+
+static int same(const MdehIndex *a, const MdehIndex *b) {
+    return a->indices[0] == b->indices[0] && a->indices[1] == b->indices[1] && a->indices[2] == b->indices[2]
+        && a->indices[3] == b->indices[3];
+}
+
+static void compare(MdehShape shape, MdehIndex index, uint64_t address) {
+    MdehAddressResult to = mdeh_address(shape, index);
+    MdehIndexResult from = mdeh_index(shape, address);
+    HOLDS(to.number == MDEH_ACCEPTED && to.address == address);
+    HOLDS(from.number == MDEH_ACCEPTED && same(&from.index, &index));
+}
+
+/* Vector n of those that the step of bit k and attribute z appends: ordered by index z, then by the others from
+   attribute 0, the last fastest. Attribute j has 2^depth[j] indices. */
+static MdehIndex appended(uint32_t k, uint32_t z, const uint32_t *depth, uint64_t n) {
+    MdehIndex index;
+    int j;
+    for (j = 3; j >= 0; j--) {
+        if ((uint32_t)j == z)
+            continue;
+        index.indices[j] = n & (((uint64_t)1 << depth[j]) - 1);
+        n >>= depth[j];
+    }
+    index.indices[z] = ((uint64_t)1 << k) + n;
+    return index;
+}
+
+/* The doubling array: the zero vector, and step by step as many vectors again. */
+static void compare_shape(MdehShape shape) {
+    static const MdehIndex zero = {{0, 0, 0, 0}};
+    uint32_t depth[4] = {0, 0, 0, 0}, place;
+    uint64_t size = 1, n;
+    compare(shape, zero, 0);
+    for (place = 0; place < 64; place++) {
+        uint32_t k = place / 4, z = place % 4;
+        if (z >= shape.attributes || k >= shape.widths[z])
+            continue;
+        for (n = 0; n < size; n++)
+            compare(shape, appended(k, z, depth, n), size + n);
+        depth[z]++;
+        size *= 2;
+    }
+    HOLDS(mdeh_index(shape, size).number == MDEH_REFUSED_VALUE);
+}
+
+void addresses(void) {
+    uint32_t n;
+    for (n = 0; n < 4 * 256; n++) {
+        MdehShape shape = {1 + n / 256, {1 + n % 4, 1 + n / 4 % 4, 1 + n / 16 % 4, 1 + n / 64 % 4}, 16};
+        if (model_bits(&shape) <= 10)
+            compare_shape(shape);
+    }
+}

@@ -1,0 +1,11 @@
+/* What random lists do not reach. */
+#ifndef EDGES_H
+#define EDGES_H
+
+/* Each slice of each call without elements and without a pointer. */
+void empty_slices(void);
+
+/* The address map of all small shapes beside the doubling array. */
+void addresses(void);
+
+#endif

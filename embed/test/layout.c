@@ -1,0 +1,36 @@
+#include "layout.h"
+
+#include <string.h>
+
+/* The index vector of a key's cell in a directory of depth t. */
+static MdehIndex cell_of(const MdehShape *shape, MdehKey key, uint32_t t) {
+    MdehIndex index = {{0, 0, 0, 0}};
+    uint32_t place;
+    for (place = 0; t > 0; place++) {
+        uint32_t k = place / 4, j = place % 4;
+        if (j < shape->attributes && k < shape->widths[j]) {
+            index.indices[j] |= (uint64_t)(key.values[j] >> (shape->widths[j] - 1 - k) & 1) << k;
+            t--;
+        }
+    }
+    return index;
+}
+
+int layout_lookup(const uint32_t *state, const uint32_t *directory, const uint8_t *pages, MdehKey key,
+                  uint32_t *payload) {
+    MdehShape shape = {state[0], {state[1], state[2], state[3], state[4]}, state[5]};
+    uint32_t word = directory[mdeh_address(shape, cell_of(&shape, key, state[8])).address];
+    const uint8_t *page;
+    size_t i;
+    if ((word & 0xffff) == 0)
+        return 0;
+    page = pages + ((word & 0xffff) - 1) * MDEH_PAGE_BYTES(shape.capacity);
+    for (i = 0; i < (size_t)(page[0] | page[1] << 8); i++) {
+        MdehRecord record = mdeh_record(page + 2, i);
+        if (memcmp(record.values, key.values, sizeof key.values) == 0) {
+            *payload = record.payload;
+            return 1;
+        }
+    }
+    return 0;
+}

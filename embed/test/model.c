@@ -1,0 +1,200 @@
+#include "model.h"
+
+#include <string.h>
+
+uint32_t model_bits(const MdehShape *shape) {
+    uint32_t j, bits = 0;
+    for (j = 0; j < shape->attributes; j++)
+        bits += shape->widths[j];
+    return bits;
+}
+
+/* Whether a shape is within its bounds. */
+static int in_bounds(const MdehShape *shape) {
+    uint32_t j;
+    if (shape->attributes < 1 || shape->attributes > 4 || shape->capacity < 1 || shape->capacity > 16)
+        return 0;
+    for (j = 0; j < shape->attributes; j++)
+        if (shape->widths[j] < 1 || shape->widths[j] > 16)
+            return 0;
+    return 1;
+}
+
+/* The split bits of four values, the first one highest: bit k of each attribute in turn, the most significant first. */
+static uint64_t code_of(const MdehShape *shape, const uint32_t *values) {
+    uint32_t place, t = 0;
+    uint64_t code = 0;
+    for (place = 0; place < 64; place++) {
+        uint32_t k = place / 4, j = place % 4;
+        if (j < shape->attributes && k < shape->widths[j])
+            code |= (uint64_t)(values[j] >> (shape->widths[j] - 1 - k) & 1) << (63 - t++);
+    }
+    return code;
+}
+
+/* Whether some value is 2^w_j or more, or that of an unused attribute not 0. */
+static int too_large(const MdehShape *shape, const uint32_t *values) {
+    uint32_t j;
+    for (j = 0; j < 4; j++)
+        if (values[j] >> (j < shape->attributes ? shape->widths[j] : 0))
+            return 1;
+    return 0;
+}
+
+/* Where a code stands in the list, or would. */
+static size_t place_of(const Model *model, uint64_t code) {
+    size_t i = 0;
+    while (i < model->count && model->records[i].code < code)
+        i++;
+    return i;
+}
+
+static int is_stored(const Model *model, uint64_t code) {
+    size_t i = place_of(model, code);
+    return i < model->count && model->records[i].code == code;
+}
+
+/* The non-empty leaves that agree with the wanted bits where they are given, of a region of depth x with these records:
+   more than the capacity are divided by their next bit. */
+static uint32_t leaves(const Model *model, size_t from, size_t end, uint32_t x, uint64_t given, uint64_t wanted) {
+    size_t middle = from;
+    uint32_t found = 0;
+    uint64_t bit = (uint64_t)1 << (63 - x);
+    if (end - from <= model->shape.capacity)
+        return end > from;
+    while (middle < end && !(model->records[middle].code & bit))
+        middle++;
+    if (!(given & bit) || !(wanted & bit))
+        found += leaves(model, from, middle, x + 1, given, wanted);
+    if (!(given & bit) || (wanted & bit))
+        found += leaves(model, middle, end, x + 1, given, wanted);
+    return found;
+}
+
+uint32_t model_fresh(Model *model, MdehShape shape, size_t words, size_t bytes) {
+    size_t pages;
+    uint32_t bits;
+    if (!in_bounds(&shape))
+        return MDEH_REFUSED_SHAPE;
+    pages = bytes / MDEH_PAGE_BYTES(shape.capacity);
+    if (words == 0 || pages == 0)
+        return MDEH_REFUSED_MEMORY;
+    bits = model_bits(&shape);
+    model->shape = shape;
+    model->count = 0;
+    model->page_limit = pages < 4096 ? (uint32_t)pages : 4096;
+    model->depth_limit = 0;
+    while (model->depth_limit < 12 && model->depth_limit < bits && words >> (model->depth_limit + 1))
+        model->depth_limit++;
+    return MDEH_ACCEPTED;
+}
+
+/* How many stored keys share their first L split bits with a code. */
+static uint32_t sharing(const Model *model, uint64_t code) {
+    size_t i;
+    uint32_t found = 0;
+    for (i = 0; i < model->count; i++)
+        found += model->depth_limit == 0 || (model->records[i].code ^ code) >> (64 - model->depth_limit) == 0;
+    return found;
+}
+
+static void add(Model *model, uint64_t code, MdehKey key, uint32_t payload) {
+    ModelRecord *place = model->records + place_of(model, code);
+    memmove(place + 1, place, (size_t)(model->records + model->count - place) * sizeof *place);
+    memcpy(place->record.values, key.values, sizeof key.values);
+    place->code = code;
+    place->record.payload = payload;
+    model->count++;
+}
+
+static void drop(Model *model, uint64_t code) {
+    ModelRecord *place = model->records + place_of(model, code);
+    model->count--;
+    memmove(place, place + 1, (size_t)(model->records + model->count - place) * sizeof *place);
+}
+
+uint32_t model_insert(Model *model, MdehKey key, uint32_t payload) {
+    uint64_t code = code_of(&model->shape, key.values);
+    if (too_large(&model->shape, key.values))
+        return MDEH_REFUSED_VALUE;
+    if (is_stored(model, code))
+        return MDEH_REFUSED_STORED;
+    if (sharing(model, code) >= model->shape.capacity)
+        return MDEH_REFUSED_DEPTH;
+    add(model, code, key, payload);
+    if (leaves(model, 0, model->count, 0, 0, 0) <= model->page_limit)
+        return MDEH_ACCEPTED;
+    drop(model, code);
+    return MDEH_REFUSED_PAGES;
+}
+
+uint32_t model_delete(Model *model, MdehKey key) {
+    uint64_t code = code_of(&model->shape, key.values);
+    if (too_large(&model->shape, key.values))
+        return MDEH_REFUSED_VALUE;
+    if (!is_stored(model, code))
+        return MDEH_REFUSED_ABSENT;
+    drop(model, code);
+    return MDEH_ACCEPTED;
+}
+
+MdehLookupResult model_lookup(const Model *model, MdehKey key) {
+    MdehLookupResult result = {0, 0, 0};
+    uint64_t code = code_of(&model->shape, key.values);
+    if (too_large(&model->shape, key.values)) {
+        result.number = MDEH_REFUSED_VALUE;
+    } else if (!is_stored(model, code)) {
+        result.number = MDEH_REFUSED_ABSENT;
+    } else {
+        result.payload = model->records[place_of(model, code)].record.payload;
+        result.reads = 1;
+    }
+    return result;
+}
+
+/* The number of a query: 8 before 3; the value of a free attribute is ignored. */
+static uint32_t query_number(const MdehShape *shape, const MdehQuery *query) {
+    uint32_t j, number = MDEH_ACCEPTED;
+    for (j = 0; j < 4; j++) {
+        if (query->given[j] && j >= shape->attributes)
+            return MDEH_REFUSED_ATTRIBUTE;
+        if (query->given[j] && query->values[j] >> shape->widths[j])
+            number = MDEH_REFUSED_VALUE;
+    }
+    return number;
+}
+
+static int matches(const MdehQuery *query, const MdehRecord *record) {
+    uint32_t j;
+    for (j = 0; j < 4; j++)
+        if (query->given[j] && query->values[j] != record->values[j])
+            return 0;
+    return 1;
+}
+
+static void put(uint8_t *place, const MdehRecord *record) {
+    uint32_t j;
+    for (j = 0; j < 12; j++)
+        place[j] = (uint8_t)(j < 8 ? record->values[j / 2] >> j % 2 * 8 : record->payload >> (j - 8) * 8);
+}
+
+MdehQueryResult model_query(const Model *model, MdehQuery query, uint8_t *out, size_t out_bytes) {
+    MdehQueryResult result = {0, 0, 0, 0};
+    uint32_t given[4], wanted[4], j;
+    size_t i;
+    result.number = query_number(&model->shape, &query);
+    if (result.number != MDEH_ACCEPTED)
+        return result;
+    for (i = 0; i < model->count; i++) {
+        if (!matches(&query, &model->records[i].record))
+            continue;
+        if (result.total++ < out_bytes / MDEH_RECORD_BYTES)
+            put(out + MDEH_RECORD_BYTES * result.written++, &model->records[i].record);
+    }
+    for (j = 0; j < 4; j++) {
+        given[j] = query.given[j] ? UINT32_MAX : 0;
+        wanted[j] = query.given[j] ? query.values[j] : 0;
+    }
+    result.reads = leaves(model, 0, model->count, 0, code_of(&model->shape, given), code_of(&model->shape, wanted));
+    return result;
+}

@@ -1,0 +1,34 @@
+/* The plain model: a list of records in split order, scanned in full for every answer; nothing of the library. */
+#ifndef MODEL_H
+#define MODEL_H
+
+#include "../mdeh.h"
+
+/* More records than a list of the test ever has. */
+#define MOST_RECORDS 1024
+
+/* A record beside its split bits, the first one highest. */
+typedef struct {
+    uint64_t code;
+    MdehRecord record;
+} ModelRecord;
+
+typedef struct {
+    MdehShape shape;
+    uint32_t page_limit, depth_limit;
+    size_t count;
+    ModelRecord records[MOST_RECORDS];
+} Model;
+
+/* The sum of the widths in use. */
+uint32_t model_bits(const MdehShape *shape);
+
+/* The number of Fresh; where it is 0, the model has no records. */
+uint32_t model_fresh(Model *model, MdehShape shape, size_t words, size_t bytes);
+
+uint32_t model_insert(Model *model, MdehKey key, uint32_t payload);
+uint32_t model_delete(Model *model, MdehKey key);
+MdehLookupResult model_lookup(const Model *model, MdehKey key);
+MdehQueryResult model_query(const Model *model, MdehQuery query, uint8_t *out, size_t out_bytes);
+
+#endif

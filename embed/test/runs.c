@@ -1,0 +1,238 @@
+/*
+ * Random lists of all calls through the C interface, each answer compared with the plain model's, and calls on the same
+ * store damaged. Guards stand round every lent slice. A failure prints what does not hold and the seed of its list;
+ * given as an argument, that seed runs its list alone.
+ */
+#include "edges.h"
+#include "layout.h"
+#include "lent.h"
+#include "model.h"
+
+#include <stdio.h>
+#include <stdlib.h>
+#include <string.h>
+
+/* A lent store, the model beside it, and the random numbers of its list. */
+typedef struct {
+    Lent state, directory, pages;
+    Model model;
+    uint64_t seed;
+} Run;
+
+/* The three slices of a store. */
+#define STORE(run) SLICE((run)->state), SLICE((run)->directory), bytes_of(&(run)->pages), (run)->pages.bytes
+#define SLICE(lent) words_of(&(lent)), (lent).bytes / 4
+
+static int unchanged(const Run *run) {
+    return unchanged_from(&run->state, 0) && unchanged_from(&run->directory, 0) && unchanged_from(&run->pages, 0);
+}
+
+static void keep(Run *run) {
+    lend_again(&run->state);
+    lend_again(&run->directory);
+    lend_again(&run->pages);
+}
+
+static void take_store_back(Run *run) {
+    take_back(&run->state);
+    take_back(&run->directory);
+    take_back(&run->pages);
+}
+
+/* A shape, one in sixteen with a number outside its bounds. */
+static MdehShape random_shape(uint64_t *seed) {
+    MdehShape shape;
+    uint32_t j, narrow = below(seed, 2);
+    shape.attributes = 1 + below(seed, 4);
+    for (j = 0; j < 4; j++)
+        shape.widths[j] = 1 + below(seed, narrow ? 3 : 16);
+    shape.capacity = 1 + below(seed, narrow ? 3 : 16);
+    if (below(seed, 16) == 0) {
+        uint32_t *numbers[6] = {&shape.attributes, &shape.capacity, shape.widths, shape.widths + 1, shape.widths + 2,
+                                shape.widths + 3};
+        uint32_t *changed = numbers[below(seed, 6)];
+        *changed = below(seed, 2) ? 0 : 17 + (uint32_t)number64(seed) % 1000;
+    }
+    return shape;
+}
+
+/* A key: stored, next to a stored one, or random; one in sixteen has a number too large. */
+static MdehKey random_key(Run *run) {
+    const MdehShape *shape = &run->model.shape;
+    MdehKey key = {{0, 0, 0, 0}};
+    uint32_t j, kind = below(&run->seed, 3);
+    for (j = 0; j < shape->attributes; j++)
+        key.values[j] = below(&run->seed, (uint32_t)1 << shape->widths[j]);
+    if (kind > 0 && run->model.count > 0) {
+        size_t i = below(&run->seed, (uint32_t)run->model.count);
+        memcpy(key.values, run->model.records[i].record.values, sizeof key.values);
+        j = below(&run->seed, shape->attributes);
+        key.values[j] ^= (uint32_t)(kind - 1) << below(&run->seed, shape->widths[j]);
+    }
+    if (below(&run->seed, 16) == 0) {
+        j = below(&run->seed, 4);
+        key.values[j] ^= (uint32_t)1 << below(&run->seed, 32);
+    }
+    return key;
+}
+
+/* Some attributes of a key are given, in any number but 0, and the others have any value. */
+static MdehQuery random_query(Run *run) {
+    MdehKey key = random_key(run);
+    MdehQuery query;
+    uint32_t j;
+    for (j = 0; j < 4; j++) {
+        int given = below(&run->seed, j < run->model.shape.attributes ? 3 : 40) == 0;
+        query.given[j] = given ? 1 + below(&run->seed, UINT32_MAX) : 0;
+        query.values[j] = given ? key.values[j] : (uint32_t)number64(&run->seed);
+    }
+    return query;
+}
+
+/* The bytes of the P pages. */
+static size_t lent_pages(const Run *run) {
+    return run->model.page_limit * MDEH_PAGE_BYTES(run->model.shape.capacity);
+}
+
+/* A query into an output of any bytes, which is compared whole. */
+static void compare_query(Run *run, MdehQuery query, uint32_t out_bytes) {
+    Lent out = lend_bytes(&run->seed, out_bytes);
+    uint8_t *wanted = out.before + out.start;
+    MdehQueryResult found = mdeh_query(STORE(run), query, bytes_of(&out), out_bytes);
+    MdehQueryResult model = model_query(&run->model, query, wanted, out_bytes);
+    HOLDS(found.number == model.number);
+    HOLDS(found.written == model.written && found.total == model.total && found.reads == model.reads);
+    HOLDS(unchanged_from(&out, 0));
+    HOLDS(unchanged(run));
+    take_back(&out);
+}
+
+/* A lookup, and the record found by the layouts. */
+static void compare_lookup(Run *run, MdehKey key) {
+    MdehLookupResult found = mdeh_lookup(STORE(run), key), model = model_lookup(&run->model, key);
+    HOLDS(found.number == model.number && found.payload == model.payload && found.reads == model.reads);
+    HOLDS(unchanged(run));
+    if (model.number != MDEH_REFUSED_VALUE) {
+        const uint32_t *state = words_of(&run->state), *directory = words_of(&run->directory);
+        uint32_t payload = 0;
+        HOLDS(layout_lookup(state, directory, bytes_of(&run->pages), key, &payload) == (model.number == MDEH_ACCEPTED));
+        HOLDS(payload == model.payload);
+    }
+}
+
+/* After a call that may change the store: its number, what never changes, a sound store that lists the model's set. */
+static void compare_change(Run *run, uint32_t number, uint32_t wanted) {
+    static const MdehQuery all = {{0, 0, 0, 0}, {0, 0, 0, 0}};
+    MdehCheckResult check;
+    HOLDS(number == wanted);
+    HOLDS(number == MDEH_ACCEPTED || unchanged(run));
+    if (number != MDEH_ACCEPTED)
+        return;
+    HOLDS(unchanged_from(&run->state, 4 * MDEH_STATE_WORDS));
+    HOLDS(unchanged_from(&run->directory, (size_t)4 << run->model.depth_limit));
+    HOLDS(unchanged_from(&run->pages, lent_pages(run)));
+    keep(run);
+    check = mdeh_check(STORE(run));
+    HOLDS(check.number == MDEH_ACCEPTED && check.sound == 1);
+    compare_query(run, all, MDEH_RECORD_BYTES * (uint32_t)run->model.count + 5);
+}
+
+/* Moves the store into other memory, some words and bytes longer, as from a file. */
+static void reopen(Run *run) {
+    Run moved = *run;
+    moved.state = lend_words(&run->seed, run->state.bytes / 4 + below(&run->seed, 2));
+    moved.directory = lend_words(&run->seed, run->directory.bytes / 4 + below(&run->seed, 5));
+    moved.pages = lend_bytes(&run->seed, run->pages.bytes + below(&run->seed, 300));
+    memcpy(words_of(&moved.state), words_of(&run->state), 4 * MDEH_STATE_WORDS);
+    memcpy(words_of(&moved.directory), words_of(&run->directory), (size_t)4 << words_of(&run->state)[8]);
+    memcpy(bytes_of(&moved.pages), bytes_of(&run->pages), lent_pages(run));
+    take_store_back(run);
+    moved.seed = run->seed;
+    *run = moved;
+    compare_change(run, MDEH_ACCEPTED, MDEH_ACCEPTED);
+}
+
+/* One call of any kind. */
+static void call(Run *run) {
+    uint32_t kind = below(&run->seed, 20), payload = (uint32_t)number64(&run->seed);
+    MdehKey key = random_key(run);
+    if (kind < 9) {
+        compare_change(run, mdeh_insert(STORE(run), key, payload), model_insert(&run->model, key, payload));
+    } else if (kind < 14) {
+        compare_change(run, mdeh_delete(STORE(run), key), model_delete(&run->model, key));
+    } else if (kind < 16) {
+        compare_lookup(run, key);
+    } else if (kind < 19) {
+        MdehQuery query = random_query(run);
+        compare_query(run, query, below(&run->seed, 200));
+    } else {
+        reopen(run);
+    }
+}
+
+/* After a call on a damaged store: a number of the table, a refused call changes nothing, the guards stay. */
+static void compare_damaged(Run *run, uint32_t number) {
+    HOLDS(number <= MDEH_REFUSED_UNSOUND);
+    HOLDS(number == MDEH_ACCEPTED || unchanged(run));
+    HOLDS(unchanged_from(&run->state, 4 * MDEH_STATE_WORDS) && unchanged_from(&run->directory, run->directory.bytes));
+    HOLDS(unchanged_from(&run->pages, run->pages.bytes));
+    keep(run);
+}
+
+/* All calls on the store with a word or byte more of it spoilt. */
+static void calls_on_damage(Run *run) {
+    MdehKey key = random_key(run);
+    MdehQuery query = random_query(run);
+    uint8_t out[100];
+    MdehQueryResult found;
+    uint32_t small = below(&run->seed, 5), word = below(&run->seed, 2) ? small : (uint32_t)number64(&run->seed);
+    switch (below(&run->seed, 3)) {
+    case 0: words_of(&run->state)[below(&run->seed, MDEH_STATE_WORDS)] = word; break;
+    case 1: words_of(&run->directory)[below(&run->seed, 1u << run->model.depth_limit)] ^= 1u << word % 20; break;
+    default: bytes_of(&run->pages)[below(&run->seed, (uint32_t)lent_pages(run))] = (uint8_t)word;
+    }
+    keep(run);
+    found = mdeh_query(STORE(run), query, out, sizeof out);
+    HOLDS(found.number <= MDEH_REFUSED_UNSOUND && found.written <= found.total && found.written <= sizeof out / 12);
+    HOLDS(mdeh_lookup(STORE(run), key).number <= MDEH_REFUSED_UNSOUND);
+    HOLDS(mdeh_check(STORE(run)).number <= MDEH_REFUSED_MEMORY);
+    HOLDS(unchanged(run));
+    compare_damaged(run, mdeh_insert(STORE(run), key, word));
+    compare_damaged(run, mdeh_delete(STORE(run), key));
+}
+
+/* Fresh in random memory, and the list of calls. */
+static void list(uint64_t seed) {
+    Run run;
+    MdehShape shape;
+    uint32_t turn, wanted, number;
+    first_seed = run.seed = seed;
+    shape = random_shape(&run.seed);
+    run.state = lend_words(&run.seed, MDEH_STATE_WORDS - 1 + below(&run.seed, 8));
+    run.directory = lend_words(&run.seed, below(&run.seed, below(&run.seed, 8) ? 300 : 6000));
+    run.pages = lend_bytes(&run.seed, below(&run.seed, 5000));
+    wanted = model_fresh(&run.model, shape, run.directory.bytes / 4, run.pages.bytes);
+    if (wanted == MDEH_ACCEPTED && run.state.bytes < 4 * MDEH_STATE_WORDS)
+        wanted = MDEH_REFUSED_MEMORY;
+    number = mdeh_fresh(shape, STORE(&run));
+    compare_change(&run, number, wanted);
+    for (turn = 0; number == MDEH_ACCEPTED && turn < 300; turn++)
+        call(&run);
+    for (turn = 0; number == MDEH_ACCEPTED && turn < 20; turn++)
+        calls_on_damage(&run);
+    take_store_back(&run);
+}
+
+int main(int count, char **arguments) {
+    uint64_t seed;
+    if (count > 1) {
+        list(strtoull(arguments[1], NULL, 0));
+        return 0;
+    }
+    empty_slices();
+    addresses();
+    for (seed = 1; seed <= 1500; seed++)
+        list(seed * 0x9e3779b97f4a7c15);
+    printf("%lu comparisons\n", compared);
+    return 0;
+}

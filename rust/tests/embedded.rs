@@ -1,0 +1,216 @@
+//! The safe crate: random lists of all calls on `mdeh::Store` compared with the plain model, and on stores of any kind
+//! with the calls on lent slices.
+use mdeh::{Key, Query, Record, Refusal, Shape, Store, RECORD_BYTES};
+use mdeh_tests::compare::Comparisons;
+use mdeh_tests::host;
+use mdeh_tests::lent::{lend_bytes, lend_words, Lent};
+use mdeh_tests::plain::image::{state_words, Image, Laid};
+use mdeh_tests::plain::model::Model;
+use mdeh_tests::plain::samples::{early_refused, query_of, random_key, random_model};
+use mdeh_tests::plain::unsound;
+use mdeh_tests::random::Random;
+use mdeh_tests::shapes::random_shape;
+
+const SEED: u64 = 0x6d64_6568_2d30_3134;
+
+/// Directory and pages between guards.
+type Memory = (Lent<u32>, Lent<u8>);
+
+/// A key near those of a model, one in sixteen with a bit changed that may be past a width.
+fn any_key(random: &mut Random, model: &Model) -> [u32; 4] {
+    let mut key = random_key(random, model);
+    if random.below(16) == 0 {
+        key[random.below(4)] ^= 1 << random.below(32);
+    }
+    key
+}
+
+/// The key from as few values as it needs.
+fn key_from(values: [u32; 4]) -> Key {
+    match values {
+        [a, 0, 0, 0] => [a].into(),
+        [a, b, 0, 0] => [a, b].into(),
+        [a, b, c, 0] => [a, b, c].into(),
+        values => values.into(),
+    }
+}
+
+/// The query from as few options as it needs, which is the one that is built value by value.
+fn query_from(count: &mut Comparisons, wanted: [Option<u32>; 4]) -> Query {
+    let query = match wanted {
+        [a, None, None, None] => [a].into(),
+        [a, b, None, None] => [a, b].into(),
+        [a, b, c, None] => [a, b, c].into(),
+        wanted => wanted.into(),
+    };
+    let given = |query: Query, j: usize| wanted[j].map_or(query, |value| query.given(j, value));
+    count.same((0..4).fold(Query::all(), given), query, format_args!("{wanted:?}"));
+    query
+}
+
+/// A query into so many bytes: counts, records and every byte of the output.
+fn compare_query(count: &mut Comparisons, random: &mut Random, store: &Store, model: &Model) {
+    let wanted = query_of(random.below(16), any_key(random, model));
+    let query = query_from(count, wanted);
+    let length = random.below(200);
+    let mut expected = random.bytes(length);
+    let mut out = lend_bytes(random, &expected);
+    let found = store.query(query, out.slice_mut());
+    let records: Vec<Record> = found.iter().flat_map(|listing| listing.records()).collect();
+    let counts = found.map(|listing| (listing.written, listing.total, listing.reads));
+    let about = format_args!("{wanted:?}, {model:?}");
+    count.same(counts.map_err(Refusal::number), model.query(wanted, &mut expected), about);
+    count.same(out.slice(), &expected[..], about);
+    assert!(out.guards_stay(), "a guard of the output is changed");
+    let written =
+        expected.chunks_exact(RECORD_BYTES).take(counts.map_or(0, |(written, ..)| written as usize));
+    let listed = records.iter().map(|record| model.record(record.values, record.payload).bytes());
+    count.same(listed.collect::<Vec<_>>(), written.map(Vec::from).collect(), about);
+}
+
+/// The comparisons of one turn.
+const COMPARED: u64 = 1 + 1 + 4 + 2;
+
+/// One change, one lookup, one query, check and state.
+fn turn(count: &mut Comparisons, random: &mut Random, store: &mut Store, model: &mut Model) {
+    let key = any_key(random, model);
+    let payload = random.number() as u32;
+    let (found, expected) = match random.below(3) {
+        0 => (store.delete(key_from(key)), model.delete(key)),
+        _ => (store.insert(key_from(key), payload), model.insert(key, payload)),
+    };
+    count.same(found.map_err(Refusal::number), expected, format_args!("{key:?}, {payload}: {model:?}"));
+    let key = any_key(random, model);
+    let about = format_args!("{key:?}: {model:?}");
+    let found = store.lookup(key).map(|found| (found.payload, found.reads));
+    count.same(found.map_err(Refusal::number), model.lookup(key), about);
+    compare_query(count, random, store, model);
+    count.same(store.check(), Ok(true), about);
+    count.same(store.state()[..].to_vec(), state_words(model, &model.leaves()), about);
+}
+
+/// Stores that are dropped and reopened while their lists run, and stores that Fresh refuses.
+#[test]
+fn lists_of_calls() {
+    let mut count = Comparisons::default();
+    let mut random = Random::new(SEED);
+    let mut accepted = 0;
+    for _ in 0..250 {
+        let mut shape = random_shape(&mut random, 18, 5);
+        if random.below(16) == 0 {
+            shape.capacity = [0, 17, u32::MAX][random.below(3)];
+        }
+        let (words, bytes) = (random.below(100), random.below(800));
+        let content = (random.words(words), random.bytes(bytes));
+        let mut memory = (lend_words(&mut random, &content.0), lend_bytes(&mut random, &content.1));
+        let fresh = Store::fresh(shape, memory.0.slice_mut(), memory.1.slice_mut());
+        let state = fresh.map(|store| *store.state());
+        let model = Model::fresh(shape, words, bytes);
+        count.same(
+            state.err().map(Refusal::number),
+            model.as_ref().err().copied(),
+            format_args!("{shape:?}"),
+        );
+        if let (Ok(state), Ok(mut model)) = (state, model) {
+            sessions(&mut count, &mut random, state, &mut memory, &mut model);
+            accepted += 1;
+        }
+        assert!(memory.0.guards_stay() && memory.1.guards_stay(), "a guard is changed");
+    }
+    count.end(250 + accepted * SESSIONS * TURNS * COMPARED);
+}
+
+const SESSIONS: u64 = 4;
+const TURNS: u64 = 40;
+
+/// Reopens the store several times, with a list of calls each time.
+fn sessions(
+    count: &mut Comparisons,
+    random: &mut Random,
+    mut state: [u32; mdeh::STATE_WORDS],
+    memory: &mut Memory,
+    model: &mut Model,
+) {
+    for _ in 0..SESSIONS {
+        let mut store = Store::reopen(state, memory.0.slice_mut(), memory.1.slice_mut());
+        for _ in 0..TURNS {
+            turn(count, random, &mut store, model);
+        }
+        assert_eq!(store.shape(), model.shape);
+        state = *store.state();
+    }
+}
+
+// ---- the same answers as the calls on lent slices
+
+/// All calls on a copy of any store by `Store`, and on another by the calls on slices.
+fn same_answers(count: &mut Comparisons, random: &mut Random, model: &Model, image: &Image) {
+    let state = image.state[..].try_into().expect("22 words");
+    let (mut dir, mut pages) = (image.dir.clone(), image.pages.clone());
+    let mut store = Store::reopen(state, &mut dir, &mut pages);
+    let Image { state, dir, pages } = &mut image.clone();
+    let about = format_args!("{:?}, {model:?}", image.state);
+    count.same(store.check().map_err(Refusal::number), host::check(state, dir, pages), about);
+    let key = any_key(random, model);
+    let found = store.lookup(key).map(|found| (found.payload, found.reads));
+    count.same(found.map_err(Refusal::number), host::lookup(state, dir, pages, key), about);
+    let wanted = query_of(random.below(16), key);
+    let (mut out, mut expected) = ([7; 100], [7; 100]);
+    let found = store.query(wanted, &mut out);
+    let records = found.as_ref().map_or(0, |listing| listing.records().count() as u64);
+    let counts = found.map(|listing| (listing.written, listing.total, listing.reads));
+    let plain = host::query(state, dir, pages, wanted, &mut expected);
+    count.same(records, plain.map_or(0, |plain| plain.written), about);
+    let plain = plain.map(|plain| (plain.written, plain.total, plain.reads));
+    count.same(counts.map_err(Refusal::number), plain, about);
+    count.same(out, expected, about);
+    let found = store.insert(key, 9).map_err(Refusal::number);
+    count.same(found, host::insert(state, dir, pages, key, 9), about);
+    count.same(store.delete(key).map_err(Refusal::number), host::delete(state, dir, pages, key), about);
+    let after = Image { state: state.to_vec(), dir: dir.to_vec(), pages: pages.to_vec() };
+    let Image { state, dir, pages } = &after;
+    count.same((&store.state()[..], store.directory(), store.pages()), (state, dir, pages), about);
+}
+
+#[test]
+fn any_memory_as_the_calls_on_slices() {
+    let mut count = Comparisons::default();
+    let mut random = Random::new(SEED);
+    let mut each =
+        |random: &mut Random, model: &Model, image: &Image| same_answers(&mut count, random, model, image);
+    unsound::random_memory(&mut random, 1000, 0x0003_000f, &mut each);
+    unsound::random_states(&mut random, 1000, &mut each);
+    count.end(2000 * 8);
+}
+
+// ---- what only the crate has
+
+#[test]
+fn an_attribute_that_no_shape_has() {
+    let mut count = Comparisons::default();
+    let mut random = Random::new(SEED);
+    for _ in 0..100 {
+        let model = random_model(&mut random);
+        let image = Laid::new(&mut random, &model).image;
+        let early = early_refused(&image, &model).into_iter().filter(|(image, _)| image.state.len() == 22);
+        for (Image { state, mut dir, mut pages }, number) in early.chain([(image, 8)]) {
+            let state = state[..].try_into().expect("22 words");
+            let store = Store::reopen(state, &mut dir, &mut pages);
+            for attribute in [4, 5, 1 << 32, usize::MAX] {
+                let query = Query::all().given(0, u32::MAX).given(attribute, 0);
+                let found = store.query(query, &mut []);
+                count.same(found.err().map(Refusal::number), Some(number), format_args!("{attribute}"));
+            }
+        }
+    }
+    count.end(100 * 7 * 4);
+}
+
+#[test]
+fn shapes_of_any_widths() {
+    for (widths, attributes) in [(&[][..], 0), (&[3; 4], 4), (&[3; 5], 5), (&[3; 900], 5)] {
+        assert_eq!(Shape::new(widths, 1).attributes, attributes);
+    }
+    assert_eq!(Store::fresh(Shape::new(&[3; 5], 1), &mut [0], &mut [0; 14]).unwrap_err(), Refusal::Shape);
+    assert_eq!(Shape::new(&[3], u32::MAX).page_bytes(), 2 + 12 * 0xffff_ffff);
+}

@@ -1,0 +1,55 @@
+//! What `embed/mdeh.h` says of threads: calls that read share a store, and a call needs little stack.
+use mdeh::{Query, Shape, Store, RECORD_BYTES};
+use mdeh_tests::random::Random;
+use std::thread;
+
+const SEED: u64 = 0x6d64_6568_2d30_3135;
+const SHAPE: Shape = Shape::new(&[8, 8, 10], 16);
+
+/// The stack that the header says, and what a thread itself needs.
+const STACK: usize = (32 + 8) << 10;
+
+/// Words and bytes for the greatest store.
+fn memory() -> (Vec<u32>, Vec<u8>) {
+    (vec![0; 4096], vec![0; 4096 * SHAPE.page_bytes()])
+}
+
+/// Random keys, those refused for their depth left out.
+fn fill(store: &mut Store, random: &mut Random) -> Vec<[u32; 3]> {
+    let mut keys: Vec<_> = (0..30_000).map(|_| [8, 8, 10].map(|w| random.below(1 << w) as u32)).collect();
+    keys.retain(|&[a, b, c]| store.insert([a, b, c], a ^ b ^ c).is_ok());
+    assert_eq!(store.state()[8], 12, "the directory is as deep as it can be");
+    keys
+}
+
+#[test]
+fn threads_share_a_store() {
+    let (mut directory, mut pages) = memory();
+    let mut store = Store::fresh(SHAPE, &mut directory, &mut pages).expect("accepted");
+    let keys = fill(&mut store, &mut Random::new(SEED));
+    let (store, keys) = (&store, &keys);
+    let read = |code: u32| {
+        let mut out = vec![0; keys.len() * RECORD_BYTES];
+        assert!(keys
+            .iter()
+            .all(|&[a, b, c]| store.lookup([a, b, c]).is_ok_and(|found| found.payload == a ^ b ^ c)));
+        let found = store.query(Query::all().given(0, code), &mut out).expect("accepted");
+        assert_eq!(found.total, keys.iter().filter(|key| key[0] == code).count() as u64);
+        assert_eq!(store.check(), Ok(true));
+    };
+    thread::scope(|scope| (0..4).for_each(|code| drop(scope.spawn(move || read(code)))));
+}
+
+#[test]
+fn every_call_on_a_small_stack() {
+    let (mut directory, mut pages) = memory();
+    let mut out = vec![0; 30_000 * RECORD_BYTES];
+    let calls = move || {
+        let mut store = Store::fresh(SHAPE, &mut directory, &mut pages).expect("accepted");
+        let keys = fill(&mut store, &mut Random::new(SEED));
+        let listed = store.query(Query::all(), &mut out).expect("accepted").records().count();
+        assert_eq!((listed, store.check()), (keys.len(), Ok(true)));
+        assert!(keys.iter().all(|&key| store.lookup(key).is_ok() && store.delete(key).is_ok()));
+    };
+    thread::Builder::new().stack_size(STACK).spawn(calls).expect("a thread").join().expect("the calls end");
+}

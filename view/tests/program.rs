@@ -1,0 +1,55 @@
+//! The program: its arguments, its standard output and error, its status.
+use std::io::Write;
+use std::process::{Command, Stdio};
+
+/// What the program prints and tells for these arguments and this input, and its status.
+fn run(arguments: &[&str], input: &str) -> (String, String, Option<i32>) {
+    let mut child = Command::new(env!("CARGO_BIN_EXE_view"))
+        .args(arguments)
+        .stdin(Stdio::piped())
+        .stdout(Stdio::piped())
+        .stderr(Stdio::piped())
+        .spawn()
+        .expect("it starts");
+    // a program that reads no input may have ended
+    let _ = child.stdin.take().expect("a pipe").write_all(input.as_bytes());
+    let output = child.wait_with_output().expect("it ends");
+    let text = |bytes: Vec<u8>| String::from_utf8(bytes).expect("it prints text");
+    (text(output.stdout), text(output.stderr), output.status.code())
+}
+
+#[test]
+fn lines_passed_over() {
+    let input =
+        "put 1 1\nshape 1 2 1\nput 1 1\nput 1 2\nshape 1 17 1\ncut 3\nput 4 0\nlist *\nlist 4\n\nput 1";
+    let (text, told, status) = run(&[], input);
+    assert!(text.starts_with("shape      1 attribute of width 2, pages of 1 record\n"));
+    let expected = "\
+line 1: bad line
+line 4: no 4 (the key is stored already)
+line 5: no 1 (the shape is outside its bounds)
+line 6: no 5 (the key is not stored)
+line 7: no 3 (a value, index or address is too large, or an unused value is not 0)
+line 9: no 3 (a value, index or address is too large, or an unused value is not 0)
+line 10: bad line
+line 11: bad line
+";
+    assert_eq!((told.as_str(), status), (expected, Some(0)));
+}
+
+#[test]
+fn arguments() {
+    let (text, told, status) = run(&["--svg"], "shape 2 2 2 2\n");
+    assert!(text.starts_with("<svg ") && text.ends_with("</svg>\n") && told.is_empty());
+    assert_eq!(status, Some(0));
+    let (help, told, status) = run(&["--help"], "");
+    assert!(help.starts_with("view [--svg] < LINES\n") && told.is_empty());
+    assert_eq!(status, Some(0));
+    assert_eq!(run(&["--png"], "shape 2 2 2 2\n"), (String::new(), help, Some(2)));
+}
+
+#[test]
+fn no_store() {
+    let told = "line 1: bad line\nview: no accepted `shape` line, so there is no store to draw\n";
+    assert_eq!(run(&[], "list *\n"), (String::new(), told.to_owned(), Some(1)));
+}
