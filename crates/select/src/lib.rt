@@ -95,11 +95,10 @@ fn put_match(page: &[u8], at: usize, pattern: Pattern, out: &mut [u8], total: us
     if key & pattern.mask != pattern.value {
         return total;
     }
-    let to = RECORD_SIZE * total;
-    if out.len() < to + RECORD_SIZE {
+    if out.len() / RECORD_SIZE <= total {
         return total + 1;
     }
-    write_record(out, to, key, read_content(page, at));
+    write_record(out, RECORD_SIZE * total, key, read_content(page, at));
     total + 1
 }
 

@@ -14,12 +14,6 @@ returns c =
     let a = read .before .before .before .args in
     no-match (a .pattern) (a .page .now) (a .out .now) (a .at) (a .total) _ (read .read-key .ensures) (c .if1 .taken)
 
-mul-to : tie.Need-mul-to
-mul-to c = search needs
-
-add-if2 : tie.Need-add-if2
-add-if2 c = search needs
-
 add-result : tie.Need-add-result
 add-result c = search needs
 
@@ -29,6 +23,9 @@ returns-2 c =
     let a = read .before .before .before .args in
     match-full (a .pattern) (a .page .now) (a .out .now) (a .at) (a .total) _ (read .read-key .ensures)
     (c .before .if1 .left) (omega arith)
+
+mul-write-record : tie.Need-mul-write-record
+mul-write-record c = search needs
 
 read-content-requires : tie.Need-read-content-requires
 read-content-requires c κs = search needs
@@ -59,10 +56,9 @@ put-match-spec =
     (tie.spec
     read-key-requires
     returns
-    mul-to
-    add-if2
     add-result
     returns-2
+    mul-write-record
     read-content-requires
     write-record-requires
     add-result-2
