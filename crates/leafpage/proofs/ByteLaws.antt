@@ -1,4 +1,4 @@
--- Laws of a page's bytes: the number in two bytes; the key of a record within its bytes. Assumes nothing.
+-- Laws of a page's bytes: the number in two bytes; the key of a record within its bytes; a packed key. Assumes nothing.
 use Prim.Native.Nat.{ℕ, _+_, _*_, _%_, _^_, _<_}
 use mathlib.Core.Path.{_≡_, refl, sym, ap, _∙_}
 use mathlib.Core.List.{List, [], _∷_}
@@ -9,6 +9,10 @@ use lib.ListN.{getD, take, drop}
 use lib.Seq.{getD-take, getD-drop}
 use Rattle.shape.specs.declared.Shape.{Shape}
 use Rattle.record.specs.Bytes.{recordSize, numberOf, field, recordOf}
+use Rattle.record.specs.Packed.{unpackedKey}
+use Rattle.record.proofs.CodecLaws.{AreBytes, AreBytes-field, unpackedKey-keyIn}
+use Rattle.page.specs.Fields as fields
+use Rattle.page.specs.Fields.{recordOffset, recordField}
 use Rattle.leafpage.specs.Private.{keyAt}
 
 -- ---- two bytes
@@ -57,3 +61,11 @@ key-recordOf s page at = cc (
   field-field page at 4 (omega arith),
   field-field page at 6 (omega arith),
 )
+
+-- and from its packed key, whatever the shape
+pub unpackedKey-keyAt : (page : List ℕ) (i : ℕ) → AreBytes page
+    → unpackedKey (fields.keyAt page i) ≡ keyAt page (recordOffset i)
+unpackedKey-keyAt page i bytes =
+    let s : Shape = record { attributes = 0; widths = []; capacity = 0 } in
+    unpackedKey-keyIn s (recordField page i) (AreBytes-field page (recordOffset i) recordSize bytes)
+    ∙ key-recordOf s page (recordOffset i)

@@ -1,15 +1,16 @@
--- Laws of the code of a key: one bit as the code takes it, the loop over the pairs, beginnings. Assumes nothing.
+-- Laws of the first split bits of a key as a number: one bit as the code takes it, the loop over the pairs, beginnings,
+-- order. Assumes nothing.
 use Prim.Native.Nat.{ℕ, suc, _+_, _-_, _*_, _/_, _%_, _^_, _≤_, _<_}
 use mathlib.Core.Path.{_≡_, refl, sym, ap, _∙_}
-use mathlib.Core.Bool.{Bool, true, false}
+use mathlib.Core.Bool.{Bool, true, false, cond}
 use mathlib.Core.List.{List}
 use native.Mathlib.Omega.{arith}
-use native.Mathlib.Nat.{zero-add, div-eq-of-lt, mod-eq-of-lt, pow-zero, two-pow-succ}
+use native.Mathlib.Nat.{zero-add, mod-eq-of-lt, pow-zero, two-pow-succ}
 use lib.Bits.{bitAnd, bitOr, and-mask, or-shifted}
-use lib.Dec.{eqb}
+use lib.Dec.{leb, ltb, eqb}
 use lib.ListN.{getD}
 use lib.Pow.{pow-mono}
-use borrow.Author.Tests.{eq-eqb}
+use borrow.Author.Tests.{le-leb, lt-leb, le-ltb, eqb-true, eqb-false}
 use Rattle.shape.specs.Shape.{Fit, total}
 use Rattle.split.specs.Steps.{bitValue}
 use Rattle.split.specs.Bits.{bitOf, splitBit}
@@ -18,9 +19,15 @@ use Rattle.address.specs.Private.{StepPair}
 use Rattle.cell.proofs.Strings.{bitValue-digit}
 use Rattle.directory.specs.Private.{StepsBefore}
 use Rattle.directory.proofs.PlaceLaws.{stepsBefore-zero, stepsBefore-step, stepsBefore-skip, stepNumber-pair}
+use Rattle.region.specs.Strings.{sameBits}
+use Rattle.region.specs.Sets.{before}
+use Rattle.packed.specs.Order.{firstStep, compared}
+use Rattle.packed.specs.declared.Order.{Order}
+use Rattle.packed.specs.declared.Order.the-variants.{Same, Before, After}
+use Rattle.packed.proofs.FirstLaws.{sameBits-firstStep}
 use Rattle.audit.specs.Codes.{code}
-use Rattle.audit.proofs.CodeLaws.{code-lt, code-add}
-use Rattle.leafpage.specs.Private.{keyCode, PageLent, BeginsFits}
+use Rattle.audit.proofs.CodeLaws.{code-lt, code-add, code-div, sameBits-code, before-code}
+use Rattle.leafpage.specs.Private.{keyCode}
 
 bitValue-lt : (β : Bool) → bitValue β < 2 ^ 1
 bitValue-lt true = omega arith
@@ -34,28 +41,24 @@ bitAnd-bitOf w encoding k =
     ∙ and-mask (encoding / 2 ^ (w - suc k)) 1
     ∙ sym (bitValue-digit (encoding / 2 ^ (w - suc k) % 2) (omega arith))
 
-keyCode-lt : (ws key : List ℕ) → keyCode ws key < 2 ^ total ws
-unfolding keyCode
-keyCode-lt ws key = code-lt (total ws) 0 (splitBit ws key)
-
 -- ---- the loop over the pairs
 
--- the first n bits, which are those before place g
-pub record Coded (ws key : List ℕ) (c n g : ℕ) : Type 0 where
-  pub most : n ≤ total ws
+-- the first n of x bits, which are those before place g
+pub record Coded (ws key : List ℕ) (x c n g : ℕ) : Type 0 where
+  pub most : n ≤ x
   pub place : StepsBefore ws n g
   pub bits : c ≡ code n 0 (splitBit ws key)
 
-pub coded-zero : (ws key : List ℕ) → Coded ws key 0 0 0
-coded-zero ws key = record { most = omega arith; place = stepsBefore-zero ws; bits = refl }
+pub coded-zero : (ws key : List ℕ) (x : ℕ) → Coded ws key x 0 0 0
+coded-zero ws key x = record { most = omega arith; place = stepsBefore-zero ws; bits = refl }
 
-module _ (ws key : List ℕ) (fit : Fit ws) (c n g : ℕ) (inv : Coded ws key c n g) (next : g < 64) where
+module _ (ws key : List ℕ) (fit : Fit ws) (x c n g : ℕ) (inv : Coded ws key x c n g) (next : g < 64) where
   -- no step
-  pub coded-skip : getD ws (g % 4) 0 ≤ g / 4 → Coded ws key c n (g + 1)
+  pub coded-skip : getD ws (g % 4) 0 ≤ g / 4 → Coded ws key x c n (g + 1)
   coded-skip h = record { most = inv .most; place = stepsBefore-skip ws n g (inv .place) next h; bits = inv .bits }
 
   -- a step: its bit, behind those at hand
-  module _ (step : g / 4 < getD ws (g % 4) 0) (few : total ws ≤ 64) (left : n < total ws) where
+  module _ (step : g / 4 < getD ws (g % 4) 0) (few : x ≤ 64) (left : n < x) where
     pair : StepPair ws n g
     pair = record { low = next; live = step; before = inv .place .before }
 
@@ -65,7 +68,7 @@ module _ (ws key : List ℕ) (fit : Fit ws) (c n g : ℕ) (inv : Coded ws key c 
         ∙ splitBit-stepNumber ws fit key (g / 4) (g % 4) (omega arith) step
 
     pub coded-step : (β : ℕ) → β ≡ bitValue (bitOf (getD ws (g % 4) 0) (getD key (g % 4) 0) (g / 4))
-        → Coded ws key (bitOr (c * 2 % 2 ^ 64) β) (n + 1) (g + 1)
+        → Coded ws key x (bitOr (c * 2 % 2 ^ 64) β) (n + 1) (g + 1)
     coded-step β e = record { most = omega arith; place = stepsBefore-step ws n g (inv .place) next step; bits = pushed }
       where
         p : ℕ → Bool
@@ -87,27 +90,60 @@ module _ (ws key : List ℕ) (fit : Fit ws) (c n g : ℕ) (inv : Coded ws key c 
             ∙ or-shifted c 1 β low
             ∙ omega (arith, inv .bits, code-add n 1 0 p, value, one)
 
-pub coded-end : (ws key : List ℕ) (c n g : ℕ) → Coded ws key c n g → total ws ≤ n → c ≡ keyCode ws key
-unfolding keyCode
-coded-end ws key c n g inv h =
-    let e : n ≡ total ws = omega (arith, inv .most) in
+pub coded-end : (ws key : List ℕ) (x c n g : ℕ) → Coded ws key x c n g → x ≤ n → c ≡ code x 0 (splitBit ws key)
+coded-end ws key x c n g inv h =
+    let e : n ≡ x = omega (arith, inv .most) in
     inv .bits ∙ ap (λ m. code m 0 (splitBit ws key)) e
 
 -- ---- beginnings
 
--- no bit at all
-pub begins-zero : (bits code x s : ℕ) → x ≡ 0 → code < 2 ^ bits → s < 2 ^ x → true ≡ eqb (code / 2 ^ (bits - x)) s
-begins-zero bits code x s e h k =
-    let all : bits ≡ bits - x = omega arith in
-    let none : s ≡ 0 = omega (arith, pow-zero 2, ap (λ y. 2 ^ y) e) in
-    sym (eq-eqb (code / 2 ^ (bits - x)) s (ap (λ y. code / 2 ^ y) (sym all) ∙ div-eq-of-lt h ∙ sym none))
+pub keyCode-begins : (ws key : List ℕ) (x : ℕ) → x ≤ total ws
+    → keyCode ws key / 2 ^ (total ws - x) ≡ code x 0 (splitBit ws key)
+unfolding keyCode
+keyCode-begins ws key x h = code-div (total ws) x (splitBit ws key) h
 
--- a key's code, within a page
-pub beginsFits-keyCode : (ws : List ℕ) (b x s size : ℕ) → PageLent ws b x s size → (key : List ℕ) (c : ℕ)
-    → c ≡ keyCode ws key → BeginsFits ws c x s
-beginsFits-keyCode ws b x s size lent key c e = record {
-  fit = lent .fit;
-  bits = omega (arith, e, keyCode-lt ws key);
-  within = lent .within;
-  string = lent .string;
-}
+-- a key begins as another one does exactly if they do not differ before step x
+module _ (ws a b : List ℕ) (x : ℕ) (most : x ≤ total ws) where
+  abbrev m : ℕ
+  m = total ws - x
+
+  leb-begins : leb x (firstStep ws a b) ≡ eqb (keyCode ws a / 2 ^ m) (keyCode ws b / 2 ^ m)
+  leb-begins =
+      sym (sameBits-firstStep ws a b x most)
+      ∙ sameBits-code (splitBit ws a) (splitBit ws b) x 0
+      ∙ (λ i. eqb (sym (keyCode-begins ws a x most) i) (sym (keyCode-begins ws b x most) i))
+
+  pub begins-same : x ≤ firstStep ws a b → keyCode ws a / 2 ^ m ≡ keyCode ws b / 2 ^ m
+  begins-same h = eqb-true _ _ (sym leb-begins ∙ le-leb x (firstStep ws a b) h)
+
+  pub begins-other : firstStep ws a b < x → keyCode ws a / 2 ^ m ≡ keyCode ws b / 2 ^ m → ⊥
+  begins-other h = eqb-false _ _ (sym leb-begins ∙ lt-leb x (firstStep ws a b) h)
+
+-- ---- order
+
+-- whether an order is that of a key before another
+abbrev pub isBefore : Order → Bool
+isBefore Same = false
+isBefore Before = true
+isBefore After = false
+
+pub isBefore-compared : (ws a b : List ℕ) (o : Order) → compared ws a b ≡ o
+    → isBefore o ≡ ltb (keyCode ws a) (keyCode ws b)
+unfolding compared keyCode
+isBefore-compared ws a b o e =
+    ap isBefore (sym e) ∙ go same first (sameBits-code (splitBit ws a) (splitBit ws b) (total ws) 0)
+    (before-code (splitBit ws) (total ws) 0 a b)
+  where
+    first : Bool
+    first = before (splitBit ws) (total ws) 0 a b
+
+    same : Bool
+    same = sameBits (splitBit ws a) (splitBit ws b) (total ws) 0
+
+    go : (α β : Bool) → α ≡ eqb (keyCode ws a) (keyCode ws b) → β ≡ ltb (keyCode ws a) (keyCode ws b)
+        → isBefore (cond α Same (cond β Before After)) ≡ ltb (keyCode ws a) (keyCode ws b)
+    go true β p q =
+        let even : keyCode ws a ≡ keyCode ws b = eqb-true _ _ (sym p) in
+        sym (le-ltb (keyCode ws a) (keyCode ws b) (omega arith))
+    go false true p q = q
+    go false false p q = q

@@ -1,4 +1,5 @@
 pub mod CodeLaws
 pub mod ByteLaws
 pub mod KeyLaws
+pub mod AscendLaws
 pub mod PageLaws

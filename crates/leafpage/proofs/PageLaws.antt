@@ -1,14 +1,15 @@
 -- Laws of a page and its test: where the page ends; by case, as the code ends or goes on; it is the test over the
 -- page's records. Assumes nothing.
 use Prim.Native.Nat.{ℕ, zero, suc, _+_, _-_, _*_, _/_, _^_, _≤_, _<_}
-use mathlib.Core.Path.{_≡_, refl, sym, ap, _∙_}
+use mathlib.Core.Path.{_≡_, refl, sym, ap, _∙_, subst}
 use mathlib.Core.Bool.{Bool, true, false, _&&_, and-false}
 use mathlib.Core.List.{List}
 use native.Mathlib.Omega.{arith}
 use native.Mathlib.Nat.{mul-le-mul-right, suc-mul}
-use lib.Dec.{leb, ltb, eqb}
+use lib.Dec.{leb, eqb}
 use lib.ListN.{length}
-use borrow.Author.Tests.{le-leb, lt-leb, lt-ltb, le-ltb}
+use borrow.Author.Tests.{le-leb, lt-leb, eq-eqb}
+use Rattle.lists.proofs.Bools.{and-split}
 use Rattle.shape.specs.Shape.{total, indexFits}
 use Rattle.shape.specs.declared.Shape.{Shape}
 use Rattle.split.specs.Bits.{splitBit}
@@ -18,6 +19,8 @@ use Rattle.page.specs.Page.{countOf, recordsFrom, recordsOf}
 use Rattle.page.proofs.FieldLaws.{length-recordsFrom}
 use Rattle.audit.specs.Codes.{code, recordHere, chainAfter, chain, pageChain}
 use Rattle.leafpage.specs.Private.{keyAt, keyCode, recordPasses, recordsAfter, recordsPass, pagePasses}
+use Rattle.leafpage.specs.Private.{ascendAfter, allFit, ascending}
+use Rattle.leafpage.proofs.AscendLaws.{lastCode, lastCode-at, both, last-begins, recordsAfter-ascend}
 use Rattle.leafpage.proofs.ByteLaws.{key-recordOf}
 
 -- ---- where it lies
@@ -46,58 +49,54 @@ module _ (ws : List ℕ) (b x s : ℕ) (page : List ℕ) (n : ℕ) (count : n �
         let e : n ≡ suc (n - 1) = omega arith in
         rw (← count, le-leb n b most) (ap (recordsPass ws x s page) e)
 
+    abbrev begun : List ℕ → Type 0
+    begun key = keyCode ws key / 2 ^ (total ws - x) ≡ s
+
     module _ (key : List ℕ) (at : key ≡ keyAt page 2) where
-      pub pagePasses-first-fails : recordPasses ws x s key ≡ false → false ≡ pagePasses ws b x s page
-      pagePasses-first-fails e =
-          sym (first ∙ ap (λ β. β && recordsAfter ws x s page (keyCode ws (keyAt page 2)) (n - 1) (2 + recordSize))
-          (ap (recordPasses ws x s) (sym at) ∙ e))
+      gone : (φ γ ρ : Bool) → γ ≡ false → ((φ && γ) && ρ) ≡ false
+      gone true γ ρ e = rw e
+      gone false γ ρ e = refl
 
-      pub pagePasses-first : (c : ℕ) → c ≡ keyCode ws key → recordPasses ws x s key ≡ true
-          → pagePasses ws b x s page ≡ recordsAfter ws x s page c (n - 1) (2 + recordSize * 1)
-      pagePasses-first c coded e =
-          first
-          ∙ ap (λ β. β && recordsAfter ws x s page (keyCode ws (keyAt page 2)) (n - 1) (2 + recordSize))
-          (ap (recordPasses ws x s) (sym at) ∙ e)
-          ∙ ap (λ y. recordsAfter ws x s page y (n - 1) (2 + recordSize)) (ap (keyCode ws) (sym at) ∙ sym coded)
+      pub pagePasses-first : eqb (keyCode ws key / 2 ^ (total ws - x)) s ≡ false → false ≡ pagePasses ws b x s page
+      pagePasses-first e =
+          let here = ap (λ q. eqb (keyCode ws q / 2 ^ (total ws - x)) s) (sym at) ∙ e in
+          sym (first ∙ gone (indexFits ws (keyAt page 2)) _ _ here)
 
-  -- the loop, at record k: the page passes if the records from it on do
-  module _ (c k : ℕ) (left : k < n)
-      (inv : pagePasses ws b x s page ≡ recordsAfter ws x s page c (n - k) (2 + recordSize * k))
-      (key : List ℕ) (at : key ≡ keyAt page (2 + recordSize * k)) (d : ℕ) (coded : d ≡ keyCode ws key) where
-    abbrev later : Bool
-    later = recordsAfter ws x s page d (n - (k + 1)) (2 + recordSize * (k + 1))
+      module _ (begins : begun key) (last : List ℕ) (end : last ≡ keyAt page (2 + recordSize * (n - 1))) where
+        abbrev c : ℕ
+        c = keyCode ws (keyAt page 2)
 
-    next : pagePasses ws b x s page ≡ (ltb c d && (recordPasses ws x s key && later))
-    next =
-        let e : n - k ≡ suc (n - (k + 1)) = omega arith in
-        let o : 2 + recordSize * k + recordSize ≡ 2 + recordSize * (k + 1) = omega arith in
-        inv
-        ∙ ap (λ m. recordsAfter ws x s page c m (2 + recordSize * k)) e
-        ∙ ap (λ q. ltb c (keyCode ws q)
-        && (recordPasses ws x s q
-        && recordsAfter ws x s page (keyCode ws q) (n - (k + 1)) (2 + recordSize * k + recordSize)))
-        (sym at)
-        ∙ ap (λ y. ltb c y
-        && (recordPasses ws x s key && recordsAfter ws x s page y (n - (k + 1)) (2 + recordSize * k + recordSize)))
-        (sym coded)
-        ∙ ap (λ y. ltb c d && (recordPasses ws x s key && recordsAfter ws x s page d (n - (k + 1)) y)) o
+        begins-first : begun (keyAt page 2)
+        begins-first = subst begun at begins
 
-    pub pagePasses-unordered : d ≤ c → false ≡ pagePasses ws b x s page
-    pagePasses-unordered h = sym (next ∙ rw (le-ltb c d h))
+        lastCode-last : lastCode ws x s page c (n - 1) (2 + recordSize) ≡ keyCode ws last
+        lastCode-last = lastCode-at ws x s page (n - 1) 2 ∙ ap (keyCode ws) (sym end)
 
-    module _ (order : c < d) where
-      pub pagePasses-fails : recordPasses ws x s key ≡ false → false ≡ pagePasses ws b x s page
-      pagePasses-fails e = sym (next ∙ rw (lt-ltb c d order, e))
+        pub pagePasses-last : (begun last → ⊥) → false ≡ pagePasses ws b x s page
+        pagePasses-last other = go (pagePasses ws b x s page) refl
+          where
+            go : (β : Bool) → pagePasses ws b x s page ≡ β → false ≡ β
+            go true e =
+                let k = and-split (recordPasses ws x s (keyAt page 2)) _ (sym first ∙ e) in
+                let l = last-begins ws x s page (n - 1) c (2 + recordSize) begins-first (k .1) in
+                absurd (other (ap (λ y. y / 2 ^ (total ws - x)) (sym lastCode-last) ∙ l))
+            go false e = refl
 
-      pub pagePasses-next : recordPasses ws x s key ≡ true → pagePasses ws b x s page ≡ later
-      pagePasses-next e = next ∙ rw (lt-ltb c d order, e)
-
-  pub pagePasses-end : (c k : ℕ) → n ≤ k
-      → pagePasses ws b x s page ≡ recordsAfter ws x s page c (n - k) (2 + recordSize * k)
-      → true ≡ pagePasses ws b x s page
-  pagePasses-end c k h inv =
-      let e : n - k ≡ 0 = omega arith in
-      sym (inv ∙ ap (λ m. recordsAfter ws x s page c m (2 + recordSize * k)) e)
+        pub pagePasses-ascends : begun last → ascending ws page n ≡ pagePasses ws b x s page
+        unfolding ascending
+        pagePasses-ascends ends =
+            let e : suc (n - 1) ≡ n = omega arith in
+            let l = ap (λ y. y / 2 ^ (total ws - x)) lastCode-last ∙ ends in
+            let rest = recordsAfter ws x s page c (n - 1) (2 + recordSize) in
+            let rise = ascendAfter ws page c (n - 1) (2 + recordSize) in
+            let fits = indexFits ws (keyAt page 2) in
+            let fit = allFit ws page (n - 1) (2 + recordSize) in
+            sym
+            (first
+            ∙ ap (λ β. (fits && β) && rest) (eq-eqb (c / 2 ^ (total ws - x)) s begins-first)
+            ∙ both ws x s page fits rise fit rest
+            (recordsAfter-ascend ws x s page (n - 1) c (2 + recordSize) begins-first l)
+            ∙ ap (λ k. rise && allFit ws page k 2) e)
 
 -- ---- over the page's records
 

@@ -39,6 +39,24 @@ module _ (ws : List ℕ) (x s : ℕ) where
   recordsPass page (suc n) =
       recordPasses (keyAt page 2) && recordsAfter page (keyCode ws (keyAt page 2)) n (2 + recordSize)
 
+-- the records of a page in split order and within the widths, wherever they begin
+module _ (ws : List ℕ) where
+  -- n records from an offset on, after one with the code c: in split order
+  abbrev pub ascendAfter : List ℕ → ℕ → ℕ → ℕ → Bool
+  ascendAfter page c zero at = true
+  ascendAfter page c (suc n) at =
+      let key = keyAt page at in
+      ltb c (keyCode ws key) && ascendAfter page (keyCode ws key) n (at + recordSize)
+
+  -- n records from an offset on, each within the widths
+  abbrev pub allFit : List ℕ → ℕ → ℕ → Bool
+  allFit page zero at = true
+  allFit page (suc n) at = indexFits ws (keyAt page at) && allFit page n (at + recordSize)
+
+  -- n records, one at least
+  unfoldable pub ascending : List ℕ → ℕ → Bool
+  ascending page n = ascendAfter page (keyCode ws (keyAt page 2)) (n - 1) (2 + recordSize) && allFit page n 2
+
 -- 1 to b records, in split order, each within the widths and beginning with the x bits
 unfoldable pub pagePasses : List ℕ → ℕ → ℕ → ℕ → List ℕ → Bool
 pagePasses ws b x s page = leb (countOf page) b && recordsPass ws x s page (countOf page)
@@ -49,10 +67,3 @@ pub record PageLent (ws : List ℕ) (b x s size : ℕ) : Type 0 where
   pub within : x ≤ total ws
   pub string : s < 2 ^ x
   pub whole : size ≡ pageSize b
-
--- a code of all bits, and x bits with the code s
-pub record BeginsFits (ws : List ℕ) (code x s : ℕ) : Type 0 where
-  pub fit : Fit ws
-  pub bits : code < 2 ^ total ws
-  pub within : x ≤ total ws
-  pub string : s < 2 ^ x

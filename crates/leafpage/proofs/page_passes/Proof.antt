@@ -1,165 +1,127 @@
--- `leafpage::page_passes` meets its contract: the page passes if the records from k on do; n - k falls.
+-- `leafpage::page_passes` meets its contract: records in split order all begin as the first and the last one do.
 -- Assumes nothing.
-use Prim.Native.Nat.{_+_, _*_, _-_, _≤_, _<_}
-use mathlib.Core.Path.{_≡_, sym, _∙_}
+use Prim.Native.Nat.{_+_, _*_, _-_, _/_, _^_, _≤_, _<_}
+use mathlib.Core.Path.{_≡_, sym, ap, _∙_}
 use native.Mathlib.Omega.{arith}
-use borrow.Author.Tests.{not-true, not-false}
-use Rattle.shape.specs.Shape.{widthList}
-use Rattle.record.specs.Bytes.{recordSize}
-use Rattle.page.specs.Page.{countOf}
-use Rattle.leafpage.specs.Private.{pagePasses, recordsAfter}
-use Rattle.leafpage.proofs.CodeLaws.{beginsFits-keyCode}
-use Rattle.leafpage.proofs.PageLaws.{pagePasses-none, pagePasses-over, pagePasses-first-fails, pagePasses-first}
-use Rattle.leafpage.proofs.PageLaws.{pagePasses-unordered, pagePasses-fails, pagePasses-next, pagePasses-end}
+use borrow.Author.Needs.{needs}
+use borrow.Author.Tests.{not-true, not-false, eqb-true}
+use Rattle.shape.specs.Shape.{widthList, total}
+use Rattle.record.specs.Packed.{unpackedKey}
+use Rattle.page.specs.Fields.{recordOffset}
+use Rattle.leafpage.specs.Private.{keyAt, keyCode}
+use Rattle.leafpage.proofs.ByteLaws.{unpackedKey-keyAt}
+use Rattle.leafpage.proofs.CodeLaws.{begins-same, begins-other}
+use Rattle.leafpage.proofs.PageLaws.{pagePasses-none, pagePasses-over, pagePasses-first, pagePasses-last}
+use Rattle.leafpage.proofs.PageLaws.{pagePasses-ascends}
 use Rattle.leafpage.proofs.page_passes.Statement.{statement}
 use Rattle.leafpage.proofs.page_passes.Tie as tie
 
-abbrev Inv-loop : tie.InvT-loop
-Inv-loop widths capacity page x string n last₀ k₀ last k =
-    let ws = widthList widths in
-    (1 ≤ k) × (k ≤ n)
-    × (pagePasses ws capacity x string page ≡ recordsAfter ws x string page last (n - k) (2 + recordSize * k))
+-- the keys of the first and of the last record
+first : (c : tie.After-key-at) →
+    unpackedKey (c .key-at .result)
+    ≡ keyAt (c .before .before .before .before .before .args .page .now) (recordOffset 0)
+first c =
+    let start = c .before .before .before .before in
+    let bytes = start .shared-slice-known .given in
+    ap unpackedKey (c .key-at .ensures)
+    ∙ unpackedKey-keyAt (start .before .args .page .now) 0 (λ i. omega (arith, bytes i))
 
-abbrev μ-loop : tie.MeasureT-loop
-μ-loop widths capacity page x string n last₀ k₀ last k = n - k
+last : (c : tie.After-key-at2) → let few = c .before .before .before .before in
+    unpackedKey (c .key-at2 .result)
+    ≡ keyAt (few .before .before .before .before .args .page .now)
+    (recordOffset (few .before .before .number-at .result - 1))
+last c =
+    let few = c .before .before .before .before in
+    let start = few .before .before .before in
+    let bytes = start .shared-slice-known .given in
+    ap unpackedKey (c .key-at2 .ensures)
+    ∙ unpackedKey-keyAt (start .before .args .page .now) (few .before .before .number-at .result - 1)
+    (λ i. omega (arith, bytes i))
 
--- how many records there are
-count : (c : tie.In-loop Inv-loop μ-loop) → let few = c .before .before .before .before .before .before .before in
-    few .before .before .number-at .result ≡ countOf (few .before .before .before .before .args .page .now)
-count c = c .before .before .before .before .before .before .before .before .before .number-at .ensures .0
+-- the first one begins as the leaf does
+begun : (c : tie.Else3) → let a = c .before .before .before .before .before .before .before .args in
+    let ws = widthList (a .widths) in
+    keyCode ws (unpackedKey (c .before .before .key-at .result)) / 2 ^ (total ws - a .x) ≡ a .string
+begun c = eqb-true _ _ (sym (c .before .begins .ensures) ∙ not-false _ (c .if3 .left))
 
-small : (c : tie.In-loop Inv-loop μ-loop) → c .before .loop .k < 65535
-small c =
-    let few = c .before .before .before .before .before .before .before in
-    omega (arith, c .loop-test .taken, few .before .before .number-at .ensures .1)
+number-at-requires : tie.Need-number-at-requires
+number-at-requires c κs = search needs
 
-number-at-requires : tie.Need-number-at-requires Inv-loop μ-loop
-number-at-requires c κs = omega (arith, c .before .pre .whole)
-
-returns : tie.Need-returns Inv-loop μ-loop
+returns : tie.Need-returns
 returns c = pagePasses-none _ _ _ _ _ _ (c .before .number-at .ensures .0) (c .if1 .taken)
 
-returns-2 : tie.Need-returns-2 Inv-loop μ-loop
+returns-2 : tie.Need-returns-2
 returns-2 c = pagePasses-over _ _ _ _ _ _ (c .before .before .number-at .ensures .0) (c .if2 .taken)
 
-key-at-requires : tie.Need-key-at-requires Inv-loop μ-loop
-key-at-requires c κs = omega (arith, c .before .before .before .before .pre .whole, c .before .if1 .left, c .if2 .left)
+cast-count : tie.Need-cast-count
+cast-count c = search needs
 
-key-code-requires : tie.Need-key-code-requires Inv-loop μ-loop
-key-code-requires c κs = c .before .before .before .before .before .before .pre .fit
+key-at-requires : tie.Need-key-at-requires
+key-at-requires c κs = search needs
 
-record-passes-requires : tie.Need-record-passes-requires Inv-loop μ-loop
-record-passes-requires c κs =
-    let e = c .key-code .ensures in
-    (beginsFits-keyCode _ _ _ _ _ (c .before .before .before .before .before .before .before .pre) _ _ e, e)
+begins-requires : tie.Need-begins-requires
+begins-requires c κs = search needs
 
-returns-3 : tie.Need-returns-3 Inv-loop μ-loop
+returns-3 : tie.Need-returns-3
 returns-3 c =
-    let few = c .before .before .before .before .before in
-    pagePasses-first-fails _ _ _ _ _ _ (few .before .before .number-at .ensures .0) (few .before .if1 .left)
-    (few .if2 .left) _
-    (c .before .before .before .before .key-at .ensures)
-    (sym (c .before .record-passes .ensures) ∙ not-true _ (c .if3 .taken))
+    let few = c .before .before .before in
+    pagePasses-first _ _ _ _ _ _ (few .before .before .number-at .ensures .0) (few .before .if1 .left) (few .if2 .left)
+    _ (first (c .before .before)) (sym (c .before .begins .ensures) ∙ not-true _ (c .if3 .taken))
 
-loop-holds : tie.Need-loop-holds Inv-loop μ-loop
-loop-holds c =
-    let few = c .before .before .before .before .before in (
-      omega arith,
-      omega (arith, few .before .if1 .left),
-      pagePasses-first _ _ _ _ _ _ (few .before .before .number-at .ensures .0) (few .before .if1 .left)
-          (few .if2 .left) _
-          (c .before .before .before .before .key-at .ensures) _ (c .before .before .key-code .ensures)
-          (sym (c .before .record-passes .ensures) ∙ not-false _ (c .if3 .left)),
-    )
+sub-key-at : tie.Need-sub-key-at
+sub-key-at c = search needs
 
-cast-key-at : tie.Need-cast-key-at Inv-loop μ-loop
-cast-key-at c = record { fits = omega (arith, small c) }
+key-at-requires-2 : tie.Need-key-at-requires-2
+key-at-requires-2 c κs = search needs
 
-mul-key-at : tie.Need-mul-key-at Inv-loop μ-loop
-mul-key-at c = record { fits = omega (arith, small c) }
+first-step-requires : tie.Need-first-step-requires
+first-step-requires c κs = search needs
 
-add-key-at : tie.Need-add-key-at Inv-loop μ-loop
-add-key-at c = record { fits = omega (arith, small c) }
-
-key-at-requires-2 : tie.Need-key-at-requires-2 Inv-loop μ-loop
-key-at-requires-2 c κs =
-    let few = c .before .before .before .before .before .before .before in
-    omega (arith, few .before .before .before .before .pre .whole, c .loop-test .taken, few .if2 .left)
-
-key-code-requires-2 : tie.Need-key-code-requires-2 Inv-loop μ-loop
-key-code-requires-2 c κs =
-    c .before .before .before .before .before .before .before .before .before .before .before .before .before .pre .fit
-
-returns-4 : tie.Need-returns-4 Inv-loop μ-loop
+returns-4 : tie.Need-returns-4
 returns-4 c =
-    let turn = c .before .before .before .before in
-    let l = turn .before .loop in
-    pagePasses-unordered _ _ _ _ _ _ (count turn) (l .last) (l .k) (turn .loop-test .taken) (l .inv .2) _
-    (c .before .before .before .key-at2 .ensures) _ (c .before .key-code2 .ensures) (c .if4 .taken)
+    let keys = c .before .before in
+    let few = keys .before .before .before .before in
+    let start = few .before .before .before .before in
+    let step = c .before .first-step .ensures in
+    let same = begun (keys .before) in
+    pagePasses-last _ _ _ _ _ _ (few .before .before .number-at .ensures .0) (few .before .if1 .left) (few .if2 .left) _
+    (first (keys .before .before .before)) same _ (last keys)
+    (λ e.
+    begins-other (widthList (start .args .widths)) _ _ (start .args .x) (start .pre .within)
+    (omega (arith, step, c .if4 .taken)) (same ∙ sym e))
 
-record-passes-requires-2 : tie.Need-record-passes-requires-2 Inv-loop μ-loop
-record-passes-requires-2 c κs =
-    let e = c .before .key-code2 .ensures in
-    let turn = c .before .before .before .before in
-    let lent = turn .before .before .before .before .before .before .before .before .before .before .before .pre in
-    (beginsFits-keyCode _ _ _ _ _ lent _ _ e, e)
+ascends-requires : tie.Need-ascends-requires
+ascends-requires c κs = search needs
 
-returns-5 : tie.Need-returns-5 Inv-loop μ-loop
+returns-5 : tie.Need-returns-5
 returns-5 c =
-    let turn = c .before .before .before .before .before .before in
-    let l = turn .before .loop in
-    pagePasses-fails _ _ _ _ _ _ (count turn) (l .last) (l .k) (turn .loop-test .taken) (l .inv .2) _
-    (c .before .before .before .before .before .key-at2 .ensures) _ (c .before .before .before .key-code2 .ensures)
-    (c .before .before .if4 .left)
-    (sym (c .before .record-passes2 .ensures) ∙ not-true _ (c .if5 .taken))
-
-add-k : tie.Need-add-k Inv-loop μ-loop
-add-k c = record { fits = omega (arith, small (c .before .before .before .before .before .before)) }
-
-loop-less : tie.Need-loop-less Inv-loop μ-loop
-loop-less c = omega (arith, c .before .before .before .before .before .before .loop-test .taken)
-
-loop-again : tie.Need-loop-again Inv-loop μ-loop
-loop-again c =
-    let turn = c .before .before .before .before .before .before in
-    let l = turn .before .loop in (
-      omega arith,
-      omega (arith, turn .loop-test .taken),
-      pagePasses-next _ _ _ _ _ _ (count turn) (l .last) (l .k) (turn .loop-test .taken) (l .inv .2) _
-          (c .before .before .before .before .before .key-at2 .ensures) _
-          (c .before .before .before .key-code2 .ensures) (c .before .before .if4 .left)
-          (sym (c .before .record-passes2 .ensures) ∙ not-false _ (c .if5 .left)),
-    )
-
-returns-6 : tie.Need-returns-6 Inv-loop μ-loop
-returns-6 c =
-    let l = c .before .loop in
-    let number = c .before .before .before .before .before .before .before .before .before .number-at in
-    pagePasses-end _ _ _ _ _ _ (number .ensures .0) (l .last) (l .k) (c .loop-test .left) (l .inv .2)
+    let keys = c .before .before .before in
+    let few = keys .before .before .before .before in
+    let start = few .before .before .before .before in
+    let step = c .before .before .first-step .ensures in
+    let same = begun (keys .before) in
+    c .ascends .ensures
+    ∙ pagePasses-ascends _ _ _ _ _ _ (few .before .before .number-at .ensures .0) (few .before .if1 .left)
+    (few .if2 .left) _ (first (keys .before .before .before)) same _ (last keys)
+    (sym
+    (begins-same (widthList (start .args .widths)) _ _ (start .args .x) (start .pre .within)
+    (omega (arith, step, c .before .if4 .left)))
+    ∙ same)
 
 pub page-passes-spec : {M : Type 1} → statement M
 page-passes-spec =
     tie.close
     (tie.spec
-    Inv-loop
-    μ-loop
     number-at-requires
     returns
     returns-2
+    cast-count
     key-at-requires
-    key-code-requires
-    record-passes-requires
+    begins-requires
     returns-3
-    loop-holds
-    cast-key-at
-    mul-key-at
-    add-key-at
+    sub-key-at
     key-at-requires-2
-    key-code-requires-2
+    first-step-requires
     returns-4
-    record-passes-requires-2
-    returns-5
-    add-k
-    loop-less
-    loop-again
-    returns-6)
+    ascends-requires
+    returns-5)

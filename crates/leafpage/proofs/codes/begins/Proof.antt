@@ -1,27 +1,22 @@
 -- `leafpage::codes::begins` meets its contract: a prefix is a division by a power of two. Assumes nothing.
-use Rattle.shape.specs.Shape.{total, widthList}
-use Rattle.leafpage.proofs.CodeLaws.{begins-zero}
+use mathlib.Core.Path.{sym, ap, _∙_}
+use lib.Dec.{eqb}
+use Rattle.shape.specs.Shape.{widthList}
+use Rattle.record.specs.Packed.{unpackedKey}
+use Rattle.leafpage.proofs.CodeLaws.{keyCode-begins}
 use borrow.Author.Needs.{needs}
 use Rattle.leafpage.proofs.codes.begins.Statement.{statement}
 use Rattle.leafpage.proofs.codes.begins.Tie as tie
 
+first-bits-requires : tie.Need-first-bits-requires
+first-bits-requires c κs = search needs
+
 returns : tie.Need-returns
 returns c =
     let s = c .before in
-    begins-zero (total (widthList (s .args .widths))) (s .args .code) (s .args .x) (s .args .string) (c .if1 .taken)
-    (s .pre .bits) (s .pre .string)
-
-total-of-requires : tie.Need-total-of-requires
-total-of-requires c κs = search needs
-
-sub-rest : tie.Need-sub-rest
-sub-rest c = search needs
-
-shr-result : tie.Need-shr-result
-shr-result c = search needs
-
-returns-2 : tie.Need-returns-2
-returns-2 c = rw (c .total-of .ensures .0)
+    let a = s .args in
+    ap (λ n. eqb n (a .string))
+    (c .first-bits .ensures ∙ sym (keyCode-begins (widthList (a .widths)) (unpackedKey (a .key)) (a .x) (s .pre .1)))
 
 pub begins-spec : {M : Type 1} → statement M
-begins-spec = tie.close (tie.spec returns total-of-requires sub-rest shr-result returns-2)
+begins-spec = tie.close (tie.spec first-bits-requires returns)
