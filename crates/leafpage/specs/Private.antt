@@ -61,9 +61,8 @@ module _ (ws : List ℕ) where
 unfoldable pub pagePasses : List ℕ → ℕ → ℕ → ℕ → List ℕ → Bool
 pagePasses ws b x s page = leb (countOf page) b && recordsPass ws x s page (countOf page)
 
--- a page of b records, and x bits with the code s
-pub record PageLent (ws : List ℕ) (b x s size : ℕ) : Type 0 where
+-- a page of b records, and x of the split bits
+pub record PageLent (ws : List ℕ) (b x size : ℕ) : Type 0 where
   pub fit : Fit ws
   pub within : x ≤ total ws
-  pub string : s < 2 ^ x
   pub whole : size ≡ pageSize b

@@ -23,7 +23,7 @@ ghost use Rattle.leafpage.specs.Private.{keyCode, ascending, pagePasses,
 // Whether a page holds 1 to b records in split order, each within the widths and beginning with the
 // x bits of the number `string`. Records in split order all begin as the first and the last one do.
 pub fn page_passes(widths: Widths, capacity: u32, page: &[u8], x: u64, string: u64) -> bool
-    requires { ⌜ PageLent (widthList widths) capacity x string (length (now page)) ⌝ }
+    requires { ⌜ PageLent (widthList widths) capacity x (length (now page)) ⌝ }
     ensures { λ r. ⌜ r ≡ pagePasses (widthList widths) capacity x string (now (page .entry)) ⌝ }
 {
     let n = number_at(page, 0);

@@ -41,7 +41,7 @@ pub fn fails() -> Seen
 
 // What a leaf with a page has.
 pub fn page_seen(widths: Widths, capacity: u32, page: &[u8], x: u64, string: u64) -> Seen
-    requires { ⌜ PageLent (widthList widths) capacity x string (length (now page)) ⌝ }
+    requires { ⌜ PageLent (widthList widths) capacity x (length (now page)) ⌝ }
     ensures { λ r. ⌜ r ≡ pageSeen (widthList widths) capacity x string (now (page .entry)) ⌝ }
 {
     if !page_passes(widths, capacity, page, x, string) {

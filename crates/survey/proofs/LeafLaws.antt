@@ -24,7 +24,6 @@ use Rattle.seen.specs.Seen.{failed, pageSeen}
 use Rattle.survey.specs.declared.regions.Region.{Region}
 use Rattle.survey.specs.Regions.{Names, RegionIn}
 use Rattle.survey.specs.Sums.{viewBy, Sees, PageAsked, Walks}
-use Rattle.survey.proofs.RegionLaws.{string-lt}
 use Rattle.survey.proofs.SumLaws.{sees-failed}
 
 -- ---- where it lies
@@ -55,13 +54,12 @@ module _ (st : State) (ws : List ℕ) (r : Region) where
   pub pageLent-part : (bytes : List ℕ) (g : ℕ) → PageAsked st ws (length bytes) r → g < st .limits .pages
       → let b = st .shape .capacity in
       let start = g * pageSize b in
-      PageLent ws b (r .depth) (r .string) (length (take (start + pageSize b - start) (drop start bytes)))
+      PageLent ws b (r .depth) (length (take (start + pageSize b - start) (drop start bytes)))
   pageLent-part bytes g a h =
       let b = st .shape .capacity in
       record {
         fit = a .fit;
         within = a .bits;
-        string = string-lt ws r (a .region);
         whole = ap length (part-pageAt b g bytes)
             ∙ length-field bytes (g * pageSize b) (pageSize b) (page-within (length bytes) g a h);
       }
