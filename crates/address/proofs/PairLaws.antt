@@ -1,19 +1,23 @@
 -- Laws of pairs by their place: the latest step of an index vector from the latest pair of its indices' highest bits,
 -- and the address from it. Assumes nothing.
-use Prim.Native.Nat.{ℕ, suc, _+_, _*_, _/_, _%_, _^_, _≤_, _<_}
+use Prim.Native.Nat.{ℕ, suc, _+_, _-_, _*_, _/_, _%_, _^_, _≤_, _<_, min, max}
 use mathlib.Core.Path.{_≡_, refl, sym, ap, _∙_, subst}
 use mathlib.Core.List.{List}
 use mathlib.Core.Logic.{_⊎_, inl, inr}
 use native.Mathlib.Omega.{arith}
+use native.Mathlib.Numerals.{add-one}
+use lib.Count.{leadingZeros, leading-of-zero}
 use lib.ListN.{getD}
 use borrow.Author.Tests.{eq-eqb, ne-eqb}
+use Rattle.lists.proofs.Shifts.{leading-bounds}
 use Rattle.lists.proofs.Numbers.{lt-or-le, eq-or-ne, max-attained, max-bounds}
 use Rattle.split.specs.Steps.{stepNumber}
 use Rattle.split.proofs.StepLaws.{step-stepNumber, stepNumber-lt}
 use Rattle.address.specs.Doubling.{sides}
 use Rattle.address.specs.Address.{highestBit, createdBy, latestStep, formula, addressFrom, address}
 use Rattle.address.specs.Private.{creatingPair, latestPair, InBox}
-use Rattle.address.proofs.LatestLaws.{highestBit-lt, highestBit-below, createdBy-is, latestStep-is}
+use Rattle.address.proofs.LatestLaws.{highestBit-is, highestBit-lt, highestBit-below}
+use Rattle.address.proofs.LatestLaws.{createdBy-is, latestStep-is}
 use Rattle.address.proofs.SideLaws.{sidesBefore, sides-stepNumber}
 
 -- ---- one index
@@ -32,6 +36,20 @@ creatingPair-le i j h = go (eq-or-ne i 0)
     go : (i ≡ 0) ⊎ (i ≡ 0 → ⊥) → creatingPair i j ≤ 256
     go (inl e) = omega (arith, creatingPair-none i j e)
     go (inr e) = omega (arith, creatingPair-some i j _ e refl, highestBit-lt 64 i (omega arith))
+
+-- the pair from the leading zeros, of which 0 has 64
+pub creatingPair-leading : (i j : ℕ) → j < 4 → i < 2 ^ 64 → creatingPair i j ≡ 256 - (4 * leadingZeros 64 i + 3 - j)
+creatingPair-leading i j h f = go (eq-or-ne i 0)
+  where
+    go : (i ≡ 0) ⊎ (i ≡ 0 → ⊥) → creatingPair i j ≡ 256 - (4 * leadingZeros 64 i + 3 - j)
+    go (inl e) =
+        let z : leadingZeros 64 i ≡ 64 = ap (leadingZeros 64) e ∙ leading-of-zero 64 in
+        omega (arith, z, creatingPair-none i j e)
+    go (inr n) =
+        let b = leading-bounds i n f in
+        let e : highestBit 64 i ≡ 63 - leadingZeros 64 i =
+        highestBit-is 64 (63 - leadingZeros 64 i) i (omega arith) (b .1) (rw add-one at (b .2)) in
+        omega (arith, b .0, creatingPair-some i j _ n e)
 
 -- the index's attribute and highest bit, from its pair
 pair-of-creatingPair : (i j k z : ℕ) → j < 4 → z < 4 → creatingPair i j ≡ suc (4 * k + z)
@@ -87,6 +105,17 @@ latestPair-le is =
       creatingPair-le (getD is 2 0) 2 (omega arith),
       creatingPair-le (getD is 3 0) 3 (omega arith),
     )
+
+max-less : (a b : ℕ) → max (256 - a) (256 - b) ≡ 256 - min a b
+max-less a b = omega arith
+
+-- from how many pairs are after each
+pub latestPair-after : (is : List ℕ) (n0 n1 n2 n3 : ℕ) → creatingPair (getD is 0 0) 0 ≡ 256 - n0
+    → creatingPair (getD is 1 0) 1 ≡ 256 - n1 → creatingPair (getD is 2 0) 2 ≡ 256 - n2
+    → creatingPair (getD is 3 0) 3 ≡ 256 - n3 → latestPair is ≡ 256 - min n0 (min n1 (min n2 n3))
+unfolding latestPair
+latestPair-after is n0 n1 n2 n3 e0 e1 e2 e3 =
+    rw (e0, e1, e2, e3, max-less n2 n3, max-less n1 (min n2 n3), max-less n0 (min n1 (min n2 n3)))
 
 -- no index other than 0: address 0
 pub address-latestPair-zero : (ws is : List ℕ) → latestPair is ≡ 0 → address ws is ≡ 0

@@ -2,6 +2,7 @@
 // for each other attribute j, where h_j is its depth just before that step.
 use super::Index;
 use super::pairs::depth_before;
+use super::pairs::one_of;
 use shape::Widths;
 ghost use mathlib.Core.Path.{_≡_};
 ghost use Prim.Native.Nat.{_+_, _^_, _<_, _≤_};
@@ -54,12 +55,7 @@ fn index_of(index: Index, z: u64) -> u64
     requires { ⌜ z < 4 ⌝ }
     ensures { λ r. ⌜ r ≡ getD (indexList index) z 0 ⌝ }
 {
-    match z {
-        0 => index.i0,
-        1 => index.i1,
-        2 => index.i2,
-        _ => index.i3,
-    }
+    one_of(z, index.i0, index.i1, index.i2, index.i3)
 }
 
 // The address so far times 2^h, plus i; unchanged for attribute z, whose index is in front.

@@ -2,7 +2,8 @@
 use super::Index;
 use shape::Widths;
 ghost use mathlib.Core.Path.{_≡_};
-ghost use Prim.Native.Nat.{_+_, _-_, _/_, _<_, _≤_, min, max};
+ghost use mathlib.Core.List.{[], _∷_};
+ghost use Prim.Native.Nat.{_+_, _-_, _/_, _<_, _≤_, min};
 ghost use lib.ListN.{getD};
 ghost use Rattle.shape.specs.Shape.{Fit, widthList, total};
 ghost use Rattle.address.specs.Answers.{indexList};
@@ -12,11 +13,12 @@ ghost use Rattle.address.specs.Private.{creatingPair, latestPair, StepPa
 pub fn latest_pair(index: Index) -> u64
     ensures { λ r. ⌜ (r ≡ latestPair (indexList index)) × (r ≤ 256) ⌝ }
 {
-    let p0 = creating_pair(index.i0, 0);
-    let p1 = creating_pair(index.i1, 1);
-    let p2 = creating_pair(index.i2, 2);
-    let p3 = creating_pair(index.i3, 3);
-    larger(p0, larger(p1, larger(p2, p3)))
+    let n0 = pairs_after(index.i0, 0);
+    let n1 = pairs_after(index.i1, 1);
+    let n2 = pairs_after(index.i2, 2);
+    let n3 = pairs_after(index.i3, 3);
+    let n = smaller(n0, smaller(n1, smaller(n2, n3)));
+    if n < 256 { 256 - n } else { 0 }
 }
 
 // The depth of an attribute j of w bits just before the pair at place g.
@@ -47,23 +49,20 @@ pub fn pair_of_step(widths: Widths, t: u64) -> u64
     0
 }
 
-// One more than the place of the pair of i's highest bit as an index of attribute j; 0 for i = 0.
-fn creating_pair(i: u64, j: u64) -> u64
+// How many of the 256 pairs are after that of i's highest bit as an index of attribute j; 256 or more
+// for i = 0.
+fn pairs_after(i: u64, j: u64) -> u64
     requires { ⌜ j < 4 ⌝ }
-    ensures { λ r. ⌜ r ≡ creatingPair i j ⌝ }
+    ensures { λ r. ⌜ creatingPair i j ≡ 256 - r ⌝ }
 {
-    if i == 0 {
-        return 0;
-    }
-    let bit = 63 - (u64::leading_zeros(i) as u64);
-    4 * bit + j + 1
+    4 * (u64::leading_zeros(i) as u64) + 3 - j
 }
 
-// The larger of two numbers.
-fn larger(a: u64, b: u64) -> u64
-    ensures { λ r. ⌜ r ≡ max a b ⌝ }
+// The smaller of two numbers.
+fn smaller(a: u64, b: u64) -> u64
+    ensures { λ r. ⌜ r ≡ min a b ⌝ }
 {
-    if a < b { b } else { a }
+    if a < b { a } else { b }
 }
 
 // The width of attribute j.
@@ -71,10 +70,16 @@ pub fn width_at(widths: Widths, j: u64) -> u64
     requires { ⌜ j < 4 ⌝ }
     ensures { λ r. ⌜ r ≡ getD (widthList widths) j 0 ⌝ }
 {
-    match j {
-        0 => widths.w0,
-        1 => widths.w1,
-        2 => widths.w2,
-        _ => widths.w3,
+    one_of(j, widths.w0, widths.w1, widths.w2, widths.w3)
+}
+
+// The number of attribute j among four, by choices that need no jump.
+pub fn one_of(j: u64, x0: u64, x1: u64, x2: u64, x3: u64) -> u64
+    requires { ⌜ j < 4 ⌝ }
+    ensures { λ r. ⌜ r ≡ getD (x0 ∷ x1 ∷ x2 ∷ x3 ∷ []) j 0 ⌝ }
+{
+    if j < 2 {
+        return if j == 0 { x0 } else { x1 };
     }
+    if j == 2 { x2 } else { x3 }
 }

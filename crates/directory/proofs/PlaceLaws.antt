@@ -4,17 +4,18 @@ use mathlib.Core.Path.{_≡_, refl, ap, _∙_, subst}
 use mathlib.Core.List.{List, [], _∷_}
 use mathlib.Core.Logic.{_⊎_, inl, inr}
 use native.Mathlib.Omega.{arith}
+use native.Mathlib.Nat.{le-trans, le-of-eq, add-le-add, add-mul}
 use native.Mathlib.Numerals.{add-one}
 use lib.ListN.{getD, take, length}
 use lib.Seq.{take-append-seam}
-use Rattle.lists.proofs.Numbers.{lt-or-le}
+use Rattle.lists.proofs.Numbers.{lt-or-le, eq-or-ne}
 use Rattle.shape.specs.Shape.{Fit, total}
 use Rattle.split.specs.Steps.{stepsBelow, steps, stepNumber, stepsOf, depth}
 use Rattle.split.proofs.StepLaws.{depthBefore, stepsOf-stepsBelow, length-stepsBelow, length-steps}
 use Rattle.split.proofs.StepLaws.{length-stepsBelow-step, length-stepsBelow-skip, stepsBelow-prefix}
 use Rattle.split.proofs.DepthLaws.{stepNumber-below}
 use Rattle.address.specs.Private.{StepPair}
-use Rattle.directory.specs.Private.{StepsBefore}
+use Rattle.directory.specs.Private.{StepsBefore, stepsOfBits}
 
 -- ---- the search
 
@@ -63,6 +64,26 @@ stepsBefore-rounds w0 w1 w2 w3 k m0 m1 m2 m3 h e0 e1 e2 e3 = record {
   where
     place : (j : ℕ) → j < 4 → (4 * k + 3 - j) / 4 ≡ k
     place j l = omega arith
+
+-- the first k bits of an attribute in use are at most k steps, of another none
+bits-le : (w m k : ℕ) → m ≡ min w 1 → min w (min k 16) ≤ m * k
+bits-le w m k e = go (eq-or-ne w 0)
+  where
+    go : (w ≡ 0) ⊎ (w ≡ 0 → ⊥) → min w (min k 16) ≤ m * k
+    go (inl z) = omega (arith, z)
+    go (inr n) = let one : m ≡ 1 = omega arith in rw one (omega arith)
+
+-- so that with t shared among those in use no more than t are reached
+pub stepsOfBits-le : (w0 w1 w2 w3 m0 m1 m2 m3 k t : ℕ) → m0 ≡ min w0 1 → m1 ≡ min w1 1 → m2 ≡ min w2 1 → m3 ≡ min w3 1
+    → (m0 + m1 + m2 + m3) * k ≤ t → stepsOfBits (w0 ∷ w1 ∷ w2 ∷ w3 ∷ []) (min k 16) ≤ t
+stepsOfBits-le w0 w1 w2 w3 m0 m1 m2 m3 k t e0 e1 e2 e3 l =
+    le-trans
+    (add-le-add (add-le-add (add-le-add (bits-le w0 m0 k e0) (bits-le w1 m1 k e1)) (bits-le w2 m2 k e2))
+    (bits-le w3 m3 k e3))
+    (le-trans (le-of-eq shared) l)
+  where
+    shared : m0 * k + m1 * k + m2 * k + m3 * k ≡ (m0 + m1 + m2 + m3) * k
+    shared = rw (add-mul (m0 + m1 + m2) m3 k, add-mul (m0 + m1) m2 k, add-mul m0 m1 k)
 
 -- ---- the pair of a step
 

@@ -5,19 +5,24 @@ ghost use mathlib.Core.Path.{_≡_};
 ghost use Prim.Native.Nat.{_*_, _<_, _≤_, min};
 ghost use Rattle.shape.specs.Shape.{Fit, widthList, total};
 ghost use Rattle.address.specs.Private.{StepPair};
-ghost use Rattle.directory.specs.Private.{StepsBefore};
+ghost use Rattle.directory.specs.Private.{StepsBefore, stepsOfBits};
 
-// A place with t steps before it. The search starts from a guess, or from place 0 if that is too far.
+// A place with t steps before it.
 pub fn place_of(widths: Widths, t: u64) -> u64
     requires { ⌜ Fit (widthList widths) × (t ≤ total (widthList widths)) ⌝ }
     ensures { λ r. ⌜ StepsBefore (widthList widths) t r ⌝ }
 {
     let k = rounds(widths, t);
     let n = steps_of_rounds(widths, k);
-    if n <= t {
-        return place_from(widths, t, 4 * k, n);
-    }
-    place_from(widths, t, 0, 0)
+    place_from(widths, t, 4 * k, n)
+}
+
+// The place of step t.
+pub fn step_place(widths: Widths, t: u64) -> u64
+    requires { ⌜ Fit (widthList widths) × (t < total (widthList widths)) ⌝ }
+    ensures { λ r. ⌜ StepPair (widthList widths) t r ⌝ }
+{
+    step_from(widths, t, place_of(widths, t))
 }
 
 // The place of step t, sought from a place with t steps before it.
@@ -57,25 +62,33 @@ fn place_from(widths: Widths, t: u64, start: u64, n: u64) -> u64
 fn steps_of_rounds(widths: Widths, k: u64) -> u64
     requires { ⌜ Fit (widthList widths) × (k ≤ 16) ⌝ }
     ensures { λ r. ⌜ StepsBefore (widthList widths) r (4 * k) ⌝ }
+    ensures { λ r. ⌜ r ≡ stepsOfBits (widthList widths) k ⌝ }
 {
     lesser(widths.w0, k) + lesser(widths.w1, k) + lesser(widths.w2, k) + lesser(widths.w3, k)
 }
 
-// How many bits of each attribute t steps are likely to reach: t shared among the attributes in use.
+// How many bits of each attribute t steps reach at least: t shared among the attributes in use.
 fn rounds(widths: Widths, t: u64) -> u64
-    ensures { λ r. ⌜ r ≤ 16 ⌝ }
+    ensures { λ r. ⌜ (r ≤ 16) × (stepsOfBits (widthList widths) r ≤ t) ⌝ }
 {
     let d = lesser(widths.w0, 1)
         + lesser(widths.w1, 1)
         + lesser(widths.w2, 1)
         + lesser(widths.w3, 1);
-    let k = match d {
+    lesser(share(t, d), 16)
+}
+
+// The share of t that each of d has, up to 4.
+fn share(t: u64, d: u64) -> u64
+    requires { ⌜ d ≤ 4 ⌝ }
+    ensures { λ r. ⌜ d * r ≤ t ⌝ }
+{
+    match d {
         1 => t,
         2 => t / 2,
         3 => t / 3,
         _ => t / 4,
-    };
-    lesser(k, 16)
+    }
 }
 
 // The lesser of two numbers.

@@ -1,14 +1,16 @@
--- Laws of the first free page: turns of the search, and what it finds. Assumes nothing.
+-- Laws of free pages: turns of the search for the first, what it finds, and one sought from a page on. Assumes nothing.
 use Prim.Native.Nat.{ℕ, zero, suc, _+_, _-_, _≤_, _<_}
 use mathlib.Core.Path.{_≡_, refl, ap, _∙_}
 use mathlib.Core.Bool.{Bool, true, false, cond}
 use mathlib.Core.List.{List}
+use mathlib.Core.Logic.{_⊎_, inl, inr}
 use native.Mathlib.Numerals.{add-one}
 use native.Mathlib.Omega.{arith}
 use lib.Dec.{eqb}
-use borrow.Author.Tests.{ne-eqb, eqb-true, eqb-false}
+use borrow.Author.Tests.{ne-eqb, eqb-true, eqb-false, lt-ltb, le-ltb}
+use Rattle.lists.proofs.Numbers.{lt-or-le}
 use Rattle.page.specs.Page.{countOf, pageAt}
-use Rattle.pages.specs.Pages.{firstFree}
+use Rattle.pages.specs.Pages.{firstFree, freePage}
 
 module _ (b : ℕ) (bytes : List ℕ) where
   abbrev countAt : ℕ → ℕ
@@ -42,6 +44,15 @@ module _ (b : ℕ) (bytes : List ℕ) where
       go true ih = omega arith
       go false ih = omega arith
 
+  firstFree-ge : (k g : ℕ) → g ≤ firstFree b bytes k g
+  unfolding firstFree
+  firstFree-ge zero g = omega arith
+  firstFree-ge (suc k) g = go (eqb (countAt g) 0) (firstFree-ge k (suc g))
+    where
+      go : (β : Bool) → suc g ≤ firstFree b bytes k (suc g) → g ≤ cond β g (firstFree b bytes k (suc g))
+      go true ih = omega arith
+      go false ih = omega arith
+
   -- no page before it is free
   pub countOf-before-firstFree : (k g i : ℕ) → g ≤ i → i < firstFree b bytes k g → countAt i ≡ 0 → ⊥
   unfolding firstFree
@@ -66,3 +77,43 @@ module _ (b : ℕ) (bytes : List ℕ) where
           → countAt (cond β g (firstFree b bytes k (suc g))) ≡ 0
       go true e l ih = eqb-true (countAt g) 0 e
       go false e l ih = ih (omega arith)
+
+  -- ---- a free one of the first n, sought from a page on
+
+  module _ (n start : ℕ) where
+    pub freePage-from : firstFree b bytes (n - start) start < n
+        → freePage b bytes n start ≡ firstFree b bytes (n - start) start
+    unfolding freePage
+    freePage-from l = rw (lt-ltb (firstFree b bytes (n - start) start) n l)
+
+    pub freePage-first : n ≤ firstFree b bytes (n - start) start → freePage b bytes n start ≡ firstFree b bytes n 0
+    unfolding freePage
+    freePage-first l = rw (le-ltb (firstFree b bytes (n - start) start) n l)
+
+    abbrev found : ℕ
+    found = firstFree b bytes (n - start) start
+
+    pub freePage-le : freePage b bytes n start ≤ n
+    freePage-le = go (lt-or-le found n)
+      where
+        go : (found < n) ⊎ (n ≤ found) → freePage b bytes n start ≤ n
+        go (inl l) = omega (arith, freePage-from l)
+        go (inr l) = omega (arith, freePage-first l, firstFree-le n 0)
+
+    -- it is free where it is one of the pages
+    pub countOf-freePage : freePage b bytes n start < n → countAt (freePage b bytes n start) ≡ 0
+    countOf-freePage h = go (lt-or-le found n)
+      where
+        go : (found < n) ⊎ (n ≤ found) → countAt (freePage b bytes n start) ≡ 0
+        go (inl l) =
+            ap (λ g. countAt g) (freePage-from l)
+            ∙ countOf-firstFree (n - start) start (omega (arith, l, firstFree-ge (n - start) start))
+        go (inr l) = ap (λ g. countAt g) (freePage-first l) ∙ countOf-firstFree n 0 (omega (arith, freePage-first l))
+
+    -- none is free where it is none of them
+    pub freePage-none : freePage b bytes n start ≡ n → (i : ℕ) → i < n → countAt i ≡ 0 → ⊥
+    freePage-none e i h = go (lt-or-le found n)
+      where
+        go : (found < n) ⊎ (n ≤ found) → countAt i ≡ 0 → ⊥
+        go (inl l) = absurd (omega (arith, freePage-from l))
+        go (inr l) = countOf-before-firstFree n 0 i (omega arith) (omega (arith, freePage-first l))

@@ -1,8 +1,8 @@
--- The lent pages: one page changed, records carried between two, the first free one. Assumes nothing.
+-- The lent pages: one page changed, records carried between two, a free one. Assumes nothing.
 use Prim.Native.Nat.{ℕ, zero, suc, _+_, _-_, _*_, _≤_, _<_}
 use mathlib.Core.Bool.{cond}
 use mathlib.Core.List.{List}
-use lib.Dec.{eqb}
+use lib.Dec.{eqb, ltb}
 use lib.ListN.{length, drop}
 use lib.Seq.{paste}
 use Rattle.page.specs.Page.{countOf, pageSize, pageAt}
@@ -30,3 +30,9 @@ carriedPages b p m n q j bytes =
 unfoldable pub firstFree : ℕ → List ℕ → ℕ → ℕ → ℕ
 firstFree b bytes zero g = g
 firstFree b bytes (suc k) g = cond (eqb (countOf (pageAt b bytes g)) 0) g (firstFree b bytes k (suc g))
+
+-- a free one of the first n pages: the first from page `start` on, else the first of all; n where none is
+unfoldable pub freePage : ℕ → List ℕ → ℕ → ℕ → ℕ
+freePage b bytes n start =
+    let g = firstFree b bytes (n - start) start in
+    cond (ltb g n) g (firstFree b bytes n 0)

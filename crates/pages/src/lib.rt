@@ -5,7 +5,7 @@ ghost use mathlib.Core.Path.{_≡_};
 ghost use Prim.Native.Nat.{_+_, _-_, _*_, _<_, _≤_};
 ghost use lib.ListN.{length};
 ghost use Rattle.page.specs.Page.{countOf, pageSize, pageAt};
-ghost use Rattle.pages.specs.Pages.{PageLent, carriedPages, firstFree};
+ghost use Rattle.pages.specs.Pages.{PageLent, carriedPages, firstFree, freePage};
 
 // Carries records between two pages: those from m on of page p, which has n, go behind the j
 // records of page q, and page p keeps its first m. With j = 0 this divides a page; with m = 0 it
@@ -44,12 +44,33 @@ pub fn count_at(pages: &[u8], capacity: usize, p: usize) -> usize
     page::count(&pages[start..end])
 }
 
+// A free one of the first n pages: the first from page `start` on, else the first of all; n where none
+// is. Where pages are taken from the first on, one is near if `start` is about how many are taken.
+pub fn free_page(pages: &[u8], capacity: usize, n: usize, start: usize) -> usize
+    requires { ⌜ (capacity ≤ 16) × (n ≤ 4096) × (n * pageSize capacity ≤ length (now pages)) ⌝ }
+    ensures { λ r. ⌜ r ≡ freePage capacity (now (pages .entry)) n start ⌝ }
+{
+    let p = free_from(pages, capacity, n, start);
+    if p < n {
+        return p;
+    }
+    first_free(pages, capacity, n)
+}
+
 // The first of the first n pages that is free; n where none is.
 pub fn first_free(pages: &[u8], capacity: usize, n: usize) -> usize
     requires { ⌜ (capacity ≤ 16) × (n ≤ 4096) × (n * pageSize capacity ≤ length (now pages)) ⌝ }
     ensures { λ r. ⌜ r ≡ firstFree capacity (now (pages .entry)) n 0 ⌝ }
 {
-    let mut p = 0;
+    free_from(pages, capacity, n, 0)
+}
+
+// The first free one of the pages from `start` to n; n, or `start` if that is greater, where none is.
+fn free_from(pages: &[u8], capacity: usize, n: usize, start: usize) -> usize
+    requires { ⌜ (capacity ≤ 16) × (n ≤ 4096) × (n * pageSize capacity ≤ length (now pages)) ⌝ }
+    ensures { λ r. ⌜ r ≡ firstFree capacity (now (pages .entry)) (n - start) start ⌝ }
+{
+    let mut p = start;
     while p < n {
         if count_at(pages, capacity, p) == 0 {
             return p;

@@ -14,8 +14,8 @@ use Rattle.record.specs.declared.Content.{Content}
 use Rattle.record.specs.Packed.{packedKey, unpackedKey}
 use Rattle.record.specs.Record.{recordBit}
 use Rattle.page.specs.Page.{countOf, pageAt}
-use Rattle.pages.specs.Pages.{firstFree}
-use Rattle.pages.proofs.FreeLaws.{firstFree-le, countOf-before-firstFree, countOf-firstFree}
+use Rattle.pages.specs.Pages.{freePage}
+use Rattle.pages.proofs.FreeLaws.{freePage-le, freePage-none, countOf-freePage}
 use Rattle.find.specs.Find.{Placed}
 use Rattle.find.specs.declared.Place.the-variants.{Before, At}
 use Rattle.word.specs.Word.{wordOf}
@@ -85,20 +85,18 @@ module _ (before : Store) (values : List ℕ) where
         within-limit = h .4;
       }
 
-  -- ---- the first free page
+  -- ---- a free page
 
-  module _ (free : ℕ) (e : free ≡ firstFree b (before .memory .bytes) P 0) where
+  module _ (free start : ℕ) (e : free ≡ freePage b (before .memory .bytes) P start) where
     pub no-free-page : free ≡ P → NoFreePage before
-    no-free-page f g l none =
-        countOf-before-firstFree b (before .memory .bytes) P 0 g (omega arith) (omega arith) none
+    no-free-page f = freePage-none b (before .memory .bytes) P start (sym e ∙ f)
 
     pub free-page : (free ≡ P → ⊥) → (free < P) × (countOf (page free) ≡ 0)
     free-page n =
-        let le = firstFree-le b (before .memory .bytes) P 0 in
-        let within : free < P = omega (arith, le) in (
+        let within : free < P = omega (arith, freePage-le b (before .memory .bytes) P start) in (
           within,
           subst (λ h. countOf (page h) ≡ 0) (sym e)
-              (countOf-firstFree b (before .memory .bytes) P 0 (omega (arith, e, within))),
+              (countOf-freePage b (before .memory .bytes) P start (subst (λ h. h < P) e within)),
         )
 
     -- ---- a leaf without a page

@@ -14,7 +14,7 @@ use Rattle.record.specs.Record.{recordBit}
 use Rattle.record.specs.Packed.{packedKey, unpackedKey}
 use Rattle.page.specs.Page.{pageAt}
 use Rattle.page.proofs.FieldLaws.{length-recordsFrom}
-use Rattle.pages.specs.Pages.{firstFree}
+use Rattle.pages.specs.Pages.{freePage}
 use Rattle.packed.specs.Order.{FirstPair, pairBit}
 use Rattle.find.specs.Find.{firstOne}
 use Rattle.model.specs.Model.{recordFor}
@@ -148,17 +148,18 @@ module _ (before : Store) (values : List ℕ) where
             (subst (λ ws. damaged key page′ ws) ew
             (subst (Halved ws′ page′ b key (split .behind) (split .pair)) q h)))
 
-    module _ (free : ℕ) (ef : free ≡ firstFree b (before .memory .bytes) (before .state .limits .pages) 0) where
+    module _ (free start : ℕ)
+        (ef : free ≡ freePage b (before .memory .bytes) (before .state .limits .pages) start) where
       pub seven-full : free ≡ before .state .limits .pages → Planned before values (Refused 7)
       seven-full f content =
           insert-full-none before values content (d .asked .early) _ _ _
           (meets-full (d .asked) _ _ _ _ _ (met .ends-met) (met .differ) (met .below) (met .deep) content)
-          (λ S sound. no-free-page before values free ef f)
+          (λ S sound. no-free-page before values free start ef f)
 
       pub divide-planned : (half : Half) → Halved ws′ page′ b key (split .behind) (split .pair) half → (cut : Cut)
           → half ≡ Own cut → (free ≡ before .state .limits .pages → ⊥) → Planned before values (Divide split cut free)
       divide-planned half h cut q n =
-          let f = free-page before values free ef n in
+          let f = free-page before values free start ef n in
           let halves : ℕ → List ℕ → List ℕ → Type 0 =
           λ k pg ws. HalfMet ws pg b k (split .behind) (split .pair) cut in
           record {

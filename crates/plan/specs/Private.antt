@@ -1,6 +1,6 @@
 -- What a plan of an insert tells, on any store: the word, the page and the places that it found. `values` are those of
 -- the key. Assumes nothing.
-use Prim.Native.Nat.{ℕ, _-_, _^_, _≤_, _<_}
+use Prim.Native.Nat.{ℕ, zero, suc, _+_, _-_, _^_, _≤_, _<_}
 use mathlib.Core.Path.{_≡_}
 use mathlib.Core.Bool.{true, false, cond}
 use mathlib.Core.List.{List}
@@ -38,6 +38,11 @@ pub record PagesLent (st : State) (bytes : List ℕ) : Type 0 where
   pub shape : shapeNumber (st .shape) ≡ 0
   pub few : st .limits .pages ≤ 4096
   pub lent : pagesSize st ≤ length bytes
+
+-- how many leaves a tally has at the depths below x
+unfoldable pub leavesAbove : List ℕ → ℕ → ℕ
+leavesAbove leaves zero = 0
+leavesAbove leaves (suc x) = leavesAbove leaves x + getD leaves x 0
 
 -- the early refusals let the key pass, and the limits hold
 pub record Asked (before : Store) (values : List ℕ) : Type 0 where

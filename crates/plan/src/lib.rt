@@ -1,5 +1,6 @@
 // What an insert is to do, found without a write (document 01, "Calls"). Damage that it meets is 9.
 pub mod halves;
+pub mod spare;
 
 use find::Place;
 use find::find;
@@ -8,13 +9,13 @@ use halves::half_of;
 use lent::limits_hold;
 use packed::step_number;
 use pages::count_at;
-use pages::first_free;
 use record::RECORD_SIZE;
 use record::pack_key;
 use seek::key_word;
 use seek::word_holds;
 use shape::Key;
 use shape::widths_of;
+use spare::spare_page;
 use store::State;
 use tally::tally_holds;
 use word::Leaf;
@@ -97,9 +98,8 @@ fn plan_empty(state: State, pages: &[u8], depth: u32) -> Plan
     requires { ⌜ PagesLent state (now pages) ⌝ }
     ensures { λ r. ⌜ PlannedFrom state (now (pages .entry)) (λ before values. EmptyMet before values depth) r ⌝ }
 {
-    let shape = state.shape;
     let limits = state.limits;
-    let free = first_free(pages, shape.capacity as usize, limits.pages as usize) as u32;
+    let free = spare_page(state, pages);
     if free == limits.pages {
         return Plan::Refused(7);
     }
@@ -203,7 +203,7 @@ fn plan_cut(state: State, pages: &[u8], key: u64, split: Split) -> Plan
     let Half::Own(cut) = half else {
         return Plan::Refused(9);
     };
-    let free = first_free(pages, capacity, limits.pages as usize) as u32;
+    let free = spare_page(state, pages);
     if free == limits.pages {
         return Plan::Refused(7);
     }

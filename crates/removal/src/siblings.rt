@@ -1,7 +1,7 @@
 // The siblings of a key's regions, and what a join makes of them: the key's leaf and its sibling
 // give way to one leaf, which takes in the empty siblings above.
 use super::Join;
-use address::pairs::pair_of_step;
+use directory::places::step_place;
 use shape::Shape;
 use shape::widths_of;
 use sibling::bit_at;
@@ -74,6 +74,6 @@ fn step_bit(shape: Shape, values: [u32; 4], step: u32) -> bool
     ensures { λ r. ⌜ r ≡ splitBit (widthsOf shape) values step ⌝ }
 {
     let widths = widths_of(shape);
-    let pair = pair_of_step(widths, step as u64);
+    let pair = step_place(widths, step as u64);
     bit_at(widths, values, pair)
 }

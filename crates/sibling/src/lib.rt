@@ -1,8 +1,8 @@
 // The sibling of a key's region in the directory: the region whose last split bit is the other one.
 use address::locate;
-use address::pairs::pair_of_step;
 use address::pairs::width_at;
 use directory::cells::cell_before;
+use directory::places::step_place;
 use directory::vectors::with_bit;
 use shape::Widths;
 ghost use mathlib.Core.Path.{_≡_};
@@ -34,7 +34,7 @@ fn sibling_cell(widths: Widths, key: [u32; 4], z: u64) -> u64
     ensures { λ r. ⌜ r
         ≡ cellAddress (widthList widths) (suc z) (sibling (splitBit (widthList widths) key) z) ⌝ }
 {
-    let g = pair_of_step(widths, z);
+    let g = step_place(widths, z);
     let index = cell_before(widths, key, g);
     if bit_at(widths, key, g) {
         return locate(widths, index);

@@ -34,20 +34,20 @@ named : (c : tie.After-cell-before) → let s = start c in
     cell (ws s) (s .args .z) (string s) ≡ indexList (c .cell-before .result)
 named c =
     let s = start c in
-    ap (λ n. cell (ws s) n (string s)) (sym (c .before .pair-of-step .ensures .before)) ∙ sym (c .cell-before .ensures)
+    ap (λ n. cell (ws s) n (string s)) (sym (c .before .step-place .ensures .before)) ∙ sym (c .cell-before .ensures)
 
 -- the bit is that of step z
 bit-is : (c : tie.After-bit-at) → let s = start (c .before) in string s (s .args .z) ≡ c .bit-at .result
 bit-is c =
     let s = start (c .before) in
-    ap (string s) (sym (c .before .before .pair-of-step .ensures .before)) ∙ sym (c .bit-at .ensures)
+    ap (string s) (sym (c .before .before .step-place .ensures .before)) ∙ sym (c .bit-at .ensures)
 
 -- with bit 1 the sibling's vector is that one
 zero-half : (c : tie.Then1) → let at = c .before .before in let s = start at in
     cell (ws s) (suc (s .args .z)) (sibling (string s) (s .args .z)) ≡ indexList (at .cell-before .result)
 zero-half c =
     let s = start (c .before .before) in
-    cell-sibling-zero (ws s) (s .pre .0) _ _ (c .before .before .before .pair-of-step .ensures) (string s)
+    cell-sibling-zero (ws s) (s .pre .0) _ _ (c .before .before .before .step-place .ensures) (string s)
     (bit-is (c .before) ∙ c .if1 .taken)
     ∙ named (c .before .before)
 
@@ -57,14 +57,14 @@ one-half : (c : tie.After-with-bit) → let s = start (c .before .before .before
 one-half c =
     let at = c .before .before .before in
     let s = start at in
-    let g = at .before .pair-of-step .result in
-    cell-sibling-one (ws s) (s .pre .0) _ g (at .before .pair-of-step .ensures) (string s)
+    let g = at .before .step-place .result in
+    cell-sibling-one (ws s) (s .pre .0) _ g (at .before .step-place .ensures) (string s)
     (bit-is (c .before .before) ∙ c .before .if1 .left)
     ∙ ap (bitSet g) (named at)
     ∙ sym (c .with-bit .ensures)
 
-pair-of-step-requires : tie.Need-pair-of-step-requires
-pair-of-step-requires c κs = search needs
+step-place-requires : tie.Need-step-place-requires
+step-place-requires c κs = search needs
 
 cell-before-requires : tie.Need-cell-before-requires
 cell-before-requires c κs = search needs
@@ -86,8 +86,8 @@ with-bit-requires : tie.Need-with-bit-requires
 with-bit-requires c κs =
     let at = c .before .before in
     let s = start at in
-    let g = at .before .pair-of-step .result in
-    let pair = at .before .pair-of-step .ensures in (
+    let g = at .before .step-place .result in
+    let pair = at .before .step-place .ensures in (
       pair .low,
       subst (λ v. getD v (g % 4) 0 < 2 ^ (g / 4)) (named at) (getD-cell-lt (ws s) (s .pre .0) _ g pair (string s)),
     )
@@ -107,7 +107,7 @@ pub sibling-cell-spec : {M : Type 1} → statement M
 sibling-cell-spec =
     tie.close
     (tie.spec
-    pair-of-step-requires
+    step-place-requires
     cell-before-requires
     bit-at-requires
     locate-requires

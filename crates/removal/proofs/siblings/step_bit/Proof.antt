@@ -11,8 +11,8 @@ use Rattle.removal.proofs.siblings.step_bit.Tie as tie
 widths-of-requires : tie.Need-widths-of-requires
 widths-of-requires c κs = search needs
 
-pair-of-step-requires : tie.Need-pair-of-step-requires
-pair-of-step-requires c κs =
+step-place-requires : tie.Need-step-place-requires
+step-place-requires c κs =
     let s = c .before in
     let w = c .widths-of in (
       widths-fit (s .args .shape) (widthList (w .result)) (s .pre .0) (w .ensures),
@@ -23,17 +23,17 @@ bit-at-requires : tie.Need-bit-at-requires
 bit-at-requires c κs =
     let s = c .before .before in
     let w = c .before .widths-of in
-    (widths-fit (s .args .shape) (widthList (w .result)) (s .pre .0) (w .ensures), c .pair-of-step .ensures .live)
+    (widths-fit (s .args .shape) (widthList (w .result)) (s .pre .0) (w .ensures), c .step-place .ensures .live)
 
 returns : tie.Need-returns
 returns c =
     let a = c .before .before .before .args in
     let w = c .before .before .widths-of in
     c .bit-at .ensures
-    ∙ ap (splitBit (widthList (w .result)) (a .values)) (c .before .pair-of-step .ensures .before)
+    ∙ ap (splitBit (widthList (w .result)) (a .values)) (c .before .step-place .ensures .before)
     ∙ ap (λ ws. splitBit ws (a .values) (a .step)) (w .ensures)
 
 pub step-bit-spec : {M : Type 1} → statement M
 step-bit-spec =
     tie.close
-    (tie.spec widths-of-requires pair-of-step-requires bit-at-requires returns)
+    (tie.spec widths-of-requires step-place-requires bit-at-requires returns)
