@@ -1,6 +1,6 @@
 -- `leafpage::page_passes` meets its contract: records in split order all begin as the first and the last one do.
 -- Assumes nothing.
-use Prim.Native.Nat.{_+_, _*_, _-_, _/_, _^_, _≤_, _<_}
+use Prim.Native.Nat.{_-_, _/_, _^_}
 use mathlib.Core.Path.{_≡_, sym, ap, _∙_}
 use native.Mathlib.Omega.{arith}
 use borrow.Author.Needs.{needs}

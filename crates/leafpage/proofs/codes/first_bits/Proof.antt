@@ -1,11 +1,10 @@
 -- `leafpage::codes::first_bits` meets its contract: the bits before place g are taken; the pairs left fall.
 -- Assumes nothing.
 use Prim.Native.Nat.{_-_, _/_, _%_, _≤_, _<_}
-use mathlib.Core.Path.{_≡_, refl, sym, ap, subst, _∙_}
+use mathlib.Core.Path.{refl, sym, subst, _∙_}
 use mathlib.Core.Logic.{⊎-elim}
 use native.Mathlib.Omega.{arith}
-use lib.ListN.{getD}
-use Rattle.shape.specs.Shape.{widthList, total}
+use Rattle.shape.specs.Shape.{widthList}
 use Rattle.shape.proofs.ShapeLaws.{total-le}
 use Rattle.split.specs.Steps.{bitValue}
 use Rattle.split.specs.Bits.{bitOf}
