@@ -70,7 +70,8 @@ fn read_pages(
     list: &mut [u32],
     out: &mut [u8],
 ) -> Listed
-    requires { ⌜ Tested state (wantedValues query) (now rows) (length (now dir)) (length (now pages)) (length (now list)) ⌝ }
+    requires { ⌜ Tested state (wantedValues query) (now rows) (length (now dir)) (length (now pages))
+        (length (now list)) ⌝ }
     ensures { λ r. ⌜ QueryPromise (store state (now (dir .entry)) (now (pages .entry))) (wantedValues query)
         (now (out .entry)) (listedAnswer r) (now (out .exit)) ⌝ }
 {

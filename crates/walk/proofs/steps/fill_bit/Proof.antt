@@ -1,5 +1,5 @@
--- `walk::steps::fill_bit` meets its contract: the steps before the pair of attribute z have their rows. Falling number: the
--- attributes left. Assumes nothing.
+-- `walk::steps::fill_bit` meets its contract: the steps before the pair of attribute z have their rows. Falling number:
+-- the attributes left. Assumes nothing.
 use Prim.Native.Nat.{ℕ, _+_, _-_, _*_, _/_, _%_, _≤_, _<_}
 use mathlib.Core.Path.{_≡_, refl, sym, ap, _∙_, subst}
 use mathlib.Core.List.{List}
@@ -51,13 +51,17 @@ width-at-requires : tie.Need-width-at-requires Inv-loop μ-loop
 width-at-requires c κs = omega (arith, c .before .loop-test .taken)
 
 mul-put-row : tie.Need-mul-put-row Inv-loop μ-loop
-mul-put-row c = omega (arith, c .before .before .before .if1 .taken, c .before .before .before .before .before .before .pre .1)
+mul-put-row c =
+    let test = c .before .before .before in
+    omega (arith, test .if1 .taken, test .before .before .before .pre .1)
 
 mul-row-at : tie.Need-mul-row-at Inv-loop μ-loop
 mul-row-at c = omega (arith, c .before .before .before .before .before .before .pre .2)
 
 add-row-at : tie.Need-add-row-at Inv-loop μ-loop
-add-row-at c = omega (arith, c .before .before .before .before .before .before .pre .2, c .before .before .before .before .loop-test .taken)
+add-row-at c =
+    let loop = c .before .before .before .before in
+    omega (arith, loop .before .before .pre .2, loop .loop-test .taken)
 
 row-at-requires : tie.Need-row-at-requires Inv-loop μ-loop
 row-at-requires c κs =
@@ -70,10 +74,14 @@ row-at-requires c κs =
     )
 
 put-row-requires : tie.Need-put-row-requires Inv-loop μ-loop
-put-row-requires c κs = omega (arith, c .before .before .before .before .if1 .taken, c .before .before .before .before .before .before .before .pre .1)
+put-row-requires c κs =
+    let test = c .before .before .before .before in
+    omega (arith, test .if1 .taken, test .before .before .before .pre .1)
 
 add-x : tie.Need-add-x Inv-loop μ-loop
-add-x c = omega (arith, c .before .before .before .before .before .if1 .taken, c .before .before .before .before .before .before .before .before .pre .1)
+add-x c =
+    let test = c .before .before .before .before .before in
+    omega (arith, test .if1 .taken, test .before .before .before .pre .1)
 
 add-z : tie.Need-add-z Inv-loop μ-loop
 add-z c = omega (arith, c .before .loop-test .taken)
@@ -91,14 +99,15 @@ loop-again c =
     let low : 4 * a .bit + l .z < 64 = omega (arith, s .pre .2, z) in
     let next : 4 * a .bit + l .z + 1 ≡ 4 * a .bit + (l .z + 1) = omega arith in
     let here = l .inv .2 in
+    let live-here = live (a .bit) (l .z) z ws in
     let lent : 72 ≤ length (l .rows) = omega (arith, s .pre .3, l .inv .1) in (
       omega (arith, z),
       ⊎-elim (λ w. ap length (w .6 ∙ w .5 .ensures) ∙ length-emit _ _ _ ∙ l .inv .1)
           (⊎-elim (λ w. ap length (w .3) ∙ l .inv .1) (λ w. ap length (w .1) ∙ l .inv .1)) (c .if1 .came),
       subst (λ g. Filled ws (wantedAt ws (wantedValues (a .query))) (a .t) g (c .if1 .x) (c .if1 .rows)) next
           (⊎-elim
-          (λ w. filled-step _ _ _ _ _ _ here (w .0 .taken) low (live (a .bit) (l .z) z ws _ (w .1 .ensures) (w .2 .taken))
-          (s .pre .1) lent _ _ _ (w .4 .ensures) (w .6 ∙ w .5 .ensures) (w .7))
+          (λ w. filled-step _ _ _ _ _ _ here (w .0 .taken) low
+          (live-here _ (w .1 .ensures) (w .2 .taken)) (s .pre .1) lent _ _ _ (w .4 .ensures) (w .6 ∙ w .5 .ensures) (w .7))
           (⊎-elim
           (λ w. filled-skip _ _ _ _ _ _ here (w .0 .taken) low
           (past (a .bit) (l .z) z ws _ (w .1 .ensures) (w .2 .left)) _ _ (w .3) (w .4))
@@ -112,7 +121,8 @@ returns c =
     let l = c .before .loop in
     let ws = widthList (a .widths) in
     let all : 4 * a .bit + l .z ≡ 4 * a .bit + 4 = omega (arith, c .loop-test .left, l .inv .0) in
-    (l .inv .1, subst (λ g. Filled ws (wantedAt ws (wantedValues (a .query))) (a .t) g (l .x) (l .rows)) all (l .inv .2))
+    let q = wantedAt ws (wantedValues (a .query)) in
+    (l .inv .1, subst (λ g. Filled ws q (a .t) g (l .x) (l .rows)) all (l .inv .2))
 
 pub fill-bit-spec : {M : Type 1} → statement M
 fill-bit-spec =
