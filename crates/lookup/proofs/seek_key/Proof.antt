@@ -49,8 +49,8 @@ found : (c : tie.After-key-word)
     ≡ wordAt (a .state .shape) (a .state .depth) (a .dir .now) (splitBit (widthsOf (a .state .shape)) (a .key .values))
 found c =
     let a = c .before .before .before .before .before .before .before .before .args in
-    key-word-is (a .state .shape) _ (c .before .before .widths-of .ensures) (a .state .depth) (a .dir .now) (a .key .values) _
-    (c .key-word .ensures)
+    key-word-is (a .state .shape) _ (c .before .before .widths-of .ensures) (a .state .depth) (a .dir .now)
+    (a .key .values) _ (c .key-word .ensures)
 
 widths-of-requires : tie.Need-widths-of-requires
 widths-of-requires c κs = search needs
@@ -84,7 +84,8 @@ returns-2 c =
     let a = c .before .before .before .before .before .before .before .before .before .before .args in
     c .seek-by-word .ensures
     ∙ soughtAnswer-word (store (a .state) (a .dir .now) (a .pages .now)) (a .key .values)
-    (held (c .before .before .before .before .before .before)) _ _ (found (c .before .before)) (c .before .pack-key .ensures)
+    (held (c .before .before .before .before .before .before)) _ _ (found (c .before .before))
+    (c .before .pack-key .ensures)
 
 pub seek-key-spec : {M : Type 1} → statement M
 seek-key-spec =

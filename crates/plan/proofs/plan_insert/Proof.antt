@@ -51,8 +51,8 @@ found : (c : tie.After-key-word)
     ≡ wordAt (a .state .shape) (a .state .depth) (a .dir .now) (splitBit (widthsOf (a .state .shape)) (a .key .values))
 found c =
     let a = c .before .before .before .before .before .before .before .before .args in
-    key-word-is (a .state .shape) _ (c .before .before .widths-of .ensures) (a .state .depth) (a .dir .now) (a .key .values) _
-    (c .key-word .ensures)
+    key-word-is (a .state .shape) _ (c .before .before .widths-of .ensures) (a .state .depth) (a .dir .now)
+    (a .key .values) _ (c .key-word .ensures)
 
 widths-of-requires : tie.Need-widths-of-requires
 widths-of-requires c κs = search needs

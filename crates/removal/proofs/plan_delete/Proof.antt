@@ -36,8 +36,8 @@ found : (c : tie.After-key-word)
     c .key-word .result ≡ wordOn before (keyString before (a .key .values))
 found c =
     let a = c .before .before .before .before .before .before .before .before .args in
-    key-word-is (a .state .shape) _ (c .before .before .widths-of .ensures) (a .state .depth) (a .dir .now) (a .key .values) _
-    (c .key-word .ensures)
+    key-word-is (a .state .shape) _ (c .before .before .widths-of .ensures) (a .state .depth) (a .dir .now)
+    (a .key .values) _ (c .key-word .ensures)
 
 -- it holds
 held : (c : tie.Else2)
@@ -52,7 +52,8 @@ held c =
 
 -- the leaf with a page that it names
 named : (c : tie.After-found)
-    → let a = c .before .before .before .before .before .before .before .before .before .before .before .before .before .args in
+    → let words = c .before .before .before .before .before .before in
+    let a = words .before .before .before .before .before .before .before .args in
     let before = store (a .state) (a .dir .now) (a .pages .now) in
     leafOf (wordOn before (keyString before (a .key .values)))
     ≡ Page (c .found .given .0 .0) (c .found .given .0 .1 .0)
@@ -129,10 +130,11 @@ returns-3 c =
 
 plan-leaf-requires : tie.Need-plan-leaf-requires
 plan-leaf-requires c κs =
-    let s = c .before .before .before .before .before .before .before .before .before .before .before .before .before .before in
+    let limits = c .before .before .before .before .before .before .before .before .before .before in
+    let s = limits .before .before .before .before in
     let a = s .args in
     let before = store (a .state) (a .dir .now) (a .pages .now) in
-    leafMet before (a .key .values) (s .pre) (four s) (limited (c .before .before .before .before .before .before .before .before .before .before)) _ _ (named (c .before))
+    leafMet before (a .key .values) (s .pre) (four s) (limited limits) _ _ (named (c .before))
     (held (c .before .before .before .before))
 
 returns-4 : tie.Need-returns-4
