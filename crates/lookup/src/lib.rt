@@ -10,6 +10,7 @@ use record::pack_key;
 use seek::key_word;
 use seek::word_holds;
 use shape::Key;
+use shape::widths_of;
 use store::Found;
 use store::State;
 use word::Leaf;
@@ -48,7 +49,8 @@ fn seek_key(state: State, dir: &[u32], pages: &[u8], key: Key) -> Found
         return Found::Refused(9);
     }
     let values = key.values;
-    let word = key_word(state, dir, values);
+    let widths = widths_of(state.shape);
+    let word = key_word(widths, state.depth as u64, dir, values);
     seek_by_word(state, pages, word, pack_key(key))
 }
 

@@ -74,7 +74,8 @@ pub fn plan_insert(state: State, dir: &[u32], pages: &[u8], key: Key) -> Plan
         return Plan::Refused(9);
     }
     let values = key.values;
-    let word = key_word(state, dir, values);
+    let widths = widths_of(state.shape);
+    let word = key_word(widths, state.depth as u64, dir, values);
     if !word_holds(state, word) {
         return Plan::Refused(9);
     }

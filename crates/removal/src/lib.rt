@@ -10,6 +10,7 @@ use seek::key_word;
 use seek::word_holds;
 use select::find_key;
 use shape::Key;
+use shape::widths_of;
 use siblings::plan_join;
 use siblings::sibling_of;
 use store::State;
@@ -63,7 +64,8 @@ pub fn plan_delete(state: State, dir: &[u32], pages: &[u8], key: Key) -> Plan
         return Plan::Refused(9);
     }
     let values = key.values;
-    let word = key_word(state, dir, values);
+    let widths = widths_of(state.shape);
+    let word = key_word(widths, state.depth as u64, dir, values);
     if !word_holds(state, word) {
         return Plan::Refused(9);
     }

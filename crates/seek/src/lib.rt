@@ -1,24 +1,23 @@
 // The word at a key's cell, and whether a sound store can have it: how lookup, insert and delete begin
 // (document 01, "Lent memory").
 use directory::cells::find_cell;
-use shape::widths_of;
+use shape::Widths;
 use store::State;
 ghost use mathlib.Core.Path.{_≡_};
 ghost use Prim.Native.Nat.{_^_, _≤_};
-ghost use lib.ListN.{length};
-ghost use Rattle.shape.specs.Shape.{shapeNumber, widthsOf, total};
+ghost use lib.ListN.{getD, length};
+ghost use Rattle.shape.specs.Shape.{Fit, widthList, total};
 ghost use Rattle.split.specs.Bits.{splitBit};
-ghost use Rattle.store.specs.Store.{wordAt};
+ghost use Rattle.cell.specs.Cell.{cellAddress};
 ghost use Rattle.seek.specs.Hold.{wordHolds};
 
-// The word at the cell of a key.
-pub fn key_word(state: State, dir: &[u32], values: [u32; 4]) -> u32
-    requires { ⌜ (shapeNumber (state .shape) ≡ 0) × (state .depth ≤ total (widthsOf (state .shape))) ⌝ }
-    requires { ⌜ 2 ^ state .depth ≤ length (now dir) ⌝ }
-    ensures { λ r. ⌜ r ≡ wordAt (state .shape) (state .depth) (now (dir .entry))
-        (splitBit (widthsOf (state .shape)) values) ⌝ }
+// The word at the cell of a key, in a directory of depth t.
+pub fn key_word(widths: Widths, t: u64, dir: &[u32], values: [u32; 4]) -> u32
+    requires { ⌜ Fit (widthList widths) × (t ≤ total (widthList widths)) × (2 ^ t ≤ length (now dir)) ⌝ }
+    ensures { λ r. ⌜ r ≡ getD (now (dir .entry))
+        (cellAddress (widthList widths) t (splitBit (widthList widths) values)) 0 ⌝ }
 {
-    let cell = find_cell(widths_of(state.shape), values, state.depth as u64);
+    let cell = find_cell(widths, values, t);
     dir[cell as usize]
 }
 

@@ -4,12 +4,16 @@ use mathlib.Core.Bool.{true}
 use native.Mathlib.Nat.{le-trans}
 use lib.ListN.{length, length-map}
 use lib.Pow.{pow-mono}
+use borrow.Author.Needs.{needs}
 use borrow.Author.Tests.{not-true, not-false}
+use Rattle.shape.specs.Shape.{widthsOf}
 use Rattle.shape.proofs.ShapeLaws.{capacity-bounds}
+use Rattle.split.specs.Bits.{splitBit}
 use Rattle.store.specs.Answers.{foundAnswer}
-use Rattle.store.specs.Store.{store}
+use Rattle.store.specs.Store.{store, wordAt}
 use Rattle.lent.specs.Limits.{limitsHold}
 use Rattle.lent.proofs.LimitsLaws.{limits-parts}
+use Rattle.seek.proofs.WordLaws.{key-word-asks, key-word-is}
 use Rattle.lookup.proofs.CaseLaws.{soughtAnswer-limits, soughtAnswer-word}
 use Rattle.lookup.proofs.EarlyLaws.{Passed, passed, SixteenBits-of-keyFits}
 use Rattle.lookup.proofs.seek_key.Statement.{statement}
@@ -38,31 +42,50 @@ returns c =
     soughtAnswer-limits (store (a .state) (a .dir .now) (a .pages .now)) (a .key .values)
     (sym (c .before .limits-hold .ensures) ∙ not-true (c .before .limits-hold .result) (c .if1 .taken))
 
+-- the word that was found, of the state's own shape
+found : (c : tie.After-key-word)
+    → let a = c .before .before .before .before .before .before .before .before .args in
+    c .key-word .result
+    ≡ wordAt (a .state .shape) (a .state .depth) (a .dir .now) (splitBit (widthsOf (a .state .shape)) (a .key .values))
+found c =
+    let a = c .before .before .before .before .before .before .before .before .args in
+    key-word-is (a .state .shape) _ (c .before .before .widths-of .ensures) (a .state .depth) (a .dir .now)
+    (a .key .values) _ (c .key-word .ensures)
+
+widths-of-requires : tie.Need-widths-of-requires
+widths-of-requires c κs = search needs
+
+cast-key-word : tie.Need-cast-key-word
+cast-key-word c = search needs
+
 key-word-requires : tie.Need-key-word-requires
 key-word-requires c κs =
-    let p = early (c .before .before .before) in
-    let l = limits-parts (c .before .before .before .before .before .args .state) (held (c .before)) in
-    ((p .shape, le-trans (l .4) (l .3)), le-trans (pow-mono (l .4)) (p .words-lent))
+    let st = c .before .before .before .before .before .before .before .args .state in
+    let p = early (c .before .before .before .before .before) in
+    let l = limits-parts st (held (c .before .before .before)) in
+    key-word-asks (st .shape) _ (c .before .widths-of .ensures) (st .depth) (p .shape) (le-trans (l .4) (l .3)) _
+    (le-trans (pow-mono (l .4)) (p .words-lent))
 
 pack-key-requires : tie.Need-pack-key-requires
 pack-key-requires c κs =
-    let s = c .before .before .before .before .before .before in
-    let p = early (c .before .before .before .before) in
+    let s = c .before .before .before .before .before .before .before .before in
+    let p = early (c .before .before .before .before .before .before) in
     SixteenBits-of-keyFits (s .args .state .shape) (s .args .key .values) (p .shape) (p .fits) (four s)
 
 seek-by-word-requires : tie.Need-seek-by-word-requires
 seek-by-word-requires c κs =
-    let st = c .before .before .before .before .before .before .before .args .state in
-    let p = early (c .before .before .before .before .before) in
-    let l = limits-parts st (held (c .before .before .before)) in
+    let st = c .before .before .before .before .before .before .before .before .before .args .state in
+    let p = early (c .before .before .before .before .before .before .before) in
+    let l = limits-parts st (held (c .before .before .before .before .before)) in
     ((capacity-bounds (st .shape) (p .shape) .1, l .1), p .pages-lent)
 
 returns-2 : tie.Need-returns-2
 returns-2 c =
-    let a = c .before .before .before .before .before .before .before .before .args in
+    let a = c .before .before .before .before .before .before .before .before .before .before .args in
     c .seek-by-word .ensures
     ∙ soughtAnswer-word (store (a .state) (a .dir .now) (a .pages .now)) (a .key .values)
-    (held (c .before .before .before .before)) _ _ (c .before .before .key-word .ensures) (c .before .pack-key .ensures)
+    (held (c .before .before .before .before .before .before)) _ _ (found (c .before .before))
+    (c .before .pack-key .ensures)
 
 pub seek-key-spec : {M : Type 1} → statement M
 seek-key-spec =
@@ -70,6 +93,8 @@ seek-key-spec =
     (tie.spec
     limits-hold-requires
     returns
+    widths-of-requires
+    cast-key-word
     key-word-requires
     pack-key-requires
     seek-by-word-requires

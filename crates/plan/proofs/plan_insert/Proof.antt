@@ -5,8 +5,11 @@ use lib.ListN.{length, length-map}
 use lib.Pow.{pow-mono}
 use borrow.Author.Needs.{needs}
 use borrow.Author.Tests.{not-true, not-false}
-use Rattle.store.specs.Store.{store}
+use Rattle.shape.specs.Shape.{widthsOf}
+use Rattle.split.specs.Bits.{splitBit}
+use Rattle.store.specs.Store.{store, wordAt}
 use Rattle.lent.proofs.PassedLaws.{passed}
+use Rattle.seek.proofs.WordLaws.{key-word-asks, key-word-is}
 use Rattle.plan.specs.Private.{Asked}
 use Rattle.plan.proofs.MetLaws.{sixteen}
 use Rattle.plan.proofs.RefusalLaws.{nine-limits, nine-word, asked}
@@ -41,44 +44,61 @@ returns c =
     nine-limits (store (a .state) (a .dir .now) (a .pages .now)) (a .key .values) (s .pre)
     (sym (limits .ensures) ∙ not-true (limits .result) (c .if1 .taken))
 
+-- the word that was found, of the state's own shape
+found : (c : tie.After-key-word)
+    → let a = c .before .before .before .before .before .before .before .before .args in
+    c .key-word .result
+    ≡ wordAt (a .state .shape) (a .state .depth) (a .dir .now) (splitBit (widthsOf (a .state .shape)) (a .key .values))
+found c =
+    let a = c .before .before .before .before .before .before .before .before .args in
+    key-word-is (a .state .shape) _ (c .before .before .widths-of .ensures) (a .state .depth) (a .dir .now)
+    (a .key .values) _ (c .key-word .ensures)
+
+widths-of-requires : tie.Need-widths-of-requires
+widths-of-requires c κs = search needs
+
+cast-key-word : tie.Need-cast-key-word
+cast-key-word c = search needs
+
 key-word-requires : tie.Need-key-word-requires
 key-word-requires c κs =
-    let t = told (c .before) in
-    ((t .shape, le-trans (t .within-limit) (t .bits)), le-trans (pow-mono (t .within-limit)) (t .words-lent))
+    let st = c .before .before .before .before .before .before .before .args .state in
+    let t = told (c .before .before .before) in
+    key-word-asks (st .shape) _ (c .before .widths-of .ensures) (st .depth) (t .shape)
+    (le-trans (t .within-limit) (t .bits)) _ (le-trans (pow-mono (t .within-limit)) (t .words-lent))
 
 word-holds-requires : tie.Need-word-holds-requires
 word-holds-requires c κs = search needs
 
 returns-2 : tie.Need-returns-2
 returns-2 c =
-    let s = c .before .before .before .before .before .before .before .before in
+    let s = c .before .before .before .before .before .before .before .before .before .before in
     let a = s .args in
     let holds = c .before .word-holds in
-    nine-word (store (a .state) (a .dir .now) (a .pages .now)) (a .key .values) (s .pre) _
-    (c .before .before .key-word .ensures)
+    nine-word (store (a .state) (a .dir .now) (a .pages .now)) (a .key .values) (s .pre) _ (found (c .before .before))
     (sym (holds .ensures) ∙ not-true (holds .result) (c .if2 .taken))
 
 pack-key-requires : tie.Need-pack-key-requires
 pack-key-requires c κs =
-    let t = told (c .before .before .before .before) in
-    let a = c .before .before .before .before .before .before .before .before .args in
+    let t = told (c .before .before .before .before .before .before) in
+    let a = c .before .before .before .before .before .before .before .before .before .before .args in
     sixteen (a .state .shape) (a .key .values) (record { payload = 0 }) (t .shape) (t .fits) (t .four)
 
 plan-leaf-requires : tie.Need-plan-leaf-requires
 plan-leaf-requires c κs =
     let holds = c .before .before .word-holds in (
-      told (c .before .before .before .before .before) .pages-lent,
+      told (c .before .before .before .before .before .before .before) .pages-lent,
       sym (holds .ensures) ∙ not-false (holds .result) (c .before .if2 .left),
     )
 
 returns-3 : tie.Need-returns-3
 returns-3 c =
-    let a = c .before .before .before .before .before .before .before .before .before .before .args in
+    let a = c .before .before .before .before .before .before .before .before .before .before .before .before .args in
     c .plan-leaf .ensures (a .dir .now) (a .key .values)
     (record {
-      asked = told (c .before .before .before .before .before .before);
+      asked = told (c .before .before .before .before .before .before .before .before);
       key-is = c .before .pack-key .ensures;
-      found-is = sym (c .before .before .before .before .key-word .ensures);
+      found-is = sym (found (c .before .before .before .before));
     })
 
 pub plan-insert-spec : {M : Type 1} → statement M
@@ -87,6 +107,8 @@ plan-insert-spec =
     (tie.spec
     limits-hold-requires
     returns
+    widths-of-requires
+    cast-key-word
     key-word-requires
     word-holds-requires
     returns-2

@@ -13,6 +13,7 @@ use Rattle.change.specs.Delete.{keyString}
 use Rattle.lent.specs.Limits.{limitsHold}
 use Rattle.lent.proofs.LimitsLaws.{limits-parts}
 use Rattle.seek.specs.Hold.{wordHolds}
+use Rattle.seek.proofs.WordLaws.{key-word-asks, key-word-is}
 use Rattle.store.proofs.ShownLaws.{wordOn}
 use Rattle.lookup.proofs.EarlyLaws.{passed}
 use Rattle.removal.proofs.MetLaws.{refused-limits, refused-word, refused-empty, leafMet}
@@ -28,25 +29,36 @@ four c = sym (length-map (c .args .key .values) (λ v. v)) ∙ c .good .1 .1 .1 
 limited : (c : tie.Else1) → limitsHold (c .before .before .before .before .args .state) ≡ true
 limited c = sym (c .before .limits-hold .ensures) ∙ not-false (c .before .limits-hold .result) (c .if1 .left)
 
--- and the word
-held : (c : tie.Else2)
+-- the word that was found, of the state's own shape
+found : (c : tie.After-key-word)
     → let a = c .before .before .before .before .before .before .before .before .args in
+    let before = store (a .state) (a .dir .now) (a .pages .now) in
+    c .key-word .result ≡ wordOn before (keyString before (a .key .values))
+found c =
+    let a = c .before .before .before .before .before .before .before .before .args in
+    key-word-is (a .state .shape) _ (c .before .before .widths-of .ensures) (a .state .depth) (a .dir .now)
+    (a .key .values) _ (c .key-word .ensures)
+
+-- it holds
+held : (c : tie.Else2)
+    → let a = c .before .before .before .before .before .before .before .before .before .before .args in
     let before = store (a .state) (a .dir .now) (a .pages .now) in
     wordHolds (a .state) (wordOn before (keyString before (a .key .values))) ≡ true
 held c =
-    let a = c .before .before .before .before .before .before .before .before .args in
-    ap (wordHolds (a .state)) (sym (c .before .before .key-word .ensures))
+    let a = c .before .before .before .before .before .before .before .before .before .before .args in
+    ap (wordHolds (a .state)) (sym (found (c .before .before)))
     ∙ sym (c .before .word-holds .ensures)
     ∙ not-false (c .before .word-holds .result) (c .if2 .left)
 
 -- the leaf with a page that it names
 named : (c : tie.After-found)
-    → let a = c .before .before .before .before .before .before .before .before .before .before .before .args in
+    → let words = c .before .before .before .before .before .before in
+    let a = words .before .before .before .before .before .before .before .args in
     let before = store (a .state) (a .dir .now) (a .pages .now) in
     leafOf (wordOn before (keyString before (a .key .values)))
     ≡ Page (c .found .given .0 .0) (c .found .given .0 .1 .0)
 named c =
-    ap leafOf (sym (c .before .before .before .before .before .key-word .ensures))
+    ap leafOf (sym (found (c .before .before .before .before .before)))
     ∙ sym (c .before .before .unpack .ensures)
     ∙ c .found .given .1
 
@@ -66,26 +78,33 @@ returns c =
     refused-limits before (a .key .values) (s .pre)
     (sym (holds .ensures) ∙ not-true (holds .result) (c .if1 .taken))
 
+widths-of-requires : tie.Need-widths-of-requires
+widths-of-requires c κs = search needs
+
+cast-key-word : tie.Need-cast-key-word
+cast-key-word c = search needs
+
 key-word-requires : tie.Need-key-word-requires
 key-word-requires c κs =
-    let s = c .before .before .before .before .before in
+    let s = c .before .before .before .before .before .before .before in
     let a = s .args in
     let before = store (a .state) (a .dir .now) (a .pages .now) in
     let p = passed before (a .key .values) (s .pre) in
-    let l = limits-parts (a .state) (limited (c .before)) in
-    ((p .shape, le-trans (l .4) (l .3)), le-trans (pow-mono (l .4)) (p .words-lent))
+    let l = limits-parts (a .state) (limited (c .before .before .before)) in
+    key-word-asks (a .state .shape) _ (c .before .widths-of .ensures) (a .state .depth) (p .shape)
+    (le-trans (l .4) (l .3)) _ (le-trans (pow-mono (l .4)) (p .words-lent))
 
 word-holds-requires : tie.Need-word-holds-requires
 word-holds-requires c κs = search needs
 
 returns-2 : tie.Need-returns-2
 returns-2 c =
-    let s = c .before .before .before .before .before .before .before .before in
+    let s = c .before .before .before .before .before .before .before .before .before .before in
     let a = s .args in
     let before = store (a .state) (a .dir .now) (a .pages .now) in
     let holds = c .before .word-holds in
     refused-word before (a .key .values) (s .pre) (keyString before (a .key .values))
-    (ap (wordHolds (a .state)) (sym (c .before .before .key-word .ensures))
+    (ap (wordHolds (a .state)) (sym (found (c .before .before)))
     ∙ sym (holds .ensures)
     ∙ not-true (holds .result) (c .if2 .taken))
 
@@ -100,23 +119,23 @@ enum-told c = search needs
 
 returns-3 : tie.Need-returns-3
 returns-3 c =
-    let s = c .before .before .before .before .before .before .before .before .before .before .before in
+    let s = c .before .before .before .before .before .before .before .before .before .before .before .before .before in
     let a = s .args in
     let before = store (a .state) (a .dir .now) (a .pages .now) in
     refused-empty before (a .key .values) (s .pre) (four s) _
-    (ap leafOf (sym (c .before .before .before .before .before .key-word .ensures))
+    (ap leafOf (sym (found (c .before .before .before .before .before)))
     ∙ sym (c .before .before .unpack .ensures)
     ∙ c .enum-told .given .1)
     (held (c .before .before .before))
 
 plan-leaf-requires : tie.Need-plan-leaf-requires
 plan-leaf-requires c κs =
-    let s = c .before .before .before .before .before .before .before .before .before .before .before .before in
+    let limits = c .before .before .before .before .before .before .before .before .before .before in
+    let s = limits .before .before .before .before in
     let a = s .args in
     let before = store (a .state) (a .dir .now) (a .pages .now) in
-    leafMet before (a .key .values) (s .pre) (four s)
-    (limited (c .before .before .before .before .before .before .before .before)) _
-    _ (named (c .before)) (held (c .before .before .before .before))
+    leafMet before (a .key .values) (s .pre) (four s) (limited limits) _ _ (named (c .before))
+    (held (c .before .before .before .before))
 
 returns-4 : tie.Need-returns-4
 returns-4 c = c .plan-leaf .ensures
@@ -127,6 +146,8 @@ plan-delete-spec =
     (tie.spec
     limits-hold-requires
     returns
+    widths-of-requires
+    cast-key-word
     key-word-requires
     word-holds-requires
     returns-2
