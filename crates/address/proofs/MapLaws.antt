@@ -16,7 +16,8 @@ use Rattle.split.proofs.StepLaws.{length-steps}
 use Rattle.address.specs.Address.{address}
 use Rattle.address.specs.Doubling.{In, sides, doublingArray}
 use Rattle.address.specs.Map.{EqualsDoublingArray}
-use Rattle.address.proofs.DoublingLaws.{length-doublingArray, doublingArray-stays, address-place, address-onto, address-getD, address-one-to-one}
+use Rattle.address.proofs.DoublingLaws.{length-doublingArray, doublingArray-stays, address-place, address-onto}
+use Rattle.address.proofs.DoublingLaws.{address-getD, address-one-to-one}
 
 module _ (ws : List ℕ) (fit : Fit ws) (whole : length (steps ws) ≡ total ws) where
   stays-more : (n t : ℕ) → t + n ≤ length (steps ws) → (a : ℕ) → a < 2 ^ t
@@ -38,7 +39,8 @@ module _ (ws : List ℕ) (fit : Fit ws) (whole : length (steps ws) ≡ total ws)
     onto = λ t h a l.
         let r = address-onto ws fit t (le h) a l in
         subst (In (sides ws t))
-        (sym (ap (λ x. getD (doublingArray ws t) x []) (sym (r .2)) ∙ address-place ws fit t (le h) (r .0) (r .1) .1)) (r .1);
+        (sym (ap (λ x. getD (doublingArray ws t) x []) (sym (r .2)) ∙ address-place ws fit t (le h) (r .0) (r .1) .1))
+        (r .1);
     inverse = λ t h. address-getD ws fit t (le h);
     stays = λ t u h k a l.
         let e : u ≡ t + (u - t) = omega arith in

@@ -14,7 +14,8 @@ pub record EqualsDoublingArray (ws : List ℕ) : Type 0 where
   pub size : (t : ℕ) → t ≤ total ws → length (doublingArray ws t) ≡ 2 ^ t
   -- "At each T the box of all i_j < 2^h_j maps .. onto 0 to 2^T − 1": the formula's address of a vector is its place
   pub in-range : (t : ℕ) → t ≤ total ws → (is : List ℕ) → In (sides ws t) is → address ws is < 2 ^ t
-  pub place : (t : ℕ) → t ≤ total ws → (is : List ℕ) → In (sides ws t) is → getD (doublingArray ws t) (address ws is) [] ≡ is
+  pub place : (t : ℕ) → t ≤ total ws → (is : List ℕ) → In (sides ws t) is
+      → getD (doublingArray ws t) (address ws is) [] ≡ is
   -- "one to one"
   pub one-to-one : (t : ℕ) → t ≤ total ws → (is js : List ℕ) → In (sides ws t) is → In (sides ws t) js
       → address ws is ≡ address ws js → is ≡ js

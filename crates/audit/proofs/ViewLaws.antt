@@ -109,7 +109,8 @@ module _ {R : Type 0} (v : View R) where
       → sameWords (v .word) n p t x ≡ true
   sameWords-true zero p t x h = eq-eqb (v .word p) x (h p (sameBits-refl p t 0))
   sameWords-true (suc n) p t x h =
-      and-both (sameWords (v .word) n (withBit p t false) (suc t) x) (sameWords (v .word) n (withBit p t true) (suc t) x)
+      and-both (sameWords (v .word) n (withBit p t false) (suc t) x)
+      (sameWords (v .word) n (withBit p t true) (suc t) x)
       (sameWords-true n (withBit p t false) (suc t) x (λ q a. h q (of-side p q t false a .0)))
       (sameWords-true n (withBit p t true) (suc t) x (λ q a. h q (of-side p q t true a .0)))
 
@@ -126,8 +127,10 @@ module _ {R : Type 0} (v : View R) where
       below : suc t + n ≡ T
       below = suc-add t n ∙ sym (add-suc t n) ∙ h
 
-      k : (sameWords (v .word) n (withBit p t false) (suc t) x ≡ true) × (sameWords (v .word) n (withBit p t true) (suc t) x ≡ true)
-      k = and-split (sameWords (v .word) n (withBit p t false) (suc t) x) (sameWords (v .word) n (withBit p t true) (suc t) x) e
+      k : (sameWords (v .word) n (withBit p t false) (suc t) x ≡ true)
+          × (sameWords (v .word) n (withBit p t true) (suc t) x ≡ true)
+      k = and-split (sameWords (v .word) n (withBit p t false) (suc t) x)
+          (sameWords (v .word) n (withBit p t true) (suc t) x) e
 
       by-bit : (β : Bool) → q t ≡ β → (sameBits (withBit p t false) q (suc t) 0 ≡ true → v .word q ≡ x)
           → (sameBits (withBit p t true) q (suc t) 0 ≡ true → v .word q ≡ x) → v .word q ≡ x

@@ -22,8 +22,8 @@ depthField word = word / 2 ^ 16
 abbrev pub pageField : ℕ → ℕ
 pageField word = word % 2 ^ 16
 
--- "Every cell whose split bits begin with a leaf holds that leaf's word": the cells that begin with the first t bits of p,
--- n steps more, hold the word x, where `word` gives the word at the cell of a string
+-- "Every cell whose split bits begin with a leaf holds that leaf's word": the cells that begin with the first t bits of
+-- p, n steps more, hold the word x, where `word` gives the word at the cell of a string
 module _ (word : (ℕ → Bool) → ℕ) where
   abbrev pub sameWords : ℕ → (ℕ → Bool) → ℕ → ℕ → Bool
   sameWords zero p t x = eqb (word p) x

@@ -112,7 +112,8 @@ module _ (before : Store) (values : List ℕ) where
 
     -- the key's leaf has page g, which has a record with the key
     stored-here : (g x : ℕ) → g < before .state .limits .pages
-        → wordOn before (keyString before key) ≡ wordOf (Page g x) → nonEmpty (stored key (recordsOn g)) ≡ true → (S : List Record) → Sound before S
+        → wordOn before (keyString before key) ≡ wordOf (Page g x) → nonEmpty (stored key (recordsOn g)) ≡ true
+        → (S : List Record) → Sound before S
         → nonEmpty (stored key S) ≡ true
     stored-here g x l word found S sound =
         let field = ap (λ w. w % 2 ^ 16) word ∙ wordOf-page g x (omega (arith, sound .most-pages)) in

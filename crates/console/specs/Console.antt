@@ -50,7 +50,8 @@ Replied (list q) before m text after m′ =
     × (m′ .words ≡ m .words) × (m′ .bytes ≡ m .bytes)
 
 -- the reply was written into a text from offset `at` on
-pub record ReplyPromise (asks : Asked) (before : Session) (m : Lent) (text : List ℕ) (at : ℕ) (next : Next) (m′ : Lent) (text′ : List ℕ) : Type 0 where
+pub record ReplyPromise (asks : Asked) (before : Session) (m : Lent) (text : List ℕ) (at : ℕ) (next : Next) (m′ : Lent)
+    (text′ : List ℕ) : Type 0 where
   pub bytes : List ℕ
   pub grown : Grown text at bytes text′ (next .end)
   pub replied : Replied asks before m bytes (next .session) m′

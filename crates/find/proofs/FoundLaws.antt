@@ -95,7 +95,8 @@ module _ (s : Shape) (r : Record) (key : ℕ) (e : r .key ≡ unpackedKey key) (
       ∙ sym (unpackedKey-keyIn s (recordField page k) (AreBytes-field page (recordOffset k) recordSize b)) in
       λ i. compared ws (sym e i) (sym there i)
 
-  pub placed-between : (i : ℕ) → Placed ws (unpackedKey key) page n (Before i) → Between (recordBit s) (total ws) 0 r r rs i
+  pub placed-between : (i : ℕ) → Placed ws (unpackedKey key) page n (Before i)
+      → Between (recordBit s) (total ws) 0 r r rs i
   placed-between i p =
       let W = total ws in (
         omega (arith, p .0, length-recordsFrom s n 2 page),

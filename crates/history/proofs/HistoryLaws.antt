@@ -8,7 +8,8 @@ use Rattle.shape.specs.Refusal.{Answer, accepted, answered}
 use Rattle.shape.specs.declared.Shape.{Shape}
 use Rattle.record.specs.Record.{Record}
 use Rattle.model.specs.Limits.{fixedBy}
-use Rattle.model.specs.Model.{Fixed, Call, insertCall, deleteCall, lookupCall, queryCall, Reply, changed, Outcome, numberFor, outputBefore, outputAfter, outcome, next, setAfter, run, ifAccepted}
+use Rattle.model.specs.Model.{Fixed, Call, insertCall, deleteCall, lookupCall, queryCall, Reply, changed, Outcome}
+use Rattle.model.specs.Model.{numberFor, outputBefore, outputAfter, outcome, next, setAfter, run, ifAccepted}
 use Rattle.model.specs.Sets.{readsBound}
 use Rattle.store.specs.Store.{Store, Memory, fixedOf}
 use Rattle.store.specs.declared.State.{State}

@@ -8,7 +8,8 @@ use Rattle.shape.specs.Refusal.{accepted}
 use Rattle.shape.specs.declared.Shape.{Shape}
 use Rattle.record.specs.Record.{Record}
 use Rattle.model.specs.Limits.{fixedBy}
-use Rattle.model.specs.Model.{Fixed, Call, insertCall, deleteCall, lookupCall, queryCall, changed, listed, Outcome, next, run}
+use Rattle.model.specs.Model.{Fixed, Call, insertCall, deleteCall, lookupCall, queryCall, changed, listed, Outcome}
+use Rattle.model.specs.Model.{next, run}
 use Rattle.model.specs.Sets.{readsBound}
 use Rattle.store.specs.Store.{Store, Memory}
 use Rattle.store.specs.Sound.{Sound}
@@ -35,7 +36,8 @@ pub data Run : Store → List Call → List Outcome → Store → Type 0 where
 
 -- ---- the bound of the reads
 
--- each accepted query's reads are at most 2 ^ (T − sum of the given attributes' depths), T that of the set S at the call
+-- each accepted query's reads are at most 2 ^ (T − sum of the given attributes' depths), T that of the set S at the
+-- call
 abbrev pub ReadsBounded : Fixed → List Record → Call → Outcome → Type 0
 ReadsBounded f S (insertCall values content) o = Unit {0}
 ReadsBounded f S (deleteCall values) o = Unit {0}

@@ -40,7 +40,8 @@ refused-same n m e = cc
 -- 0 is none of an insert's numbers, and none of a delete's
 pub insert-not-zero : Member {A = ℕ} 0 (4 ∷ 6 ∷ 7 ∷ 9 ∷ []) → ⊥
 insert-not-zero =
-    ⊎-elim (λ e. omega arith) (⊎-elim (λ e. omega arith) (⊎-elim (λ e. omega arith) (⊎-elim (λ e. omega arith) (λ e. e))))
+    ⊎-elim (λ e. omega arith) (⊎-elim (λ e. omega arith)
+    (⊎-elim (λ e. omega arith) (⊎-elim (λ e. omega arith) (λ e. e))))
 
 pub delete-not-zero : Member {A = ℕ} 0 (5 ∷ 9 ∷ []) → ⊥
 delete-not-zero = ⊎-elim (λ e. omega arith) (⊎-elim (λ e. omega arith) (λ e. e))

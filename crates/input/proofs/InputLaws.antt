@@ -93,7 +93,8 @@ byte-stands p text c reading e h k = record { counted = rw e (fed-fields (p .rea
 -- ---- a run
 
 -- what holds behind some bytes of a piece
-pub record Running (piece : List ℕ) (from : ℕ) (p : Progress) (m : Lent) (text : List ℕ) (next : ℕ) (p′ : Progress) (m′ : Lent) (text′ : List ℕ) : Type 0 where
+pub record Running (piece : List ℕ) (from : ℕ) (p : Progress) (m : Lent) (text : List ℕ) (next : ℕ) (p′ : Progress)
+    (m′ : Lent) (text′ : List ℕ) : Type 0 where
   pub count : ℕ
   pub next-is : next ≡ from + count
   pub next-within : next ≤ length piece
@@ -115,7 +116,8 @@ module _ (piece : List ℕ) (from : ℕ) (p : Progress) (m : Lent) (text : List 
         first = λ e. refl;
       }
 
-  module _ (next : ℕ) (p′ : Progress) (m′ : Lent) (text′ : List ℕ) (r : Running piece from p m text next p′ m′ text′) where
+  module _ (next : ℕ) (p′ : Progress) (m′ : Lent) (text′ : List ℕ)
+      (r : Running piece from p m text next p′ m′ text′) where
     pub running-step : (p″ : Progress) (m″ : Lent) (text″ : List ℕ) → next < length piece
         → Stepped (getD piece next 0) (standing p′ m′ text′) (standing p″ m″ text″) → Standable p″ text″
         → length text″ ≡ length text′ → Running piece from p m text (next + 1) p″ m″ text″

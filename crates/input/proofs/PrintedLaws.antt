@@ -114,7 +114,13 @@ added-some r c h = by-test (eqb (r .fields) 0) refl h
         → SomeRead
         (cond β
         (record { word = wordWith (r .word) c; fields = 0; field = r .field; star = r .star; codes = r .codes })
-        (record { word = r .word; fields = r .fields; field = fieldWith (r .field) c; star = r .star; codes = r .codes }))
+        (record {
+          word = r .word;
+          fields = r .fields;
+          field = fieldWith (r .field) c;
+          star = r .star;
+          codes = r .codes;
+        }))
     by-test true e (inl (inl k)) = absurd (omega (arith, eqb-true (r .fields) 0 e))
     by-test true e (inl (inr k)) = inr (wordWith-le (r .word) c (omega arith))
     by-test true e (inr k) = inr (wordWith-le (r .word) c k)

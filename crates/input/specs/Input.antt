@@ -61,7 +61,8 @@ pub record Standable (p : Progress) (text : List ℕ) : Type 0 where
 
 -- a run over a piece came from one place to another; it stops before the end only where less than one longest reply is
 -- free, and reads a byte where there is room
-pub record RunPromise (piece : List ℕ) (from : ℕ) (p : Progress) (m : Lent) (text : List ℕ) (next : ℕ) (p′ : Progress) (m′ : Lent) (text′ : List ℕ) : Type 0 where
+pub record RunPromise (piece : List ℕ) (from : ℕ) (p : Progress) (m : Lent) (text : List ℕ) (next : ℕ) (p′ : Progress)
+    (m′ : Lent) (text′ : List ℕ) : Type 0 where
   pub count : ℕ
   pub next-is : next ≡ from + count
   pub next-within : next ≤ length piece

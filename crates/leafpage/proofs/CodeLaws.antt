@@ -69,7 +69,11 @@ module _ (ws key : List ℕ) (fit : Fit ws) (x c n g : ℕ) (inv : Coded ws key 
 
     pub coded-step : (β : ℕ) → β ≡ bitValue (bitOf (getD ws (g % 4) 0) (getD key (g % 4) 0) (g / 4))
         → Coded ws key x (bitOr (c * 2 % 2 ^ 64) β) (n + 1) (g + 1)
-    coded-step β e = record { most = omega arith; place = stepsBefore-step ws n g (inv .place) next step; bits = pushed }
+    coded-step β e = record {
+      most = omega arith;
+      place = stepsBefore-step ws n g (inv .place) next step;
+      bits = pushed;
+    }
       where
         p : ℕ → Bool
         p = splitBit ws key

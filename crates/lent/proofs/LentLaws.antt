@@ -56,22 +56,26 @@ module _ (st : State) (words bytes : ℕ) where
   two-none false true n e = absurd (omega arith)
   two-none false false n e = refl
 
-  two-some : (a b : Bool) (n : ℕ) → (_≡_ {A = ℕ} (cond a 1 (cond b 2 0)) 0 → ⊥) → cond a 1 (cond b 2 n) ≡ cond a 1 (cond b 2 0)
+  two-some : (a b : Bool) (n : ℕ) → (_≡_ {A = ℕ} (cond a 1 (cond b 2 0)) 0 → ⊥)
+      → cond a 1 (cond b 2 n) ≡ cond a 1 (cond b 2 0)
   two-some true b n e = refl
   two-some false true n e = refl
   two-some false false n e = absurd (e refl)
 
   module _ (values : List ℕ) where
-    pub keyNumberBy-lent : (lentNumberBy st words bytes ≡ 0 → ⊥) → lentNumberBy st words bytes ≡ keyNumberBy st words bytes values
+    pub keyNumberBy-lent : (lentNumberBy st words bytes ≡ 0 → ⊥)
+        → lentNumberBy st words bytes ≡ keyNumberBy st words bytes values
     unfolding lentNumberBy keyNumberBy lentBy shapeConditions firstNumber
     keyNumberBy-lent n =
-        sym (two-some (not (inBounds (st .shape))) (lacksWords || lacksPages) (firstNumber (keyConditions (st .shape) values)) n)
+        sym (two-some (not (inBounds (st .shape))) (lacksWords || lacksPages)
+        (firstNumber (keyConditions (st .shape) values)) n)
 
     keyNumberBy-key : lentNumberBy st words bytes ≡ 0
         → keyNumberBy st words bytes values ≡ cond (not (keyFits (st .shape) values)) 3 0
     unfolding lentNumberBy keyNumberBy lentBy shapeConditions firstNumber
     keyNumberBy-key n =
-        two-none (not (inBounds (st .shape))) (lacksWords || lacksPages) (firstNumber (keyConditions (st .shape) values)) n
+        two-none (not (inBounds (st .shape))) (lacksWords || lacksPages)
+        (firstNumber (keyConditions (st .shape) values)) n
 
     pub keyNumberBy-fits : lentNumberBy st words bytes ≡ 0 → keyFits (st .shape) values ≡ true
         → 0 ≡ keyNumberBy st words bytes values

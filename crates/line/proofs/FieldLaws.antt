@@ -63,7 +63,8 @@ codeFrom-number v (c ∷ cs) l =
     by-size true e k = k (ltb-true _ _ e)
     by-size false e k =
         codeFrom-at-wrong cs
-        ∙ sym (rw (le-ltb (valueFrom next cs) 4294967296 (omega (arith, valueFrom-le next cs, ltb-false next 4294967296 e)))
+        ∙ sym (rw (le-ltb (valueFrom next cs) 4294967296
+        (omega (arith, valueFrom-le next cs, ltb-false next 4294967296 e)))
         (and-false (all isDigit cs) (valueFrom next cs) wrong))
 
     by-digit : (β : Bool) → (next < 4294967296 → codeFrom next cs ≡ numberFrom next cs)
@@ -107,11 +108,13 @@ codeFor-field (c ∷ cs) = by-star (eqb c 42) refl
     star : (cs : List ℕ) → CodeFor (itemIn (42 ∷ cs)) (codeFrom 4294967296 cs)
     star [] = for-star
     star (d ∷ cs) =
-        rw (codeFrom-wrong 4294967296 (d ∷ cs) (omega arith) (λ e. omega arith) refl) (for-none {code = wrong} (omega arith))
+        rw (codeFrom-wrong 4294967296 (d ∷ cs) (omega arith) (λ e. omega arith) refl)
+        (for-none {code = wrong} (omega arith))
 
     by-digit : (β : Bool) → isDigit c ≡ β → CodeFor (numberIn (c ∷ cs)) (codeFrom (cond β (c - 48) wrong) cs)
     by-digit true e =
-        rw (codeFrom-number (c - 48) cs (omega (arith, leb-true c 57 (and-split (leb 48 c) (leb c 57) e .1)))) (codeFor-number c cs e)
+        rw (codeFrom-number (c - 48) cs (omega (arith, leb-true c 57 (and-split (leb 48 c) (leb c 57) e .1))))
+        (codeFor-number c cs e)
     by-digit false e = rw (e, codeFrom-at-wrong cs) (for-none {code = wrong} (omega arith))
 
     by-star : (β : Bool) → eqb c 42 ≡ β

@@ -120,7 +120,8 @@ starWith-item false (some v) items (for-number l) = rw (ne-eqb v 4294967296 (λ 
 
 -- the items of the others are kept
 kept-suc : (r : Reading) (item : Option ℕ) (items : List (Option ℕ)) (q : Reading) → length (r .codes) ≡ 6
-    → r .fields ≤ 7 → CodeFor (some item) (codeOf item) → Kept (behind r (codeOf item)) items q → Kept r (item ∷ items) q
+    → r .fields ≤ 7 → CodeFor (some item) (codeOf item) → Kept (behind r (codeOf item)) items q
+    → Kept r (item ∷ items) q
 kept-suc r item items q size l bound kept =
     record {
       word = kept .word ∙ keptWord-item (r .word) (codeOf item) (codeOf-le item bound);
@@ -131,7 +132,8 @@ kept-suc r item items q size l bound kept =
       later = λ j a b c. by-place j a b c (eq-or-ne j (r .fields));
     }
   where
-    by-place : (j : ℕ) → j < 6 → r .fields ≤ j → j < r .fields + suc (length items) → (j ≡ r .fields) ⊎ (j ≡ r .fields → ⊥)
+    by-place : (j : ℕ) → j < 6 → r .fields ≤ j → j < r .fields + suc (length items)
+        → (j ≡ r .fields) ⊎ (j ≡ r .fields → ⊥)
         → getD (q .codes) j 0 ≡ codeOf (getD (item ∷ items) (j - r .fields) none)
     by-place j a b c (inl e) =
         let z : j - r .fields ≡ 0 = omega arith in
@@ -152,7 +154,8 @@ KeptAs r none q = q .word ≡ 0
 KeptAs r (some items) q = Kept r items q
 
 keptAs-suc : (r : Reading) (i : Option (Option ℕ)) (code : ℕ) → CodeFor i code → length (r .codes) ≡ 6 → r .fields ≤ 7
-    → (items : Option (List (Option ℕ))) (fs : List (List ℕ)) → KeptAs (behind r code) items (tookAll (behind r code) fs)
+    → (items : Option (List (Option ℕ))) (fs : List (List ℕ))
+    → KeptAs (behind r code) items (tookAll (behind r code) fs)
     → KeptAs r (withItem i items) (tookAll (behind r code) fs)
 keptAs-suc r none code (for-none l) size m items fs h =
     tookAll-zero (behind r code) fs (keptWord-none (r .word) code l)
@@ -165,7 +168,13 @@ keptAs-suc r (some (some v)) code (for-number l) size m (some items) fs h =
 pub tookAll-items : (r : Reading) (fs : List (List ℕ)) → length (r .codes) ≡ 6 → r .fields ≤ 7
     → KeptAs r (itemsIn fs) (tookAll r fs)
 tookAll-items r [] size l =
-    record { word = refl; star = sym (or-false (r .star)); fields = omega arith; earlier = λ j a b. refl; later = λ j a b c. absurd (omega arith) }
+    record {
+      word = refl;
+      star = sym (or-false (r .star));
+      fields = omega arith;
+      earlier = λ j a b. refl;
+      later = λ j a b c. absurd (omega arith);
+    }
 tookAll-items r (f ∷ fs) size l =
     let code = codeFrom 4294967297 f in
     rw (took-field r f)

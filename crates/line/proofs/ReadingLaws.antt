@@ -86,16 +86,40 @@ closed-spaced r (f ∷ fs) = closed-spaced (addedAll (opened (closed r)) f) fs
 
 -- in the word
 pub addedAll-word : (r : Reading) (f : List ℕ) → r .fields ≡ 0
-    → addedAll r f ≡ record { word = wordFrom (r .word) f; fields = 0; field = r .field; star = r .star; codes = r .codes }
+    → addedAll r f ≡ record {
+      word = wordFrom (r .word) f;
+      fields = 0;
+      field = r .field;
+      star = r .star;
+      codes = r .codes;
+    }
 unfolding added
 addedAll-word r [] e = rw (sym e)
-addedAll-word r (c ∷ cs) e = rw e (addedAll-word (record { word = wordWith (r .word) c; fields = 0; field = r .field; star = r .star; codes = r .codes }) cs refl)
+addedAll-word r (c ∷ cs) e = rw e (addedAll-word (record {
+  word = wordWith (r .word) c;
+  fields = 0;
+  field = r .field;
+  star = r .star;
+  codes = r .codes;
+}) cs refl)
 
 -- behind it
 pub addedAll-field : (r : Reading) (f : List ℕ) → 1 ≤ r .fields
-    → addedAll r f ≡ record { word = r .word; fields = r .fields; field = codeFrom (r .field) f; star = r .star; codes = r .codes }
+    → addedAll r f ≡ record {
+      word = r .word;
+      fields = r .fields;
+      field = codeFrom (r .field) f;
+      star = r .star;
+      codes = r .codes;
+    }
 unfolding added
 addedAll-field r [] l = refl
 addedAll-field r (c ∷ cs) l =
     rw (ne-eqb (r .fields) 0 (λ e. omega arith))
-    (addedAll-field (record { word = r .word; fields = r .fields; field = fieldWith (r .field) c; star = r .star; codes = r .codes }) cs l)
+    (addedAll-field (record {
+      word = r .word;
+      fields = r .fields;
+      field = fieldWith (r .field) c;
+      star = r .star;
+      codes = r .codes;
+    }) cs l)

@@ -15,7 +15,8 @@ use Rattle.line.specs.declared.Reading.{Reading}
 use Rattle.line.specs.declared.Line.{Line}
 use Rattle.line.specs.declared.Kind.the-variants.{Bad}
 use Rattle.line.specs.Private.{start, closed, readFrom, ended, kindOf}
-use Rattle.line.proofs.ReadingLaws.{wordFrom, addedAll, spaced, tookAll, readFields, some-field, readFrom-fields, closed-spaced, addedAll-word}
+use Rattle.line.proofs.ReadingLaws.{wordFrom, addedAll, spaced, tookAll, readFields, some-field, readFrom-fields}
+use Rattle.line.proofs.ReadingLaws.{closed-spaced, addedAll-word}
 use Rattle.line.proofs.LineLaws.{Kept, KeptAs, tookAll-items}
 use Rattle.line.proofs.WordLaws.{kind-of-word}
 
@@ -45,7 +46,13 @@ first-bytes (c ∷ cs) h =
 
 -- the reading behind a word
 abbrev wordRead : List ℕ → Reading
-wordRead w = record { word = wordFrom 1 w; fields = 0; field = 4294967297; star = false; codes = 0 ∷ 0 ∷ 0 ∷ 0 ∷ 0 ∷ 0 ∷ [] }
+wordRead w = record {
+  word = wordFrom 1 w;
+  fields = 0;
+  field = 4294967297;
+  star = false;
+  codes = 0 ∷ 0 ∷ 0 ∷ 0 ∷ 0 ∷ 0 ∷ [];
+}
 
 closed-fields-read : (w : List ℕ) (fs : List (List ℕ)) → closed (readFields start (w ∷ fs)) ≡ tookAll (wordRead w) fs
 unfolding start closed
@@ -56,7 +63,8 @@ closed-fields-read w fs =
 abbrev lineOf : Reading → Line
 lineOf r = record { kind = kindOf (r .word); count = r .fields; star = r .star; codes = r .codes }
 
-shown-fields : (w : List ℕ) (fs : List (List ℕ)) → all isByte w ≡ true → (items : Option (List (Option ℕ))) (q : Reading)
+shown-fields : (w : List ℕ) (fs : List (List ℕ)) → all isByte w ≡ true
+    → (items : Option (List (Option ℕ))) (q : Reading)
     → KeptAs (wordRead w) items q → ShowsFields (w ∷ fs) items (lineOf q)
 unfolding kindOf
 shown-fields w fs h none q k = rw k
@@ -71,7 +79,8 @@ shown-fields w fs h (some items) q k =
 
 pub line-shown : (bytes : List ℕ) → all isByte bytes ≡ true → LineShown bytes (ended (readFrom start bytes))
 unfolding ended
-line-shown bytes h = rw (readFrom-fields start bytes) (by-fields (fieldsOf bytes) (some-field bytes) (first-bytes bytes h))
+line-shown bytes h = rw (readFrom-fields start bytes)
+    (by-fields (fieldsOf bytes) (some-field bytes) (first-bytes bytes h))
   where
     by-fields : (fs : List (List ℕ)) → nonEmpty fs ≡ true → all isByte (firstField fs) ≡ true
         → ShowsFields fs (itemsIn (rest fs)) (lineOf (closed (readFields start fs)))

@@ -58,7 +58,13 @@ closed r =
 
 -- a space ends a field
 unfoldable pub opened : Reading → Reading
-opened r = record { word = r .word; fields = min 7 (suc (r .fields)); field = 4294967297; star = r .star; codes = r .codes }
+opened r = record {
+  word = r .word;
+  fields = min 7 (suc (r .fields));
+  field = 4294967297;
+  star = r .star;
+  codes = r .codes;
+}
 
 -- any other byte belongs to the word or to the last field
 unfoldable pub added : Reading → ℕ → Reading
@@ -71,7 +77,12 @@ unfoldable pub fed : Reading → ℕ → Reading
 fed r c = cond (eqb c 32) (opened (closed r)) (added r c)
 
 unfoldable pub ended : Reading → Line
-ended r = record { kind = kindOf (closed r .word); count = closed r .fields; star = closed r .star; codes = closed r .codes }
+ended r = record {
+  kind = kindOf (closed r .word);
+  count = closed r .fields;
+  star = closed r .star;
+  codes = closed r .codes;
+}
 
 -- bytes one after the other
 abbrev pub readFrom : Reading → List ℕ → Reading

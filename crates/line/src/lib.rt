@@ -3,7 +3,8 @@
 ghost use mathlib.Core.Path.{_≡_};
 ghost use Prim.Native.Nat.{_≤_};
 ghost use Rattle.line.specs.Line.{isDigit};
-ghost use Rattle.line.specs.Private.{start, fed, ended, opened, closed, keptWord, starWith, wordWith, fieldWith, firstOf, kindOf};
+ghost use Rattle.line.specs.Private.{start, fed, ended, opened, closed, keptWord, starWith, wordWith, fieldWith};
+ghost use Rattle.line.specs.Private.{firstOf, kindOf};
 
 // A field that is `*`; lesser codes are numbers. Greater ones are of a field that is still empty, and
 // of one that is no number below 2^32.

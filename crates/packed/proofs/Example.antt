@@ -1,5 +1,5 @@
--- The values of two keys of the proof table, computed: of widths 2, 2, the keys (2,0) and (3,1) have split bits 1000 and
--- 1011. Assumes nothing.
+-- The values of two keys of the proof table, computed: of widths 2, 2, the keys (2,0) and (3,1) have split bits 1000
+-- and 1011. Assumes nothing.
 use mathlib.Core.Path.{_≡_, refl}
 use mathlib.Core.List.{[], _∷_}
 use Rattle.split.specs.Steps.{stepsBelow, steps, step}

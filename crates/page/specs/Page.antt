@@ -1,4 +1,5 @@
--- Pages (document 01, "Lent memory"): "A page has 2 + 12b bytes, little-endian: count (2), then records in split order".
+-- Pages (document 01, "Lent memory"): "A page has 2 + 12b bytes, little-endian: count (2), then records in split
+-- order".
 -- Bytes past the last record are free. Assumes nothing.
 use Prim.Native.Nat.{ℕ, zero, suc, _+_, _*_}
 use mathlib.Core.List.{List, [], _∷_}
@@ -17,7 +18,8 @@ countOf page = numberOf (field page 0 2)
 -- n records from an offset on
 abbrev pub recordsFrom : Shape → ℕ → ℕ → List ℕ → List Record
 recordsFrom s zero offset bytes = []
-recordsFrom s (suc n) offset bytes = recordOf s (field bytes offset recordSize) ∷ recordsFrom s n (offset + recordSize) bytes
+recordsFrom s (suc n) offset bytes = recordOf s (field bytes offset recordSize)
+    ∷ recordsFrom s n (offset + recordSize) bytes
 
 -- "then records": those that the count says
 abbrev pub recordsOf : Shape → List ℕ → List Record

@@ -43,7 +43,8 @@ pub extern "C" fn probe_double(widths: Widths, t: u64, dir: &mut [u32])
 #[no_mangle]
 pub extern "C" fn probe_fill(widths: Widths, key: Key, x: u64, t: u64, word: u32, dir: &mut [u32])
     requires { ⌜ DirectoryFits (widthList widths) t (length (now dir)) × (x ≤ t) ⌝ }
-    ensures { λ _. ⌜ Filled (widthList widths) t x (splitBit (widthList widths) (key .values)) word (now (dir .entry)) (now (dir .exit)) ⌝ }
+    ensures { λ _. ⌜ Filled (widthList widths) t x (splitBit (widthList widths) (key .values)) word (now (dir .entry))
+        (now (dir .exit)) ⌝ }
 {
     let values = key.values;
     fill(widths, values, x, t, word, dir);

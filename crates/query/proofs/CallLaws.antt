@@ -121,7 +121,8 @@ module _ (st : State) (words bytes : List ℕ) (q : List (Option ℕ))
       pub nine-damaged : (out : List ℕ) → r ≡ Damaged → QueryPromise (store st words bytes) q out (refused 9) out
       nine-damaged out e =
           promise-nine st words bytes q out (sym none)
-          (λ S h. true≢false (sym (ap isPages (noted-reads (store st words bytes) q S h list r later o)) ∙ ap isPages e))
+          (λ S h. true≢false (sym (ap isPages (noted-reads (store st words bytes) q S h list r later o))
+          ∙ ap isPages e))
 
       module _ (n : ℕ) (e : r ≡ Pages n) where
         few : n ≤ 4096
@@ -158,7 +159,8 @@ module _ (st : State) (words bytes : List ℕ) (q : List (Option ℕ))
           -- the matching records of the first k pages noted
           abbrev gathered : ℕ → List Record
           gathered k =
-              flatMap (λ g. filter (matches (st .shape) q) (recordsOf (st .shape) (pageAt (st .shape .capacity) bytes g)))
+              flatMap (λ g. filter (matches (st .shape) q)
+              (recordsOf (st .shape) (pageAt (st .shape .capacity) bytes g)))
               (take k later)
 
           as-model : (S : List Record) → SoundWhereRead (store st words bytes) (queryBits (st .shape) q) S

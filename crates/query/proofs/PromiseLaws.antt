@@ -144,7 +144,8 @@ module _ (st : State) (words bytes : List ℕ) (q : List (Option ℕ)) (out : Li
         reply-as : listed written (length fs) reads ≡ replyTo (fixedOf st) S (queryCall q out)
         unfolding replyTo
         reply-as =
-            let count : length fs ≡ length (filter (matches (st .shape) q) S) = sym same-count ∙ ap length (model S h .1) in
+            let count : length fs ≡ length (filter (matches (st .shape) q) S) = sym same-count
+            ∙ ap length (model S h .1) in
             (λ i. listed (min (count i) (length out / recordSize)) (count i) (model S h .0 i))
 
         output-as : emit out 0 fs ≡ outputAfter (fixedOf st) S (queryCall q out)
@@ -165,7 +166,8 @@ module _ (st : State) (words bytes : List ℕ) (q : List (Option ℕ)) (out : Li
         unfolding readsBound
         reads-bounded =
             subst (λ T. reads ≤ 2 ^ (T - givenDepths (st .shape) q T)) (sym (h .1 .deepest))
-            (subst (λ n. n ≤ readsBound (st .shape) q S) (sym (model S h .0)) (readsOf-le (st .shape) (shape-sound S h) q S))
+            (subst (λ n. n ≤ readsBound (st .shape) q S) (sym (model S h .0))
+            (readsOf-le (st .shape) (shape-sound S h) q S))
 
       pub promise-listed : QueryPromise here q out (accepted (listed written (length fs) reads)) (emit out 0 fs)
       promise-listed = record {

@@ -1,5 +1,5 @@
--- Numbers and records as bytes (document 01, "Lent memory"): "little-endian .. records .., each four 16-bit values (unused
--- ones 0) and a 32-bit payload".
+-- Numbers and records as bytes (document 01, "Lent memory"): "little-endian .. records .., each four 16-bit values
+-- (unused ones 0) and a 32-bit payload".
 --
 --     offset   size   meaning
 --     0        2      value of attribute 0

@@ -18,11 +18,14 @@ use Rattle.region.specs.Division.{leaf, divided}
 use Rattle.record.specs.declared.Content.{Content}
 use Rattle.record.specs.Record.{matches}
 use Rattle.record.specs.Bytes.{recordSize, recordBytes}
-use Rattle.model.specs.Model.{insertCall, deleteCall, lookupCall, queryCall, changed, found, listed, numberFor, replyTo, setAfter, outputOf, outputAfter, outcome, next}
+use Rattle.model.specs.Model.{insertCall, deleteCall, lookupCall, queryCall, changed, found, listed, numberFor, replyTo}
+use Rattle.model.specs.Model.{setAfter, outputOf, outputAfter, outcome, next}
 use Rattle.model.specs.Sets.{divisionOf, queryBits, readsOf, givenDepths, readsBound}
 use Rattle.store.specs.Store.{wordAt}
 use Rattle.table.specs.Table.{twoTwo, key}
-use Rattle.refutation.specs.Stores.{allFree, givenFirst, givenSecond, outcomeOn, leavesAfter, recordAt, noRecord, oneRecord, setOfOne, twoRecords, setOfTwo, threeRecords, setOfThree, fourRecords, setOfFour}
+use Rattle.refutation.specs.Stores.{allFree, givenFirst, givenSecond, outcomeOn, leavesAfter, recordAt, noRecord}
+use Rattle.refutation.specs.Stores.{oneRecord, setOfOne, twoRecords, setOfTwo, threeRecords, setOfThree}
+use Rattle.refutation.specs.Stores.{fourRecords, setOfFour}
 
 -- ---- the leaves before
 

@@ -21,7 +21,8 @@ use Rattle.table.specs.Table.{twoTwo, key}
 use Rattle.refutation.specs.Stores.{noRecord, oneRecord, setOfOne, twoRecords, setOfTwo, threeRecords, setOfThree}
 use Rattle.refutation.proofs.ChangeLaws.{refused-not-accepted, depth-after, shows-after, kept-after, taken-after}
 use Rattle.refutation.proofs.ComputedLaws.{first-leaf, leaves-of-three, inserts, cells}
-use Rattle.refutation.proofs.SoundLaws.{wordOfThree, wordAt-three, noRecord-sound, oneRecord-sound, twoRecords-sound, threeRecords-sound-2, threeRecords-sound-3}
+use Rattle.refutation.proofs.SoundLaws.{wordOfThree, wordAt-three, noRecord-sound, oneRecord-sound}
+use Rattle.refutation.proofs.SoundLaws.{twoRecords-sound, threeRecords-sound-2, threeRecords-sound-3}
 
 -- ---- refused where it has to be accepted
 

@@ -20,10 +20,12 @@ use Rattle.store.specs.Sound.{Sound}
 use Rattle.store.specs.Promises.{QueryPromise, SoundWhereRead, SameWhereRead}
 use Rattle.store.proofs.ReadLaws.{soundWhereRead-of-sound}
 use Rattle.table.specs.Table.{twoTwo}
-use Rattle.refutation.specs.Stores.{recordAt, noRecord, oneRecord, threeRecords, setOfThree, otherPage, fourRecords, setOfFour, allFree, givenFirst, givenSecond, outcomeOn}
+use Rattle.refutation.specs.Stores.{recordAt, noRecord, oneRecord, threeRecords, setOfThree, otherPage}
+use Rattle.refutation.specs.Stores.{fourRecords, setOfFour, allFree, givenFirst, givenSecond, outcomeOn}
 use Rattle.refutation.proofs.ChangeLaws.{refused-not-accepted, listed-total, listed-reads}
 use Rattle.refutation.proofs.ComputedLaws.{reads, leaves-of-three}
-use Rattle.refutation.proofs.SoundLaws.{wordOfThree, wordAt-three, noRecord-sound, oneRecord-sound, threeRecords-sound-2, fourRecords-sound}
+use Rattle.refutation.proofs.SoundLaws.{wordOfThree, wordAt-three, noRecord-sound, oneRecord-sound}
+use Rattle.refutation.proofs.SoundLaws.{threeRecords-sound-2, fourRecords-sound}
 
 -- the model's answer, on a sound store
 model-answer : {store : Store} {S : List Record} {q : List (Option ℕ)} {out out′ : List ℕ} {answer : Answer Reply}

@@ -22,7 +22,8 @@ use Rattle.page.specs.Page.{countOf, pageAt}
 use Rattle.word.specs.Word.{wordOf}
 use Rattle.word.specs.declared.Leaf.the-variants.{Empty, Page}
 use Rattle.table.specs.Table.{twoTwo}
-use Rattle.refutation.specs.Stores.{stateWith, noRecord, oneRecord, setOfOne, twoRecords, setOfTwo, threeRecords, setOfThree, fourRecords, setOfFour}
+use Rattle.refutation.specs.Stores.{stateWith, noRecord, oneRecord, setOfOne, twoRecords, setOfTwo, threeRecords}
+use Rattle.refutation.specs.Stores.{setOfThree, fourRecords, setOfFour}
 
 -- ---- numbers
 

@@ -1,1 +1,2 @@
-// The wrong programs of document 01 ("Review of the store", "Plausible faults"): each contradicts a promise on some store. No code.
+// The wrong programs of document 01 ("Review of the store", "Plausible faults"): each contradicts a promise on some
+// store. No code.

@@ -28,7 +28,8 @@ modelRun s m words answers out = run (modelFixed s m) [] (modelCalls words answe
 -- Fresh on lent memory, and then the calls of `words` one after the other, gave `answer` and left the store `after`,
 -- the answers and the outputs. Shut out: a call left out, an answer at another's place, an output begun late
 -- (answers-as, outputs-as); a delete that only looks (shown)
-pub record Replayed (s : Shape) (m : Memory) (words answers out : List ℕ) (answer : Answer Reply) (after : Store) (answers′ out′ : List ℕ) : Type 0 where
+pub record Replayed (s : Shape) (m : Memory) (words answers out : List ℕ) (answer : Answer Reply) (after : Store)
+    (answers′ out′ : List ℕ) : Type 0 where
   -- Fresh is refused, and nothing is changed
   pub refused-as : (n : ℕ) → freshNumber s m ≡ suc n
       → (answer ≡ refused (suc n)) × (after .memory ≡ m) × (answers′ ≡ answers) × (out′ ≡ out)

@@ -69,7 +69,8 @@ module _ (p : Pattern) (page out : List ℕ) (at total key : ℕ) (e : key ≡ n
       let to = recordSize * total in
       let read = e ∙ sym (keyIn-field page at) in
       let whole = length-take-le recordSize (drop at page) (simp length-drop (omega arith)) in
-      let same = (λ i. packedBytes (read i) (d i)) ∙ packedBytes-read bytes (AreBytes-field page at recordSize are) whole in (
+      let same = (λ i. packedBytes (read i) (d i))
+      ∙ packedBytes-read bytes (AreBytes-field page at recordSize are) whole in (
         rw (yes, add-one total),
         w ∙ ap (λ l. paste out to l recordSize) same ∙ sym (rw (yes, le-leb (to + recordSize) (length out) l)),
       )

@@ -10,7 +10,8 @@ use lib.Pow.{pow-pos}
 use borrow.Author.Tests.{ltb-true, lt-ltb, le-ltb, leb-true}
 use Rattle.lists.proofs.Bools.{and-split}
 use Rattle.shape.specs.Refusal.{firstNumber}
-use Rattle.shape.specs.Shape.{within, allBelow, inBounds, shapeConditions, shapeNumber, widthOf, widthsOf, total, Fit, indexFits}
+use Rattle.shape.specs.Shape.{within, allBelow, inBounds, shapeConditions, shapeNumber, widthOf, widthsOf, total}
+use Rattle.shape.specs.Shape.{Fit, indexFits}
 use Rattle.shape.specs.declared.Shape.{Shape}
 use Rattle.shape.proofs.BoundsLaws.{within-le, width-of-inBounds}
 

@@ -1,4 +1,5 @@
--- Keys and queries of a shape (document 01, "Shape and split steps", "Calls", "Refused calls" 8 and 3). Assumes nothing.
+-- Keys and queries of a shape (document 01, "Shape and split steps", "Calls", "Refused calls" 8 and 3). Assumes
+-- nothing.
 use Prim.Native.Nat.{ℕ, _^_}
 use mathlib.Core.Bool.{Bool, true, false, not, _||_}
 use mathlib.Core.List.{List, [], _∷_}

@@ -20,7 +20,8 @@ use Rattle.record.specs.Bytes.{recordSize}
 use Rattle.page.specs.Page.{countOf, pageAt}
 use Rattle.word.specs.Word.{wordOf}
 use Rattle.word.specs.declared.Leaf.the-variants.{Page}
-use Rattle.model.specs.Model.{Call, insertCall, deleteCall, lookupCall, queryCall, Reply, changed, found, listed, outcome, next, keyConditions, queryConditions}
+use Rattle.model.specs.Model.{Call, insertCall, deleteCall, lookupCall, queryCall, Reply, changed, found, listed}
+use Rattle.model.specs.Model.{outcome, next, keyConditions, queryConditions}
 use Rattle.model.specs.Sets.{divisionOf, queryBits, givenDepths}
 use Rattle.store.specs.Store.{Store, fixedOf, pagesSize, wordAt, lentConditions}
 use Rattle.store.specs.Sound.{Sound}
@@ -50,10 +51,11 @@ module _ (before after : Store) (D D′ : Division Record) where
   -- "Every other leaf keeps its page": a leaf of both divisions that has a page before and records after
   abbrev pub KeepsPages : Type 0
   KeepsPages = (p : ℕ → Bool) → leafDepth p 0 D ≡ leafDepth p 0 D′ → nonEmpty (leafRecords p 0 D′) ≡ true
-      → (g x : ℕ) → g < before .state .limits .pages → wordBefore p ≡ wordOf (Page g x) → wordAfter p ≡ wordOf (Page g x)
+      → (g x : ℕ) → g < before .state .limits .pages → wordBefore p ≡ wordOf (Page g x)
+      → wordAfter p ≡ wordOf (Page g x)
 
-  -- left free: "which page a leaf that newly gets one takes, of those free, divided or joined". A leaf's page is the one
-  -- that the leaf had, or one whose count was 0, or one of a leaf that is none any more
+  -- left free: "which page a leaf that newly gets one takes, of those free, divided or joined". A leaf's page is the
+  -- one that the leaf had, or one whose count was 0, or one of a leaf that is none any more
   abbrev pub TakesPages : Type 0
   TakesPages = (p : ℕ → Bool) (g x : ℕ) → g < before .state .limits .pages → wordAfter p ≡ wordOf (Page g x)
       → (wordBefore p ≡ wordOf (Page g x))
@@ -63,7 +65,8 @@ module _ (before after : Store) (D D′ : Division Record) where
 -- ---- calls that change the store
 
 -- `early` is the number of the refusals above, `numbers` are the others that the call may give
-pub record ChangePromise (c : Call) (early : ℕ) (numbers : List ℕ) (before : Store) (answer : Answer Reply) (after : Store) : Type 0 where
+pub record ChangePromise (c : Call) (early : ℕ) (numbers : List ℕ) (before : Store) (answer : Answer Reply)
+    (after : Store) : Type 0 where
   pub early-refused : (n : ℕ) → early ≡ suc n → answer ≡ refused (suc n)
   -- "All of them return the number and change nothing."
   pub unchanged : (n : ℕ) → answer ≡ refused n → after ≡ before
@@ -77,14 +80,17 @@ pub record ChangePromise (c : Call) (early : ℕ) (numbers : List ℕ) (before :
   pub bytes-length : length (after .memory .bytes) ≡ length (before .memory .bytes)
   pub words-past : drop (2 ^ before .state .limits .depth) (after .memory .words)
       ≡ drop (2 ^ before .state .limits .depth) (before .memory .words)
-  pub bytes-past : drop (pagesSize (before .state)) (after .memory .bytes) ≡ drop (pagesSize (before .state)) (before .memory .bytes)
+  pub bytes-past : drop (pagesSize (before .state)) (after .memory .bytes)
+      ≡ drop (pagesSize (before .state)) (before .memory .bytes)
   -- on a sound store the model's answer, and a store that shows the model's set
   pub answered-as : (S : List Record) → Sound before S → answer ≡ outcome (fixedOf (before .state)) S c .answer
   pub shown : (S : List Record) → Sound before S → Sound after (next (fixedOf (before .state)) S c)
   pub pages-kept : (S : List Record) → Sound before S
-      → KeepsPages before after (divisionOf (before .state .shape) S) (divisionOf (before .state .shape) (next (fixedOf (before .state)) S c))
+      → KeepsPages before after (divisionOf (before .state .shape) S)
+      (divisionOf (before .state .shape) (next (fixedOf (before .state)) S c))
   pub pages-taken : (S : List Record) → Sound before S
-      → TakesPages before after (divisionOf (before .state .shape) S) (divisionOf (before .state .shape) (next (fixedOf (before .state)) S c))
+      → TakesPages before after (divisionOf (before .state .shape) S)
+      (divisionOf (before .state .shape) (next (fixedOf (before .state)) S c))
 
 -- Shut out: "no page" without looking, an insert that stores nothing (answered-as, shown)
 abbrev pub InsertPromise : Store → List ℕ → Content → Answer Reply → Store → Type 0
@@ -104,7 +110,8 @@ abbrev pub SameWhereRead : Store → List ℕ → (ℕ → QueryBit) → List Re
 SameWhereRead sound bytes q S =
     let s = sound .state .shape in
     (p : ℕ → Bool) → agrees q p (leafDepth p 0 (divisionOf s S)) 0 ≡ true
-    → (g x : ℕ) → g < sound .state .limits .pages → wordAt s (sound .state .depth) (sound .memory .words) p ≡ wordOf (Page g x)
+    → (g x : ℕ) → g < sound .state .limits .pages
+    → wordAt s (sound .state .depth) (sound .memory .words) p ≡ wordOf (Page g x)
     → pageAt (s .capacity) bytes g ≡ pageAt (s .capacity) (sound .memory .bytes) g
 
 -- the store with other page bytes
@@ -133,7 +140,8 @@ pub record LookupPromise (store : Store) (values : List ℕ) (answer : Answer Re
 
 -- Shut out: an empty list, reads that are the bound or 1, a leaf listed once a cell (answered-as); a scan of every page
 -- (SoundWhereRead)
-pub record QueryPromise (store : Store) (q : List (Option ℕ)) (out : List ℕ) (answer : Answer Reply) (out′ : List ℕ) : Type 0 where
+pub record QueryPromise (store : Store) (q : List (Option ℕ)) (out : List ℕ) (answer : Answer Reply)
+    (out′ : List ℕ) : Type 0 where
   pub early-refused : (n : ℕ) → queryNumber store q ≡ suc n → answer ≡ refused (suc n)
   pub unchanged : (n : ℕ) → answer ≡ refused n → out′ ≡ out
   -- on any store 9, or counts with "written never exceeds total", in bounds, "other output bytes untouched"

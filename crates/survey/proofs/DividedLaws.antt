@@ -1,5 +1,5 @@
--- Laws of what the walk tells of a region by the word of its first cell: a leaf; deeper than the directory; divided, with
--- the sums of its sides. Assumes nothing.
+-- Laws of what the walk tells of a region by the word of its first cell: a leaf; deeper than the directory; divided,
+-- with the sums of its sides. Assumes nothing.
 use Prim.Native.Nat.{ℕ, suc, _+_, _*_, _^_, _≤_, _<_}
 use mathlib.Core.Path.{_≡_, refl, sym, ap, _∙_}
 use mathlib.Core.Bool.{Bool, true, false, _&&_}

@@ -1,5 +1,5 @@
--- Laws of what the walk tells of a region: one that does not pass, a leaf; bounds of the sums. Those of a divided region
--- are in `DividedLaws`. Assumes nothing.
+-- Laws of what the walk tells of a region: one that does not pass, a leaf; bounds of the sums. Those of a divided
+-- region are in `DividedLaws`. Assumes nothing.
 use Prim.Native.Nat.{ℕ, zero, suc, _+_, _*_, _^_, _≤_}
 use mathlib.Core.Path.{_≡_, refl, sym, ap, _∙_, subst}
 use mathlib.Core.Bool.{Bool, true, false, cond, _&&_, false≢true}

@@ -23,7 +23,8 @@ use Rattle.record.specs.Bytes.{recordSize}
 use Rattle.page.specs.Page.{pageSize}
 use Rattle.model.specs.Sets.{divisionOf, readsBound}
 use Rattle.model.specs.Limits.{fixedBy}
-use Rattle.model.specs.Model.{Fixed, Call, insertCall, deleteCall, queryCall, Reply, changed, found, listed, next, outcome, run, matching}
+use Rattle.model.specs.Model.{Fixed, Call, insertCall, deleteCall, queryCall, Reply, changed, found, listed, next}
+use Rattle.model.specs.Model.{outcome, run, matching}
 
 -- ---- tests
 
@@ -146,7 +147,8 @@ holds (lists cs q keys reads bound) =
     let S = setAfterAll wide [] cs in
     let n = length keys in
     sameNumbers (joined (map (λ r. r .key) (matching wide S q))) (joined keys)
-    && (sameNumbers (countsIn (outcome wide S (queryCall q (replicate (recordSize * n) 0)) .answer)) (n ∷ n ∷ reads ∷ [])
+    && (sameNumbers (countsIn (outcome wide S (queryCall q (replicate (recordSize * n) 0)) .answer))
+    (n ∷ n ∷ reads ∷ [])
     && eqb (readsBound twoTwo q S) bound)
 holds (numbers words pages expected) =
     sameNumbers (map (λ o. numberIn (o .answer)) (run (lent words pages) [] four)) expected
@@ -175,7 +177,8 @@ table =
     ∷ leavesAfter (four ++ deleteCall (key 2 1) ∷ []) 1 2
     -- (d) and (e)
     ∷ both
-    (both (numbers 4 64 (0 ∷ 0 ∷ 0 ∷ 6 ∷ [])) (both (numbers 7 64 (0 ∷ 0 ∷ 0 ∷ 6 ∷ [])) (numbers 8 64 (0 ∷ 0 ∷ 0 ∷ 0 ∷ []))))
+    (both (numbers 4 64 (0 ∷ 0 ∷ 0 ∷ 6 ∷ []))
+    (both (numbers 7 64 (0 ∷ 0 ∷ 0 ∷ 6 ∷ [])) (numbers 8 64 (0 ∷ 0 ∷ 0 ∷ 0 ∷ []))))
     (both (numbers 8 2 (0 ∷ 0 ∷ 0 ∷ 7 ∷ [])) (numbers 4 2 (0 ∷ 0 ∷ 0 ∷ 6 ∷ [])))
     ∷ []
 

@@ -188,5 +188,6 @@ module _ (st : State) (rows words bytes : List ℕ) (room : ℕ)
 
       pub Put-damaged : 4096 < r → Put list (walkSeen st words bytes q) Damaged later
       Put-damaged k =
-          let d = damaged-of-next list later 0 (walkSeen st words bytes q) r here k (omega (arith, length-walkSeen-le .1)) in
+          let d = damaged-of-next list later 0 (walkSeen st words bytes q) r here k
+          (omega (arith, length-walkSeen-le .1)) in
           record { answer = rw d; lines = here .lines }

@@ -123,7 +123,8 @@ module _ (store : Store) (q : ℕ → QueryBit) (S : List Record) (h : SoundWher
       sym (length-recordsFrom s (countOf page) 2 page) ∙ ap length (page-records p e n) in
       let some : 1 ≤ length (leafRecords p 0 D) = length-nonEmpty (leafRecords p 0 D) n in
       let few : length (leafRecords p 0 D) ≤ s .capacity =
-      length-leafRecords-le (recordBit s) (s .capacity) p (total (widthsOf s)) 0 S (capacity-bounds s (shapeNumber-true s (sound .shape)) .0)
+      length-leafRecords-le (recordBit s) (s .capacity) p (total (widthsOf s)) 0 S
+      (capacity-bounds s (shapeNumber-true s (sound .shape)) .0)
       (set-parts .0) in
       within-true (s .capacity) (countOf page) (omega arith) (omega arith)
 

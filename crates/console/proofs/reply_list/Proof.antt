@@ -35,7 +35,8 @@ returns c =
     let call = c .before .before .before .before .before .before .before in
     let at-args = call .before .before .before .before .before .before .before .before .before .before in
     let a = at-args .args in
-    reply-list (a .session) (a .line) _ _ _ _ _ _ _ _ _ _ (call .before .before .query-of .ensures) (call .query .ensures)
+    reply-list (a .session) (a .line) _ _ _ _ _ _ _ _ _ _ (call .before .before .query-of .ensures)
+    (call .query .ensures)
     (c .before .before .put-listed .ensures)
 
 pub reply-list-spec : {M : Type 1} → statement M

@@ -18,7 +18,10 @@ enum-known-answer-2 c = search needs
 
 returns : tie.Need-returns
 unfolding addressAnswerOf
-returns c = record { answer-as = ap addressAnswerOf (sym (c .before .answer .given .1)) ∙ c .before .before .before .address-of .ensures; zeros-if-refused = λ n e. absurd (omega arith) }
+returns c = record {
+  answer-as = ap addressAnswerOf (sym (c .before .answer .given .1)) ∙ c .before .before .before .address-of .ensures;
+  zeros-if-refused = λ n e. absurd (omega arith);
+}
 
 returns-2 : tie.Need-returns-2
 unfolding addressAnswerOf

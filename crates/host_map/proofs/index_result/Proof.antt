@@ -19,7 +19,10 @@ enum-known-answer-2 c = search needs
 
 returns : tie.Need-returns
 unfolding indexAnswerOf
-returns c = record { answer-as = ap indexAnswerOf (sym (c .before .answer .given .1)) ∙ c .before .before .before .index-at .ensures; zeros-if-refused = λ n e. absurd (omega arith) }
+returns c = record {
+  answer-as = ap indexAnswerOf (sym (c .before .answer .given .1)) ∙ c .before .before .before .index-at .ensures;
+  zeros-if-refused = λ n e. absurd (omega arith);
+}
 
 returns-2 : tie.Need-returns-2
 unfolding indexAnswerOf

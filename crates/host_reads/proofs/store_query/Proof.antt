@@ -22,7 +22,13 @@ returns : tie.Need-returns
 unfolding wantedValues wantedOf
 returns c =
     let two = c .before .before in
-    rw (two .before .wanted-at .ensures, two .wanted-at2 .ensures, c .before .wanted-at3 .ensures, c .wanted-at4 .ensures) refl
+    rw (
+      two .before .wanted-at .ensures,
+      two .wanted-at2 .ensures,
+      c .before .wanted-at3 .ensures,
+      c .wanted-at4
+          .ensures,
+    ) refl
 
 pub store-query-spec : {M : Type 1} → statement M
 store-query-spec =

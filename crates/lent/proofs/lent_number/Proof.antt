@@ -2,7 +2,8 @@
 use mathlib.Core.Path.{_≡_, sym, _∙_}
 use Rattle.shape.specs.Shape.{shapeNumber}
 use Rattle.shape.proofs.ShapeLaws.{capacity-bounds}
-use Rattle.lent.proofs.LentLaws.{lentNumberBy-shape-out, lentNumberBy-words, lentNumberBy-pages, lentNumberBy-none}
+use Rattle.lent.proofs.LentLaws.{lentNumberBy-shape-out, lentNumberBy-words, lentNumberBy-pages}
+use Rattle.lent.proofs.LentLaws.{lentNumberBy-none}
 use borrow.Author.Needs.{needs}
 use Rattle.lent.proofs.lent_number.Statement.{statement}
 use Rattle.lent.proofs.lent_number.Tie as tie
@@ -30,7 +31,8 @@ returns-2 : tie.Need-returns-2
 returns-2 c =
     let e = c .before .before in
     let s = e .before .before .before .before .args in
-    lentNumberBy-words (s .state) (s .words) (s .bytes) (in-bounds e) (sym (c .before .lacks-words .ensures) ∙ c .if2 .taken)
+    lentNumberBy-words (s .state) (s .words) (s .bytes) (in-bounds e)
+    (sym (c .before .lacks-words .ensures) ∙ c .if2 .taken)
 
 lacks-pages-requires : tie.Need-lacks-pages-requires
 lacks-pages-requires c κs =
@@ -42,7 +44,8 @@ returns-3 c =
     let w = c .before .before in
     let e = w .before .before in
     let s = e .before .before .before .before .args in
-    lentNumberBy-pages (s .state) (s .words) (s .bytes) (in-bounds e) (sym (w .before .lacks-words .ensures) ∙ w .if2 .left)
+    lentNumberBy-pages (s .state) (s .words) (s .bytes) (in-bounds e)
+    (sym (w .before .lacks-words .ensures) ∙ w .if2 .left)
     (sym (c .before .lacks-pages .ensures) ∙ c .if3 .taken)
 
 returns-4 : tie.Need-returns-4
@@ -50,7 +53,8 @@ returns-4 c =
     let w = c .before .before in
     let e = w .before .before in
     let s = e .before .before .before .before .args in
-    lentNumberBy-none (s .state) (s .words) (s .bytes) (in-bounds e) (sym (w .before .lacks-words .ensures) ∙ w .if2 .left)
+    lentNumberBy-none (s .state) (s .words) (s .bytes) (in-bounds e)
+    (sym (w .before .lacks-words .ensures) ∙ w .if2 .left)
     (sym (c .before .lacks-pages .ensures) ∙ c .if3 .left)
 
 pub lent-number-spec : {M : Type 1} → statement M

@@ -28,13 +28,26 @@ returns-2 : tie.Need-returns-2
 unfolding closed
 returns-2 c =
     let k = c .before .before .before .before in
-    rw (ne-eqb _ _ (k .before .before .if1 .left), k .before .kept-word .ensures, k .is-any .ensures, lt-ltb _ _ (c .before .if2 .taken))
+    rw (
+      ne-eqb _ _ (k .before .before .if1 .left),
+      k .before .kept-word .ensures,
+      k .is-any .ensures,
+      lt-ltb _ _
+          (c .before .if2 .taken),
+    )
 
 returns-3 : tie.Need-returns-3
 unfolding closed
 returns-3 c =
     let k = c .before .before .before in
-    rw (ne-eqb _ _ (k .before .before .if1 .left), k .before .kept-word .ensures, k .is-any .ensures, le-ltb _ _ (c .if2 .left))
+    rw (
+      ne-eqb _ _ (k .before .before .if1 .left),
+      k .before .kept-word .ensures,
+      k .is-any .ensures,
+      le-ltb _ _
+          (c .if2 .left),
+    )
 
 pub close-spec : {M : Type 1} → statement M
-close-spec = tie.close (tie.spec returns kept-word-requires is-any-requires sub-codes mul-codes array-write-codes returns-2 returns-3)
+close-spec = tie.close (tie.spec returns kept-word-requires is-any-requires sub-codes mul-codes array-write-codes
+    returns-2 returns-3)

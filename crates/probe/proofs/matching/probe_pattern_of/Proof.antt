@@ -1,4 +1,5 @@
--- `probe::matching::probe_pattern_of` meets its contract: the pattern of the query that the numbers say. Assumes nothing.
+-- `probe::matching::probe_pattern_of` meets its contract: the pattern of the query that the numbers say. Assumes
+-- nothing.
 use mathlib.Core.Path.{sym, ap, subst, _∙_}
 use Rattle.select.specs.Pattern.{GivenSixteenBits, patternOf}
 use borrow.Author.Needs.{needs}

@@ -107,7 +107,8 @@ loop-again c =
       subst (λ g. Filled ws (wantedAt ws (wantedValues (a .query))) (a .t) g (c .if1 .x) (c .if1 .rows)) next
           (⊎-elim
           (λ w. filled-step _ _ _ _ _ _ here (w .0 .taken) low
-          (live-here _ (w .1 .ensures) (w .2 .taken)) (s .pre .1) lent _ _ _ (w .4 .ensures) (w .6 ∙ w .5 .ensures) (w .7))
+          (live-here _ (w .1 .ensures) (w .2 .taken)) (s .pre .1) lent _ _ _ (w .4 .ensures) (w .6 ∙ w .5 .ensures)
+          (w .7))
           (⊎-elim
           (λ w. filled-skip _ _ _ _ _ _ here (w .0 .taken) low
           (past (a .bit) (l .z) z ws _ (w .1 .ensures) (w .2 .left)) _ _ (w .3) (w .4))
