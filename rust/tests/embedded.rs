@@ -214,3 +214,26 @@ fn shapes_of_any_widths() {
     assert_eq!(Store::fresh(Shape::new(&[3; 5], 1), &mut [0], &mut [0; 14]).unwrap_err(), Refusal::Shape);
     assert_eq!(Shape::new(&[3], u32::MAX).page_bytes(), 2 + 12 * 0xffff_ffff);
 }
+
+#[test]
+fn reasons_as_in_the_header() {
+    use Refusal::*;
+    let header = include_str!("../../embed/mdeh.h");
+    let reasons = [
+        ("SHAPE", Shape),
+        ("MEMORY", Memory),
+        ("VALUE", Value),
+        ("STORED", Stored),
+        ("ABSENT", Absent),
+        ("DEPTH", Depth),
+        ("PAGES", Pages),
+        ("ATTRIBUTE", Attribute),
+        ("UNSOUND", Unsound),
+    ];
+    for (name, reason) in reasons {
+        let numbered = format!("MDEH_REFUSED_{name} = {}", reason.number());
+        assert!(header.contains(&numbered), "the header lacks {numbered}");
+        let told = format!("case MDEH_REFUSED_{name}: return \"{reason}\";");
+        assert!(header.contains(&told), "the header lacks {told}");
+    }
+}
