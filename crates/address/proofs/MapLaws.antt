@@ -1,19 +1,16 @@
 -- The formula's addresses equal the doubling array. Assumes nothing.
 use Prim.Native.Nat.{ℕ, zero, suc, _+_, _-_, _^_, _≤_, _<_}
-use mathlib.Core.Path.{_≡_, refl, sym, ap, _∙_, subst}
-use mathlib.Core.List.{List, [], _∷_}
-use mathlib.Core.Logic.{_⊎_, inl, inr}
+use mathlib.Core.Path.{_≡_, sym, ap, _∙_, subst}
+use mathlib.Core.List.{List, []}
 use native.Mathlib.Omega.{arith}
 use native.Mathlib.Nat.{le-trans}
 use lib.ListN.{getD, length}
 use lib.Pow.{pow-mono}
-use Rattle.lists.proofs.Numbers.{lt-or-le}
 use Rattle.shape.specs.Shape.{Fit, total, shapeNumber, widthsOf}
 use Rattle.shape.specs.declared.Shape.{Shape}
 use Rattle.shape.proofs.ShapeLaws.{widthsOf-fit}
 use Rattle.split.specs.Steps.{steps}
 use Rattle.split.proofs.StepLaws.{length-steps}
-use Rattle.address.specs.Address.{address}
 use Rattle.address.specs.Doubling.{In, sides, doublingArray}
 use Rattle.address.specs.Map.{EqualsDoublingArray}
 use Rattle.address.proofs.DoublingLaws.{length-doublingArray, doublingArray-stays, address-place, address-onto}

@@ -1,6 +1,6 @@
 -- Demand 2's first sentence: the directory's addresses equal those of the doubling array, both ways, at every size.
 -- Assumes nothing.
-use Prim.Native.Nat.{ℕ, suc, _^_, _≤_, _<_}
+use Prim.Native.Nat.{ℕ, _^_, _≤_, _<_}
 use mathlib.Core.Path.{_≡_}
 use mathlib.Core.List.{List, []}
 use lib.ListN.{getD, length}

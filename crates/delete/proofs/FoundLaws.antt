@@ -15,9 +15,8 @@ use Rattle.directory.specs.Directory.{Filled}
 use Rattle.record.specs.Record.{Record}
 use Rattle.page.specs.Page.{countOf, pageAt}
 use Rattle.pages.specs.Pages.{PageLent}
-use Rattle.model.specs.Model.{changed}
 use Rattle.model.specs.Sets.{stored}
-use Rattle.store.specs.Store.{Store, memory, store}
+use Rattle.store.specs.Store.{Store, memory}
 use Rattle.store.specs.Sound.{Sound}
 use Rattle.store.specs.Promises.{keyNumber, DeletePromise}
 use Rattle.store.proofs.ShownLaws.{pageRecords}

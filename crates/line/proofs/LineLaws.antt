@@ -15,7 +15,7 @@ use Rattle.line.specs.Line.{itemIn, withItem, itemsIn, codeOf, hasStar}
 use Rattle.line.specs.declared.Reading.{Reading}
 use Rattle.line.specs.Private.{closed, opened, keptWord, starWith}
 use Rattle.line.proofs.FieldLaws.{codeFrom, CodeFor, for-star, for-number, for-none, codeFor-field}
-use Rattle.line.proofs.ReadingLaws.{addedAll, took, tookAll, addedAll-field}
+use Rattle.line.proofs.ReadingLaws.{took, tookAll, addedAll-field}
 
 -- ---- one field
 

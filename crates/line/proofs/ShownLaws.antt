@@ -1,5 +1,5 @@
 -- What the bytes of a line lead to is what its fields say. Assumes nothing.
-use Prim.Native.Nat.{ℕ, _+_, _-_, min, _<_}
+use Prim.Native.Nat.{ℕ, _-_, min}
 use mathlib.Core.Path.{_≡_, refl, ap, _∙_}
 use mathlib.Core.Bool.{Bool, true, false, cond, false≢true}
 use mathlib.Core.List.{List, [], _∷_}
@@ -10,14 +10,13 @@ use lib.Dec.{eqb, ltb}
 use lib.ListN.{getD, length}
 use Rattle.lists.specs.Filter.{all, nonEmpty}
 use Rattle.lists.proofs.Bools.{and-split, and-both}
-use Rattle.line.specs.Line.{longer, fieldsOf, itemsIn, codeOf, rest, kindIn, Shows, ShowsFields, LineShown}
+use Rattle.line.specs.Line.{longer, fieldsOf, itemsIn, codeOf, rest, ShowsFields, LineShown}
 use Rattle.line.specs.declared.Reading.{Reading}
 use Rattle.line.specs.declared.Line.{Line}
-use Rattle.line.specs.declared.Kind.the-variants.{Bad}
 use Rattle.line.specs.Private.{start, closed, readFrom, ended, kindOf}
-use Rattle.line.proofs.ReadingLaws.{wordFrom, addedAll, spaced, tookAll, readFields, some-field, readFrom-fields}
+use Rattle.line.proofs.ReadingLaws.{wordFrom, addedAll, tookAll, readFields, some-field, readFrom-fields}
 use Rattle.line.proofs.ReadingLaws.{closed-spaced, addedAll-word}
-use Rattle.line.proofs.LineLaws.{Kept, KeptAs, tookAll-items}
+use Rattle.line.proofs.LineLaws.{KeptAs, tookAll-items}
 use Rattle.line.proofs.WordLaws.{kind-of-word}
 
 -- ---- bytes of the word

@@ -3,7 +3,7 @@ use Prim.Native.Nat.{ℕ, zero, suc}
 use mathlib.Core.Path.{_≡_, sym, ap, _∙_}
 use mathlib.Core.Bool.{Bool, true, false, cond, false≢true}
 use mathlib.Core.List.{List, [], _∷_, _++_}
-use Rattle.shape.specs.Refusal.{Condition, Answer, accepted, refused, answered, refusal, firstNumber}
+use Rattle.shape.specs.Refusal.{Condition, accepted, refused, answered, refusal, firstNumber}
 use Rattle.shape.specs.Shape.{shapeConditions, shapeNumber}
 use Rattle.shape.specs.declared.Shape.{Shape}
 use Rattle.shape.proofs.ShapeLaws.{inBounds-of, inBounds-out, shapeNumber-out}

@@ -1,5 +1,5 @@
 -- `host_map::address_result` meets its contract: the answer of `address_of`, by the case that it is. Assumes nothing.
-use mathlib.Core.Path.{_≡_, refl, sym, ap, _∙_}
+use mathlib.Core.Path.{refl, sym, ap, _∙_}
 use native.Mathlib.Omega.{arith}
 use Rattle.address.specs.Answers.{indexList, addressAnswerOf}
 use Rattle.address.proofs.AnswerLaws.{addressAnswer-refused}

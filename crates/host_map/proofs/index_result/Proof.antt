@@ -1,5 +1,5 @@
 -- `host_map::index_result` meets its contract: the answer of `index_at`, by the case that it is. Assumes nothing.
-use mathlib.Core.Path.{_≡_, refl, sym, ap, _∙_}
+use mathlib.Core.Path.{refl, sym, ap, _∙_}
 use native.Mathlib.Omega.{arith}
 use mathlib.Core.List.{[], _∷_}
 use Rattle.address.specs.Answers.{indexAnswerOf}

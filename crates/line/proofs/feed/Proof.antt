@@ -1,6 +1,5 @@
 -- `line::feed` meets its contract: a space ends a field, any other byte belongs to one. Assumes nothing.
 use mathlib.Core.Path.{ap, _∙_}
-use native.Mathlib.Omega.{arith}
 use borrow.Author.Tests.{eq-eqb, ne-eqb}
 use borrow.Author.Needs.{needs}
 use Rattle.line.specs.Private.{fed, added, opened}

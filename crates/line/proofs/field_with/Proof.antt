@@ -1,6 +1,5 @@
 -- `line::field_with` meets its contract: an empty field, one that is none already, a digit more. Assumes nothing.
-use mathlib.Core.Path.{_≡_, sym, _∙_}
-use native.Mathlib.Omega.{arith}
+use mathlib.Core.Path.{sym, _∙_}
 use borrow.Author.Tests.{eq-eqb, ne-eqb, le-leb, lt-leb, lt-ltb, le-ltb, leb-true, not-true, not-false}
 use borrow.Author.Needs.{needs}
 use Rattle.lists.proofs.Bools.{and-split}

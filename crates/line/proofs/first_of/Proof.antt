@@ -1,7 +1,5 @@
 -- `line::first_of` meets its contract: `*`, a digit, or neither. Assumes nothing.
-use mathlib.Core.Path.{_≡_, sym, _∙_}
-use mathlib.Core.Bool.{true, false}
-use native.Mathlib.Omega.{arith}
+use mathlib.Core.Path.{sym, _∙_}
 use borrow.Author.Tests.{eq-eqb, ne-eqb, leb-true}
 use borrow.Author.Needs.{needs}
 use Rattle.lists.proofs.Bools.{and-split}

@@ -1,11 +1,10 @@
 -- `seek::key_word` meets its contract: a cell lies below 2^t, so within the words. Assumes nothing.
 use Prim.Native.Nat.{_^_, _<_}
-use mathlib.Core.Path.{_≡_, ap}
+use mathlib.Core.Path.{ap}
 use native.Mathlib.Omega.{arith}
 use lib.ListN.{getD}
 use Rattle.shape.specs.Shape.{widthList}
 use Rattle.split.specs.Bits.{splitBit}
-use Rattle.cell.specs.Cell.{cellAddress}
 use Rattle.cell.proofs.CellLaws.{cell-laws}
 use borrow.Author.Needs.{needs}
 use Rattle.seek.proofs.key_word.Statement.{statement}

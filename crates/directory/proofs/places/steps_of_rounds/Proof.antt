@@ -1,6 +1,5 @@
 -- `directory::places::steps_of_rounds` meets its contract: a bit k is before place 4k exactly if it is below it.
 -- Assumes nothing.
-use mathlib.Core.Path.{_≡_}
 use Rattle.directory.proofs.PlaceLaws.{stepsBefore-rounds}
 use borrow.Author.Needs.{needs}
 use Rattle.directory.proofs.places.steps_of_rounds.Statement.{statement}
