@@ -29,7 +29,7 @@ pub fn double(widths: Widths, t: u64, dir: &mut [u32])
 }
 
 // The address of the cell whose upper half step t, the pair at place g, appended at a.
-fn whole_of(widths: Widths, t: u64, g: u64, a: u64) -> u64
+pub fn whole_of(widths: Widths, t: u64, g: u64, a: u64) -> u64
     requires { ⌜ AppendedBy (widthList widths) a t g ⌝ }
     ensures { λ r. ⌜ UpperHalf (widthList widths) t a r ⌝ }
 {
