@@ -10,9 +10,9 @@ use Rattle.region.specs.Strings.{sibling}
 use Rattle.word.specs.Word.{wordOf}
 use Rattle.word.specs.declared.Leaf.the-variants.{Page}
 use Rattle.word.proofs.WordLaws.{wordOf-depth}
+use Rattle.store.specs.Contained.{depthNamed, WordsKept}
 use Rattle.change.specs.Private.{Deepened, LeavesSet}
 use Rattle.intact.specs.Intact.{cellWord, RegionHolds, Folds}
-use Rattle.store.specs.Contained.{depthNamed, WordsKept}
 use Rattle.kept.proofs.WordLaws.{kept-leaf, kept-joined}
 
 module _ (ws : List ℕ) (T : ℕ) (key : ℕ → Bool) (words : List ℕ) where

@@ -15,6 +15,7 @@ use Rattle.region.proofs.StringLeafLaws.{leafDepth-le}
 use Rattle.record.specs.Record.{Record, recordBit}
 use Rattle.model.specs.Sets.{stored, withoutKey}
 use Rattle.store.specs.Store.{Store}
+use Rattle.store.specs.Contained.{depthNamed}
 use Rattle.store.specs.Sound.{Sound}
 use Rattle.store.proofs.AgreeLaws.{agree-or-not, leafDepth-agree}
 use Rattle.store.proofs.ShownLaws.{wordOn, divisionOn, wordOn-depth, shape-of-Sound}
@@ -25,8 +26,7 @@ use Rattle.change.proofs.DeleteWordLaws.{wordAt-halved}
 use Rattle.change.proofs.DeleteFoundLaws.{JoinRegion, join-region, joined-of-found}
 use Rattle.change.proofs.DeleteKeyLaws.{KeyJoined}
 use Rattle.change.proofs.DeleteShownLaws.{tallyDepth-joined}
-use Rattle.intact.specs.Intact.{cellWord, RegionHolds, RegionTold, FoldTold}
-use Rattle.store.specs.Contained.{depthNamed}
+use Rattle.intact.specs.Intact.{cellWord, RegionHolds, RegionTold}
 use Rattle.kept.specs.Tested.{LeafTested, SiblingTested}
 use Rattle.kept.proofs.WordLaws.{leaves-sibling}
 
@@ -57,12 +57,12 @@ module _ (before : Store) (S : List Record) (sound : Sound before S) where
       sym (sound .shown .same-word p q (rw depth a)) ∙ e
 
   pub sound-leaf : (key : List ℕ) (x word : ℕ) → wordOn before (keyString before key) ≡ word → depthNamed word ≡ x
-      → LeafTested before key x word
+      → LeafTested (before .state) (before .memory .words) key x word
   sound-leaf key x word e d = sound-holds (keyString before key) x word e d
 
   -- a sibling by the word of one of its cells
   pub sound-sibling : (key : List ℕ) (z word : ℕ) → depthNamed word ≡ suc z → AtSibling before key z (λ w. w ≡ word)
-      → SiblingTested before key z word
+      → SiblingTested (before .state) (before .memory .words) key z word
   sound-sibling key z word d c q a =
       sound-holds (c .0) (suc z) word (c .2) d q (λ i l. sym (c .1 i l) ∙ a i l)
 
@@ -133,9 +133,3 @@ module _ (before : Store) (S : List Record) (sound : Sound before S) where
         let d = depth-le-step n l q away in
         wordAt-halved before S sound (suc n) b q (omega arith)
         ∙ sym (wordAt-halved before S sound n (omega arith) q d)
-
-    pub folds-passes : (β : Bool) → FoldTold (widthsOf s) T′ T p (before .memory .words) β → β ≡ true
-    folds-passes true told = refl
-    folds-passes false told =
-        let n = told .no refl in
-        absurd (n .3 .2 (sound-folds (n .0) (n .1) (n .2) (n .3 .0) (n .3 .1)))

@@ -8,10 +8,10 @@ use native.Mathlib.Omega.{arith}
 use Rattle.cell.specs.Cell.{Agree}
 use Rattle.directory.proofs.CellLaws.{withBit-here, agree-withBit}
 use Rattle.region.specs.Strings.{sibling}
+use Rattle.store.specs.Contained.{depthNamed, Whole, JoinedWith, GivesWay, WordsKept}
 use Rattle.store.proofs.AgreeLaws.{agree-or-not}
 use Rattle.change.specs.Private.{Leaves}
 use Rattle.change.proofs.ChainLaws.{agree-or-leaves, agree-of-leaves}
-use Rattle.store.specs.Contained.{depthNamed, Whole, GivesWay, WordsKept}
 
 -- ---- strings
 
@@ -48,19 +48,24 @@ module _ (old new : (ℕ → Bool) → ℕ) (key : ℕ → Bool) where
         inl (subst (λ n. Agree n p key) (sym here) (λ i l. sym (a i l))),
       )
 
+  -- p's leaf is joined with the key's
+  pub leaf-joined : (z : ℕ) (p : ℕ → Bool) → depthNamed (old p) ≡ suc z → z < depthNamed (old key)
+      → depthNamed (new key) ≤ z → Leaves key p z → JoinedWith old new key p
+  leaf-joined z p d l b leaves = record {
+    z = z;
+    depth = d;
+    agree = leaves .agree;
+    differ = leaves .differ;
+    above = l;
+    within = b;
+  }
+
   pub sibling-gives-way : (z word : ℕ) → depthNamed word ≡ suc z → Holds (suc z) (sibling key z) word
       → z < depthNamed (old key) → depthNamed (new key) ≤ z → (p : ℕ → Bool) → Leaves key p z → GivesWay old new key p
   sibling-gives-way z word d h l b p leaves =
       let a = agree-of-leaves key (sibling key z) p z (leaves-sibling key z) leaves in (
         whole-of-holds (suc z) word (sibling key z) p d h a,
-        inr (record {
-          z = z;
-          depth = ap depthNamed (h p a) ∙ d;
-          agree = leaves .agree;
-          differ = leaves .differ;
-          above = l;
-          within = b;
-        }),
+        inr (leaf-joined z p (ap depthNamed (h p a) ∙ d) l b leaves),
       )
 
   -- ---- words kept
