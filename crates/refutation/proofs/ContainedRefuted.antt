@@ -21,7 +21,7 @@ use Rattle.word.specs.Word.{wordOf}
 use Rattle.word.specs.declared.Leaf.the-variants.{Page}
 use Rattle.model.specs.Model.{Reply}
 use Rattle.store.specs.Store.{Store, wordAt}
-use Rattle.store.specs.Contained.{JoinedWith, GivesWay, Written, Names}
+use Rattle.store.specs.Contained.{JoinedWith, GivesWay, Written}
 use Rattle.store.specs.Promises.{InsertPromise, DeletePromise}
 use Rattle.table.specs.Table.{twoTwo, key}
 use Rattle.refutation.specs.Stores.{zeroedWord, lowTally}
