@@ -1,7 +1,9 @@
 //! The inner steps of the store behind safe functions. Each tests what the step's `requires` asks, then
 //! calls; where it does not hold, the answer is `None` and nothing is called.
 //!
-//! Here are the steps on the directory; the modules have those on words, keys, pages and queries.
+//! Here are the steps on the directory; the modules have those on words, keys, pages and queries, and whole lists of
+//! calls.
+pub mod calls;
 pub mod keys;
 pub mod matching;
 pub mod records;

@@ -1,2 +1,3 @@
+pub mod Encoded
 pub mod Encoding
 pub mod Private

@@ -1,1 +1,2 @@
 pub mod AskedLaws
+pub mod ReplayLaws

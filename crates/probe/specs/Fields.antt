@@ -4,6 +4,8 @@ use mathlib.Core.List.{List}
 use mathlib.Core.Option.{Option, none, some}
 use lib.ListN.{getD}
 use Rattle.shape.specs.Key.{perAttribute}
+use Rattle.store.specs.declared.Changed.{Changed}
+use Rattle.store.specs.declared.Changed.the-variants as change
 use Rattle.word.specs.declared.Leaf.{Leaf}
 use Rattle.word.specs.declared.Leaf.the-variants.{Empty, Page}
 use Rattle.packed.specs.declared.Order.{Order}
@@ -18,6 +20,11 @@ use Rattle.probe.specs.declared.matching.Asked.{Asked}
 abbrev pub leafFields : Leaf → LeafFields
 leafFields (Empty depth) = record { paged = 0; page = 0; depth = depth }
 leafFields (Page page depth) = record { paged = 1; page = page; depth = depth }
+
+-- what Fresh answers: 0 where it is accepted, else the number of the refusal
+unfoldable pub changedNumber : Changed → ℕ
+changedNumber change.Done = 0
+changedNumber (change.Refused n) = n
 
 -- how a key stands to another one
 abbrev pub orderNumber : Order → ℕ

@@ -1,7 +1,9 @@
 // Inner steps, exported for tests and benchmarks: each export hands its arguments on to one step, with
 // that step's contract. A caller tests what the `requires` asks. Enums cross as numbers (`specs/`).
 //
-// Here are the steps on the directory; the modules have those on words, keys, pages and queries.
+// Here are the steps on the directory; the modules have those on words, keys, pages and queries, and
+// whole lists of calls.
+pub mod calls;
 pub mod keys;
 pub mod matching;
 pub mod records;

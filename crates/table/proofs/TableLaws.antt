@@ -11,6 +11,7 @@ use Rattle.address.specs.Doubling.{layers, box, sides, appended, doublingArray}
 use Rattle.cell.specs.Cell.{sumBits, cell, cellAddress}
 use Rattle.record.specs.Record.{matches}
 use Rattle.record.specs.Bytes.{recordBytes}
+use Rattle.word.specs.Word.{leafOf}
 use Rattle.model.specs.Limits.{logarithm, pageLimitOf, depthLimitOf, freshShape, fixedBy}
 use Rattle.model.specs.Model.{numberFor, replyTo, setAfter, outputOf, outputAfter, outcome, next, run}
 use Rattle.model.specs.Sets.{divisionOf, queryBits, readsOf, givenDepths, readsBound}
@@ -21,7 +22,7 @@ unfolding
     firstNumber inBounds shapeConditions widthsOf keyFits encodings namesUnused queryFits
     stepsBelow steps step stepNumber stepsOf depth splitBit
     highestBit createdBy latestStep formula addressFrom address addressNumber addressAnswer indexNumber indexAnswer
-    layers box sides appended doublingArray sumBits cell cellAddress matches recordBytes
+    layers box sides appended doublingArray sumBits cell cellAddress matches recordBytes leafOf
     logarithm pageLimitOf depthLimitOf freshShape fixedBy
     numberFor replyTo setAfter outputOf outputAfter outcome next run
     divisionOf queryBits readsOf givenDepths readsBound

@@ -1,6 +1,6 @@
 -- The proof table (document 01, "Proof table and the printed run"): its twelve entries, and what each claims.
 -- Assumes nothing.
-use Prim.Native.Nat.{ℕ, zero, suc, _*_, _^_}
+use Prim.Native.Nat.{ℕ, zero, suc, _+_, _*_, _^_}
 use mathlib.Core.Path.{_≡_}
 use mathlib.Core.Bool.{Bool, true, false, cond, _&&_}
 use mathlib.Core.List.{List, [], _∷_, _++_, map}
@@ -17,14 +17,17 @@ use Rattle.split.specs.Bits.{splitBit}
 use Rattle.address.specs.Answers.{addressAnswer, indexAnswer}
 use Rattle.cell.specs.Cell.{cellAddress}
 use Rattle.region.specs.Strings.{listBit}
-use Rattle.region.specs.Division.{Division, greatestDepth, nonEmptyLeaves, leafDepth, leafRecords}
+use Rattle.region.specs.Division.{Division, leaf, divided, greatestDepth, nonEmptyLeaves, leafDepth, leafRecords}
 use Rattle.record.specs.Record.{Record}
 use Rattle.record.specs.Bytes.{recordSize}
 use Rattle.page.specs.Page.{pageSize}
+use Rattle.word.specs.Word.{wordOf, leafOf}
+use Rattle.word.specs.declared.Leaf.{Leaf}
+use Rattle.word.specs.declared.Leaf.the-variants.{Empty, Page}
 use Rattle.model.specs.Sets.{divisionOf, readsBound}
 use Rattle.model.specs.Limits.{fixedBy}
 use Rattle.model.specs.Model.{Fixed, Call, insertCall, deleteCall, queryCall, Reply, changed, found, listed, next}
-use Rattle.model.specs.Model.{outcome, run, matching}
+use Rattle.model.specs.Model.{outcome, run}
 
 -- ---- tests
 
@@ -110,7 +113,38 @@ upTo (suc n) = upTo n ++ n ∷ []
 abbrev pub byAddress : ℕ → (List Bool → ℕ) → List ℕ
 byAddress T f = map (λ a. atAddress T f a (strings T)) (upTo (2 ^ T))
 
+-- the number of the page of the leaf that a string leads to. Which page a leaf takes is left free: here they are
+-- numbered in the order of the leaves, "bit 0 before bit 1"
+abbrev pub pageNumber : (ℕ → Bool) → ℕ → Division Record → ℕ
+pageNumber p t (leaf rs) = 0
+pageNumber p t (divided l u) =
+    cond (p t) (nonEmptyLeaves l + pageNumber p (suc t) u) (pageNumber p (suc t) l)
+
+-- "A leaf is empty or has one page": what the cell of a string holds
+abbrev pub cellWord : Division Record → (ℕ → Bool) → ℕ
+cellWord D p =
+    let x = leafDepth p 0 D in
+    cond (nonEmpty (leafRecords p 0 D)) (wordOf (Page (pageNumber p 0 D) x)) (wordOf (Empty x))
+
+-- the directory's words 0 to 2^T − 1: of (a) 0x10001, 0x30002, 0x10001, 0x20000, 0x10001, 0x10001, 0x30003, 0x20000
+abbrev pub directoryWords : Division Record → List ℕ
+directoryWords D = byAddress (greatestDepth D) (λ bits. cellWord D (listBit bits))
+
+-- the depth that a word has in bits 16–19, and its page number plus one in bits 0–15, 0 for no page
+abbrev pub depthIn : Leaf → ℕ
+depthIn (Empty x) = x
+depthIn (Page g x) = x
+
+abbrev pub pageIn : Leaf → ℕ
+pageIn (Empty x) = 0
+pageIn (Page g x) = g + 1
+
 -- ---- entries
+
+-- the 12 bytes of a record of two attributes, values and payload below 256: "little-endian .. four 16-bit values ..
+-- and a 32-bit payload"
+abbrev pub written : ℕ → ℕ → ℕ → List ℕ
+written x y payload = x ∷ 0 ∷ y ∷ 0 ∷ 0 ∷ 0 ∷ 0 ∷ 0 ∷ payload ∷ 0 ∷ 0 ∷ 0 ∷ []
 
 pub data Entry : Type 0 where
   -- "index (3,1) at 7": the call gives the address, and the inverse call the index
@@ -119,9 +153,10 @@ pub data Entry : Type 0 where
   bits : List ℕ → List ℕ → Entry
   -- "after three T = 1 with 2 pages": calls, T, pages
   leavesAfter : List Call → ℕ → ℕ → Entry
-  -- "words 0–7 have depths .., words .. without a page": calls, depths, and 1 for a word with a page
+  -- "words 0–7 have depths .., words .. without a page": calls, what the words say: depths, and page numbers plus one
   wordsAfter : List Call → List ℕ → List ℕ → Entry
-  -- "attribute 1 given as 1: (2,1), (3,1), reads 3, bound 4": calls, query, keys, reads, bound
+  -- "attribute 1 given as 1: (2,1), (3,1), reads 3, bound 4": calls, query, what the output begins with, reads, bound;
+  -- three bytes more stay as they came
   lists : List Call → List (Option ℕ) → List (List ℕ) → ℕ → ℕ → Entry
   -- "A directory of 4 .. words: the fourth insert gives 6": words, pages, the numbers of the four answers
   numbers : ℕ → ℕ → List ℕ → Entry
@@ -138,18 +173,15 @@ holds (bits values expected) =
     sameNumbers (map (λ t. bitValue (splitBit (widthsOf twoTwo) (encodings twoTwo values) t)) (upTo 4)) expected
 holds (leavesAfter cs T pages) =
     eqb (greatestDepth (divisionAfter cs)) T && eqb (nonEmptyLeaves (divisionAfter cs)) pages
-holds (wordsAfter cs depths paged) =
-    let D = divisionAfter cs in
-    let T = greatestDepth D in
-    sameNumbers (byAddress T (λ p. leafDepth (listBit p) 0 D)) depths
-    && sameNumbers (byAddress T (λ p. bitValue (nonEmpty (leafRecords (listBit p) 0 D)))) paged
-holds (lists cs q keys reads bound) =
+holds (wordsAfter cs depths pages) =
+    let named = map leafOf (directoryWords (divisionAfter cs)) in
+    sameNumbers (map depthIn named) depths && sameNumbers (map pageIn named) pages
+holds (lists cs q records reads bound) =
     let S = setAfterAll wide [] cs in
-    let n = length keys in
-    sameNumbers (joined (map (λ r. r .key) (matching wide S q))) (joined keys)
-    && (sameNumbers (countsIn (outcome wide S (queryCall q (replicate (recordSize * n) 0)) .answer))
-    (n ∷ n ∷ reads ∷ [])
-    && eqb (readsBound twoTwo q S) bound)
+    let n = length records in
+    let o = outcome wide S (queryCall q (replicate (recordSize * n + 3) 255)) in
+    sameNumbers (o .output) (joined records ++ replicate 3 255)
+    && (sameNumbers (countsIn (o .answer)) (n ∷ n ∷ reads ∷ []) && eqb (readsBound twoTwo q S) bound)
 holds (numbers words pages expected) =
     sameNumbers (map (λ o. numberIn (o .answer)) (run (lent words pages) [] four)) expected
 holds (both e e′) = holds e && holds e′
@@ -170,9 +202,9 @@ table =
     (both (both (bits (key 0 0) (0 ∷ 0 ∷ 0 ∷ 0 ∷ [])) (bits (key 2 0) (1 ∷ 0 ∷ 0 ∷ 0 ∷ [])))
     (both (bits (key 3 1) (1 ∷ 0 ∷ 1 ∷ 1 ∷ [])) (bits (key 2 1) (1 ∷ 0 ∷ 0 ∷ 1 ∷ []))))
     (both (both (leavesAfter three 1 2) (leavesAfter four 3 3))
-    (wordsAfter four (1 ∷ 3 ∷ 1 ∷ 2 ∷ 1 ∷ 1 ∷ 3 ∷ 2 ∷ []) (1 ∷ 1 ∷ 1 ∷ 0 ∷ 1 ∷ 1 ∷ 1 ∷ 0 ∷ [])))
+    (wordsAfter four (1 ∷ 3 ∷ 1 ∷ 2 ∷ 1 ∷ 1 ∷ 3 ∷ 2 ∷ []) (1 ∷ 2 ∷ 1 ∷ 0 ∷ 1 ∷ 1 ∷ 3 ∷ 0 ∷ [])))
     -- (b)
-    ∷ lists four (none ∷ some 1 ∷ none ∷ none ∷ []) (key 2 1 ∷ key 3 1 ∷ []) 3 4
+    ∷ lists four (none ∷ some 1 ∷ none ∷ none ∷ []) (written 2 1 13 ∷ written 3 1 12 ∷ []) 3 4
     -- (c)
     ∷ leavesAfter (four ++ deleteCall (key 2 1) ∷ []) 1 2
     -- (d) and (e)

@@ -1,0 +1,49 @@
+// Lists of calls, encoded in words, replayed on a fresh store.
+use replay::replay;
+use shape::Shape;
+use store::Change;
+use store::Changed;
+use store::State;
+ghost use mathlib.Core.Path.{_≡_};
+ghost use Rattle.shape.specs.Refusal.{answered};
+ghost use Rattle.model.specs.Model.{changed};
+ghost use Rattle.store.specs.Store.{memory, store};
+ghost use Rattle.replay.specs.Replayed.{Replayed};
+ghost use Rattle.probe.specs.Fields.{changedNumber};
+
+// The number of Fresh's refusal, 0 where it is accepted, and the state after the calls.
+#[repr(C)]
+pub struct ReplayFields {
+    pub number: u32,
+    pub state: State,
+}
+
+// Makes a store in lent memory and runs the calls on it, as many as there are whole ones and as
+// many as the answers have room for. Refused with 1 or 2 as Fresh is; then nothing is changed.
+#[no_mangle]
+pub extern "C" fn probe_replay(
+    shape: Shape,
+    dir: &mut [u32],
+    pages: &mut [u8],
+    calls: &[u32],
+    answers: &mut [u64],
+    out: &mut [u8],
+) -> ReplayFields
+    ensures { λ r. ⌜ Replayed shape (memory (now (dir .entry)) (now (pages .entry)))
+        (now (calls .entry)) (now (answers .entry)) (now (out .entry)) (answered (r .number) changed)
+        (store (r .state) (now (dir .exit)) (now (pages .exit))) (now (answers .exit)) (now (out .exit)) ⌝ }
+{
+    fields_of(replay(shape, dir, pages, calls, answers, out))
+}
+
+// The number and the state of a change.
+fn fields_of(change: Change) -> ReplayFields
+    ensures { λ r. ⌜ (r .number ≡ changedNumber (change .answer)) × (r .state ≡ change .state) ⌝ }
+{
+    let answer = change.answer;
+    let state = change.state;
+    match answer {
+        Changed::Done => ReplayFields { number: 0, state },
+        Changed::Refused(number) => ReplayFields { number, state },
+    }
+}

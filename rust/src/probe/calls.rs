@@ -1,0 +1,61 @@
+//! Lists of calls, encoded in words, replayed on a fresh store.
+use crate::host::Shape;
+use crate::plain::image::STATE;
+
+/// The words of a call.
+pub const CALL_SIZE: usize = 11;
+
+/// The words of an answer.
+pub const ANSWER_SIZE: usize = 4;
+
+/// The number of Fresh's refusal, 0 where it is accepted, and the state after the calls.
+#[repr(C)]
+#[derive(Clone, Debug)]
+pub struct Replayed {
+    pub number: u32,
+    pub state: [u32; STATE],
+}
+
+extern "C" {
+    fn probe_replay(
+        shape: Shape,
+        dir: *mut u32,
+        words: usize,
+        pages: *mut u8,
+        bytes: usize,
+        calls: *const u32,
+        call_words: usize,
+        answers: *mut u64,
+        answer_words: usize,
+        out: *mut u8,
+        out_bytes: usize,
+    ) -> Replayed;
+}
+
+/// Makes a store in lent memory and runs the calls on it, as many as there are whole ones and as many as the answers
+/// have room for. Refused with 1 or 2 as Fresh is; then nothing is changed.
+pub fn replay(
+    shape: Shape,
+    dir: &mut [u32],
+    pages: &mut [u8],
+    calls: &[u32],
+    answers: &mut [u64],
+    out: &mut [u8],
+) -> Replayed {
+    // SAFETY: nothing is required; each pointer and length are of one slice, and no two slices overlap.
+    unsafe {
+        probe_replay(
+            shape,
+            dir.as_mut_ptr(),
+            dir.len(),
+            pages.as_mut_ptr(),
+            pages.len(),
+            calls.as_ptr(),
+            calls.len(),
+            answers.as_mut_ptr(),
+            answers.len(),
+            out.as_mut_ptr(),
+            out.len(),
+        )
+    }
+}

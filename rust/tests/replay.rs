@@ -1,0 +1,228 @@
+//! Demand 3 on the running code: random lists of calls, encoded in words and replayed on lent memory, answer by answer
+//! and byte by byte as the plain model gives them (document 01, "The plain model of demand 3").
+use mdeh_tests::cells::Cells;
+use mdeh_tests::compare::Comparisons;
+use mdeh_tests::host::{self, CheckResult, Shape};
+use mdeh_tests::lent::{lend_bytes, lend_words, Lent};
+use mdeh_tests::plain::image::Image;
+use mdeh_tests::plain::model::Model;
+use mdeh_tests::plain::refusal::page_size;
+use mdeh_tests::plain::samples::{query_of, random_key};
+use mdeh_tests::plain::shown::pages_shown;
+use mdeh_tests::probe::calls::{replay, Replayed, ANSWER_SIZE, CALL_SIZE};
+use mdeh_tests::random::Random;
+use mdeh_tests::shapes::random_shape;
+
+const SEED: u64 = 0x6d64_6568_2d30_3137;
+
+// ---- calls
+
+/// A call as the model is given it; a query with the bytes of its output.
+#[derive(Clone, Copy, Debug)]
+enum Call {
+    Insert([u32; 4], u32),
+    Delete([u32; 4]),
+    Lookup([u32; 4]),
+    Query([Option<u32>; 4], usize),
+}
+
+/// The 11 words of a call. What the kind does not use is random, so is a query's kind from 3 on, what says that an
+/// attribute is given, and the value of a free one.
+fn words_of(random: &mut Random, call: Call) -> Vec<u32> {
+    let mut words = random.words(CALL_SIZE);
+    match call {
+        Call::Insert(key, payload) => {
+            (words[0], words[9]) = (0, payload);
+            words[1..5].copy_from_slice(&key);
+        }
+        Call::Delete(key) => {
+            words[0] = 1;
+            words[1..5].copy_from_slice(&key);
+        }
+        Call::Lookup(key) => {
+            words[0] = 2;
+            words[1..5].copy_from_slice(&key);
+        }
+        Call::Query(query, size) => {
+            (words[0], words[10]) = ([3, 4, 1 << 31, u32::MAX][random.below(4)], size as u32);
+            for (j, value) in query.into_iter().enumerate() {
+                words[1 + j] = value.unwrap_or(words[1 + j]);
+                words[5 + j] = if value.is_some() { words[5 + j].max(1) } else { 0 };
+            }
+        }
+    }
+    words
+}
+
+/// A random call: a key is near those stored, one in sixteen is out of bounds; a query gives any attributes, unused
+/// ones too, and its output has up to 120 bytes.
+fn random_call(random: &mut Random, model: &Model, inserts: usize) -> Call {
+    let mut key = random_key(random, model);
+    if random.below(16) == 0 {
+        key[random.below(4)] = random.short(32) as u32;
+    }
+    match random.below(16) {
+        turn if turn < inserts => Call::Insert(key, random.number() as u32),
+        turn if turn < 10 => Call::Delete(key),
+        turn if turn < 12 => Call::Lookup(key),
+        _ => Call::Query(random_query(random, model, key), random.below(121)),
+    }
+}
+
+/// A query for the values of a key: in one of four cases any attributes are given, else those in use.
+fn random_query(random: &mut Random, model: &Model, key: [u32; 4]) -> [Option<u32>; 4] {
+    let used = (1 << model.shape.attributes) - 1;
+    query_of(random.below(16) & [15, used, used, used][random.below(4)], key)
+}
+
+// ---- the model's side
+
+/// The model's answer to a call as words; the output is changed as the model changes it.
+fn answer(model: &mut Model, call: Call, out: &mut [u8]) -> [u64; ANSWER_SIZE] {
+    let words = match call {
+        Call::Insert(key, payload) => model.insert(key, payload).map(|()| [0; 4]),
+        Call::Delete(key) => model.delete(key).map(|()| [0; 4]),
+        Call::Lookup(key) => model.lookup(key).map(|(payload, reads)| [0, payload.into(), reads.into(), 0]),
+        Call::Query(query, _) => {
+            model.query(query, out).map(|(written, total, reads)| [0, written, total, reads])
+        }
+    };
+    words.unwrap_or_else(|number| [number.into(), 0, 0, 0])
+}
+
+/// What a replay is lent beside the store, and what the model leaves of it.
+struct Script {
+    calls: Vec<u32>,
+    answers: Vec<u64>,
+    out: Vec<u8>,
+    expected_answers: Vec<u64>,
+    expected_out: Vec<u8>,
+    model: Model,
+}
+
+impl Script {
+    /// A list of so many calls. One list in four has less output than its queries ask for, one in four less room for
+    /// answers than calls, and every list may end with part of a call or an answer.
+    fn new(random: &mut Random, mut model: Model, calls: usize) -> Script {
+        let room = if random.below(4) == 0 { random.below(20 * calls + 1) } else { 121 * calls };
+        let asked = if random.below(4) == 0 { random.below(calls + 1) } else { calls };
+        let (part, more) = (random.below(CALL_SIZE), random.below(ANSWER_SIZE));
+        let out = random.bytes(room);
+        let answers: Vec<u64> = (0..ANSWER_SIZE * asked + more).map(|_| random.number()).collect();
+        let (mut expected_out, mut expected_answers) = (out.clone(), answers.clone());
+        let (mut words, mut start) = (vec![], 0);
+        for turn in 0..calls {
+            // more inserts at first, more deletes at last
+            let inserts = if random.below(calls) > turn { 7 } else { 3 };
+            let call = random_call(random, &model, inserts);
+            words.extend(words_of(random, call));
+            if turn >= asked {
+                continue;
+            }
+            // each output begins where the one before ended, and has at most what is left
+            let size = if let Call::Query(_, size) = call { size.min(room - start) } else { 0 };
+            let told = answer(&mut model, call, &mut expected_out[start..start + size]);
+            expected_answers[ANSWER_SIZE * turn..][..ANSWER_SIZE].copy_from_slice(&told);
+            start += size;
+        }
+        words.extend(random.words(part));
+        Script { calls: words, answers, out, expected_answers, expected_out, model }
+    }
+}
+
+// ---- replays
+
+/// Numbers between up to seven guards on each side.
+fn lend_numbers(random: &mut Random, content: &[u64]) -> Lent<u64> {
+    let (before, after) = (random.below(8), random.below(8));
+    let mut guards = |count| (0..count).map(|_| random.number()).collect();
+    Lent::new(guards(before), content, guards(after))
+}
+
+/// Replays a list of calls on random memory of these lengths and compares the number, all answers and outputs, and the
+/// store with the model's leaves. Returns the numbers of the answers.
+fn compare(
+    count: &mut Comparisons,
+    random: &mut Random,
+    shape: Shape,
+    lengths: (usize, usize),
+    calls: usize,
+    about: std::fmt::Arguments,
+) -> Vec<u64> {
+    let (words, bytes) = lengths;
+    let content = random.words(words);
+    let mut dir = lend_words(random, &content);
+    let content = random.bytes(bytes);
+    let mut pages = lend_bytes(random, &content);
+    let fresh = Model::fresh(shape, words, bytes);
+    let empty = fresh.clone().unwrap_or_else(|_| Model::new(Shape::new(&[1], 1), 1, 0));
+    let script = Script::new(random, empty, calls);
+    let mut answers = lend_numbers(random, &script.answers);
+    let mut out = lend_bytes(random, &script.out);
+    let Replayed { number, state } = replay(
+        shape,
+        dir.slice_mut(),
+        pages.slice_mut(),
+        &script.calls,
+        answers.slice_mut(),
+        out.slice_mut(),
+    );
+    count.same(number, fresh.as_ref().err().copied().unwrap_or(0), about);
+    if let Err(number) = fresh {
+        let unchanged = dir.unchanged() && pages.unchanged() && answers.unchanged() && out.unchanged();
+        count.same(unchanged, true, about);
+        return vec![number.into()];
+    }
+    count.same(answers.slice(), &script.expected_answers[..], about);
+    count.same(out.slice(), &script.expected_out[..], about);
+    let Model { page_limit, depth_limit, .. } = script.model;
+    let kept = dir.unchanged_from(1 << depth_limit) && pages.unchanged_from(page_limit * page_size(shape));
+    count.same(kept && answers.guards_stay() && out.guards_stay(), true, about);
+    let CheckResult { number, sound } = host::check_result(&state, dir.slice(), pages.slice());
+    count.same((number, sound), (0, 1), about);
+    let image = Image { state: state.to_vec(), dir: dir.slice().to_vec(), pages: pages.slice().to_vec() };
+    let cells = Cells::new(script.model.widths(), depth_limit);
+    count.same(pages_shown(&image, &script.model, &cells).err(), None, about);
+    script.expected_answers.chunks_exact(ANSWER_SIZE).map(|words| words[0]).collect()
+}
+
+/// Lists of up to 120 calls on small stores, some of which Fresh refuses. Every number of a refusal but 9 is met.
+#[test]
+fn random_lists_on_small_stores() {
+    let mut count = Comparisons::default();
+    let mut random = Random::new(SEED);
+    let mut met = [0u64; 10];
+    let mut expected = 0;
+    for list in 0..1500 {
+        let mut shape = random_shape(&mut random, 14, 4);
+        if list % 50 == 0 {
+            shape.capacity = 17;
+        }
+        let words = random.below(100);
+        let bytes = random.below(20 * page_size(shape));
+        let calls = random.below(121);
+        let about = format_args!("seed {SEED:#x}, list {list}: {shape:?}, {words} words, {bytes} bytes");
+        let numbers = compare(&mut count, &mut random, shape, (words, bytes), calls, about);
+        expected += if Model::fresh(shape, words, bytes).is_ok() { 6 } else { 2 };
+        numbers.iter().for_each(|&number| met[number.min(9) as usize] += 1);
+    }
+    println!("answers by number: {met:?}");
+    assert!(met[..9].iter().all(|&times| times > 0), "a number is not met: {met:?}");
+    count.end(expected);
+}
+
+/// A few long lists on larger stores.
+#[test]
+fn long_lists() {
+    let mut count = Comparisons::default();
+    let mut random = Random::new(SEED + 1);
+    for list in 0..12 {
+        let shape = random_shape(&mut random, 40, 16);
+        let (words, bytes) = (1 + random.below(5000), 1 + random.below(200));
+        let bytes = bytes * page_size(shape);
+        let about =
+            format_args!("seed {:#x}, list {list}: {shape:?}, {words} words, {bytes} bytes", SEED + 1);
+        compare(&mut count, &mut random, shape, (words, bytes), 1500, about);
+    }
+    count.end(12 * 6);
+}
