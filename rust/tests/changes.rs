@@ -1,6 +1,6 @@
-//! Insert and delete where they are refused early, on unsound stores and on random memory: they end, answer 9 where they
-//! meet damage that they have to tell, otherwise 9 or what is ordinary for the call; with any number nothing is changed
-//! (`LentStore` compares it, and the guards), and with none no word or page of another leaf is.
+//! Insert and delete where they are refused early, on unsound stores and on random memory: they end, answer 9 where
+//! they meet damage that they have to tell, otherwise 9 or what is ordinary for the call; with any number nothing is
+//! changed (`LentStore` compares it, and the guards), and with none no word or page of another leaf is.
 use mdeh_tests::cells::Cells;
 use mdeh_tests::compare::Comparisons;
 use mdeh_tests::lent::LentStore;

@@ -15,12 +15,11 @@ use mdeh_tests::plain::model::Model;
 use mdeh_tests::plain::reading::Reading;
 use mdeh_tests::plain::samples::{query_of, random_key, random_model};
 use mdeh_tests::random::Random;
-use std::fmt::Debug;
 
 const SEED: u64 = 0x6d64_6568_2d30_3133;
 
 /// The stores of each kind, and the calls of each sort on one store.
-const STORES: usize = 100;
+const STORES: usize = 200;
 const CALLS: usize = 6;
 
 // ---- the stores
@@ -63,27 +62,30 @@ fn some_key(random: &mut Random, model: &Model) -> [u32; 4] {
 /// The calls, by name.
 const NAMES: [&str; 4] = ["lookup", "query", "insert", "delete"];
 
-/// What came of a call: whether its answer is the model's, whether it is 9, and what is wrong with it on this store.
+/// What came of a call: whether its answer is the model's, whether it is 9 and whether it should be and is not, and what
+/// the call lost.
 struct Answer {
     right: bool,
     nine: bool,
-    fault: Option<String>,
+    untold: bool,
+    lost: Option<String>,
 }
 
-/// An answer that is 9 where it has to be.
-fn answer<T: PartialEq + Debug>(found: Result<T, u32>, expected: Result<T, u32>, told: bool) -> Answer {
+/// The answer to a call that has to tell damage, or need not.
+fn answer<T: PartialEq>(found: Result<T, u32>, expected: Result<T, u32>, told: bool) -> Answer {
     let nine = found == Err(9);
-    let fault = (told && !nine).then(|| format!("answers {found:?} to damage that it meets"));
-    Answer { right: found == expected, nine, fault }
+    Answer { right: found == expected, nine, untold: told && !nine, lost: None }
 }
 
-/// How the calls of one sort were answered: as the model does, with 9, and silently wrong; and how many were at fault.
+/// How the calls of one sort were answered: as the model does, with 9, and silently wrong. How many of all these did not
+/// tell damage that they had to tell, and how many lost what another leaf answers for.
 #[derive(Clone, Copy, Default)]
 struct Share {
     right: u64,
     nine: u64,
     wrong: u64,
-    faults: u64,
+    untold: u64,
+    lost: u64,
 }
 
 impl Share {
@@ -93,14 +95,15 @@ impl Share {
             Answer { right: true, .. } => self.right += 1,
             _ => self.wrong += 1,
         }
-        self.faults += u64::from(answer.fault.is_some());
+        self.untold += u64::from(answer.untold);
+        self.lost += u64::from(answer.lost.is_some());
     }
 
     fn print(&self, kind: &str, name: &str) {
         let all = (self.right + self.nine + self.wrong) as f64;
         let [right, nine, wrong] = [self.right, self.nine, self.wrong].map(|part| part as f64 * 100.0 / all);
-        print!("{kind}, {name}: right {right:.1} %, 9 {nine:.1} %, silently wrong {wrong:.1} %");
-        println!("; {} faults", self.faults);
+        print!("{kind}, {name}: right {right:.1} %, 9 {nine:.1} %, silently wrong {wrong:.1} %; ");
+        println!("{} untold, {} lost", self.untold, self.lost);
     }
 }
 
@@ -155,7 +158,7 @@ impl Damaged<'_> {
         let after = Reading::new(image, self.cells);
         let change = Change { before, after, bits: self.model.split_bits(key) };
         let lost = change.others_kept().err().or_else(|| self.record_lost(&change));
-        Answer { fault: answer.fault.or(lost), ..answer }
+        Answer { lost, ..answer }
     }
 
     /// A record that was found in another leaf, and after a change is not found there with the same payload. A leaf of
@@ -168,7 +171,7 @@ impl Damaged<'_> {
             });
             let told = after == Err(9) && !change.after.word_fair(change.before.word(bits));
             let lost = before.is_ok() && !bits.starts_with(change.region()) && after != before && !told;
-            lost.then(|| format!("loses record {key:?}: {before:?}, {after:?}"))
+            lost.then(|| format!("record {key:?}: {before:?}, {after:?}"))
         })
     }
 }
@@ -197,14 +200,13 @@ fn damage_of_each_kind() {
             let cells = Cells::of_store(&image);
             let damaged = Damaged { model: &model, image: &image, cells: &cells };
             for call in 0..4 * CALLS {
-                let (name, share) = (NAMES[call % 4], &mut shares[call % 4]);
-                let key = some_key(&mut random, &model);
-                let mut answer = damaged.call(&mut random, name, key);
-                if never_wrong(kind, name) && !answer.nine && !answer.right {
-                    answer.fault.get_or_insert("is silently wrong".to_string());
+                let (name, key) = (NAMES[call % 4], some_key(&mut random, &model));
+                let answer = damaged.call(&mut random, name, key);
+                shares[call % 4].add(&answer);
+                let Answer { right, nine, untold, lost } = answer;
+                if untold || lost.is_some() || never_wrong(kind, name) && !nine && !right {
+                    faults.push(format!("{kind}: {name} {key:?}, untold {untold}, lost {lost:?}: {image:?}"));
                 }
-                share.add(&answer);
-                faults.extend(answer.fault.map(|fault| format!("{kind}: {name} {key:?} {fault}: {image:?}")));
             }
         }
         NAMES.iter().zip(&shares).for_each(|(name, share)| share.print(kind, name));
@@ -221,8 +223,8 @@ fn sound_stores() {
         let sound = Damaged { model: &model, image: &now, cells: &cells };
         for call in 0..4 * CALLS {
             let key = some_key(&mut random, &model);
-            let Answer { right, fault, .. } = sound.call(&mut random, NAMES[call % 4], key);
-            assert!(right && fault.is_none(), "{} {key:?}, {fault:?}: {now:?}", NAMES[call % 4]);
+            let Answer { right, untold, lost, .. } = sound.call(&mut random, NAMES[call % 4], key);
+            assert!(right && !untold && lost.is_none(), "{} {key:?}, {lost:?}: {now:?}", NAMES[call % 4]);
         }
     }
 }

@@ -33,8 +33,8 @@ impl Change<'_> {
         &self.bits[..x.min(y)]
     }
 
-    /// The pages that the change may alter and that were not free: that of the key's leaf, and of the sibling that it is
-    /// joined with.
+    /// The pages that the change may alter and that were not free: that of the key's leaf, and that of the sibling with
+    /// which it is joined.
     pub fn pages(&self) -> Vec<usize> {
         let [x, y] = self.depths();
         let own = page_of(self.before.word(&self.bits));
