@@ -1,6 +1,6 @@
 /*
  * A gateway's records: which display code came from which container slot under which image release, and how often.
- * Fills a store, asks for code 30, and prints the slots and releases.
+ * Fills a store, checks it, asks for code 30, and prints the slots and releases.
  */
 #include "mdeh.h"
 
@@ -45,12 +45,20 @@ static uint32_t fill(void) {
     return number;
 }
 
+/* People act on the list: check, then ask. A store whose memory was damaged is filled again from what was seen. */
+static uint32_t ready(void) {
+    MdehCheckResult found = mdeh_check(state, MDEH_STATE_WORDS, directory, WORDS, pages, sizeof pages);
+    return found.number == MDEH_ACCEPTED && found.sound ? MDEH_ACCEPTED : fill();
+}
+
 int main(void) {
     static const MdehQuery code_30 = {{1, 0, 0, 0}, {30, 0, 0, 0}};
     uint8_t out[16 * MDEH_RECORD_BYTES];
     MdehQueryResult found;
     uint64_t i;
     uint32_t number = fill();
+    if (number == MDEH_ACCEPTED)
+        number = ready();
     if (number != MDEH_ACCEPTED)
         return refused("fill", number);
     found = mdeh_query(state, MDEH_STATE_WORDS, directory, WORDS, pages, sizeof pages, code_30, out, sizeof out);

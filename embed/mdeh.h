@@ -25,7 +25,14 @@
  *
  * SOUND. A store is sound if it shows a set of records as the layouts below say. mdeh_fresh makes a sound store, and
  * every call leaves a sound store sound. On an unsound one (memory that something else wrote) a call still ends and
- * keeps to the slices, but gives 9 or answers from what it meets. mdeh_check tells the two apart.
+ * keeps to the slices, but gives 9 or answers from what it meets; an accepted insert or delete leaves the words and
+ * pages of all leaves but its key's and those joined with it as they were. mdeh_check tells the two apart.
+ *
+ * CHECK, THEN ASK. A call reads a part of the store and tells the damage that it sees there; on damaged memory a list
+ * with number 0 may still lack records. Before people act on a list, ask mdeh_check, then mdeh_query, and let nothing
+ * write in between. Check reads the whole store, some 15 ns a record: a third of a millisecond for 20,000. Where it
+ * says no, or a call gives 9, the memory was damaged: do not act on it; make a fresh store and insert the event records
+ * again.
  *
  * KEEPING. A store is its 22 state words, its directory and its pages, as they are; it has no pointers, and may be
  * copied, moved and written to a file. Words of the directory from 2^T on need not be kept (T is state word 8). To open
@@ -85,7 +92,7 @@ enum {
     MDEH_REFUSED_DEPTH = 6,     /* insert: `capacity` stored keys agree with this one in their first L split bits */
     MDEH_REFUSED_PAGES = 7,     /* insert: the records would need more than P pages */
     MDEH_REFUSED_ATTRIBUTE = 8, /* query: an attribute is given that the shape does not have */
-    MDEH_REFUSED_UNSOUND = 9    /* the store is not sound, and the call met it */
+    MDEH_REFUSED_UNSOUND = 9    /* the store is not sound, and the call met it: rebuild it from the event records */
 };
 
 /* What records look like. In bounds: 1 to 4 attributes, widths of 1 to 16 bits, a capacity of 1 to 16 records. */
@@ -161,7 +168,8 @@ MdehLookupResult mdeh_lookup(const uint32_t *state, size_t state_words, const ui
 MdehQueryResult mdeh_query(const uint32_t *state, size_t state_words, const uint32_t *directory, size_t words,
                            const uint8_t *pages, size_t bytes, MdehQuery query, uint8_t *out, size_t out_bytes);
 
-/* Whether the slices hold a sound store. Reads all of it, writes nothing. Refused with 1, 2. */
+/* Whether the slices hold a sound store: to be asked before people act on a list. Reads all of it, writes nothing.
+   Refused with 1, 2. */
 MdehCheckResult mdeh_check(const uint32_t *state, size_t state_words, const uint32_t *directory, size_t words,
                            const uint8_t *pages, size_t bytes);
 

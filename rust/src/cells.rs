@@ -1,5 +1,7 @@
 //! Split bits and cells from document 01's words, by strings of bits. Addresses are those of the doubling
 //! array. Nothing here is taken from the library.
+use crate::plain::image::{Image, DEPTH_LIMIT};
+use crate::plain::refusal::used_widths;
 use crate::reference::{steps, DoublingArray};
 use std::collections::HashMap;
 
@@ -22,6 +24,11 @@ impl Cells {
         let array = DoublingArray::new(widths, greatest);
         let addresses = array.vectors.into_iter().enumerate().map(|(a, vector)| (vector, a)).collect();
         Cells { widths: widths.to_vec(), steps: steps(widths), addresses }
+    }
+
+    /// The cells of a store, in directories up to its L.
+    pub fn of_store(image: &Image) -> Cells {
+        Cells::new(&used_widths(image.shape()), image.state[DEPTH_LIMIT] as usize)
     }
 
     /// "The split bits of a key are its bits in this order", those of all steps; "Bit 0 of an encoding is its
@@ -47,15 +54,20 @@ impl Cells {
 
     /// Every cell of a directory of depth t.
     pub fn all(&self, t: usize) -> Vec<Cell> {
+        self.region(&[], t)
+    }
+
+    /// Every cell of a directory of depth t whose split bits begin with a string.
+    pub fn region(&self, string: &[bool], t: usize) -> Vec<Cell> {
         let cell = |bits: Vec<bool>| Cell { address: self.address(&bits), bits };
-        strings(t).into_iter().map(cell).collect()
+        strings(string, t).into_iter().map(cell).collect()
     }
 }
 
-/// All strings of so many bits.
-fn strings(count: usize) -> Vec<Vec<bool>> {
-    let mut all = vec![vec![]];
-    for _ in 0..count {
+/// All strings of so many bits that begin with this one.
+fn strings(beginning: &[bool], count: usize) -> Vec<Vec<bool>> {
+    let mut all = vec![beginning.to_vec()];
+    for _ in beginning.len()..count {
         all = all.iter().flat_map(|bits| [false, true].map(|bit| [&bits[..], &[bit]].concat())).collect();
     }
     all

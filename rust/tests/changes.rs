@@ -1,10 +1,14 @@
-//! Insert and delete where they are refused early, on unsound stores and on random memory: they end, answer 9 or what
-//! is ordinary for the call, and with any number nothing is changed (`LentStore` compares it, and the guards).
+//! Insert and delete where they are refused early, on unsound stores and on random memory: they end, answer 9 where
+//! they meet damage that they have to tell, otherwise 9 or what is ordinary for the call; with any number nothing is
+//! changed (`LentStore` compares it, and the guards), and with none no word or page of another leaf is.
+use mdeh_tests::cells::Cells;
 use mdeh_tests::compare::Comparisons;
 use mdeh_tests::lent::LentStore;
 use mdeh_tests::plain::image::{word_of, Image, Laid, DEPTH, PAGE_LIMIT};
-use mdeh_tests::plain::judge::early_number;
+use mdeh_tests::plain::judge::{early_number, limits_hold};
+use mdeh_tests::plain::kept::Change;
 use mdeh_tests::plain::model::Model;
+use mdeh_tests::plain::reading::Reading;
 use mdeh_tests::plain::refusal::key_refused;
 use mdeh_tests::plain::samples::{early_refused, random_key, random_model};
 use mdeh_tests::plain::unsound;
@@ -85,8 +89,12 @@ fn a_damaged_word_gives_9() {
         let placed = &laid.leaves[random.below(laid.leaves.len())];
         let (t, p) = (laid.image.state[DEPTH] as usize, laid.image.state[PAGE_LIMIT] as usize);
         let past = p + random.below(65_535 - p);
+        // a depth that has no leaf
+        let bare = usize::from(t == 0);
         for word in [
             placed.word | 1 << random.between(20, 31),
+            word_of(placed.page, bare),
+            word_of(None, bare),
             word_of(placed.page, t + 1),
             word_of(None, t + 1 + random.below(15 - t)),
             word_of(Some(p), placed.leaf.depth()),
@@ -98,7 +106,7 @@ fn a_damaged_word_gives_9() {
             all_damaged(&mut count, &mut random, &model, &placed.leaf.bits, &image);
         }
     }
-    count.end(500 * 6 * 5 * 2);
+    count.end(500 * 8 * 5 * 2);
 }
 
 #[test]
@@ -132,17 +140,42 @@ const COMPARED: u64 = 8;
 fn ordinary_calls(count: &mut Comparisons, random: &mut Random, model: &Model, image: &Image) {
     let mut store = LentStore::new(random, image);
     let early = early_number(image);
+    let cells = (early.is_none() && limits_hold(image)).then(|| Cells::of_store(image));
     for turn in 0..COMPARED {
         let key = random_key(random, model);
         let (name, call) = CALLS[random.below(2)];
+        let before = store.image();
         let found = call(&mut store, key);
-        let right = match early.or_else(|| key_refused(image.shape(), key).then_some(3)) {
-            Some(number) => found == Err(number),
-            None if name == "insert" => matches!(found, Ok(()) | Err(4 | 6 | 7 | 9)),
-            None => matches!(found, Ok(()) | Err(5 | 9)),
+        let right = match (early.or_else(|| key_refused(image.shape(), key).then_some(3)), &cells) {
+            (Some(number), _) => found == Err(number),
+            (None, None) => found == Err(9),
+            (None, Some(cells)) => is_ordinary(name, key, found, cells, &before, &store.image()),
         };
         let about = format_args!("{name} {key:?}, turn {turn}: {model:?}, state {:?}", image.state);
         count.same((right, found), (true, found), about);
+    }
+}
+
+/// Whether a change of a key may be answered so after 1, 2 and 3, and keeps what is other leaves'.
+fn is_ordinary(
+    name: &str,
+    key: [u32; 4],
+    found: Result<(), u32>,
+    cells: &Cells,
+    before: &Image,
+    after: &Image,
+) -> bool {
+    let before = Reading::new(before, cells);
+    match (name, found) {
+        (_, Err(9)) => true,
+        ("insert", _) if before.insert_told(key) => false,
+        ("delete", _) if before.delete_told(key) => false,
+        ("insert", Err(number)) => matches!(number, 4 | 6 | 7),
+        (_, Err(number)) => number == 5,
+        (_, Ok(())) => {
+            let bits = before.model.split_bits(key);
+            Change { before, after: Reading::new(after, cells), bits }.others_kept().is_ok()
+        }
     }
 }
 

@@ -1,10 +1,12 @@
 //! Lookup and query on unsound stores and on random memory: they end, write nothing but what they answer, and answer 9
-//! or what is ordinary for the call.
+//! where they meet damage that they have to tell, otherwise 9 or what is ordinary for the call.
+use mdeh_tests::cells::Cells;
 use mdeh_tests::compare::Comparisons;
 use mdeh_tests::lent::{lend_bytes, LentStore};
 use mdeh_tests::plain::image::Image;
-use mdeh_tests::plain::judge::{early_number, judge};
+use mdeh_tests::plain::judge::{early_number, judge, limits_hold};
 use mdeh_tests::plain::model::Model;
+use mdeh_tests::plain::reading::Reading;
 use mdeh_tests::plain::refusal::{key_refused, query_refused};
 use mdeh_tests::plain::samples::{query_of, random_key};
 use mdeh_tests::plain::unsound;
@@ -16,22 +18,25 @@ const SEED: u64 = 0x6d64_6568_2d30_3038;
 const COMPARED: u64 = 1 + 4 + 4;
 
 /// Some lookups and queries on any store, with keys near those of a model: refused early as the table says, otherwise
-/// 9 or ordinary. Check answers as the judge does.
+/// 9 or ordinary. Limits that no sound store has are told by every call. Check answers as the judge does.
 fn both_calls(count: &mut Comparisons, random: &mut Random, model: &Model, image: &Image) {
     let store = LentStore::new(random, image);
     let about = format_args!("{model:?}, state {:?}", image.state);
     count.same(store.check(), judge(image), about);
     let early = early_number(image);
+    let cells = (early.is_none() && limits_hold(image)).then(|| Cells::of_store(image));
+    let reading = cells.as_ref().map(|cells| Reading::new(image, cells));
     for _ in 0..4 {
         let key = random_key(random, model);
         let found = store.lookup(key);
         let right = match early.or_else(|| key_refused(image.shape(), key).then_some(3)) {
             Some(number) => found == Err(number),
+            None if reading.as_ref().is_none_or(|reading| reading.lookup_told(key)) => found == Err(9),
             None => matches!(found, Ok((_, 1)) | Err(5) | Err(9)),
         };
         count.same((right, found), (true, found), about);
         let query = query_of(random.below(16), key);
-        query_is_ordinary(count, random, image, &store, query);
+        query_is_ordinary(count, random, image, reading.as_ref(), &store, query);
     }
 }
 
@@ -39,6 +44,7 @@ fn query_is_ordinary(
     count: &mut Comparisons,
     random: &mut Random,
     image: &Image,
+    reading: Option<&Reading>,
     store: &LentStore,
     query: [Option<u32>; 4],
 ) {
@@ -50,6 +56,7 @@ fn query_is_ordinary(
     let right = match (early.or_else(|| query_refused(image.shape(), query)), found) {
         (Some(number), _) => found == Err(number) && out.unchanged(),
         (None, Err(number)) => number == 9 && out.unchanged(),
+        (None, Ok(_)) if reading.is_none_or(|reading| reading.query_told(query)) => false,
         (None, Ok((written, total, reads))) => {
             let fits = written <= total && written <= content.len() as u64 / 12;
             fits && reads <= 4096 && out.slice()[12 * written as usize..] == content[12 * written as usize..]

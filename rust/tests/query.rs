@@ -186,8 +186,12 @@ fn a_damaged_word_gives_9() {
         let (t, p) = (laid.image.state[DEPTH] as usize, laid.image.state[PAGE_LIMIT] as usize);
         let deep = t + 1 + random.below(15 - t);
         let past = p + random.below(65_535 - p);
+        // a depth that has no leaf
+        let bare = usize::from(t == 0);
         for word in [
             placed.word | 1 << random.between(20, 31),
+            word_of(placed.page, bare),
+            word_of(None, bare),
             word_of(placed.page, t + 1),
             word_of(placed.page, deep),
             word_of(None, deep),
@@ -201,7 +205,7 @@ fn a_damaged_word_gives_9() {
             all_damaged(&mut count, &mut random, &model, placed, &image);
         }
     }
-    count.end(500 * 8 * 3 * 2);
+    count.end(500 * 10 * 3 * 2);
 }
 
 /// The word of a leaf that is a 1-side says less than its depth: the walk comes to it by the 0-side's word.

@@ -1,5 +1,5 @@
 //! A gateway's records: which display code came from which container slot under which image release, and how often.
-//! Fills a store, asks for code 30, and prints the slots and releases.
+//! Fills a store, checks it, asks for code 30, and prints the slots and releases.
 use mdeh::{Query, Refusal, Shape, Store, RECORD_BYTES};
 
 /// Codes are below 2^7, slots below 2^5, releases below 2^9; a page holds four records.
@@ -37,6 +37,10 @@ fn main() -> Result<(), Refusal> {
     let mut store = Store::fresh(SHAPE, &mut directory, &mut pages)?;
     for (key, count) in SEEN {
         store.insert(key, count)?;
+    }
+    // people act on the list: check, then ask; a damaged store is to be filled again from what was seen
+    if !store.check()? {
+        return Err(Refusal::Unsound);
     }
     let mut out = [0; 16 * RECORD_BYTES];
     let found = store.query(Query::all().given(0, 30), &mut out)?;

@@ -35,6 +35,35 @@
 //! ([`Store::state`], [`Store::directory`], [`Store::pages`]); [`Store::reopen`] takes them up again.
 //! The layouts are in `embed/mdeh.h`.
 //!
+//! # Check, then ask
+//!
+//! A call reads a part of the store and tells the damage that it sees there, by [`Refusal::Unsound`]; on damaged memory
+//! a list may still lack records. Before people act on a list, ask [`Store::check`], which reads the whole store: some
+//! 15 ns a record, a third of a millisecond for 20,000. Where it says no, or a call gives `Unsound`, the memory was
+//! damaged: do not act on it; make a fresh store and insert the event records again.
+//!
+//! ```
+//! use mdeh::{Listing, Query, Refusal, Store};
+//!
+//! /// A list that people may act on.
+//! fn checked<'o>(store: &Store, query: Query, out: &'o mut [u8]) -> Result<Listing<'o>, Refusal> {
+//!     match store.check()? {
+//!         true => store.query(query, out),
+//!         false => Err(Refusal::Unsound),
+//!     }
+//! }
+//! # let (mut directory, mut pages) = ([0; 1], [0; 14]);
+//! # let mut store = Store::fresh(mdeh::Shape::new(&[4, 4], 1), &mut directory, &mut pages)?;
+//! # store.insert([3, 9], 7)?;
+//! # assert_eq!(checked(&store, Query::all(), &mut [0; 12])?.total, 1);
+//! # let state = *store.state();
+//! # directory[0] = 0; // nothing that a query can see
+//! # let store = Store::reopen(state, &mut directory, &mut pages);
+//! # assert_eq!(store.query(Query::all(), &mut [])?.total, 0);
+//! # assert_eq!(checked(&store, Query::all(), &mut [0; 12]).unwrap_err(), Refusal::Unsound);
+//! # Ok::<(), Refusal>(())
+//! ```
+//!
 //! # Linking
 //!
 //! `rt staticlib host` in the repository writes the library that this crate's build script links. It is code for x86-64

@@ -37,7 +37,8 @@ pub enum Refusal {
     Pages = 7,
     /// Query: an attribute is given that the shape does not have.
     Attribute = 8,
-    /// The memory does not hold a sound store, as [`Store::check`](crate::Store::check) finds it.
+    /// The memory does not hold a sound store, as [`Store::check`](crate::Store::check) finds it: it was damaged, and
+    /// the store is to be rebuilt from the event records.
     Unsound = 9,
 }
 

@@ -145,7 +145,7 @@ impl<'m> Store<'m> {
     }
 
     /// Whether the memory holds a sound store: state, words and pages show one set of records, from which every call is
-    /// then answered.
+    /// then answered. To be asked before people act on a list.
     ///
     /// Refused with [`Refusal::Shape`] or [`Refusal::Memory`].
     #[inline]

@@ -1,4 +1,5 @@
 //! Sound stores with one clause of "sound" broken (document 01, "Lent memory").
+pub mod memory;
 mod pages;
 mod state;
 

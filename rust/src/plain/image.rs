@@ -43,6 +43,31 @@ impl Image {
     pub fn set_count(&mut self, g: usize, count: u16) {
         self.page(g)[..2].copy_from_slice(&count.to_le_bytes());
     }
+
+    /// The count of page g.
+    pub fn count(&self, g: usize) -> usize {
+        self.number(g, 0) as usize
+    }
+
+    /// Key and payload of record i of page g.
+    pub fn content(&self, g: usize, i: usize) -> ([u32; 4], u32) {
+        let at = 2 + 12 * i;
+        let key = [0, 1, 2, 3].map(|j| self.number(g, at + 2 * j));
+        (key, self.number(g, at + 8) | self.number(g, at + 10) << 16)
+    }
+
+    /// Whether page g has the same bytes in another store of this shape.
+    pub fn same_page(&self, other: &Image, g: usize) -> bool {
+        let size = page_size(self.shape());
+        let bytes = g * size..(g + 1) * size;
+        self.pages[bytes.clone()] == other.pages[bytes]
+    }
+
+    /// The little-endian number of 16 bits at a place of page g.
+    fn number(&self, g: usize, place: usize) -> u32 {
+        let at = g * page_size(self.shape()) + place;
+        u32::from(self.pages[at]) + 256 * u32::from(self.pages[at + 1])
+    }
 }
 
 /// A leaf as the store shows it: its page if it has one, its word, and the addresses of its cells, that of
@@ -106,6 +131,16 @@ fn place(model: &Model, leaves: Vec<Leaf>, t: usize, free_pages: &mut Vec<usize>
 /// "packs the page number plus one into bits 0–15, or 0 for no page, and the leaf's depth into bits 16–19".
 pub fn word_of(page: Option<usize>, depth: usize) -> u32 {
     (depth as u32) << 16 | page.map_or(0, |g| g as u32 + 1)
+}
+
+/// The page that a word names.
+pub fn page_of(word: u32) -> Option<usize> {
+    (word as usize & 0xffff).checked_sub(1)
+}
+
+/// The depth that a word names; 16 or more where one of bits 20-31 is set.
+pub fn depth_of(word: u32) -> usize {
+    word as usize >> 16
 }
 
 /// The state of a store that shows these leaves.

@@ -2,10 +2,10 @@
 //!
 //! In a sound store a page is free or has the records of a leaf, so that the set can only be that of all records in
 //! pages that are not free. The judge reads it there and then compares the store with the set's leaves.
-use super::image::{word_of, Image, DEPTH, DEPTH_LIMIT, PAGE_LIMIT, STATE, TALLY};
+use super::image::{page_of, word_of, Image, DEPTH, DEPTH_LIMIT, PAGE_LIMIT, STATE, TALLY};
 use super::leaves::{greatest_depth, leaf_of, leaves, tally, Record};
 use super::model::Model;
-use super::refusal::{key_refused, memory_refused, page_size, shape_refused};
+use super::refusal::{key_refused, memory_refused, shape_refused, used_widths};
 use crate::cells::Cells;
 
 /// The number of the refusal, 1 or 2; else whether the store is sound.
@@ -29,14 +29,20 @@ pub fn early_number(image: &Image) -> Option<u32> {
     }
 }
 
+/// "P is 1–4,096, L is at most 12 and at most W, and T is at most L". After 1 and 2.
+pub fn limits_hold(image: &Image) -> bool {
+    let [p, l, t] = [PAGE_LIMIT, DEPTH_LIMIT, DEPTH].map(|place| image.state[place]);
+    let bits = used_widths(image.shape()).iter().sum::<u32>();
+    (1..=4096).contains(&p) && l <= 12 && l <= bits && t <= l
+}
+
 /// After 1 and 2.
 fn is_sound(image: &Image) -> bool {
-    let [p, l, t] = [PAGE_LIMIT, DEPTH_LIMIT, DEPTH].map(|place| image.state[place] as usize);
-    let model = Model::new(image.shape(), p, l);
-    let bits = model.widths().iter().sum::<u32>() as usize;
-    if !(1..=4096).contains(&p) || l > 12 || l > bits || t > l {
+    if !limits_hold(image) {
         return false;
     }
+    let [p, l, t] = [PAGE_LIMIT, DEPTH_LIMIT, DEPTH].map(|place| image.state[place] as usize);
+    let model = Model::new(image.shape(), p, l);
     let Some(pages) = (0..p).map(|g| records_of(image, &model, g)).collect::<Option<Vec<_>>>() else {
         return false;
     };
@@ -53,7 +59,7 @@ fn is_sound(image: &Image) -> bool {
     Cells::new(model.widths(), t).all(t).iter().all(|cell| {
         let leaf = &leaves[leaf_of(&leaves, &cell.bits)];
         let word = image.dir[cell.address];
-        let page = (word as usize & 0xffff).checked_sub(1);
+        let page = page_of(word);
         word == word_of(page, leaf.depth())
             && match page {
                 None => leaf.records.is_empty(),
@@ -64,32 +70,13 @@ fn is_sound(image: &Image) -> bool {
 
 /// The records of page g: none of a free page; `None` for a count above b or a value out of range.
 fn records_of(image: &Image, model: &Model, g: usize) -> Option<Vec<Record>> {
-    let mut page = PageReader { bytes: &image.pages[g * page_size(model.shape)..] };
-    let count = page.number();
-    if count > model.shape.capacity {
+    let count = image.count(g);
+    if count > model.shape.capacity as usize {
         return None;
     }
-    let mut records = Vec::new();
-    for _ in 0..count {
-        let key = [0; 4].map(|_: u32| page.number());
-        let payload = page.number() | page.number() << 16;
-        if key_refused(model.shape, key) {
-            return None;
-        }
-        records.push(model.record(key, payload));
-    }
-    Some(records)
-}
-
-/// Little-endian numbers of 16 bits, one after the other.
-struct PageReader<'a> {
-    bytes: &'a [u8],
-}
-
-impl PageReader<'_> {
-    fn number(&mut self) -> u32 {
-        let (number, rest) = self.bytes.split_at(2);
-        self.bytes = rest;
-        u32::from(number[0]) + 256 * u32::from(number[1])
-    }
+    let record = |i| {
+        let (key, payload) = image.content(g, i);
+        (!key_refused(model.shape, key)).then(|| model.record(key, payload))
+    };
+    (0..count).map(record).collect()
 }

@@ -32,13 +32,6 @@ impl Leaf {
     pub fn depth(&self) -> usize {
         self.bits.len()
     }
-
-    /// "A query agrees with a region if every bit of a given attribute in its string equals the query's."
-    pub fn agrees(&self, steps: &[(u32, usize)], widths: &[u32], query: [Option<u32>; 4]) -> bool {
-        self.bits.iter().zip(steps).all(|(&bit, &(k, j))| {
-            query[j].is_none_or(|value| ((value >> (widths[j] - 1 - k)) & 1 == 1) == bit)
-        })
-    }
 }
 
 /// "Undivided regions whose every shorter beginning is divided are the leaves, the empty string included", in

@@ -75,10 +75,17 @@ impl Model {
         greatest_depth(&leaves) <= self.depth_limit && pages <= self.page_limit
     }
 
+    /// "A query agrees with a region if every bit of a given attribute in its string equals the query's."
+    pub fn agrees(&self, region: &[bool], query: [Option<u32>; 4]) -> bool {
+        region.iter().zip(&self.steps).all(|(&bit, &(k, j))| {
+            query[j].is_none_or(|value| ((value >> (self.widths[j] - 1 - k)) & 1 == 1) == bit)
+        })
+    }
+
     /// The leaves that agree with a query.
     pub fn agreeing(&self, query: [Option<u32>; 4]) -> Vec<Leaf> {
         let mut leaves = self.leaves();
-        leaves.retain(|leaf| leaf.agrees(&self.steps, &self.widths, query));
+        leaves.retain(|leaf| self.agrees(&leaf.bits, query));
         leaves
     }
 

@@ -1,5 +1,5 @@
 //! What a store shows beside a model's set, and which pages its leaves have before and after a call.
-use super::image::{state_words, word_of, Image, STATE};
+use super::image::{page_of, state_words, word_of, Image, STATE};
 use super::leaves::{greatest_depth, leaf_of, Leaf};
 use super::model::Model;
 use crate::cells::Cells;
@@ -42,7 +42,7 @@ pub fn pages_shown(image: &Image, model: &Model, cells: &Cells) -> Result<Pages,
 
 /// The page of a leaf with this word, if the word is right and the page has the leaf's records.
 fn page_shown(image: &mut Image, model: &Model, leaf: &Leaf, word: u32) -> Result<Option<usize>, String> {
-    let page = (word as usize & 0xffff).checked_sub(1);
+    let page = page_of(word);
     let depth = leaf.depth();
     if word != word_of(page, depth) || page.is_none() != leaf.records.is_empty() {
         return Err(format!("word {word:#x} of {leaf:?}"));

@@ -1,0 +1,106 @@
+//! Memory damaged as it happens: a word or a page overwritten, parts of an older copy, a wrong tally.
+use crate::plain::image::{depth_of, page_of, word_of, Image, DEPTH, PAGE_LIMIT, TALLY};
+use crate::random::Random;
+
+/// A sound store as it is, and as it was some calls ago.
+pub struct Aged {
+    pub now: Image,
+    pub older: Image,
+}
+
+/// Damages the store of now; `None` where this store cannot be damaged so.
+pub type Harm = fn(&mut Random, &Aged) -> Option<Image>;
+
+/// The kinds of damage, by name.
+pub const KINDS: [(&str, Harm); 10] = [
+    ("words zeroed", words_zeroed),
+    ("two words swapped", words_swapped),
+    ("one bit of a word", word_bit),
+    ("another page in a word", other_page),
+    ("an older directory", older_directory),
+    ("an older directory and state", older_directory_and_state),
+    ("older pages", older_pages),
+    ("a page copied over another", page_copied),
+    ("one bit of a page", page_bit),
+    ("one entry of the tally", tally_entry),
+];
+
+/// The store of now with a change, if it is one.
+fn changed(aged: &Aged, change: impl FnOnce(&mut Image)) -> Option<Image> {
+    let mut image = aged.now.clone();
+    change(&mut image);
+    (image != aged.now).then_some(image)
+}
+
+/// The address of a random cell.
+fn cell(random: &mut Random, aged: &Aged) -> usize {
+    random.below(1 << aged.now.state[DEPTH])
+}
+
+/// One to three words. With T = 0 an all-zero word is that of a store without records.
+fn words_zeroed(random: &mut Random, aged: &Aged) -> Option<Image> {
+    if aged.now.state[DEPTH] == 0 {
+        return None;
+    }
+    changed(aged, |image| {
+        for _ in 0..random.between(1, 3) {
+            image.dir[cell(random, aged)] = 0;
+        }
+    })
+}
+
+fn words_swapped(random: &mut Random, aged: &Aged) -> Option<Image> {
+    changed(aged, |image| image.dir.swap(cell(random, aged), cell(random, aged)))
+}
+
+fn word_bit(random: &mut Random, aged: &Aged) -> Option<Image> {
+    changed(aged, |image| image.dir[cell(random, aged)] ^= 1 << random.below(32))
+}
+
+/// One word, or all words of a leaf with a page.
+fn other_page(random: &mut Random, aged: &Aged) -> Option<Image> {
+    let one = cell(random, aged);
+    let old = aged.now.dir[one];
+    let new = word_of(Some(random.below(aged.now.state[PAGE_LIMIT] as usize)), depth_of(old));
+    let all = page_of(old).is_some() && random.below(2) == 1;
+    changed(aged, |image| {
+        let cells = image.dir[..1 << aged.now.state[DEPTH]].iter_mut().enumerate();
+        cells.filter(|(a, word)| *a == one || all && **word == old).for_each(|(_, word)| *word = new);
+    })
+}
+
+fn older_directory(_: &mut Random, aged: &Aged) -> Option<Image> {
+    changed(aged, |image| image.dir.clone_from(&aged.older.dir))
+}
+
+fn older_directory_and_state(_: &mut Random, aged: &Aged) -> Option<Image> {
+    let pages = aged.now.pages.clone();
+    changed(aged, |image| *image = Image { pages, ..aged.older.clone() })
+}
+
+fn older_pages(_: &mut Random, aged: &Aged) -> Option<Image> {
+    changed(aged, |image| image.pages.clone_from(&aged.older.pages))
+}
+
+fn page_copied(random: &mut Random, aged: &Aged) -> Option<Image> {
+    let limit = aged.now.state[PAGE_LIMIT] as usize;
+    let (from, to) = (random.below(limit), random.below(limit));
+    changed(aged, |image| {
+        let copied = image.page(from).to_vec();
+        image.page(to).copy_from_slice(&copied);
+    })
+}
+
+/// Of its count or of its records.
+fn page_bit(random: &mut Random, aged: &Aged) -> Option<Image> {
+    let page = random.below(aged.now.state[PAGE_LIMIT] as usize);
+    let used = 2 + 12 * aged.now.count(page);
+    changed(aged, |image| image.page(page)[random.below(used)] ^= 1 << random.below(8))
+}
+
+fn tally_entry(random: &mut Random, aged: &Aged) -> Option<Image> {
+    let place = TALLY + random.below(13);
+    let old = aged.now.state[place];
+    let new = [0, old.wrapping_add(1), old.wrapping_sub(1), random.below(9) as u32][random.below(4)];
+    changed(aged, |image| image.state[place] = new)
+}

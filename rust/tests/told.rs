@@ -1,0 +1,292 @@
+//! Damage of each kind on random sound stores: how many calls are answered as the plain model answers them on the store
+//! as it was, how many with 9, how many silently wrong. Damage that a call meets and has to tell is told in every case,
+//! and an accepted change loses nothing that another leaf answers for. A refused call leaves every slice and every
+//! guard as it came (`LentStore` compares them).
+use mdeh_tests::cells::Cells;
+use mdeh_tests::compare::Comparisons;
+use mdeh_tests::host::{self, Shape};
+use mdeh_tests::lent::{lend_bytes, LentStore};
+use mdeh_tests::plain::damage::memory::{Aged, KINDS};
+use mdeh_tests::plain::image::{Image, Laid, DEPTH};
+use mdeh_tests::plain::judge::judge;
+use mdeh_tests::plain::kept::Change;
+use mdeh_tests::plain::leaves::{greatest_depth, Record};
+use mdeh_tests::plain::model::Model;
+use mdeh_tests::plain::reading::Reading;
+use mdeh_tests::plain::samples::{query_of, random_key, random_model};
+use mdeh_tests::random::Random;
+
+const SEED: u64 = 0x6d64_6568_2d30_3133;
+
+/// The stores of each kind, and the calls of each sort on one store.
+const STORES: usize = 200;
+const CALLS: usize = 6;
+
+// ---- the stores
+
+/// A random sound store of the library's making, as it was some calls ago too, and the model of what it holds now.
+fn aged_store(random: &mut Random) -> (Model, Aged) {
+    let mut model = deep_model(random);
+    let mut store = LentStore::of(random, &model);
+    let older = store.image();
+    for _ in 0..random.between(1, 40) {
+        let key = some_key(random, &model);
+        let payload = random.number() as u32;
+        let (found, expected) = match random.below(2) {
+            0 => (store.insert(key, payload), model.insert(key, payload)),
+            _ => (store.delete(key), model.delete(key)),
+        };
+        assert_eq!(found, expected, "{model:?}, {key:?}");
+    }
+    let now = store.image();
+    assert_eq!(judge(&now), Ok(true));
+    (model, Aged { now, older })
+}
+
+/// The one with the greatest T of three random models.
+fn deep_model(random: &mut Random) -> Model {
+    let models = [0; 3].map(|_| random_model(random));
+    models.into_iter().max_by_key(|model| greatest_depth(&model.leaves())).expect("there are three")
+}
+
+/// A key, which is stored in every other case.
+fn some_key(random: &mut Random, model: &Model) -> [u32; 4] {
+    match model.records.len() {
+        stored if stored > 0 && random.below(2) == 1 => model.records[random.below(stored)].key,
+        _ => random_key(random, model),
+    }
+}
+
+// ---- the answers
+
+/// The calls, by name.
+const NAMES: [&str; 4] = ["lookup", "query", "insert", "delete"];
+
+/// What came of a call: whether its answer is the model's, whether it is 9 and whether it should be and is not, and what
+/// the call lost.
+struct Answer {
+    right: bool,
+    nine: bool,
+    untold: bool,
+    lost: Option<String>,
+}
+
+/// The answer to a call that has to tell damage, or need not.
+fn answer<T: PartialEq>(found: Result<T, u32>, expected: Result<T, u32>, told: bool) -> Answer {
+    let nine = found == Err(9);
+    Answer { right: found == expected, nine, untold: told && !nine, lost: None }
+}
+
+/// How the calls of one sort were answered: as the model does, with 9, and silently wrong. How many of all these did not
+/// tell damage that they had to tell, and how many lost what another leaf answers for.
+#[derive(Clone, Copy, Default)]
+struct Share {
+    right: u64,
+    nine: u64,
+    wrong: u64,
+    untold: u64,
+    lost: u64,
+}
+
+impl Share {
+    fn add(&mut self, answer: &Answer) {
+        match answer {
+            Answer { nine: true, .. } => self.nine += 1,
+            Answer { right: true, .. } => self.right += 1,
+            _ => self.wrong += 1,
+        }
+        self.untold += u64::from(answer.untold);
+        self.lost += u64::from(answer.lost.is_some());
+    }
+
+    fn print(&self, kind: &str, name: &str) {
+        let all = (self.right + self.nine + self.wrong) as f64;
+        let [right, nine, wrong] = [self.right, self.nine, self.wrong].map(|part| part as f64 * 100.0 / all);
+        print!("{kind}, {name}: right {right:.1} %, 9 {nine:.1} %, silently wrong {wrong:.1} %; ");
+        println!("{} untold, {} lost", self.untold, self.lost);
+    }
+}
+
+/// A damaged store, and the model of what it held.
+struct Damaged<'a> {
+    model: &'a Model,
+    image: &'a Image,
+    cells: &'a Cells,
+}
+
+impl Damaged<'_> {
+    /// A call of this name with a key.
+    fn call(&self, random: &mut Random, name: &str, key: [u32; 4]) -> Answer {
+        let mut store = LentStore::new(random, self.image);
+        let mut model = self.model.clone();
+        let before = Reading::new(self.image, self.cells);
+        let payload = random.number() as u32;
+        match name {
+            "lookup" => answer(store.lookup(key), model.lookup(key), before.lookup_told(key)),
+            "query" => self.query(random, &store, key),
+            "insert" => {
+                let told = before.insert_told(key);
+                let found = answer(store.insert(key, payload), model.insert(key, payload), told);
+                self.contained(found, before, &store.image(), key)
+            }
+            _ => {
+                let told = before.delete_told(key);
+                let found = answer(store.delete(key), model.delete(key), told);
+                self.contained(found, before, &store.image(), key)
+            }
+        }
+    }
+
+    /// A query with some of the key's values given, and an output of any length, which is left alone by a refusal.
+    fn query(&self, random: &mut Random, store: &LentStore, key: [u32; 4]) -> Answer {
+        let query = query_of(random.below(1 << self.model.widths().len()), key);
+        let length = 12 * random.below(self.model.records.len() + 3) + random.below(12);
+        let mut expected = random.bytes(length);
+        let mut out = lend_bytes(random, &expected);
+        let found = store.query(query, &mut out);
+        assert!(found.is_ok() || out.unchanged(), "a refused query writes: {query:?}, {:?}", self.image);
+        let told = Reading::new(self.image, self.cells).query_told(query);
+        let answer = answer(found, self.model.query(query, &mut expected), told);
+        Answer { right: answer.right && out.slice() == expected, ..answer }
+    }
+
+    /// The answer to a change of a key, with what it lost of other leaves if it is accepted.
+    fn contained(&self, answer: Answer, before: Reading, image: &Image, key: [u32; 4]) -> Answer {
+        if image == self.image {
+            return answer;
+        }
+        let after = Reading::new(image, self.cells);
+        let change = Change { before, after, bits: self.model.split_bits(key) };
+        let lost = change.others_kept().err().or_else(|| self.record_lost(&change));
+        Answer { lost, ..answer }
+    }
+
+    /// A record that was found in another leaf, and after a change is not found there with the same payload. A leaf of
+    /// a depth that a wrong tally does not have any more is told.
+    fn record_lost(&self, change: &Change) -> Option<String> {
+        self.model.records.iter().find_map(|Record { bits, key, .. }| {
+            let [before, after] = [&change.before, &change.after].map(|reading| {
+                let Image { state, dir, pages } = reading.image;
+                host::lookup(state, dir, pages, *key)
+            });
+            let told = after == Err(9) && !change.after.word_fair(change.before.word(bits));
+            let lost = before.is_ok() && !bits.starts_with(change.region()) && after != before && !told;
+            lost.then(|| format!("record {key:?}: {before:?}, {after:?}"))
+        })
+    }
+}
+
+/// Whether no call of a name may be silently wrong: damage of this kind is told by all that meet it. A copied page may
+/// pass for a free one, or a free one for a leaf's, so that an insert answers by a wrong number of free pages.
+fn never_wrong(kind: &str, name: &str) -> bool {
+    match kind {
+        "words zeroed" | "another page in a word" | "one entry of the tally" => true,
+        "a page copied over another" => name != "insert",
+        _ => false,
+    }
+}
+
+#[test]
+fn damage_of_each_kind() {
+    let mut random = Random::new(SEED);
+    let mut faults = vec![];
+    for (kind, harm) in KINDS {
+        let mut shares = [Share::default(); 4];
+        let mut stores = 0;
+        while stores < STORES {
+            let (model, aged) = aged_store(&mut random);
+            let Some(image) = harm(&mut random, &aged) else { continue };
+            stores += 1;
+            let cells = Cells::of_store(&image);
+            let damaged = Damaged { model: &model, image: &image, cells: &cells };
+            for call in 0..4 * CALLS {
+                let (name, key) = (NAMES[call % 4], some_key(&mut random, &model));
+                let answer = damaged.call(&mut random, name, key);
+                shares[call % 4].add(&answer);
+                let Answer { right, nine, untold, lost } = answer;
+                if untold || lost.is_some() || never_wrong(kind, name) && !nine && !right {
+                    faults.push(format!("{kind}: {name} {key:?}, untold {untold}, lost {lost:?}: {image:?}"));
+                }
+            }
+        }
+        NAMES.iter().zip(&shares).for_each(|(name, share)| share.print(kind, name));
+    }
+    assert!(faults.is_empty(), "{} faults, the first: {}", faults.len(), faults[0]);
+}
+
+#[test]
+fn sound_stores() {
+    let mut random = Random::new(SEED);
+    for _ in 0..STORES {
+        let (model, Aged { now, .. }) = aged_store(&mut random);
+        let cells = Cells::of_store(&now);
+        let sound = Damaged { model: &model, image: &now, cells: &cells };
+        for call in 0..4 * CALLS {
+            let key = some_key(&mut random, &model);
+            let Answer { right, untold, lost, .. } = sound.call(&mut random, NAMES[call % 4], key);
+            assert!(right && !untold && lost.is_none(), "{} {key:?}, {lost:?}: {now:?}", NAMES[call % 4]);
+        }
+    }
+}
+
+// ---- the store of document 01's table
+
+/// Its four records, widths 2, 2 and b = 2: T = 3, and the words 3 and 7 are those of the empty leaf 11.
+fn table_store(random: &mut Random) -> (Model, Image) {
+    let mut model = Model::new(Shape::new(&[2, 2], 2), 4, 4);
+    for (i, key) in [[0, 0, 0, 0], [2, 0, 0, 0], [3, 1, 0, 0], [2, 1, 0, 0]].into_iter().enumerate() {
+        assert_eq!(model.insert(key, 10 + i as u32), Ok(()));
+    }
+    let image = Laid::new(random, &model).image;
+    assert_eq!((image.state[DEPTH], image.dir[3], image.dir[7]), (3, 0x2_0000, 0x2_0000));
+    (model, image)
+}
+
+/// The 16 keys of two attributes of two bits.
+fn all_keys() -> impl Iterator<Item = [u32; 4]> {
+    (0..16).map(|i| [i / 4, i % 4, 0, 0])
+}
+
+#[test]
+fn word_0_zeroed_is_told_by_every_query() {
+    let mut count = Comparisons::default();
+    let mut random = Random::new(SEED);
+    let (model, mut image) = table_store(&mut random);
+    image.dir[0] = 0;
+    let mut store = LentStore::new(&mut random, &image);
+    for key in all_keys() {
+        let about = format_args!("{key:?}");
+        let met = model.split_bits(key).starts_with(&[false; 3]);
+        count.same(store.lookup(key), if met { Err(9) } else { model.lookup(key) }, about);
+        if met {
+            count.same(store.insert(key, 1), Err(9), about);
+            count.same(store.delete(key), Err(9), about);
+        }
+        for subset in 0..4 {
+            let content = random.bytes(60);
+            let mut out = lend_bytes(&mut random, &content);
+            count.same(store.query(query_of(subset, key), &mut out), Err(9), about);
+            count.same(out.unchanged(), true, about);
+        }
+    }
+    count.end(16 * (1 + 4 * 2) + 2 * 2);
+}
+
+#[test]
+fn an_empty_leaf_with_a_word_zeroed_takes_no_record() {
+    let mut count = Comparisons::default();
+    let mut random = Random::new(SEED);
+    let (model, sound) = table_store(&mut random);
+    for a in [3, 7] {
+        let mut image = sound.clone();
+        image.dir[a] = 0;
+        let mut store = LentStore::new(&mut random, &image);
+        for key in all_keys().filter(|&key| model.split_bits(key).starts_with(&[true; 2])) {
+            count.same(store.insert(key, 1), Err(9), format_args!("{key:?}, word {a}"));
+        }
+        for Record { key, payload, .. } in &model.records {
+            count.same(store.lookup(*key), Ok((*payload, 1)), format_args!("{key:?}, word {a}"));
+        }
+    }
+    count.end(2 * (4 + 4));
+}
