@@ -4,6 +4,7 @@ pub mod CheckRefuted
 pub mod ComputedLaws
 pub mod DeleteRefuted
 pub mod FreshRefuted
+pub mod HistoryRefuted
 pub mod InsertRefuted
 pub mod LookupRefuted
 pub mod QueryRefuted
