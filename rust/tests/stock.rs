@@ -113,3 +113,55 @@ fn more_matches_than_output_records() {
     input += "list * *\nlist 3 *\nlist * *\n";
     compare(input.as_bytes(), &[65536]);
 }
+
+/// "It lends 4,096 words": keys that share their first 11 split bits stand in leaves of depth 12, which have every word;
+/// a key that shares 12 with one of them is refused.
+#[test]
+fn every_lent_word() {
+    for (shape, keys) in [
+        ("shape 1 16 1", ["0", "16", "65535", "65519", "8"]),
+        ("shape 4 3 3 3 3 1", ["0 0 0 0", "0 0 0 1", "7 7 7 7", "7 7 7 6", "0 0 0 1"]),
+        ("shape 2 6 7 1", ["0 0", "1 0", "63 127", "62 127", "0 1"]),
+    ] {
+        let puts: String = keys.iter().map(|key| format!("put {key} 5\n")).collect();
+        let list = vec!["*"; keys[0].split(' ').count()].join(" ");
+        let input = format!("{shape}\n{puts}list {list}\n");
+        compare(input.as_bytes(), &[65536]);
+        let text = String::from_utf8(printed(input.as_bytes(), &[65536])).expect("it is text");
+        let accepted = text.lines().take_while(|&line| line == "ok").count();
+        assert_eq!(accepted, 5, "{shape}: {text}");
+        assert!(text.ends_with("= 4 4\n"), "{shape}: {text}");
+    }
+}
+
+/// "32,768 page bytes": 32,768 / (2 + 12b) leaves with records have a page, and no leaf more. For b = 7 all bytes but
+/// two are in pages.
+#[test]
+fn every_lent_page() {
+    for capacity in [1, 7, 16] {
+        let mut input = format!("shape 1 12 {capacity}\n");
+        for key in 0..4096 {
+            input += &format!("put {key} {key}\n");
+        }
+        input += "list *\n";
+        compare(input.as_bytes(), &[65536]);
+        let text = String::from_utf8(printed(input.as_bytes(), &[65536])).expect("it is text");
+        assert!(text.contains("\nno 7\n"), "b = {capacity}: no insert was refused for want of a page");
+        let reads = text.trim_end().rsplit(' ').next().expect("the list's reads");
+        assert_eq!(reads.parse(), Ok(32768 / (2 + 12 * capacity)), "b = {capacity}");
+    }
+}
+
+/// "256 output records": all of 256 are listed, and 256 of 257.
+#[test]
+fn every_lent_output_record() {
+    let mut input = String::from("shape 1 9 16\n");
+    for key in 0..256 {
+        input += &format!("put {key} {key}\n");
+    }
+    input += "list *\nput 256 256\nlist *\n";
+    compare(input.as_bytes(), &[65536]);
+    let text = String::from_utf8(printed(input.as_bytes(), &[65536])).expect("it is text");
+    let records = text.lines().filter(|line| line.contains(' ') && !line.starts_with('=')).count();
+    assert_eq!(records, 512);
+}

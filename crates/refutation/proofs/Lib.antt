@@ -5,6 +5,7 @@ pub mod ComputedLaws
 pub mod ContainedRefuted
 pub mod DeleteRefuted
 pub mod FreshRefuted
+pub mod HistoryRefuted
 pub mod InsertRefuted
 pub mod LookupRefuted
 pub mod QueryRefuted

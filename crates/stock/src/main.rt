@@ -11,6 +11,7 @@ use libc::STDOUT_FILENO;
 ghost use Prim.Native.Nat.{_≤_};
 ghost use lib.ListN.{length};
 ghost use Rattle.replies.specs.Replies.{replySize};
+ghost use Rattle.stock.specs.Lends.{Lends};
 
 // Lends 4,096 words, 32,768 page bytes, 256 output records of 12 bytes, and a text.
 fn main() {
@@ -25,7 +26,7 @@ fn main() {
 // Reads pieces until the input ends. A proved loop has to end, and nothing says that the input
 // does: so it counts its turns down, from a number that no run uses up.
 fn serve(piece: &mut [u8], dir: &mut [u32], pages: &mut [u8], out: &mut [u8], text: &mut [u8])
-    requires { ⌜ (length (now out) ≤ 3072) × (replySize ≤ length (now text)) ⌝ }
+    requires { ⌜ Lends (now dir) (now pages) (now out) × (replySize ≤ length (now text)) ⌝ }
 {
     let mut progress = start();
     let mut turns = u64::MAX;
@@ -50,7 +51,8 @@ fn answer(
     out: &mut [u8],
     text: &mut [u8],
 ) -> Progress
-    requires { ⌜ (progress .reading .fields ≤ 7) × (length (now out) ≤ 3072) × (replySize ≤ length (now text)) ⌝ }
+    requires { ⌜ (progress .reading .fields ≤ 7) × Lends (now dir) (now pages) (now out)
+        × (replySize ≤ length (now text)) ⌝ }
     ensures { λ r. ⌜ r .reading .fields ≤ 7 ⌝ }
 {
     let mut here = progress;
@@ -66,7 +68,8 @@ fn answer(
 
 // Replies to a last line that no newline ends.
 fn finish(progress: Progress, dir: &mut [u32], pages: &mut [u8], out: &mut [u8], text: &mut [u8])
-    requires { ⌜ (progress .reading .fields ≤ 7) × (length (now out) ≤ 3072) × (replySize ≤ length (now text)) ⌝ }
+    requires { ⌜ (progress .reading .fields ≤ 7) × Lends (now dir) (now pages) (now out)
+        × (replySize ≤ length (now text)) ⌝ }
 {
     let reading = progress.reading;
     if is_empty(reading) {

@@ -7,13 +7,14 @@ use lib.ListN.{length}
 use lib.Seq.{length-take-le}
 use borrow.Author.Needs.{needs}
 use Rattle.replies.specs.Replies.{replySize}
+use Rattle.stock.specs.Lends.{Lends}
 use Rattle.stock.proofs.answer.Statement.{statement}
 use Rattle.stock.proofs.answer.Tie as tie
 
 abbrev Inv-loop : tie.InvT-loop
 Inv-loop piece dir₀ pages₀ out₀ text₀ here₀ at₀ dir pages out text here at =
     (at ≤ length piece) × (here .reading .fields ≤ 7) × (length dir ≡ length dir₀) × (length pages ≡ length pages₀)
-    × (length out ≡ length out₀) × (length text ≡ length text₀) × (length out₀ ≤ 3072) × (replySize ≤ length text₀)
+    × (length out ≡ length out₀) × (length text ≡ length text₀) × Lends dir₀ pages₀ out₀ × (replySize ≤ length text₀)
 
 abbrev μ-loop : tie.MeasureT-loop
 μ-loop piece dir₀ pages₀ out₀ text₀ here₀ at₀ dir pages out text here at = length piece - at
@@ -33,7 +34,7 @@ run-requires c κs =
     let inv = at-loop .loop .inv in (
       record { counted = rw (p .ensures .1) (inv .1); within = omega (arith, p .ensures .2) },
       inv .0,
-      omega (arith, inv .4, inv .6),
+      omega (arith, inv .4, inv .6 .output-lent),
     )
 
 slice-reshare-prefix-write-all : tie.Need-slice-reshare-prefix-write-all Inv-loop μ-loop

@@ -19,7 +19,7 @@ step-requires : tie.Need-step-requires
 step-requires c κs =
     let s = c .before .before .before .before .before .before .before .before .before .before .before .before in
     let p = c .before .before .before .before .printed .ensures in
-    (rw (p .1) (s .pre .0), omega (arith, p .2, s .pre .2), omega (arith, s .pre .1))
+    (rw (p .1) (s .pre .0), omega (arith, p .2, s .pre .2), omega (arith, s .pre .1 .output-lent))
 
 slice-reshare-prefix-write-all : tie.Need-slice-reshare-prefix-write-all
 slice-reshare-prefix-write-all c = search needs

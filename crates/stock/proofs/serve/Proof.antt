@@ -6,6 +6,8 @@ use lib.ListN.{length}
 use borrow.Author.Needs.{needs}
 use Rattle.line.specs.Private.{start}
 use Rattle.replies.specs.Replies.{replySize}
+use Rattle.stock.specs.Lends.{Lends}
+use Rattle.stock.proofs.LendsLaws.{lends-same}
 use Rattle.stock.proofs.serve.Statement.{statement}
 use Rattle.stock.proofs.serve.Tie as tie
 
@@ -13,7 +15,7 @@ abbrev Inv-loop : tie.InvT-loop
 Inv-loop piece₀ dir₀ pages₀ out₀ text₀ progress₀ turns₀ piece dir pages out text progress turns =
     (progress .reading .fields ≤ 7) × (length piece ≡ length piece₀) × (length dir ≡ length dir₀)
     × (length pages ≡ length pages₀) × (length out ≡ length out₀) × (length text ≡ length text₀)
-    × (length out₀ ≤ 3072) × (replySize ≤ length text₀)
+    × Lends dir₀ pages₀ out₀ × (replySize ≤ length text₀)
 
 abbrev μ-loop : tie.MeasureT-loop
 μ-loop piece₀ dir₀ pages₀ out₀ text₀ progress₀ turns₀ piece dir pages out text progress turns = turns
@@ -37,7 +39,7 @@ finish-requires : tie.Need-finish-requires Inv-loop μ-loop
 finish-requires c κs =
     let at-loop = c .before .before .before .before .before .before .before .before .before .before .before .before in
     let inv = at-loop .loop .inv in
-    (inv .0, omega (arith, inv .4, inv .6), omega (arith, inv .5, inv .7))
+    (inv .0, lends-same (inv .6) (inv .2) (inv .3) (inv .4), omega (arith, inv .5, inv .7))
 
 same-length : tie.Need-same-length Inv-loop μ-loop
 same-length c =
@@ -88,7 +90,7 @@ answer-requires c κs =
     let between = c .before .before .before .before .before .before .before .before .before .before .before in
     let at-loop = between .before .before in
     let inv = at-loop .loop .inv in
-    (inv .0, omega (arith, inv .4, inv .6), omega (arith, inv .5, inv .7))
+    (inv .0, lends-same (inv .6) (inv .2) (inv .3) (inv .4), omega (arith, inv .5, inv .7))
 
 sub-turns : tie.Need-sub-turns Inv-loop μ-loop
 sub-turns c =

@@ -1,0 +1,97 @@
+-- Wrong programs of document 01's review, steps 3 and 4, against demand 3's own statement: `History` leaves no run from a
+-- fresh store that has their outcomes, whatever the outcomes of the calls before. Assumes nothing.
+use Prim.Native.Nat.{ℕ, min, _/_}
+use mathlib.Core.Path.{_≡_, refl, sym, ap, _∙_}
+use mathlib.Core.List.{List, [], _∷_, _++_}
+use native.Mathlib.Omega.{arith}
+use lib.ListN.{length, getD}
+use Rattle.shape.specs.Refusal.{Answer, accepted, refused, firstNumber}
+use Rattle.shape.specs.Shape.{inBounds, shapeConditions, widthsOf}
+use Rattle.shape.specs.Key.{keyFits, encodings, namesUnused, queryFits}
+use Rattle.split.specs.Steps.{stepsBelow, steps, step, stepNumber, stepsOf, depth}
+use Rattle.split.specs.Bits.{splitBit}
+use Rattle.record.specs.declared.Content.{Content}
+use Rattle.record.specs.Record.{matches}
+use Rattle.record.specs.Bytes.{recordSize, recordBytes}
+use Rattle.model.specs.Limits.{logarithm, pageLimitOf, depthLimitOf, freshShape, fixedBy}
+use Rattle.model.specs.Model.{Call, insertCall, lookupCall, queryCall, Reply, changed, found, listed, Outcome}
+use Rattle.model.specs.Model.{numberFor, replyTo, setAfter, outputOf, outputAfter, outcome, next, run}
+use Rattle.model.specs.Sets.{divisionOf, queryBits, readsOf}
+use Rattle.store.specs.Store.{Store}
+use Rattle.store.specs.Fresh.{FreshPromise}
+use Rattle.history.specs.History.{Run, History}
+use Rattle.table.specs.Table.{twoTwo, key, four}
+use Rattle.refutation.specs.Stores.{ones, allFree, givenSecond}
+use Rattle.refutation.proofs.ChangeLaws.{refused-not-accepted, listed-total, listed-reads}
+
+-- ---- what the model answers
+
+-- the answer to call i of a list, on the store that a Fresh of 8 words and 3 pages left
+abbrev answerAt : ℕ → List Outcome → Answer Reply
+answerAt i os = getD os i (record { answer = refused 0; output = [] }) .answer
+
+abbrev modelAnswer : List Call → ℕ → Answer Reply
+modelAnswer calls i = answerAt i (run (fixedBy twoTwo (length (ones .words)) (length (ones .bytes))) [] calls)
+
+record ModelAnswers (content : Content) (out : List ℕ) : Type 0 where
+  -- of a key that was inserted just before, and after the table's four
+  found-first : modelAnswer (insertCall (key 0 0) content ∷ lookupCall (key 0 0) ∷ []) 1 ≡ accepted (found content 1)
+  found-third : modelAnswer (four ++ lookupCall (key 3 1) ∷ []) 4 ≡ accepted (found (record { payload = 12 }) 1)
+  -- of queries
+  listed-first : modelAnswer (insertCall (key 0 0) content ∷ queryCall allFree out ∷ []) 1
+      ≡ accepted (listed (min 1 (length out / recordSize)) 1 1)
+  listed-four : modelAnswer (four ++ queryCall (givenSecond 1) out ∷ []) 4
+      ≡ accepted (listed (min 2 (length out / recordSize)) 2 3)
+
+model-answers : (content : Content) (out : List ℕ) → ModelAnswers content out
+unfolding
+    firstNumber inBounds shapeConditions widthsOf keyFits encodings namesUnused queryFits
+    stepsBelow steps step stepNumber stepsOf depth splitBit matches recordBytes
+    logarithm pageLimitOf depthLimitOf freshShape fixedBy
+    numberFor replyTo setAfter outputOf outputAfter outcome next run divisionOf queryBits readsOf
+model-answers content out =
+    record { found-first = refl; found-third = refl; listed-first = refl; listed-four = refl }
+
+-- ---- runs that there are not
+
+module _ (demand : History) (fresh after : Store) (p : FreshPromise twoTwo ones (accepted changed) fresh) where
+  as-model : {calls : List Call} {outcomes : List Outcome} (i : ℕ) → Run fresh calls outcomes after
+      → answerAt i outcomes ≡ modelAnswer calls i
+  as-model i r = ap (answerAt i) (demand twoTwo ones fresh p _ _ after r .0)
+
+  module _ (o : Outcome) (output : List ℕ) where
+    -- "an insert that accepts and stores nothing" (review, 3): the key that was inserted is absent
+    pub stores-nothing : (content : Content)
+        → Run fresh (insertCall (key 0 0) content ∷ lookupCall (key 0 0) ∷ [])
+        (o ∷ record { answer = refused 5; output = output } ∷ []) after → ⊥
+    stores-nothing content r =
+        refused-not-accepted _ 5 (as-model 1 r ∙ model-answers content [] .found-first)
+
+    -- "a query that returns an empty list each time" (review, 3)
+    pub empty-list : (content : Content) (out : List ℕ) (written n : ℕ)
+        → Run fresh (insertCall (key 0 0) content ∷ queryCall allFree out ∷ [])
+        (o ∷ record { answer = accepted (listed written 0 n); output = output } ∷ []) after → ⊥
+    empty-list content out written n r =
+        let same : _≡_ {A = ℕ} 0 1 = listed-total (as-model 1 r ∙ model-answers content out .listed-first) in
+        omega (arith, same)
+
+  module _ (a b c d : Outcome) (output : List ℕ) where
+    -- "one that divides correctly the first time and later only sets T" (review, 3): after the fourth insert the cell of
+    -- (3,1) has no page
+    pub only-sets-depth : Run fresh (four ++ lookupCall (key 3 1) ∷ [])
+        (a ∷ b ∷ c ∷ d ∷ record { answer = refused 5; output = output } ∷ []) after → ⊥
+    only-sets-depth r =
+        refused-not-accepted _ 5 (as-model 4 r ∙ model-answers (record { payload = 0 }) [] .found-third)
+
+    module _ (out : List ℕ) (written total n : ℕ)
+        (r : Run fresh (four ++ queryCall (givenSecond 1) out ∷ [])
+        (a ∷ b ∷ c ∷ d ∷ record { answer = accepted (listed written total n); output = output } ∷ []) after) where
+      reads-three : n ≡ 3
+      reads-three = listed-reads (as-model 4 r ∙ model-answers (record { payload = 0 }) out .listed-four)
+
+      -- "a query whose reads are the bound, or 1" (review, 4): the bound is 4
+      pub reads-bound : n ≡ 4 → ⊥
+      reads-bound e = omega (arith, e, reads-three)
+
+      pub reads-one : n ≡ 1 → ⊥
+      reads-one e = omega (arith, e, reads-three)
