@@ -1,0 +1,4 @@
+pub mod AgreeLaws
+pub mod BeginLaws
+pub mod FixedLaws
+pub mod MaskLaws
