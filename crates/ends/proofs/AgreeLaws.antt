@@ -1,5 +1,5 @@
--- Laws of the test of a page's first and last record: under the mask of the fixed bits it is document 01's; it depends on
--- the leaf's string alone. Assumes nothing.
+-- Laws of the test of a page's first and last record: it depends on the leaf's string alone; the test under the mask of
+-- the fixed bits is the same. Assumes nothing.
 use Prim.Native.Nat.{ℕ, _-_, _/_, _^_, _≤_, _<_}
 use mathlib.Core.Path.{_≡_, ap, _∙_}
 use mathlib.Core.Bool.{Bool, true, _&&_}

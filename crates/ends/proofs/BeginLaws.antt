@@ -1,5 +1,5 @@
--- Laws of keys that begin with a string: a key within the widths begins with the first x split bits of another exactly if
--- each of its values has the other's first h_j bits and no bit past its width. Assumes nothing.
+-- Laws of keys that begin with a string: a key has values in bounds and begins with the first x split bits of one that
+-- has, exactly if their values are the same above the w_j − h_j bits that are free. Assumes nothing.
 use Prim.Native.Nat.{ℕ, zero, suc, _+_, _-_, _/_, _%_, _^_, _≤_, _<_}
 use mathlib.Core.Path.{_≡_, refl, sym, ap, _∙_, subst}
 use mathlib.Core.Bool.{Bool, true}

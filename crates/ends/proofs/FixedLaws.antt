@@ -21,7 +21,8 @@ pub shifted-one-le : (k : ℕ) → k ≤ 16 → (1 * 2 ^ k) % 2 ^ 64 ≤ 2 ^ 16
 shifted-one-le k h = rw (shifted-one k h) (pow-mono h)
 
 pub fixed-value : (w n k : ℕ) → w ≤ 16 → k ≡ min w n
-    → (2 ^ 16 - (1 * 2 ^ (w - k)) % 2 ^ 64 ≡ 2 ^ 16 - 2 ^ (w - min w n)) × (2 ^ 16 - (1 * 2 ^ (w - k)) % 2 ^ 64 < 2 ^ 16)
+    → (2 ^ 16 - (1 * 2 ^ (w - k)) % 2 ^ 64 ≡ 2 ^ 16 - 2 ^ (w - min w n))
+    × (2 ^ 16 - (1 * 2 ^ (w - k)) % 2 ^ 64 < 2 ^ 16)
 fixed-value w n k h e =
     let s = shifted-one (w - k) (omega arith) in
     (ap (λ x. 2 ^ 16 - x) s ∙ ap (λ x. 2 ^ 16 - 2 ^ (w - x)) e, omega (arith, s, pow-pos (w - k)))

@@ -1,5 +1,5 @@
-// Whether a page is its leaf's, by the first and the last of its records (document 01, "Regions of a
-// set"): under a mask of the bits that the leaf fixes both agree with a key of the leaf.
+// Whether a page is its leaf's, by the first and the last of its records (document 01, "Regions of
+// a set"): under a mask of the bits that the leaf fixes both agree with a key of the leaf.
 use address::pairs::depth_before;
 use directory::places::place_of;
 use page::key_at;
@@ -20,7 +20,7 @@ pub fn fixed_bits(widths: Widths, x: u64) -> u64
     fixed_bits_before(widths, place_of(widths, x))
 }
 
-// The bits of a packed key that are fixed in a leaf whose depth is the number of steps before place g.
+// The bits of a packed key that are fixed in a leaf of the steps before place g.
 pub fn fixed_bits_before(widths: Widths, g: u64) -> u64
     requires { ⌜ Fit (widthList widths) × (g ≤ 64) ⌝ }
     ensures { λ r. ⌜ r ≡ fixedBits (widthList widths) (length (stepsBelow (widthList widths) g)) ⌝ }
@@ -32,8 +32,8 @@ pub fn fixed_bits_before(widths: Widths, g: u64) -> u64
     m0 + (m1 << 16) + (m2 << 32) + (m3 << 48)
 }
 
-// Whether the first and the last of the n records of a page agree with a packed key in the bits of a
-// mask.
+// Whether the first and the last of the n records of a page agree with a packed key in the bits of
+// a mask.
 pub fn ends_agree(page: &[u8], n: usize, key: u64, mask: u64) -> bool
     requires { ⌜ (1 ≤ n) × (n ≤ 16) × (recordOffset n ≤ length (now page)) ⌝ }
     ensures { λ r. ⌜ r ≡ endsAgree mask key (now (page .entry)) n ⌝ }
