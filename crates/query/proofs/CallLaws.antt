@@ -112,7 +112,7 @@ module _ (st : State) (words bytes : List ℕ) (q : List (Option ℕ))
         → Rows (widthsOf (st .shape)) (queryBits (st .shape) q) (st .depth) rows → mostPages rows (st .depth) 0 ≤ room
         → length (walkSeen st words bytes (queryBits (st .shape) q) .pages) ≤ room
     seen-room rows room t l =
-        length-walkSeen-le st rows words bytes room (walkable rows room t l) (queryBits (st .shape) q) t .0
+        length-walkSeen-le st rows words bytes room (walkable rows room t l) _ refl (queryBits (st .shape) q) t .0
 
     module _ (list : List ℕ) (r : Noted) (later : List ℕ)
         (o : Put list (walkSeen st words bytes (queryBits (st .shape) q)) r later)

@@ -16,7 +16,7 @@ use Rattle.region.specs.Division.{Division, leaf, divided, greatestDepth, leafD
 use Rattle.region.specs.Query.{walkRecords, walkReads}
 use Rattle.region.proofs.StringLaws.{withBit-same, withBit-other}
 use Rattle.region.proofs.StringLeafLaws.{leafDepth-le}
-use Rattle.walk.specs.Seen.{Seen, nothing, damaged, after, fieldOf, depthOf, noted, met, seen}
+use Rattle.walk.specs.Seen.{Seen, nothing, damaged, after, fieldOf, depthOf, met, seen}
 use Rattle.walk.specs.Pages.{walkPages}
 use Rattle.walk.proofs.SeenLaws.{met-leaf, met-divided}
 
@@ -77,8 +77,8 @@ after-whole true false s u gs hs h k = rw (h refl)
 after-whole false true s u gs hs h k = rw (k refl)
 after-whole false false s u gs hs h k = refl
 
-module _ {R : Type 0} (word : ℕ → (ℕ → Bool) → ℕ) (fair : ℕ → Bool) (enter : ℕ → (ℕ → Bool) → Bool) (P T : ℕ)
-    (D : Division R) where
+module _ {R : Type 0} (word : ℕ → (ℕ → Bool) → ℕ) (own : ℕ → (ℕ → Bool) → ℕ → Seen)
+    (enter : ℕ → (ℕ → Bool) → Bool) (T : ℕ) (D : Division R) where
   -- the page of the leaf that a string leads to
   abbrev pageOf : (ℕ → Bool) → ℕ
   pageOf p = fieldOf (word T p) - 1
@@ -89,38 +89,39 @@ module _ {R : Type 0} (word : ℕ → (ℕ → Bool) → ℕ) (fair : ℕ → Bo
     pub own-word : (t : ℕ) (p : ℕ → Bool) → t ≤ T → Zeros t p → word t p ≡ word T p
     pub word-depth : (p : ℕ → Bool) → depthOf (word T p) ≡ leafDepth p 0 D
     pub word-noted : (p : ℕ → Bool) → enter (leafDepth p 0 D) p ≡ true
-        → noted P fair (word T p) ≡ whole (cond (nonEmpty (leafRecords p 0 D)) (pageOf p ∷ []) [])
+        → own (leafDepth p 0 D) p (word T p) ≡ whole (cond (nonEmpty (leafRecords p 0 D)) (pageOf p ∷ []) [])
 
   module _ (shown : ShowsLeaves) where
     seen-leaf : (rs : List R) (f t : ℕ) (p : ℕ → Bool) → t + f ≡ T → Zeros t p → Under D t p (leaf rs)
-        → enter t p ≡ true → seen word fair enter P T f p t ≡ whole (walkPages enter pageOf p t (leaf rs))
+        → enter t p ≡ true → seen word own enter T f p t ≡ whole (walkPages enter pageOf p t (leaf rs))
     unfolding seen
     seen-leaf rs f t p e z h k =
         is-met f
-        ∙ ap (noted P fair) own
+        ∙ ap (own t p) same
+        ∙ ap (λ x. own x p (word T p)) (sym at-depth)
         ∙ shown .word-noted p (rw at-depth k)
         ∙ ap (λ l. whole (cond (nonEmpty l) (pageOf p ∷ []) [])) (h p (λ s l. refl) .1)
       where
         at-depth : leafDepth p 0 D ≡ t
         at-depth = h p (λ s l. refl) .0 ∙ add-zero t
 
-        own : word t p ≡ word T p
-        own = shown .own-word t p (omega arith) z
+        same : word t p ≡ word T p
+        same = shown .own-word t p (omega arith) z
 
-        met-here : (below : Seen) → met P fair T t (word t p) below ≡ noted P fair (word t p)
-        met-here below = met-leaf P fair T t (word t p) below (ap depthOf own ∙ shown .word-depth p ∙ at-depth)
+        met-here : (below : Seen) → met T t (word t p) (own t p (word t p)) below ≡ own t p (word t p)
+        met-here below = met-leaf T t (word t p) _ below (ap depthOf same ∙ shown .word-depth p ∙ at-depth)
 
-        is-met : (f : ℕ) → seen word fair enter P T f p t ≡ noted P fair (word t p)
+        is-met : (f : ℕ) → seen word own enter T f p t ≡ own t p (word t p)
         is-met zero = met-here damaged
         is-met (suc f) = met-here _
 
     pub seen-division : (E : Division R) (f t : ℕ) (p : ℕ → Bool) → t + f ≡ T → greatestDepth E ≤ f → Zeros t p
-        → Under D t p E → enter t p ≡ true → seen word fair enter P T f p t ≡ whole (walkPages enter pageOf p t E)
+        → Under D t p E → enter t p ≡ true → seen word own enter T f p t ≡ whole (walkPages enter pageOf p t E)
     unfolding seen
     seen-division (leaf rs) f t p e d z h k = seen-leaf rs f t p e z h k
     seen-division (divided l u) zero t p e d z h k = absurd (omega arith)
     seen-division (divided l u) (suc f) t p e d z h k =
-        met-divided P fair T t (word t p) _ below within
+        met-divided T t (word t p) _ _ below within
         ∙ after-whole (enter (suc t) (withBit p t false)) (enter (suc t) (withBit p t true)) _ _ _ _
         (λ k₀. seen-division l f (suc t) (withBit p t false) (omega arith) (omega arith) (Zeros-withBit p t false z)
         (Under-lower D t p l u h) k₀)
@@ -139,7 +140,7 @@ module _ {R : Type 0} (word : ℕ → (ℕ → Bool) → ℕ) (fair : ℕ → Bo
 
     -- from the empty string
     pub seen-whole : greatestDepth D ≤ T → enter 0 emptyString ≡ true
-        → seen word fair enter P T T emptyString 0 ≡ whole (walkPages enter pageOf emptyString 0 D)
+        → seen word own enter T T emptyString 0 ≡ whole (walkPages enter pageOf emptyString 0 D)
     seen-whole d k = seen-division D T 0 emptyString (zero-add T) d (λ s l. refl) (Under-all D) k
 
 -- ---- how many pages, and their records

@@ -22,10 +22,10 @@ use Rattle.store.specs.Store.{Store, wordAt}
 use Rattle.store.specs.Promises.{SoundWhereRead}
 use Rattle.walk.specs.declared.Noted.{Noted}
 use Rattle.walk.specs.declared.Noted.the-variants.{Pages, Damaged}
-use Rattle.walk.specs.Seen.{Seen, fairPage, walkSeen, emit, answerOf, Put}
+use Rattle.walk.specs.Seen.{Seen, fairPage, leafSeen, walkSeen, emit, answerOf, Put}
 use Rattle.walk.specs.Pages.{readPages}
 use Rattle.walk.proofs.SeenLaws.{getD-emit, take-emit}
-use Rattle.walk.proofs.BoundLaws.{length-seen-le, Readable, All-seen}
+use Rattle.walk.proofs.BoundLaws.{length-noted-le, length-seen-le, Readable, All-noted, All-seen}
 use Rattle.walk.proofs.StoreLaws.{walkSeen-sound, length-readPages, records-readPages}
 
 All-getD : (P : ℕ → Type 0) (xs : List ℕ) → All P xs → (i : ℕ) → i < length xs → P (getD xs i 0)
@@ -54,8 +54,8 @@ module _ (st : State) (words bytes : List ℕ) (q : ℕ → QueryBit) (list : Li
       omega (
         arith,
         length-noted,
-        length-seen-le (λ x p. wordAt (st .shape) x words p) (fairPage (st .shape .capacity) bytes)
-            (queryEnters q) (st .limits .pages) (st .depth) (st .depth) emptyString 0,
+        length-seen-le (λ x p. wordAt (st .shape) x words p) (leafSeen st bytes) (queryEnters q) (st .depth)
+            (λ x p w. length-noted-le (st .limits .pages) _ _ w) (st .depth) emptyString 0,
       )
 
   module _ (room : n ≤ length list) where
@@ -81,7 +81,8 @@ module _ (st : State) (words bytes : List ℕ) (q : ℕ → QueryBit) (list : Li
         ∙ getD-emit list 0 (s .pages) i (omega (arith, length-noted)) (omega (arith, length-noted))) in
         subst (Readable P fair) here
         (All-getD (Readable P fair) (s .pages)
-        (All-seen P fair (λ x p. wordAt (st .shape) x words p) (queryEnters q) T T emptyString 0) i
+        (All-seen (Readable P fair) (λ x p. wordAt (st .shape) x words p) (leafSeen st bytes)
+        (λ x p w. All-noted P fair _ w) (queryEnters q) T T emptyString 0) i
         (omega (arith, length-noted)))
 
 -- ---- a store that is sound where the query reads it

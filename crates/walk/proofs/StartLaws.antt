@@ -21,23 +21,27 @@ use Rattle.region.proofs.QueryLaws.{queryEnters-side}
 use Rattle.store.specs.declared.State.{State}
 use Rattle.shape.proofs.ShapeLaws.{shapeNumber-true, capacity-bounds}
 use Rattle.walk.specs.declared.Noted.the-variants.{Pages, Damaged}
-use Rattle.walk.specs.Seen.{Seen, nothing, after, met, seen, fairPage, walkSeen, Put, Walkable}
+use Rattle.walk.specs.Seen.{Seen, nothing, damaged, after, tallied, noted, leafSeen, met, seen, fairPage}
+use Rattle.walk.specs.Seen.{walkSeen, Put, Walkable}
 use Rattle.walk.specs.Rows.{wantedNumber, stepRow, Rows, mostPages}
-use Rattle.walk.specs.Private.{packed, weighed, sides, seenBy, Wrote, Turn}
+use Rattle.walk.specs.Private.{packed, weighed, depthsOf, hasDepth, leafBy, sides, seenBy, Wrote, Turn}
 use Rattle.walk.proofs.SeenLaws.{after-nothing, nothing-after, sound-of-next, damaged-of-next}
-use Rattle.walk.proofs.BoundLaws.{length-seenBy-le, mostPages-le}
+use Rattle.walk.proofs.BoundLaws.{one-page, length-seenBy-le, mostPages-le}
+use Rattle.walk.proofs.DepthLaws.{hasDepth-depthsOf}
 use Rattle.walk.proofs.RowLaws.{fit-steps}
 use Rattle.walk.proofs.VectorLaws.{cell-lower, packed-upper, weighed-cell}
 
 -- ---- by rows and over strings
 
 module _ (ws : List ℕ) (fit : Fit ws) (q : ℕ → QueryBit) (T : ℕ) (bits : T ≤ length (steps ws)) (rows : List ℕ)
-    (table : Rows ws q T rows) (words : List ℕ) (fair : ℕ → Bool) (P : ℕ) where
+    (table : Rows ws q T rows) (words : List ℕ) (leaf : ℕ → (ℕ → Bool) → ℕ → Seen) (leafBy : ℕ → ℕ → Seen)
+    -- both see a leaf alike
+    (alike : (x : ℕ) (p : ℕ → Bool) (w : ℕ) → x ≤ T → leafBy x w ≡ leaf x p w) where
   abbrev wordOver : ℕ → (ℕ → Bool) → ℕ
   wordOver x p = getD words (cellAddress ws x p) 0
 
   abbrev over : ℕ → (ℕ → Bool) → ℕ → Seen
-  over = seen wordOver fair (queryEnters q) P T
+  over = seen wordOver leaf (queryEnters q) T
 
   -- the sides that the row's number lets in are those that the query agrees with
   sides-after : (x : ℕ) (p : ℕ → Bool) → x < T → agrees q p x 0 ≡ true → (s u s′ u′ : Seen)
@@ -59,14 +63,15 @@ module _ (ws : List ℕ) (fit : Fit ws) (q : ℕ → QueryBit) (T : ℕ) (bits :
       by-bit (given true) h k = k refl ∙ sym (nothing-after u′)
 
   seenBy-seen : (f x : ℕ) (p : ℕ → Bool) → x + f ≡ T → agrees q p x 0 ≡ true
-      → seenBy rows words fair P T f x (packed (cell ws x p)) (wordOver x p) ≡ over f p x
+      → seenBy rows words leafBy T f x (packed (cell ws x p)) (wordOver x p) ≡ over f p x
   unfolding seenBy seen stepRow cellAddress
-  seenBy-seen zero x p e a = refl
+  seenBy-seen zero x p e a =
+      ap (λ s. met T x (wordOver x p) s damaged) (alike x p (wordOver x p) (omega arith))
   seenBy-seen (suc f) x p e a =
-      ap (met P fair T x (wordOver x p))
+      λ i. met T x (wordOver x p) (alike x p (wordOver x p) (omega arith) i)
       (sides-after x p inner a _ _ _ _
       (λ d. lower ∙ seenBy-seen f (suc x) (withBit p x false) (omega arith) d)
-      (λ d. upper ∙ seenBy-seen f (suc x) (withBit p x true) (omega arith) d))
+      (λ d. upper ∙ seenBy-seen f (suc x) (withBit p x true) (omega arith) d) i)
     where
       inner : x < T
       inner = omega arith
@@ -75,7 +80,7 @@ module _ (ws : List ℕ) (fit : Fit ws) (q : ℕ → QueryBit) (T : ℕ) (bits :
       step-lt = omega arith
 
       by : ℕ → ℕ → ℕ → Seen
-      by = seenBy rows words fair P T f
+      by = seenBy rows words leafBy T f
 
       lower : by (x + 1) (packed (cell ws x p)) (wordOver x p)
           ≡ by (suc x) (packed (cell ws (suc x) (withBit p x false))) (wordOver (suc x) (withBit p x false))
@@ -105,7 +110,8 @@ module _ (ws : List ℕ) (fit : Fit ws) (q : ℕ → QueryBit) (T : ℕ) (bits :
 -- ---- from the empty string
 
 module _ (st : State) (rows words bytes : List ℕ) (room : ℕ)
-    (h : Walkable st rows (length words) (length bytes) room) where
+    (h : Walkable st rows (length words) (length bytes) room) (depths : ℕ)
+    (told : depths ≡ depthsOf (st .tally .leaves)) where
   abbrev ws : List ℕ
   ws = widthsOf (st .shape)
 
@@ -137,17 +143,26 @@ module _ (st : State) (rows words bytes : List ℕ) (room : ℕ)
         left = rw all (omega (arith, h .list-lent));
       }
 
+  -- what is seen of a leaf
+  abbrev leafHere : ℕ → ℕ → Seen
+  leafHere = leafBy (st .limits .pages) (st .shape .capacity) depths bytes
+
+  leaf-alike : (x : ℕ) (p : ℕ → Bool) (w : ℕ) → x ≤ st .depth → leafHere x w ≡ leafSeen st bytes x p w
+  unfolding tallied
+  leaf-alike x p w l =
+      ap (λ β. noted (st .limits .pages) β (fairPage (st .shape .capacity) bytes) w)
+      (ap (λ d. hasDepth d x) told ∙ hasDepth-depthsOf (st .tally .leaves) x)
+
   -- the walk by rows from the zero vector
   abbrev byRows : Seen
   byRows =
-      seenBy rows words (fairPage (st .shape .capacity) bytes) (st .limits .pages) (st .depth) (st .depth - 0) 0 0
-      (getD words 0 0)
+      seenBy rows words leafHere (st .depth) (st .depth - 0) 0 0 (getD words 0 0)
 
   length-byRows-le : (length (byRows .pages) ≤ room) × (length (byRows .pages) ≤ 4096)
   length-byRows-le =
       let all : st .depth - 0 ≡ st .depth = omega arith in
       let most = pow-mono {j = 12} (h .depth-twelve) in
-      let l = length-seenBy-le rows words (fairPage (st .shape .capacity) bytes) (st .limits .pages) (st .depth)
+      let l = length-seenBy-le rows words leafHere (st .depth) (one-page (st .limits .pages) (st .shape .capacity) depths bytes)
       (st .depth - 0) 0 0 (getD words 0 0) in
       let e = ap (λ f. mostPages rows f 0) all in (
         omega (arith, l, e, h .list-lent),
@@ -159,16 +174,15 @@ module _ (st : State) (rows words bytes : List ℕ) (room : ℕ)
     byRows-walkSeen : byRows ≡ walkSeen st words bytes q
     unfolding walkSeen cellAddress
     byRows-walkSeen =
-        let fair = fairPage (st .shape .capacity) bytes in
-        let P = st .limits .pages in
         let T = st .depth in
         let all : T - 0 ≡ T = omega arith in
         let none = cell-zero ws emptyString in
-        ap (λ f. seenBy rows words fair P T f 0 0 (getD words 0 0)) all
-        ∙ ap (λ v. seenBy rows words fair P T T 0 v (getD words 0 0)) (sym (ap packed none))
-        ∙ ap (λ a. seenBy rows words fair P T T 0 (packed (cell ws 0 emptyString)) (getD words a 0))
+        ap (λ f. seenBy rows words leafHere T f 0 0 (getD words 0 0)) all
+        ∙ ap (λ v. seenBy rows words leafHere T T 0 v (getD words 0 0)) (sym (ap packed none))
+        ∙ ap (λ a. seenBy rows words leafHere T T 0 (packed (cell ws 0 emptyString)) (getD words a 0))
         (sym (ap (address ws) none ∙ address-zero ws))
-        ∙ seenBy-seen ws (fits .0) q T (fits .1) rows table words fair P T 0 emptyString (omega arith) refl
+        ∙ seenBy-seen ws (fits .0) q T (fits .1) rows table words (leafSeen st bytes) leafHere leaf-alike T 0
+        emptyString (omega arith) refl
 
     -- they have room in the list
     pub length-walkSeen-le : (length (walkSeen st words bytes q .pages) ≤ room)

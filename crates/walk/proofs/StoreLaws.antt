@@ -7,6 +7,7 @@ use mathlib.Core.Bool.{Bool, true, cond, false≢true}
 use mathlib.Core.List.{List, [], _∷_, flatMap}
 use native.Mathlib.Omega.{arith}
 use lib.ListN.{getD, length}
+use borrow.Author.Tests.{le-leb}
 use Rattle.lists.specs.Filter.{filter, all, nonEmpty}
 use Rattle.lists.proofs.Bools.{and-split}
 use Rattle.shape.specs.Shape.{Fit, widthsOf, total}
@@ -28,7 +29,8 @@ use Rattle.store.specs.Store.{Store, wordAt}
 use Rattle.store.specs.Sound.{LeafWord, Sound}
 use Rattle.store.specs.Promises.{withBytes, SoundWhereRead}
 use Rattle.shape.proofs.ShapeLaws.{shapeNumber-true, capacity-bounds}
-use Rattle.walk.specs.Seen.{fieldOf, depthOf, fairPage, noted, walkSeen}
+use Rattle.change.proofs.BoundLaws.{leaf-counted}
+use Rattle.walk.specs.Seen.{fieldOf, depthOf, fairPage, tallied, noted, leafSeen, walkSeen}
 use Rattle.walk.specs.Pages.{pageIn, readPages}
 use Rattle.walk.proofs.SeenLaws.{within-true, noted-none, noted-fair}
 use Rattle.walk.proofs.RowLaws.{fit-steps}
@@ -47,14 +49,14 @@ module _ (s : Shape) (P : ℕ) (most : P ≤ 4096) (bytes : List ℕ) where
   depthOf-leafWord (r ∷ rs) x word h = depthOf-wordOf P (h .0) x word most (h .1) (h .2) .0
 
   -- an empty leaf notes nothing, another its page
-  noted-leafWord : (fair : ℕ → Bool) (rs : List Record) (x word : ℕ) → LeafWord s P bytes rs x word
-      → (nonEmpty rs ≡ true → fair (fieldOf word - 1) ≡ true)
-      → noted P fair word ≡ whole (cond (nonEmpty rs) ((fieldOf word - 1) ∷ []) [])
-  noted-leafWord fair [] x word h f = noted-none P fair word (omega arith)
-  noted-leafWord fair (r ∷ rs) x word h f =
+  noted-leafWord : (has : Bool) (fair : ℕ → Bool) (rs : List Record) (x word : ℕ) → LeafWord s P bytes rs x word
+      → has ≡ true → (nonEmpty rs ≡ true → fair (fieldOf word - 1) ≡ true)
+      → noted P has fair word ≡ whole (cond (nonEmpty rs) ((fieldOf word - 1) ∷ []) [])
+  noted-leafWord has fair [] x word h t f = rw t (noted-none P fair word (omega arith))
+  noted-leafWord has fair (r ∷ rs) x word h t f =
       let d = depthOf-wordOf P (h .0) x word most (h .1) (h .2) .1 in
       let g = h .1 in
-      noted-fair P fair word (λ e. omega arith) (omega arith) (f refl)
+      rw t (noted-fair P fair word (λ e. omega arith) (omega arith) (f refl))
 
   -- the page of a leaf that is not empty
   page-leafWord : (rs : List Record) (x word : ℕ) → LeafWord s P bytes rs x word → nonEmpty rs ≡ true
@@ -128,8 +130,13 @@ module _ (store : Store) (q : ℕ → QueryBit) (S : List Record) (h : SoundWher
       (set-parts .0) in
       within-true (s .capacity) (countOf page) (omega arith) (omega arith)
 
-  shows-leaves : ShowsLeaves (λ x p. wordAt s x words p) (fairPage (s .capacity) (store .memory .bytes)) (queryEnters q)
-      P T D
+  -- its depth has a leaf in the tally
+  leaf-tallied : (p : ℕ → Bool) → tallied (store .state .tally) (leafDepth p 0 D) ≡ true
+  unfolding tallied
+  leaf-tallied p = le-leb 1 _ (leaf-counted (withBytes store (h .0)) S sound p)
+
+  shows-leaves : ShowsLeaves (λ x p. wordAt s x words p) (leafSeen (store .state) (store .memory .bytes)) (queryEnters q)
+      T D
   shows-leaves = record {
     own-word = λ t p l z.
         ap (λ a. getD words a 0)
@@ -137,15 +144,15 @@ module _ (store : Store) (q : ℕ → QueryBit) (S : List Record) (h : SoundWher
     word-depth = λ p.
         depthOf-leafWord s P (sound .most-pages) (h .0) (leafRecords p 0 D) (leafDepth p 0 D) _ (leaf-word p);
     word-noted = λ p e.
-        noted-leafWord s P (sound .most-pages) (h .0) _ (leafRecords p 0 D) (leafDepth p 0 D) _ (leaf-word p)
-        (page-fair p e);
+        noted-leafWord s P (sound .most-pages) (h .0) _ _ (leafRecords p 0 D) (leafDepth p 0 D) _ (leaf-word p)
+        (leaf-tallied p) (page-fair p e);
   }
 
   -- the walk is sound, and notes the pages of the agreeing leaves that are not empty, in order
   pub walkSeen-sound : walkSeen (store .state) words (store .memory .bytes) q
       ≡ whole (readPages (store .state) words q D)
   unfolding walkSeen readPages
-  walkSeen-sound = seen-whole _ _ (queryEnters q) P T D shows-leaves (omega (arith, sound .deepest)) refl
+  walkSeen-sound = seen-whole _ _ (queryEnters q) T D shows-leaves (omega (arith, sound .deepest)) refl
 
   -- their number is the reads
   pub length-readPages : length (readPages (store .state) words q D) ≡ reads q D

@@ -5,13 +5,14 @@ use Prim.Native.Nat.{ℕ, zero, suc, _+_, _-_, _/_, _%_, _^_, _≤_}
 use mathlib.Core.Path.{_≡_}
 use mathlib.Core.Bool.{Bool, true, false, cond}
 use mathlib.Core.List.{List, [], _∷_, _++_}
-use lib.Dec.{eqb, ltb}
-use lib.ListN.{length, set}
+use lib.Dec.{eqb, ltb, leb}
+use lib.ListN.{getD, length, set}
 use Rattle.shape.specs.Shape.{within, inBounds, widthsOf, total}
 use Rattle.region.specs.Strings.{withBit, emptyString}
 use Rattle.region.specs.Query.{QueryBit, queryEnters}
 use Rattle.page.specs.Page.{countOf, pageAt}
 use Rattle.store.specs.declared.State.{State}
+use Rattle.store.specs.declared.Tally.{Tally}
 use Rattle.store.specs.Store.{pagesSize, wordAt}
 use Rattle.walk.specs.Rows.{Rows, mostPages}
 use Rattle.walk.specs.declared.Noted.{Noted}
@@ -53,37 +54,49 @@ depthOf word = word / 2 ^ 16
 unfoldable pub fairPage : ℕ → List ℕ → ℕ → Bool
 fairPage b bytes g = within 1 b (countOf (pageAt b bytes g))
 
--- a leaf's word, where there are P pages and `fair` tells which may be read: page P is none, "word with page number P"
-unfoldable pub noted : ℕ → (ℕ → Bool) → ℕ → Seen
-noted P fair word =
-    cond (eqb (fieldOf word) 0) nothing
-    (cond (ltb P (fieldOf word)) damaged (cond (fair (fieldOf word - 1)) (single (fieldOf word - 1)) damaged))
+-- "the tally of leaves (empty ones too)" has one at depth x
+unfoldable pub tallied : Tally → ℕ → Bool
+tallied tally x = leb 1 (getD (tally .leaves) x 0)
+
+-- a leaf's word, where there are P pages, `has` tells whether the tally has a leaf of its depth, and `fair` which pages
+-- may be read: page P is none, "word with page number P"
+unfoldable pub noted : ℕ → Bool → (ℕ → Bool) → ℕ → Seen
+noted P has fair word =
+    cond has
+    (cond (eqb (fieldOf word) 0) nothing
+    (cond (ltb P (fieldOf word)) damaged (cond (fair (fieldOf word - 1)) (single (fieldOf word - 1)) damaged)))
+    damaged
+
+-- the word of a leaf of the first x bits of p
+abbrev pub leafSeen : State → List ℕ → ℕ → (ℕ → Bool) → ℕ → Seen
+leafSeen st bytes x p word =
+    noted (st .limits .pages) (tallied (st .tally) x) (fairPage (st .shape .capacity) bytes) word
 
 -- ---- a walk
 
--- a region of depth x with its word: a leaf, if the word has its depth; of no sound store, if the word's depth is
--- smaller or above T; else divided, and this is seen below it
-unfoldable pub met : ℕ → (ℕ → Bool) → ℕ → ℕ → ℕ → Seen → Seen
-met P fair T x word below =
-    cond (eqb (depthOf word) x) (noted P fair word)
+-- a region of depth x with its word: a leaf, if the word has its depth, where `own` is seen; of no sound store, if the
+-- word's depth is smaller or above T; else divided, and `below` is seen
+unfoldable pub met : ℕ → ℕ → ℕ → Seen → Seen → Seen
+met T x word own below =
+    cond (eqb (depthOf word) x) own
     (cond (ltb (depthOf word) x) damaged (cond (ltb T (depthOf word)) damaged below))
 
--- `word x p` is the word of the region of the first x bits of p, that of its cell with bits 0 from x on; `enter` tests
--- a region. The fuel is T less the depth.
-module _ (word : ℕ → (ℕ → Bool) → ℕ) (fair : ℕ → Bool) (enter : ℕ → (ℕ → Bool) → Bool) (P T : ℕ) where
+-- `word x p` is the word of the region of the first x bits of p, that of its cell with bits 0 from x on; `leaf x p w`
+-- is seen where it is a leaf with the word w; `enter` tests a region. The fuel is T less the depth.
+module _ (word : ℕ → (ℕ → Bool) → ℕ) (leaf : ℕ → (ℕ → Bool) → ℕ → Seen) (enter : ℕ → (ℕ → Bool) → Bool) (T : ℕ) where
   -- "It walks the regions .. by recursion, bit 0 before bit 1"
   unfoldable pub seen : ℕ → (ℕ → Bool) → ℕ → Seen
-  seen zero p x = met P fair T x (word x p) damaged
+  seen zero p x = met T x (word x p) (leaf x p (word x p)) damaged
   seen (suc f) p x =
-      met P fair T x (word x p)
+      met T x (word x p) (leaf x p (word x p))
       (after (cond (enter (suc x) (withBit p x false)) (seen f (withBit p x false) (suc x)) nothing)
       (cond (enter (suc x) (withBit p x true)) (seen f (withBit p x true) (suc x)) nothing))
 
 -- a query's walk over a store's memory, "from the empty string"
 unfoldable pub walkSeen : State → List ℕ → List ℕ → (ℕ → QueryBit) → Seen
 walkSeen st words bytes q =
-    seen (λ x p. wordAt (st .shape) x words p) (fairPage (st .shape .capacity) bytes) (queryEnters q)
-    (st .limits .pages) (st .depth) (st .depth) emptyString 0
+    seen (λ x p. wordAt (st .shape) x words p) (leafSeen st bytes) (queryEnters q) (st .depth) (st .depth) emptyString
+    0
 
 -- ---- the contract
 
