@@ -1,6 +1,6 @@
 -- The promise of delete, for each way that it ends: refused early, with 5 or 9, or accepted, the leaf of the key kept
 -- or joined. What the code hands over need hold on sound stores alone, save that nothing changes past the words and
--- pages in use. Assumes nothing.
+-- pages in use, nor outside the leaves that change. Assumes nothing.
 use Prim.Native.Nat.{ℕ, suc, _+_, _-_, _%_, _^_, _<_}
 use mathlib.Core.Path.{_≡_, refl, sym, ap, _∙_, subst}
 use mathlib.Core.Bool.{true, false}
@@ -27,7 +27,8 @@ use Rattle.store.proofs.ShownLaws.{pageRecords, wordOn, shape-of-Sound}
 use Rattle.store.proofs.KeyLaws.{keyWord, stored-no-page, stored-page}
 use Rattle.change.specs.Delete.{keyString, LeafDeleted, JoinFound, LeafJoined}
 use Rattle.change.proofs.RegionLaws.{changedStore}
-use Rattle.change.proofs.PromiseLaws.{keyFits-of-keyNumber, keyNumber-suc, KeepsPast, ShowsNext, ModelNumber}
+use Rattle.change.proofs.PromiseLaws.{keyFits-of-keyNumber, keyNumber-suc, KeepsPast, KeepsOthers}
+use Rattle.change.proofs.PromiseLaws.{ShowsNext, ModelNumber}
 use Rattle.change.proofs.PromiseLaws.{promise-early, promise-refused, promise-accepted}
 use Rattle.change.proofs.InsertPromiseLaws.{OnSound}
 use Rattle.change.proofs.DeleteKeyLaws.{stored-record}
@@ -71,7 +72,7 @@ module _ (before : Store) (values : List ℕ) where
 
   pub delete-early : (n : ℕ) → keyNumber before values ≡ suc n → DeletePromise before values (refused (suc n)) before
   delete-early n e =
-      promise-early call (keyNumber before values) numbers before n
+      promise-early call values (keyNumber before values) numbers before n
       (λ S sound. let k = keyNumber-suc before values S sound n e in
       numberFor-delete-out (fixedOf (before .state)) S values (k .0) ∙ sym (k .1)) e
 
@@ -81,9 +82,11 @@ module _ (before : Store) (values : List ℕ) where
 
     -- ---- refused
 
-    refuse : (n : ℕ) → ModelNumber call (keyNumber before values) numbers before (suc n) → Member (suc n) numbers
+    refuse : (n : ℕ) → ModelNumber call values (keyNumber before values) numbers before (suc n)
+        → Member (suc n) numbers
         → DeletePromise before values (refused (suc n)) before
-    refuse n number member = promise-refused call (keyNumber before values) numbers before n number early member
+    refuse n number member =
+        promise-refused call values (keyNumber before values) numbers before n number early member
 
     -- 9: the store is not sound
     pub delete-unsound : OnSound before ⊥ → DeletePromise before values (refused 9) before
@@ -120,14 +123,15 @@ module _ (before : Store) (values : List ℕ) where
         ap nonEmpty (stored-page before S sound key g field .1) ∙ found
 
     accept : (T′ : ℕ) (tally′ : Tally) (m′ : Memory) → KeepsPast before m′
+        → KeepsOthers before values (changedStore before T′ tally′ m′)
         → OnSound before ((g : ℕ) × (x : ℕ) × (g < before .state .limits .pages)
         × (wordOn before (keyString before key) ≡ wordOf (Page g x)) × (nonEmpty (stored key (recordsOn g)) ≡ true))
         → ((S : List Record) → Sound before S → (r : Record) → r .key ≡ key → stored (r .key) S ≡ r ∷ []
         → ShowsNext before (changedStore before T′ tally′ m′) S (withoutKey (r .key) S))
         → DeletePromise before values (accepted changed) (changedStore before T′ tally′ m′)
     unfolding replyTo setAfter
-    accept T′ tally′ m′ past met shows =
-        promise-accepted call (keyNumber before values) numbers before T′ tally′ m′ early past
+    accept T′ tally′ m′ past others met shows =
+        promise-accepted call values (keyNumber before values) numbers before T′ tally′ m′ early past others
         (λ S sound. numberFor-delete-stored (fixedOf (before .state)) S values fits (has S sound)) (λ S. refl)
         (λ S sound.
         let k = stored-record s (shape-of-Sound before S sound) S (sound .set) key (length-encodings s values)
@@ -143,9 +147,10 @@ module _ (before : Store) (values : List ℕ) where
     pub delete-kept : (g x : ℕ) (words′ bytes′ : List ℕ)
         → OnSound before (LeafDeleted before key g x (memory words′ bytes′))
         → OnSound before (nonEmpty (stored key (recordsOn g)) ≡ true) → KeepsPast before (memory words′ bytes′)
+        → KeepsOthers before values (store (before .state) words′ bytes′)
         → DeletePromise before values (accepted changed) (store (before .state) words′ bytes′)
-    delete-kept g x words′ bytes′ deleted found past =
-        accept (before .state .depth) (before .state .tally) (memory words′ bytes′) past
+    delete-kept g x words′ bytes′ deleted found past others =
+        accept (before .state .depth) (before .state .tally) (memory words′ bytes′) past others
         (λ S sound. let k = deleted S sound in (g, x, k .within, k .own, found S sound))
         (λ S sound r e held.
         showsNext-deleted before S sound r held g x (memory words′ bytes′)
@@ -157,9 +162,10 @@ module _ (before : Store) (values : List ℕ) where
         → OnSound before (JoinFound before key g h m y)
         → OnSound before (LeafJoined before key g h m y kept freed T′ tally′ (memory words′ bytes′))
         → OnSound before (nonEmpty (stored key (recordsOn g)) ≡ true) → KeepsPast before (memory words′ bytes′)
+        → KeepsOthers before values (changedStore before T′ tally′ (memory words′ bytes′))
         → DeletePromise before values (accepted changed) (changedStore before T′ tally′ (memory words′ bytes′))
-    delete-joined g h m y kept freed T′ tally′ words′ bytes′ met joined found past =
-        accept T′ tally′ (memory words′ bytes′) past
+    delete-joined g h m y kept freed T′ tally′ words′ bytes′ met joined found past others =
+        accept T′ tally′ (memory words′ bytes′) past others
         (λ S sound. let k = met S sound in (g, suc m, k .own-within, k .own, found S sound))
         (λ S sound r e held.
         showsNext-joined before S sound r held g h m y

@@ -1,5 +1,6 @@
 -- The promise of insert, for each way that it ends: refused early, with 4, 6, 7 or 9, or accepted. What the code hands
--- over need hold on sound stores alone, save that nothing changes past the words and pages in use. Assumes nothing.
+-- over need hold on sound stores alone, save that nothing changes past the words and pages in use, nor outside the
+-- leaves that change. Assumes nothing.
 use Prim.Native.Nat.{ℕ, suc, _<_, _≤_}
 use mathlib.Core.Path.{_≡_, refl, sym, _∙_}
 use mathlib.Core.Bool.{true, false}
@@ -25,7 +26,8 @@ use Rattle.store.specs.Promises.{keyNumber, InsertPromise}
 use Rattle.store.specs.declared.Tally.{Tally}
 use Rattle.store.proofs.ShownLaws.{wordOn}
 use Rattle.change.proofs.RegionLaws.{changedStore}
-use Rattle.change.proofs.PromiseLaws.{keyFits-of-keyNumber, keyNumber-suc, KeepsPast, ShowsNext, ModelNumber}
+use Rattle.change.proofs.PromiseLaws.{keyFits-of-keyNumber, keyNumber-suc, KeepsPast, KeepsOthers}
+use Rattle.change.proofs.PromiseLaws.{ShowsNext, ModelNumber}
 use Rattle.change.proofs.PromiseLaws.{promise-early, promise-refused, promise-accepted}
 use Rattle.change.proofs.MeetLaws.{allHave, recordsOn, MeetsPage}
 use Rattle.change.proofs.NumberLaws.{NoFreePage, new-of-empty, room-of-empty, number-empty-none}
@@ -55,7 +57,7 @@ module _ (before : Store) (values : List ℕ) (content : Content) where
   pub insert-early : (n : ℕ) → keyNumber before values ≡ suc n
       → InsertPromise before values content (refused (suc n)) before
   insert-early n e =
-      promise-early call (keyNumber before values) numbers before n
+      promise-early call values (keyNumber before values) numbers before n
       (λ S sound. let k = keyNumber-suc before values S sound n e in
       numberFor-insert-out (fixedOf (before .state)) S values content (k .0) ∙ sym (k .1)) e
 
@@ -68,9 +70,11 @@ module _ (before : Store) (values : List ℕ) (content : Content) where
 
     -- ---- refused
 
-    refuse : (n : ℕ) → ModelNumber call (keyNumber before values) numbers before (suc n) → Member (suc n) numbers
+    refuse : (n : ℕ) → ModelNumber call values (keyNumber before values) numbers before (suc n)
+        → Member (suc n) numbers
         → InsertPromise before values content (refused (suc n)) before
-    refuse n number member = promise-refused call (keyNumber before values) numbers before n number early member
+    refuse n number member =
+        promise-refused call values (keyNumber before values) numbers before n number early member
 
     -- 9: the store is not sound
     pub insert-unsound : OnSound before ⊥ → InsertPromise before values content (refused 9) before
@@ -119,21 +123,23 @@ module _ (before : Store) (values : List ℕ) (content : Content) where
     -- ---- accepted
 
     accept : (T′ : ℕ) (tally′ : Tally) (m′ : Memory) → KeepsPast before m′
-        → ModelNumber call (keyNumber before values) numbers before 0
+        → KeepsOthers before values (changedStore before T′ tally′ m′)
+        → ModelNumber call values (keyNumber before values) numbers before 0
         → ((S : List Record) → Sound before S
         → ShowsNext before (changedStore before T′ tally′ m′) S (withRecord s r S))
         → InsertPromise before values content (accepted changed) (changedStore before T′ tally′ m′)
     unfolding replyTo setAfter
-    accept T′ tally′ m′ past number shows =
-        promise-accepted call (keyNumber before values) numbers before T′ tally′ m′ early past number
+    accept T′ tally′ m′ past others number shows =
+        promise-accepted call values (keyNumber before values) numbers before T′ tally′ m′ early past others number
         (λ S. refl) shows
 
     -- the leaf's page takes the record
     pub insert-taken : (g x : ℕ) (bytes′ : List ℕ) → OnSound before (TookRecord before r g x bytes′)
         → KeepsPast before (memory (before .memory .words) bytes′)
+        → KeepsOthers before values (store (before .state) (before .memory .words) bytes′)
         → InsertPromise before values content (accepted changed) (store (before .state) (before .memory .words) bytes′)
-    insert-taken g x bytes′ took past =
-        accept (before .state .depth) (before .state .tally) (memory (before .memory .words) bytes′) past
+    insert-taken g x bytes′ took past others =
+        accept (before .state .depth) (before .state .tally) (memory (before .memory .words) bytes′) past others
         (λ S sound. let k = took S sound in
         number-page before values content fits S sound g x (k .meets) (k .absent) (k .room))
         (λ S sound. let k = took S sound in
@@ -142,10 +148,10 @@ module _ (before : Store) (values : List ℕ) (content : Content) where
 
     -- an empty leaf gets a page
     pub insert-got : (g x : ℕ) (words′ bytes′ : List ℕ) → OnSound before (GotPage before r g x words′ bytes′)
-        → KeepsPast before (memory words′ bytes′)
+        → KeepsPast before (memory words′ bytes′) → KeepsOthers before values (store (before .state) words′ bytes′)
         → InsertPromise before values content (accepted changed) (store (before .state) words′ bytes′)
-    insert-got g x words′ bytes′ got past =
-        accept (before .state .depth) (before .state .tally) (memory words′ bytes′) past
+    insert-got g x words′ bytes′ got past others =
+        accept (before .state .depth) (before .state .tally) (memory words′ bytes′) past others
         (λ S sound. let k = got S sound in
         number-empty-free before values content fits S sound x (k .word) g (k .within) (k .free))
         (λ S sound. let k = got S sound in
@@ -156,9 +162,10 @@ module _ (before : Store) (values : List ℕ) (content : Content) where
     pub insert-divided : (g h x m T′ : ℕ) (tally′ : Tally) (words₁ words′ bytes′ : List ℕ)
         → OnSound before (DividedLeaf before r g h x m T′ tally′ words₁ words′ bytes′)
         → KeepsPast before (memory words′ bytes′)
+        → KeepsOthers before values (changedStore before T′ tally′ (memory words′ bytes′))
         → InsertPromise before values content (accepted changed) (changedStore before T′ tally′ (memory words′ bytes′))
-    insert-divided g h x m T′ tally′ words₁ words′ bytes′ divided past =
-        accept T′ tally′ (memory words′ bytes′) past
+    insert-divided g h x m T′ tally′ words₁ words′ bytes′ divided past others =
+        accept T′ tally′ (memory words′ bytes′) past others
         (λ S sound. let d = divided S sound in let k = d .met in
         number-full-free before values content fits S sound g x (k .meets) (k .absent) (k .full) m (k .below)
         (k .alike) (k .differ) (k .deep) h (d .within) (d .free))

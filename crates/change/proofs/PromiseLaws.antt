@@ -13,12 +13,14 @@ use lib.Seq.{getD-drop, ext-getD}
 use borrow.Author.Tests.{le-ltb}
 use Rattle.lists.specs.Members.{Member}
 use Rattle.shape.specs.Refusal.{Answer, accepted, refused, firstNumber}
-use Rattle.shape.specs.Shape.{inBounds, shapeConditions}
-use Rattle.shape.specs.Key.{keyFits}
+use Rattle.shape.specs.Shape.{widthsOf, inBounds, shapeConditions}
+use Rattle.shape.specs.Key.{keyFits, encodings}
+use Rattle.split.specs.Bits.{splitBit}
 use Rattle.record.specs.Record.{Record}
 use Rattle.model.specs.Model.{Call, Reply, changed, replyTo, numberFor, setAfter, outcome, next}
 use Rattle.store.specs.Store.{Store, Memory, fixedOf, pagesSize, lentConditions}
 use Rattle.store.specs.Sound.{Sound}
+use Rattle.store.specs.Contained.{Contained}
 use Rattle.store.specs.Promises.{keyNumber, KeepsPages, TakesPages, ChangePromise}
 use Rattle.store.specs.declared.Tally.{Tally}
 use Rattle.store.proofs.ShownLaws.{divisionOn}
@@ -87,6 +89,11 @@ pub record KeepsPast (before : Store) (m′ : Memory) : Type 0 where
   pub bytes-past : drop (pagesSize (before .state)) (m′ .bytes)
       ≡ drop (pagesSize (before .state)) (before .memory .bytes)
 
+-- words and pages outside the key's leaf and the leaves joined with it, on any store too
+abbrev pub KeepsOthers : Store → List ℕ → Store → Type 0
+KeepsOthers before values after =
+    Contained before after (splitBit (widthsOf (before .state .shape)) (encodings (before .state .shape) values))
+
 -- ---- a sound store after an accepted call
 
 pub record ShowsNext (before after : Store) (S S′ : List Record) : Type 0 where
@@ -106,7 +113,7 @@ showsNext-of-region before S S′ T′ tally′ m′ p₀ x sound change after =
 
 -- ---- the promise
 
-module _ (c : Call) (early : ℕ) (numbers : List ℕ) (before : Store) where
+module _ (c : Call) (values : List ℕ) (early : ℕ) (numbers : List ℕ) (before : Store) where
   -- on a sound store it is the model's number
   abbrev pub ModelNumber : ℕ → Type 0
   ModelNumber n = (S : List Record) → Sound before S → numberFor (fixedOf (before .state)) S c ≡ n
@@ -122,7 +129,7 @@ module _ (c : Call) (early : ℕ) (numbers : List ℕ) (before : Store) where
     next-refused S sound = rw (same S sound)
 
     promise-unchanged : ((k : ℕ) → early ≡ suc k → _≡_ {A = Answer Reply} (refused (suc n)) (refused (suc k)))
-        → (early ≡ 0 → Member (suc n) numbers) → ChangePromise c early numbers before (refused (suc n)) before
+        → (early ≡ 0 → Member (suc n) numbers) → ChangePromise c values early numbers before (refused (suc n)) before
     promise-unchanged first later =
         record {
           early-refused = first;
@@ -134,30 +141,32 @@ module _ (c : Call) (early : ℕ) (numbers : List ℕ) (before : Store) where
           bytes-length = refl;
           words-past = refl;
           bytes-past = refl;
+          contained = record { words-kept = λ p. inl refl; bytes-kept = λ g l. inl refl };
           answered-as = answer-refused;
           shown = λ S sound. rw (next-refused S sound) sound;
           pages-kept = λ S sound. rw (next-refused S sound) (λ p e h g x l d. d);
           pages-taken = λ S sound. rw (next-refused S sound) (λ p g x l d. inl d);
         }
 
-    pub promise-early : early ≡ suc n → ChangePromise c early numbers before (refused (suc n)) before
+    pub promise-early : early ≡ suc n → ChangePromise c values early numbers before (refused (suc n)) before
     promise-early e =
         promise-unchanged (λ k d. ap refused (sym e ∙ d))
         (λ d. let z : suc n ≡ 0 = sym e ∙ d in absurd (omega arith))
 
     pub promise-refused : early ≡ 0 → Member (suc n) numbers
-        → ChangePromise c early numbers before (refused (suc n)) before
+        → ChangePromise c values early numbers before (refused (suc n)) before
     promise-refused e member =
         promise-unchanged (λ k d. let z : suc k ≡ 0 = sym d ∙ e in absurd (omega arith)) (λ d. member)
 
   -- on a sound store the call is accepted, and its set shown
-  pub promise-accepted : (T′ : ℕ) (tally′ : Tally) (m′ : Memory) → early ≡ 0 → KeepsPast before m′ → ModelNumber 0
+  pub promise-accepted : (T′ : ℕ) (tally′ : Tally) (m′ : Memory) → early ≡ 0 → KeepsPast before m′
+      → KeepsOthers before values (changedStore before T′ tally′ m′) → ModelNumber 0
       → ((S : List Record) → replyTo (fixedOf (before .state)) S c ≡ changed)
       → ((S : List Record) → Sound before S
       → ShowsNext before (changedStore before T′ tally′ m′) S (setAfter (fixedOf (before .state)) S c))
-      → ChangePromise c early numbers before (accepted changed) (changedStore before T′ tally′ m′)
+      → ChangePromise c values early numbers before (accepted changed) (changedStore before T′ tally′ m′)
   unfolding outcome next
-  promise-accepted T′ tally′ m′ e past same reply shows =
+  promise-accepted T′ tally′ m′ e past others same reply shows =
       record {
         early-refused = λ k d. let z : suc k ≡ 0 = sym d ∙ e in absurd (omega arith);
         unchanged = λ k d. let z : _≡_ {A = ℕ} 0 1 = cc in absurd (omega arith);
@@ -168,6 +177,7 @@ module _ (c : Call) (early : ℕ) (numbers : List ℕ) (before : Store) where
         bytes-length = past .bytes-length;
         words-past = past .words-past;
         bytes-past = past .bytes-past;
+        contained = others;
         answered-as = answer;
         shown = λ S sound. rw (set-after S sound) (shows S sound .sound);
         pages-kept = λ S sound. rw (set-after S sound) (shows S sound .keeps);

@@ -1,7 +1,7 @@
 -- Laws of the key's record as the plan of a delete finds it: its page, its bounds, the words that are never changed;
 -- the early refusals. Assumes nothing.
 use Prim.Native.Nat.{ℕ, zero, suc, _^_, _≤_, _<_}
-use mathlib.Core.Path.{_≡_, refl, sym}
+use mathlib.Core.Path.{_≡_, refl, sym, subst}
 use mathlib.Core.Bool.{true}
 use mathlib.Core.List.{List}
 use native.Mathlib.Nat.{le-trans}
@@ -11,6 +11,7 @@ use Rattle.shape.specs.Refusal.{refused}
 use Rattle.shape.specs.Shape.{widthsOf, indexFits}
 use Rattle.shape.specs.Key.{encodings}
 use Rattle.shape.specs.declared.Shape.{Shape}
+use Rattle.split.specs.Bits.{splitBit}
 use Rattle.directory.specs.Directory.{Filled}
 use Rattle.record.specs.Record.{Record}
 use Rattle.page.specs.Page.{countOf, pageAt}
@@ -18,10 +19,11 @@ use Rattle.pages.specs.Pages.{PageLent}
 use Rattle.model.specs.Sets.{stored}
 use Rattle.store.specs.Store.{Store, memory}
 use Rattle.store.specs.Sound.{Sound}
+use Rattle.store.specs.Contained.{Contained}
 use Rattle.store.specs.Promises.{keyNumber, DeletePromise}
 use Rattle.store.proofs.ShownLaws.{pageRecords}
 use Rattle.change.specs.Delete.{keyString}
-use Rattle.change.proofs.PromiseLaws.{drop-of-past}
+use Rattle.change.proofs.PromiseLaws.{drop-of-past, KeepsOthers}
 use Rattle.change.proofs.DeletePromiseLaws.{delete-early}
 use Rattle.lent.proofs.LimitsLaws.{limits-parts}
 use Rattle.lookup.proofs.EarlyLaws.{passed}
@@ -75,6 +77,8 @@ module _ (before : Store) (values : List ℕ) (r : Stored) where
     pub words-past : (T′ x word : ℕ) (words′ : List ℕ) → T′ ≤ T
         → Filled (widthsOf s) T′ x (keyString before values) word words words′
         → drop (2 ^ L) words′ ≡ drop (2 ^ L) words
+    -- what is kept outside the key's leaf: its string is that of its values
+    pub others : (after : Store) → Contained before after (keyString before values) → KeepsOthers before values after
 
   module _ (f : RecordFound before values r) where
     fits : indexFits (widthsOf s) values ≡ true
@@ -97,6 +101,9 @@ module _ (before : Store) (values : List ℕ) (r : Stored) where
           words-past = λ T′ x word words′ h w.
               drop-of-past T′ L words words′ (le-trans h (limits-parts (before .state) (f .leaf .limits) .4)) (w .size)
               (w .past);
+          others = λ after c.
+              subst (λ v. Contained before after (splitBit (widthsOf s) v))
+              (sym (encodings-values s values (f .leaf .four))) c;
         }
 
     pub recordLent : RecordLent b r bytes

@@ -21,16 +21,19 @@ use Rattle.store.specs.declared.State.{State}
 use Rattle.store.specs.Promises.{DeletePromise}
 use Rattle.store.proofs.ShownLaws.{pageRecords}
 use Rattle.change.specs.Delete.{keyString, LeafJoined}
-use Rattle.change.proofs.PromiseLaws.{KeepsPast}
+use Rattle.change.proofs.PromiseLaws.{KeepsPast, KeepsOthers}
 use Rattle.change.proofs.DeletePromiseLaws.{delete-joined}
 use Rattle.change.proofs.DeleteTallyLaws.{tallyDepth-le}
 use Rattle.removal.specs.Plan.{RecordFound, JoinPlanned}
 use Rattle.removal.specs.declared.Stored.{Stored}
 use Rattle.removal.specs.declared.Join.{Join}
+use Rattle.removal.specs.declared.Plan.the-variants as plan
 use Rattle.delete_steps.specs.PageBytes.{keptPage, freedPage, joinedBytes}
 use Rattle.delete_steps.specs.Private.{PairLent, LeavesLent, JoinWords}
 use Rattle.delete_steps.proofs.PageLaws.{kept-or-freed}
 use Rattle.delete_steps.proofs.PageLaws.{length-joinedBytes, drop-joinedBytes}
+use Rattle.kept.proofs.ContainedLaws.{contained-joined}
+use Rattle.guard.specs.Guard.{DeleteGuarded}
 use Rattle.delete.proofs.SoundPageLaws.{records-joined, count-freed, records-joined-other}
 use Rattle.delete.proofs.FoundLaws.{RecordFacts, recordFacts, recordLent}
 
@@ -142,9 +145,14 @@ module _ (before : Store) (values : List ℕ) (r : Stored) (f : RecordFound befo
                 (p .bit) (w .new-leaf);
           }
 
-      pub promise-joined : DeletePromise before values (accepted changed) (store state′ words′ bytes′)
-      promise-joined =
+      pub promise-joined : length (before .state .tally .leaves) ≡ 13
+          → DeleteGuarded (before .state) words values (plan.Join r j)
+          → DeletePromise before values (accepted changed) (store state′ words′ bytes′)
+      promise-joined thirteen guarded =
           subst (λ st. DeletePromise before values (accepted changed) (store st words′ bytes′)) (sym (w .state))
           (delete-joined before values (f .leaf .early) (r .page) (j .other) (j .step) (j .top) kept freed
           (state′ .depth) (state′ .tally) words′ bytes′ (λ S sound. rw (k .same) (p .met))
-          (λ S sound. rw (k .same) (joined S sound)) (λ S sound. rw (k .same) (k .found S sound)) past-joined)
+          (λ S sound. rw (k .same) (joined S sound)) (λ S sound. rw (k .same) (k .found S sound)) past-joined
+          (subst (λ st. KeepsOthers before values (store st words′ bytes′)) (w .state)
+          (k .others _
+          (contained-joined before values r f j p (leavesLent thirteen) pairLent guarded state′ words′ w bytes′ e))))

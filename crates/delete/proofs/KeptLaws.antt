@@ -26,11 +26,14 @@ use Rattle.change.proofs.PromiseLaws.{KeepsPast}
 use Rattle.change.proofs.DeletePromiseLaws.{delete-kept}
 use Rattle.removal.specs.Plan.{RecordFound, StaysAlone}
 use Rattle.removal.specs.declared.Stored.{Stored}
+use Rattle.removal.specs.declared.Plan.the-variants.{Keep}
 use Rattle.delete_steps.specs.PageBytes.{removedBytes}
 use Rattle.delete_steps.specs.Private.{LeafWords}
 use Rattle.delete_steps.proofs.PageLaws.{length-removedBytes, drop-removedBytes, some-left, none-left}
+use Rattle.kept.proofs.ContainedLaws.{contained-removed}
+use Rattle.guard.specs.Guard.{DeleteGuarded}
 use Rattle.delete.proofs.SoundPageLaws.{records-removed, records-removed-other}
-use Rattle.delete.proofs.FoundLaws.{RecordFacts, recordFacts}
+use Rattle.delete.proofs.FoundLaws.{RecordFacts, recordFacts, recordLent}
 
 module _ (before : Store) (values : List ℕ) (r : Stored) (f : RecordFound before values r) where
   abbrev s : Shape
@@ -121,7 +124,10 @@ module _ (before : Store) (values : List ℕ) (r : Stored) (f : RecordFound befo
             (omega (arith, f .place-lt))) ∙ h))
 
     pub promise-kept : StaysAlone before values (r .page) (r .depth)
+        → DeleteGuarded (before .state) words values (Keep r)
         → DeletePromise before values (accepted changed) (store (before .state) words′ bytes′)
-    promise-kept alone =
+    promise-kept alone guarded =
         delete-kept before values (f .leaf .early) (r .page) (r .depth) words′ bytes′
         (λ S sound. rw (k .same) (deleted alone S sound)) (λ S sound. rw (k .same) (k .found S sound)) past
+        (k .others _
+        (contained-removed before values r f (recordLent before values r f) guarded words′ w bytes′ e))

@@ -1,4 +1,5 @@
 pub mod FoundLaws
+pub mod GuardLaws
 pub mod JoinedLaws
 pub mod KeptLaws
 pub mod SoundPageLaws

@@ -2,6 +2,7 @@
 // (document 01, "Calls").
 use delete_steps::join_leaves;
 use delete_steps::keep_leaf;
+use guard::delete_keeps;
 use lent::key_number;
 use removal::Plan;
 use removal::plan_delete;
@@ -15,6 +16,7 @@ ghost use Rattle.store.specs.Store.{store};
 
 // Removes the record with a key, and joins leaves until the leaves of the set without it stand.
 // Refused with 1, 2, 3, 5 or 9, the first that holds in this order; a refused call changes nothing.
+// On any store no word and no page of a leaf that is not joined is lost.
 pub fn delete(state: State, dir: &mut [u32], pages: &mut [u8], key: Key) -> Change
     ensures { λ r. ⌜ DeletePromise (store state (now (dir .entry)) (now (pages .entry))) (key .values)
         (changedAnswer (r .answer)) (store (r .state) (now (dir .exit)) (now (pages .exit))) ⌝ }
@@ -28,6 +30,12 @@ pub fn delete(state: State, dir: &mut [u32], pages: &mut [u8], key: Key) -> Chan
     }
     let plan = plan_delete(state, dir, pages, key);
     let values = key.values;
+    if !delete_keeps(state, dir, values, plan) {
+        return Change {
+            answer: Changed::Refused(9),
+            state,
+        };
+    }
     match plan {
         Plan::Refused(n) => Change {
             answer: Changed::Refused(n),

@@ -52,8 +52,8 @@ same-set : (f : Fixed) (S : List Record) (c : Call) → setAfter f S c ≡ S →
 unfolding next
 same-set f S c e = rw e (ifAccepted-same (numberFor f S c) S)
 
-same-fixed : {before after : Store} {answer : Answer Reply} {c : Call} {early : ℕ} {numbers : List ℕ}
-    → ChangePromise c early numbers before answer after → fixedOf (after .state) ≡ fixedOf (before .state)
+same-fixed : {before after : Store} {answer : Answer Reply} {c : Call} {early : ℕ} {values numbers : List ℕ}
+    → ChangePromise c values early numbers before answer after → fixedOf (after .state) ≡ fixedOf (before .state)
 same-fixed p = rw (p .shape-kept, p .limits-kept)
 
 stepped : (before after : Store) (S : List Record) (c : Call) (o : Outcome) → Promised before c o after → Sound before S

@@ -47,9 +47,9 @@ pub delete-not-zero : Member {A = ℕ} 0 (5 ∷ 9 ∷ []) → ⊥
 delete-not-zero = ⊎-elim (λ e. omega arith) (⊎-elim (λ e. omega arith) (λ e. e))
 
 -- no refusal has the number 0
-pub change-not-zero : (c : Call) (early : ℕ) (numbers : List ℕ) (before after : Store) → (Member 0 numbers → ⊥)
-    → ChangePromise c early numbers before (refused 0) after → ⊥
-change-not-zero c early numbers before after none p = go early refl
+pub change-not-zero : (c : Call) (values : List ℕ) (early : ℕ) (numbers : List ℕ) (before after : Store)
+    → (Member 0 numbers → ⊥) → ChangePromise c values early numbers before (refused 0) after → ⊥
+change-not-zero c values early numbers before after none p = go early refl
   where
     go : (n : ℕ) → early ≡ n → ⊥
     go zero e =
@@ -93,7 +93,7 @@ module _ (c : Call) (values numbers words ds bs ds′ bs′ : List ℕ) where
   -- what the call promises, of the states before and after
   abbrev pub Promise : State → Answer Reply → State → Type 0
   Promise s answer s′ =
-      ChangePromise c (keyNumber (store s ds bs) values) numbers (store s ds bs) answer (store s′ ds′ bs′)
+      ChangePromise c values (keyNumber (store s ds bs) values) numbers (store s ds bs) answer (store s′ ds′ bs′)
 
   module _ (state : State) (read : state ≡ stateIn words) (change : Change)
       (p : Promise state (changedAnswer (change .answer)) (change .state)) where
@@ -128,7 +128,7 @@ module _ (c : Call) (values numbers words ds bs ds′ bs′ : List ℕ) where
         go-refused : (n : ℕ) → changedAnswer (change .answer) ≡ refused n
             → LentChangePromise Promise words number words′
         go-refused zero e =
-            absurd (change-not-zero c _ numbers _ _ none (kept (refused 0) (change .state) e refl))
+            absurd (change-not-zero c values _ numbers _ _ none (kept (refused 0) (change .state) e refl))
         go-refused (suc n) e =
             let same : words′ ≡ words = s .words-refused (suc n) e in
             let known : number ≡ suc n = s .number-refused (suc n) e in

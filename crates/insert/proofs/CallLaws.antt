@@ -2,6 +2,7 @@
 -- nothing.
 use Prim.Native.Nat.{ℕ, zero, suc, _^_, _≤_, _<_}
 use mathlib.Core.Path.{_≡_, refl, sym, ap, _∙_, subst}
+use mathlib.Core.Bool.{Bool, false}
 use mathlib.Core.List.{List}
 use native.Mathlib.Omega.{arith}
 use native.Mathlib.Nat.{le-trans}
@@ -22,10 +23,11 @@ use Rattle.word.specs.Word.{wordOf}
 use Rattle.word.specs.declared.Leaf.the-variants.{Page}
 use Rattle.model.specs.Model.{changed}
 use Rattle.store.specs.Store.{Store, memory, store}
+use Rattle.store.specs.Contained.{Contained}
 use Rattle.store.specs.Promises.{keyNumber, InsertPromise}
 use Rattle.store.specs.declared.State.{State}
 use Rattle.change.proofs.RegionLaws.{changedStore}
-use Rattle.change.proofs.InsertPromiseLaws.{insert-early}
+use Rattle.change.proofs.InsertPromiseLaws.{insert-early, insert-unsound}
 use Rattle.plan.specs.Private.{Planned, TakePlanned, GetPlanned, DividePlanned}
 use Rattle.plan.specs.declared.Plan.{Plan}
 use Rattle.plan.specs.declared.Plan.the-variants.{Refused, Take, Get, Divide}
@@ -33,6 +35,8 @@ use Rattle.plan.specs.declared.Split.{Split}
 use Rattle.plan.specs.declared.Cut.{Cut}
 use Rattle.plan.proofs.MetLaws.{key-recordFor, unpacked-recordFor}
 use Rattle.insert_steps.specs.Private.{insertedPages, CutFits, dividedPages, WordsLent, WordsDivided}
+use Rattle.kept.proofs.ContainedLaws.{contained-taken, contained-got, contained-divided}
+use Rattle.guard.specs.Guard.{InsertGuarded, InsertTold}
 use Rattle.insert.proofs.TakeLaws.{page-lent, promise-taken, promise-got}
 use Rattle.insert.proofs.CarriedLaws.{lent-own, lent-free, start-le, place-le}
 use Rattle.insert.proofs.SplitLaws.{promise-divided}
@@ -52,6 +56,13 @@ module _ (before : Store) (values : List ℕ) (content : Content) where
       → InsertPromise before values content (refused n) before
   by-early zero e n = absurd (n refl)
   by-early (suc k) e n = insert-early before values content k (sym e)
+
+  -- 9: a leaf whose words the plan sets is not whole
+  pub by-guard : (plan : Plan) → Planned before values plan → (held : Bool)
+      → InsertTold (before .state) (before .memory .words) values plan held → held ≡ false
+      → keyNumber before values ≡ 0 → InsertPromise before values content (refused 9) before
+  by-guard plan p held told e early =
+      insert-unsound before values content early (λ S sound. told .no e bytes p S sound)
 
   module _ (small : content .payload < 2 ^ 32) (plan : Plan) (p : Planned before values plan) (key : ℕ)
       (ek : key ≡ packedKey values) where
@@ -76,7 +87,8 @@ module _ (before : Store) (values : List ℕ) (content : Content) where
           (λ bs. InsertPromise before values content (accepted changed)
           (store (before .state) (before .memory .words) bs))
           (sym (d ∙ ap (λ k. insertedPages b g i n (packedBytes k content) bytes) ek))
-          (promise-taken before values content (taken .asked) small g i n taken)
+          (promise-taken before values content (taken .asked) small g i n taken
+          (contained-taken before values (packedKey values) content g i n taken lent-taken _ refl))
 
     -- ---- an empty leaf gets a page
 
@@ -113,21 +125,28 @@ module _ (before : Store) (values : List ℕ) (content : Content) where
             got .depth-le,
           )
 
-      pub by-got : (bytes′ : List ℕ) → bytes′ ≡ insertedPages b g 0 0 (packedBytes key content) bytes
+      pub by-got : InsertGuarded (before .state) (before .memory .words) values plan
+          → (bytes′ : List ℕ) → bytes′ ≡ insertedPages b g 0 0 (packedBytes key content) bytes
           → (ws : List ℕ) → ws ≡ widthsOf s → (word : ℕ) → word ≡ wordOf (Page g x) → (words′ : List ℕ)
           → Filled ws (before .state .depth) x (splitBit ws values) word (before .memory .words) words′
           → InsertPromise before values content (accepted changed) (store (before .state) words′ bytes′)
-      by-got bytes′ d ws ew word e′ words′ f =
+      by-got guarded bytes′ d ws ew word e′ words′ f =
           subst
           (λ bs. InsertPromise before values content (accepted changed) (store (before .state) words′ bs))
           (sym (d ∙ ap (λ k. insertedPages b g 0 0 (packedBytes k content) bytes) ek))
-          (promise-got before values content (got .asked) small g x got words′
-          (subst
-          (λ v. Filled v (before .state .depth) x (splitBit v values) (wordOf (Page g x)) (before .memory .words)
-          words′)
-          ew
-          (subst
-          (λ w. Filled ws (before .state .depth) x (splitBit ws values) w (before .memory .words) words′) e′ f)))
+          (promise-got before values content (got .asked) small g x got words′ filled
+          (contained-got before values (packedKey values) content g x got lent-got
+          (subst (InsertGuarded (before .state) (before .memory .words) values) e guarded) words′ filled _ refl))
+        where
+          filled : Filled (widthsOf s) (before .state .depth) x (splitBit (widthsOf s) values) (wordOf (Page g x))
+              (before .memory .words) words′
+          filled =
+              subst
+              (λ v. Filled v (before .state .depth) x (splitBit v values) (wordOf (Page g x)) (before .memory .words)
+              words′)
+              ew
+              (subst
+              (λ w. Filled ws (before .state .depth) x (splitBit ws values) w (before .memory .words) words′) e′ f)
 
     -- ---- a full leaf is divided
 
@@ -179,12 +198,12 @@ module _ (before : Store) (values : List ℕ) (content : Content) where
             room = dividing .half .room;
           }
 
-      pub by-divided : (bytes′ : List ℕ)
+      pub by-divided : InsertGuarded (before .state) (before .memory .words) values plan → (bytes′ : List ℕ)
           → bytes′ ≡ dividedPages b (split .page) free cut (packedBytes key content) bytes
           → (after : State) (words′ : List ℕ) → WordsDivided (before .state) values split free (before .memory .words)
           after words′
           → InsertPromise before values content (accepted changed) (store after words′ bytes′)
-      by-divided bytes′ d after words′ w =
+      by-divided guarded bytes′ d after words′ w =
           subst (λ st. InsertPromise before values content (accepted changed) (store st words′ bytes′))
           (sym (w .state))
           (subst
@@ -192,4 +211,14 @@ module _ (before : Store) (values : List ℕ) (content : Content) where
           (changedStore before (after .depth) (after .tally) (memory words′ bs)))
           (sym (d ∙ ap (λ k. dividedPages b (split .page) free cut (packedBytes k content) bytes) ek))
           (promise-divided before values content (dividing .asked) small split cut free dividing (after .depth)
-          (after .tally) (w .doubled) words′ (w .deeper) (w .tallied) (w .deepened) (w .leaves)))
+          (after .tally) (w .doubled) words′ (w .deeper) (w .tallied) (w .deepened) (w .leaves) contained))
+        where
+          new : List ℕ
+          new = dividedPages b (split .page) free cut (packedBytes (packedKey values) content) bytes
+
+          contained : Contained before (changedStore before (after .depth) (after .tally) (memory words′ new))
+              (splitBit (widthsOf s) values)
+          contained =
+              subst (λ st. Contained before (store st words′ new) (splitBit (widthsOf s) values)) (w .state)
+              (contained-divided before values (packedKey values) content split cut free dividing pages-lent cut-fits
+              (subst (InsertGuarded (before .state) (before .memory .words) values) e guarded) after words′ w new refl)

@@ -12,6 +12,7 @@ use Rattle.record.specs.Record.{Record}
 use Rattle.record.specs.Packed.{packedKey, packedBytes}
 use Rattle.model.specs.Model.{recordFor, changed}
 use Rattle.store.specs.Store.{Store, memory}
+use Rattle.store.specs.Contained.{Contained}
 use Rattle.store.specs.Promises.{InsertPromise}
 use Rattle.store.specs.declared.Tally.{Tally}
 use Rattle.change.specs.Private.{Deepened, LeavesSet, dividedTally}
@@ -26,6 +27,7 @@ use Rattle.plan.specs.declared.Cut.{Cut}
 use Rattle.plan.proofs.MetLaws.{key-recordFor}
 use Rattle.plan.proofs.SplitLaws.{meets-full}
 use Rattle.insert_steps.specs.Private.{dividedPages}
+use Rattle.insert.proofs.TakeLaws.{keeps-others}
 use Rattle.insert.proofs.CarriedLaws.{length-divided, drop-divided, others-divided}
 use Rattle.insert.proofs.DividedLaws.{shows-divided}
 
@@ -72,9 +74,11 @@ module _ (before : Store) (values : List ℕ) (content : Content) (a : Asked bef
   pub depth-le-limit : depth′ ≤ before .state .limits .depth
   depth-le-limit = omega (arith, deeper, a .within-limit, t .met .deep)
 
-  pub promise-divided : InsertPromise before values content (accepted changed)
+  pub promise-divided : Contained before (changedStore before depth′ tally′ (memory words′ after))
+      (splitBit (widthsOf s) values)
+      → InsertPromise before values content (accepted changed)
       (changedStore before depth′ tally′ (memory words′ after))
-  promise-divided =
+  promise-divided contained =
       insert-divided before values content (a .early) (split .page) free (split .depth) (split .step) depth′ tally′
       words₁ words′ after divided
       (record {
@@ -90,3 +94,4 @@ module _ (before : Store) (values : List ℕ) (content : Content) (a : Asked bef
             (before .memory .words) words₁ words′ deepened leaves);
         bytes-past = drop-divided before values content a small split cut free t;
       })
+      (keeps-others before values content a small _ contained)

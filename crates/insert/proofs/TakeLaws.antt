@@ -26,8 +26,9 @@ use Rattle.word.specs.declared.Leaf.the-variants.{Page}
 use Rattle.model.specs.Model.{recordFor, changed}
 use Rattle.model.specs.Sets.{withRecord}
 use Rattle.store.specs.Store.{Store, memory, store, wordAt}
+use Rattle.store.specs.Contained.{Contained}
 use Rattle.store.specs.Promises.{InsertPromise}
-use Rattle.change.proofs.PromiseLaws.{drop-of-past}
+use Rattle.change.proofs.PromiseLaws.{drop-of-past, KeepsOthers}
 use Rattle.change.proofs.InsertLaws.{TookRecord, GotPage}
 use Rattle.change.proofs.InsertPromiseLaws.{OnSound, insert-taken, insert-got}
 use Rattle.plan.specs.Private.{Asked, TakePlanned, GetPlanned}
@@ -66,6 +67,14 @@ module _ (before : Store) (values : List ℕ) (content : Content) (a : Asked bef
   pub new-length : length new ≡ 12
   new-length = length-packedBytes (packedKey values) content
 
+  pub key-is : r .key ≡ values
+  key-is = key-recordFor s values content (a .shape) (a .fits) (a .four)
+
+  -- what is kept outside the key's leaf: its string is that of its values
+  pub keeps-others : (after : Store) → Contained before after (splitBit (widthsOf s) values)
+      → KeepsOthers before values after
+  keeps-others after c = subst (λ k. Contained before after (splitBit (widthsOf s) k)) (sym key-is) c
+
   -- ---- a page takes the record
 
   module _ (g i n : ℕ) (t : TakePlanned before values g i n) where
@@ -101,9 +110,11 @@ module _ (before : Store) (values : List ℕ) (content : Content) (a : Asked bef
               d);
         }
 
-    pub promise-taken : InsertPromise before values content (accepted changed)
+    pub promise-taken : Contained before (store (before .state) (before .memory .words) after)
+        (splitBit (widthsOf s) values)
+        → InsertPromise before values content (accepted changed)
         (store (before .state) (before .memory .words) after)
-    promise-taken =
+    promise-taken contained =
         insert-taken before values content (a .early) g (t .depth) after took
         (record {
           words-length = refl;
@@ -114,6 +125,7 @@ module _ (before : Store) (values : List ℕ) (content : Content) (a : Asked bef
               drop-insertedPages b g i n new (before .memory .bytes) lent (t .place .0) (t .room) new-length
               (before .state .limits .pages) (t .met .within);
         })
+        (keeps-others _ contained)
 
   -- ---- an empty leaf gets a page
 
@@ -128,9 +140,6 @@ module _ (before : Store) (values : List ℕ) (content : Content) (a : Asked bef
 
     some : 0 < b
     some = capacity-bounds s (a .shape) .0
-
-    key-is : r .key ≡ values
-    key-is = key-recordFor s values content (a .shape) (a .fits) (a .four)
 
     got : OnSound before (GotPage before r g x words′ got-after)
     unfolding insertAt
@@ -155,9 +164,9 @@ module _ (before : Store) (values : List ℕ) (content : Content) (a : Asked bef
               d);
         }
 
-    pub promise-got : InsertPromise before values content (accepted changed)
-        (store (before .state) words′ got-after)
-    promise-got =
+    pub promise-got : Contained before (store (before .state) words′ got-after) (splitBit (widthsOf s) values)
+        → InsertPromise before values content (accepted changed) (store (before .state) words′ got-after)
+    promise-got contained =
         insert-got before values content (a .early) g x words′ got-after got
         (record {
           words-length = filled .size;
@@ -170,3 +179,4 @@ module _ (before : Store) (values : List ℕ) (content : Content) (a : Asked bef
               drop-insertedPages b g 0 0 new (before .memory .bytes) got-lent (omega arith) some new-length
               (before .state .limits .pages) (t .within);
         })
+        (keeps-others _ contained)

@@ -1,6 +1,7 @@
-// The call Insert: a record joins the store (document 01, "Calls"). A plan is found without a write;
-// then it is carried out by steps that cannot fail.
+// The call Insert: a record joins the store (document 01, "Calls"). A plan is found without a write,
+// and tested; then it is carried out by steps that cannot fail.
 use directory::regions::fill;
+use guard::insert_keeps;
 use insert_steps::divide_pages;
 use insert_steps::divide_words;
 use insert_steps::insert_record;
@@ -20,7 +21,8 @@ ghost use Rattle.store.specs.Promises.{InsertPromise};
 ghost use Rattle.store.specs.Store.{store};
 
 // Adds a record; a full leaf is divided until no leaf has more than b. Refused with 1, 2, 3, 4, 6, 7
-// or 9, the first that holds in this order; a refused call changes nothing.
+// or 9, the first that holds in this order; a refused call changes nothing. On any store no word and
+// no page of another leaf is lost.
 pub fn insert(state: State, dir: &mut [u32], pages: &mut [u8], key: Key, content: Content) -> Change
     ensures { λ r. ⌜ InsertPromise (store state (now (dir .entry)) (now (pages .entry))) (key .values) content
         (changedAnswer (r .answer)) (store (r .state) (now (dir .exit)) (now (pages .exit))) ⌝ }
@@ -31,8 +33,12 @@ pub fn insert(state: State, dir: &mut [u32], pages: &mut [u8], key: Key, content
         return Change { answer, state };
     }
     let step = plan_insert(state, dir, pages, key);
-    let packed = pack_key(key);
     let values = key.values;
+    if !insert_keeps(state, dir, values, step) {
+        let answer = Changed::Refused(9);
+        return Change { answer, state };
+    }
+    let packed = pack_key(key);
     let shape = state.shape;
     let capacity = shape.capacity as usize;
     match step {

@@ -42,8 +42,9 @@ found-reads e = cc
 
 -- ---- the store after a call
 
-module _ {c : Call} {early : ℕ} {numbers : List ℕ} {before after : Store} {answer : Answer Reply} (S : List Record)
-    (p : ChangePromise c early numbers before answer after) (sound : Sound before S) (D : Division Record)
+module _ {c : Call} {early : ℕ} {values numbers : List ℕ} {before after : Store} {answer : Answer Reply}
+    (S : List Record) (p : ChangePromise c values early numbers before answer after) (sound : Sound before S)
+    (D : Division Record)
     (leaves : divisionOf (before .state .shape) (next (fixedOf (before .state)) S c) ≡ D) where
   pub depth-after : after .state .depth ≡ greatestDepth D
   depth-after = rw (p .shape-kept, leaves) at (p .shown S sound .deepest)

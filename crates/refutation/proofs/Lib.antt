@@ -2,6 +2,7 @@ pub mod AddressRefuted
 pub mod ChangeLaws
 pub mod CheckRefuted
 pub mod ComputedLaws
+pub mod ContainedRefuted
 pub mod DeleteRefuted
 pub mod FreshRefuted
 pub mod InsertRefuted

@@ -126,6 +126,27 @@ pageNotFree =
       memory = record { words = replicate 8 0; bytes = pageWith setOfOne ++ replicate 52 0 };
     }
 
+-- four records and a free page, with another word at address 3, one of the two cells of the leaf 11, and any tally
+abbrev pub otherWord : ℕ → List ℕ → Store
+otherWord word leaves =
+    record {
+      state = stateWith 4 3 leaves;
+      memory = record {
+        words =
+            wordOf (Page 0 1) ∷ wordOf (Page 1 3) ∷ wordOf (Page 0 1) ∷ word
+            ∷ wordOf (Page 0 1) ∷ wordOf (Page 0 1) ∷ wordOf (Page 2 3) ∷ wordOf (Empty 2) ∷ [];
+        bytes = fourRecords .memory .bytes ++ replicate 26 0;
+      };
+    }
+
+-- that word is 0, as one flipped bit leaves it
+abbrev pub zeroedWord : Store
+zeroedWord = otherWord 0 (0 ∷ 1 ∷ 1 ∷ 2 ∷ [])
+
+-- a tally without the two leaves of depth 3
+abbrev pub lowTally : Store
+lowTally = otherWord (wordOf (Empty 2)) (0 ∷ 1 ∷ 1 ∷ 0 ∷ [])
+
 -- ---- lent memory, queries, and what the model says
 
 -- 8 words and 3 pages, every byte 1

@@ -10,8 +10,10 @@ use lib.ListN.{length, drop, getD}
 use Rattle.lists.specs.Filter.{nonEmpty}
 use Rattle.lists.specs.Members.{Member}
 use Rattle.shape.specs.Refusal.{Answer, accepted, refused, firstNumber}
-use Rattle.shape.specs.Key.{perAttribute}
+use Rattle.shape.specs.Key.{perAttribute, encodings}
+use Rattle.shape.specs.Shape.{widthsOf}
 use Rattle.shape.specs.declared.Shape.{Shape}
+use Rattle.split.specs.Bits.{splitBit}
 use Rattle.region.specs.Division.{Division, leafDepth, leafRecords}
 use Rattle.region.specs.Query.{QueryBit, agrees}
 use Rattle.record.specs.declared.Content.{Content}
@@ -25,6 +27,7 @@ use Rattle.model.specs.Model.{outcome, next, keyConditions, queryConditions}
 use Rattle.model.specs.Sets.{divisionOf, queryBits, givenDepths}
 use Rattle.store.specs.Store.{Store, fixedOf, pagesSize, wordAt, lentConditions}
 use Rattle.store.specs.Sound.{Sound}
+use Rattle.store.specs.Contained.{Contained}
 
 -- ---- refusals that need no look into words and pages: "after 1, 2, 8 and 3"
 
@@ -64,9 +67,12 @@ module _ (before after : Store) (D D′ : Division Record) where
 
 -- ---- calls that change the store
 
--- `early` is the number of the refusals above, `numbers` are the others that the call may give
-pub record ChangePromise (c : Call) (early : ℕ) (numbers : List ℕ) (before : Store) (answer : Answer Reply)
-    (after : Store) : Type 0 where
+-- `values` are those of the call's key, `early` is the number of the refusals above, `numbers` are the others that the
+-- call may give. Left free on an accepted change of a store that is not sound: T and the tally; the words of the key's
+-- leaf and of the leaves joined with it, with those at the new 2^T and above; the bytes of their pages and of the page
+-- newly taken. All else is said by the fields from `shape-kept` to `contained`
+pub record ChangePromise (c : Call) (values : List ℕ) (early : ℕ) (numbers : List ℕ) (before : Store)
+    (answer : Answer Reply) (after : Store) : Type 0 where
   pub early-refused : (n : ℕ) → early ≡ suc n → answer ≡ refused (suc n)
   -- "All of them return the number and change nothing."
   pub unchanged : (n : ℕ) → answer ≡ refused n → after ≡ before
@@ -82,6 +88,12 @@ pub record ChangePromise (c : Call) (early : ℕ) (numbers : List ℕ) (before :
       ≡ drop (2 ^ before .state .limits .depth) (before .memory .words)
   pub bytes-past : drop (pagesSize (before .state)) (after .memory .bytes)
       ≡ drop (pagesSize (before .state)) (before .memory .bytes)
+  -- on any store: the word of every cell outside the key's leaf and the leaves joined with it is, at the new T, the word
+  -- that stood there; and the bytes of every page other than the leaf's, the joined ones' and the one newly taken are as
+  -- they were. Shut out: an insert that sets a region after a look at one of its cells, a delete that lowers T by a
+  -- wrong tally
+  pub contained : Contained before after
+      (splitBit (widthsOf (before .state .shape)) (encodings (before .state .shape) values))
   -- on a sound store the model's answer, and a store that shows the model's set
   pub answered-as : (S : List Record) → Sound before S → answer ≡ outcome (fixedOf (before .state)) S c .answer
   pub shown : (S : List Record) → Sound before S → Sound after (next (fixedOf (before .state)) S c)
@@ -95,12 +107,12 @@ pub record ChangePromise (c : Call) (early : ℕ) (numbers : List ℕ) (before :
 -- Shut out: "no page" without looking, an insert that stores nothing (answered-as, shown)
 abbrev pub InsertPromise : Store → List ℕ → Content → Answer Reply → Store → Type 0
 InsertPromise before values content answer after =
-    ChangePromise (insertCall values content) (keyNumber before values) (4 ∷ 6 ∷ 7 ∷ 9 ∷ []) before answer after
+    ChangePromise (insertCall values content) values (keyNumber before values) (4 ∷ 6 ∷ 7 ∷ 9 ∷ []) before answer after
 
 -- Shut out: a delete that joins one level only, one that joins with a divided sibling (shown)
 abbrev pub DeletePromise : Store → List ℕ → Answer Reply → Store → Type 0
 DeletePromise before values answer after =
-    ChangePromise (deleteCall values) (keyNumber before values) (5 ∷ 9 ∷ []) before answer after
+    ChangePromise (deleteCall values) values (keyNumber before values) (5 ∷ 9 ∷ []) before answer after
 
 -- ---- calls that read
 

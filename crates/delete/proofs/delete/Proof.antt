@@ -1,17 +1,21 @@
--- `delete::delete` meets its contract: the promise is kept by an early refusal, by a refusal of the plan, and by what
--- the planned steps leave. Assumes nothing.
+-- `delete::delete` meets its contract: the promise is kept by an early refusal, by a refusal of the plan or of the tests,
+-- and by what the planned steps leave. Assumes nothing.
 use mathlib.Core.Path.{_≡_, sym, subst, _∙_}
 use lib.ListN.{length, length-map}
 use Rattle.store.specs.Answers.{changedAnswer}
 use Rattle.store.specs.Promises.{keyNumber}
-use Rattle.store.specs.Store.{store}
+use Rattle.store.specs.Store.{Store, store}
 use Rattle.lent.proofs.LentLaws.{keyNumber-by}
 use Rattle.removal.specs.Plan.{RecordFound, StaysAlone, JoinPlanned, Planned}
+use Rattle.removal.specs.declared.Plan.the-variants.{Keep, Join}
 use Rattle.removal.proofs.MetLaws.{directoryLent}
+use Rattle.guard.specs.Guard.{DeleteGuarded}
 use Rattle.delete.proofs.FoundLaws.{promise-early, recordLent}
+use Rattle.delete.proofs.GuardLaws.{promise-not-whole}
 use Rattle.delete.proofs.KeptLaws.{promise-kept}
 use Rattle.delete.proofs.JoinedLaws.{leavesLent, pairLent, promise-joined}
 use borrow.Author.Needs.{needs}
+use borrow.Author.Tests.{not-true, not-false}
 use Rattle.delete.proofs.delete.Statement.{statement}
 use Rattle.delete.proofs.delete.Tie as tie
 
@@ -27,27 +31,43 @@ number c =
     let a = c .before .before .before .args in
     c .key-number .ensures ∙ sym (keyNumber-by (a .state) (a .dir .now) (a .pages .now) (a .key .values))
 
--- the plan of a leaf that stays
+abbrev given : tie.Start → Store
+given s = store (s .args .state) (s .args .dir .now) (s .args .pages .now)
+
+-- where the call began, from the test
+abbrev start : tie.After-delete-keeps → tie.Start
+start t = t .before .before .before .before .before .before .before .before .before .before
+
+-- the plan of a leaf that stays, and what the tests tell of it
 kept : (c : tie.After-plan2)
-    → let a = c .before .before .before .before .before .before .before .before .before .before .args in
-    let before = store (a .state) (a .dir .now) (a .pages .now) in
+    → let s = start (c .before .before .before) in
     let r = c .plan2 .given .0 .0 in
-    RecordFound before (a .key .values) r × StaysAlone before (a .key .values) (r .page) (r .depth)
+    (RecordFound (given s) (s .args .key .values) r × StaysAlone (given s) (s .args .key .values) (r .page) (r .depth))
+    × DeleteGuarded (s .args .state) (s .args .dir .now) (s .args .key .values) (Keep r)
 kept c =
-    let a = c .before .before .before .before .before .before .before .before .before .before .args in
-    subst (Planned (store (a .state) (a .dir .now) (a .pages .now)) (a .key .values)) (c .plan2 .given .1)
-    (c .before .before .before .plan-delete .ensures)
+    let t = c .before .before .before in
+    let a = start t .args in (
+      subst (Planned (given (start t)) (a .key .values)) (c .plan2 .given .1)
+          (t .before .before .before .plan-delete .ensures),
+      subst (DeleteGuarded (a .state) (a .dir .now) (a .key .values)) (c .plan2 .given .1)
+          (t .delete-keeps .ensures .yes (not-false _ (c .before .before .if2 .left))),
+    )
 
 -- and of one that is joined
 joined : (c : tie.After-plan3)
-    → let a = c .before .before .before .before .before .before .before .before .before .before .args in
-    let before = store (a .state) (a .dir .now) (a .pages .now) in
+    → let s = start (c .before .before .before) in
     let r = c .plan3 .given .0 .0 in
-    RecordFound before (a .key .values) r × JoinPlanned before (a .key .values) r (c .plan3 .given .0 .1 .0)
+    let j = c .plan3 .given .0 .1 .0 in
+    (RecordFound (given s) (s .args .key .values) r × JoinPlanned (given s) (s .args .key .values) r j)
+    × DeleteGuarded (s .args .state) (s .args .dir .now) (s .args .key .values) (Join r j)
 joined c =
-    let a = c .before .before .before .before .before .before .before .before .before .before .args in
-    subst (Planned (store (a .state) (a .dir .now) (a .pages .now)) (a .key .values)) (c .plan3 .given .1)
-    (c .before .before .before .plan-delete .ensures)
+    let t = c .before .before .before in
+    let a = start t .args in (
+      subst (Planned (given (start t)) (a .key .values)) (c .plan3 .given .1)
+          (t .before .before .before .plan-delete .ensures),
+      subst (DeleteGuarded (a .state) (a .dir .now) (a .key .values)) (c .plan3 .given .1)
+          (t .delete-keeps .ensures .yes (not-false _ (c .before .before .if2 .left))),
+    )
 
 key-number-requires : tie.Need-key-number-requires
 key-number-requires c κs = search needs
@@ -56,44 +76,15 @@ returns : tie.Need-returns
 unfolding changedAnswer
 returns c =
     let s = c .before .before .before .before in
-    let a = s .args in
-    let before = store (a .state) (a .dir .now) (a .pages .now) in
-    promise-early before (a .key .values) (c .before .key-number .result) (number (c .before)) (c .if1 .taken)
+    promise-early (given s) (s .args .key .values) (c .before .key-number .result) (number (c .before)) (c .if1 .taken)
 
 plan-delete-requires : tie.Need-plan-delete-requires
 plan-delete-requires c κs = sym (number (c .before .before .before)) ∙ c .before .before .if1 .left
 
-enum-known-plan : tie.Need-enum-known-plan
-enum-known-plan c = search needs
-
-enum-known-plan-2 : tie.Need-enum-known-plan-2
-enum-known-plan-2 c = search needs
-
-keep-leaf-requires : tie.Need-keep-leaf-requires
-keep-leaf-requires c κs =
-    let s = c .before .before .before .before .before .before .before .before .before .before .before .before .before in
-    let a = s .args in
-    let before = store (a .state) (a .dir .now) (a .pages .now) in
-    let f = kept (c .before .before .before) .0 in (
-      (directoryLent before (a .key .values) _ _ (f .leaf), f .leaf .deep),
-      recordLent before (a .key .values) _ f,
-    )
-
-enum-known-plan-3 : tie.Need-enum-known-plan-3
-enum-known-plan-3 c = search needs
-
-join-leaves-requires : tie.Need-join-leaves-requires
-join-leaves-requires c κs =
-    let s = c .before .before .before .before .before .before .before .before .before .before .before .before .before in
-    let a = s .args in
-    let before = store (a .state) (a .dir .now) (a .pages .now) in
-    let k = joined (c .before .before .before) in (
-      (
-        directoryLent before (a .key .values) _ _ (k .0 .leaf),
-        leavesLent before (a .key .values) _ (k .0) _ (k .1) (thirteen s),
-      ),
-      pairLent before (a .key .values) _ (k .0) _ (k .1),
-    )
+delete-keeps-requires : tie.Need-delete-keeps-requires
+delete-keeps-requires c κs =
+    let s = c .before .before .before .before .before .before .before .before .before in
+    record { bytes = s .args .pages .now; planned = c .before .before .plan-delete .ensures; thirteen = thirteen s }
 
 same-length : tie.Need-same-length
 same-length c = search needs
@@ -104,9 +95,36 @@ same-length-2 c = search needs
 returns-2 : tie.Need-returns-2
 unfolding changedAnswer
 returns-2 c =
-    let a = c .before .before .before .before .before .before .before .before .before .before .before .args in
-    subst (Planned (store (a .state) (a .dir .now) (a .pages .now)) (a .key .values)) (c .before .plan .given .1)
-    (c .before .before .before .before .plan-delete .ensures)
+    let s = start (c .before) in
+    let e = c .before .before .before .before .before .before .before in
+    promise-not-whole (given s) (s .args .key .values) _ (c .before .before .before .before .plan-delete .ensures) _
+    (c .before .delete-keeps .ensures) (not-true _ (c .if2 .taken)) (sym (number (e .before)) ∙ e .if1 .left)
+
+enum-known-plan : tie.Need-enum-known-plan
+enum-known-plan c = search needs
+
+enum-known-plan-2 : tie.Need-enum-known-plan-2
+enum-known-plan-2 c = search needs
+
+keep-leaf-requires : tie.Need-keep-leaf-requires
+keep-leaf-requires c κs =
+    let s = start (c .before .before .before .before .before .before) in
+    let f = kept (c .before .before .before) .0 .0 in (
+      (directoryLent (given s) (s .args .key .values) _ _ (f .leaf), f .leaf .deep),
+      recordLent (given s) (s .args .key .values) _ f,
+    )
+
+enum-known-plan-3 : tie.Need-enum-known-plan-3
+enum-known-plan-3 c = search needs
+
+join-leaves-requires : tie.Need-join-leaves-requires
+join-leaves-requires c κs =
+    let s = start (c .before .before .before .before .before .before) in
+    let v = s .args .key .values in
+    let k = joined (c .before .before .before) .0 in (
+      (directoryLent (given s) v _ _ (k .0 .leaf), leavesLent (given s) v _ (k .0) _ (k .1) (thirteen s)),
+      pairLent (given s) v _ (k .0) _ (k .1),
+    )
 
 same-length-3 : tie.Need-same-length-3
 same-length-3 c = search needs
@@ -117,13 +135,9 @@ same-length-4 c = search needs
 returns-3 : tie.Need-returns-3
 unfolding changedAnswer
 returns-3 c =
-    let earlier = c .before .before .before .before .before .before .before .before .before in
-    let s = earlier .before .before .before .before .before .before .before .before .before in
-    let a = s .args in
-    let before = store (a .state) (a .dir .now) (a .pages .now) in
-    let k = kept (c .before .before .before .before .before .before .before .before) in
-    let done = c .before .before .before .before .keep-leaf in
-    promise-kept before (a .key .values) _ (k .0) _ _ (done .ensures .0) (done .ensures .1) (k .1)
+    let s = start (c .before .before .before .before) in
+    subst (Planned (given s) (s .args .key .values)) (c .before .plan .given .1)
+    (c .before .before .before .before .before .before .before .plan-delete .ensures)
 
 same-length-5 : tie.Need-same-length-5
 same-length-5 c = search needs
@@ -134,13 +148,28 @@ same-length-6 c = search needs
 returns-4 : tie.Need-returns-4
 unfolding changedAnswer
 returns-4 c =
-    let earlier = c .before .before .before .before .before .before .before .before .before in
-    let s = earlier .before .before .before .before .before .before .before .before .before in
-    let a = s .args in
-    let before = store (a .state) (a .dir .now) (a .pages .now) in
-    let k = joined (c .before .before .before .before .before .before .before .before) in
+    let p = c .before .before .before .before .before .before .before .before in
+    let s = start (p .before .before .before) in
+    let k = kept p in
+    let done = c .before .before .before .before .keep-leaf in
+    promise-kept (given s) (s .args .key .values) _ (k .0 .0) _ _ (done .ensures .0) (done .ensures .1) (k .0 .1)
+    (k .1)
+
+same-length-7 : tie.Need-same-length-7
+same-length-7 c = search needs
+
+same-length-8 : tie.Need-same-length-8
+same-length-8 c = search needs
+
+returns-5 : tie.Need-returns-5
+unfolding changedAnswer
+returns-5 c =
+    let p = c .before .before .before .before .before .before .before .before in
+    let s = start (p .before .before .before) in
+    let k = joined p in
     let done = c .before .before .before .before .join-leaves in
-    promise-joined before (a .key .values) _ (k .0) _ (k .1) (done .result) _ _ (done .ensures .0) (done .ensures .1)
+    promise-joined (given s) (s .args .key .values) _ (k .0 .0) _ (k .0 .1) (done .result) _ _ (done .ensures .0)
+    (done .ensures .1) (thirteen s) (k .1)
 
 pub delete-spec : {M : Type 1} → statement M
 delete-spec =
@@ -149,17 +178,21 @@ delete-spec =
     key-number-requires
     returns
     plan-delete-requires
+    delete-keeps-requires
+    same-length
+    same-length-2
+    returns-2
     enum-known-plan
     enum-known-plan-2
     keep-leaf-requires
     enum-known-plan-3
     join-leaves-requires
-    same-length
-    same-length-2
-    returns-2
     same-length-3
     same-length-4
     returns-3
     same-length-5
     same-length-6
-    returns-4)
+    returns-4
+    same-length-7
+    same-length-8
+    returns-5)

@@ -3,20 +3,26 @@ use Prim.Native.Nat.{_^_, _<_}
 use mathlib.Core.Path.{_≡_, sym, _∙_}
 use lib.ListN.{length, length-map}
 use borrow.Author.Needs.{needs}
+use borrow.Author.Tests.{not-true, not-false}
 use Rattle.store.specs.Answers.{changedAnswer}
 use Rattle.store.specs.Promises.{keyNumber}
 use Rattle.store.specs.Store.{Store, store}
 use Rattle.lent.proofs.LentLaws.{keyNumber-by}
 use Rattle.lent.proofs.PassedLaws.{passed}
 use Rattle.plan.proofs.MetLaws.{sixteen}
-use Rattle.insert.proofs.CallLaws.{by-early, by-refused, lent-taken, by-taken, lent-got, word-fits, fill-fits}
-use Rattle.insert.proofs.CallLaws.{by-got, words-lent, pages-lent, cut-fits, by-divided}
+use Rattle.guard.specs.Guard.{InsertGuarded}
+use Rattle.insert.proofs.CallLaws.{by-early, by-guard, by-refused, lent-taken, by-taken, lent-got, word-fits}
+use Rattle.insert.proofs.CallLaws.{fill-fits, by-got, words-lent, pages-lent, cut-fits, by-divided}
 use Rattle.insert.proofs.insert.Statement.{statement}
 use Rattle.insert.proofs.insert.Tie as tie
 
 -- where the call began, and the store as it came
 abbrev start : tie.After-pack-key → tie.Start
-start k = k .before .before .before .before .before .before .before .before
+start k = k .before .before .before .before .before .before .before .before .before .before .before .before
+
+-- its plan
+abbrev planning : tie.After-pack-key → tie.After-plan-insert
+planning k = k .before .before .before .before .before
 
 abbrev given : tie.Start → Store
 given s = store (s .args .state) (s .args .dir .now) (s .args .pages .now)
@@ -36,6 +42,12 @@ number c =
     let a = c .before .before .before .args in
     c .key-number .ensures ∙ sym (keyNumber-by (a .state) (a .dir .now) (a .pages .now) (a .key .values))
 
+-- what the tests tell of the plan
+guarded : (k : tie.After-pack-key)
+    → let a = start k .args in
+    InsertGuarded (a .state) (a .dir .now) (a .key .values) (planning k .plan-insert .result)
+guarded k = k .before .before .insert-keeps .ensures .yes (not-false _ (k .before .if2 .left))
+
 key-number-requires : tie.Need-key-number-requires
 key-number-requires c κs = search needs
 
@@ -51,18 +63,10 @@ plan-insert-requires c κs =
     let e = c .before .before in
     sym (number (e .before)) ∙ e .if1 .left
 
-pack-key-requires : tie.Need-pack-key-requires
-pack-key-requires c κs =
-    let e = c .before .before .before in
-    let s = e .before .before .before .before in
-    let p = passed (given s) (s .args .key .values) (sym (number (e .before)) ∙ e .if1 .left) in
-    sixteen (s .args .state .shape) (s .args .key .values) (s .args .content) (p .shape) (p .fits) (four s)
-
-cast-capacity : tie.Need-cast-capacity
-cast-capacity c = search needs
-
-enum-known-step : tie.Need-enum-known-step
-enum-known-step c = search needs
+insert-keeps-requires : tie.Need-insert-keeps-requires
+insert-keeps-requires c κs =
+    let s = c .before .before .before .before .before .before .before .before .before in
+    record { bytes = s .args .pages .now; planned = c .before .before .plan-insert .ensures }
 
 same-length : tie.Need-same-length
 same-length c = search needs
@@ -73,23 +77,24 @@ same-length-2 c = search needs
 returns-2 : tie.Need-returns-2
 unfolding changedAnswer
 returns-2 c =
-    let k = c .before .before .before .before .before .before in
-    let s = start k in
-    by-refused (given s) (s .args .key .values) (s .args .content) (small s) _ (k .before .plan-insert .ensures) _
-    (k .pack-key .ensures) _ (c .before .step .given .1)
+    let s = c .before .before .before .before .before .before .before .before .before .before .before in
+    let e = c .before .before .before .before .before .before .before in
+    by-guard (given s) (s .args .key .values) (s .args .content) _
+    (c .before .before .before .before .plan-insert .ensures) _ (c .before .insert-keeps .ensures)
+    (not-true _ (c .if2 .taken)) (sym (number (e .before)) ∙ e .if1 .left)
 
-enum-known-step-2 : tie.Need-enum-known-step-2
-enum-known-step-2 c = search needs
+pack-key-requires : tie.Need-pack-key-requires
+pack-key-requires c κs =
+    let e = c .before .before .before .before .before .before .before in
+    let s = e .before .before .before .before in
+    let p = passed (given s) (s .args .key .values) (sym (number (e .before)) ∙ e .if1 .left) in
+    sixteen (s .args .state .shape) (s .args .key .values) (s .args .content) (p .shape) (p .fits) (four s)
 
-cast-insert-record : tie.Need-cast-insert-record
-cast-insert-record c = search needs
+cast-capacity : tie.Need-cast-capacity
+cast-capacity c = search needs
 
-insert-record-requires : tie.Need-insert-record-requires
-insert-record-requires c κs =
-    let k = c .before .before .before .before .before .before .before in
-    let s = start k in
-    lent-taken (given s) (s .args .key .values) (s .args .content) (small s) _ (k .before .plan-insert .ensures) _
-    (k .pack-key .ensures) _ _ _ (c .before .before .step2 .given .1)
+enum-known-step : tie.Need-enum-known-step
+enum-known-step c = search needs
 
 same-length-3 : tie.Need-same-length-3
 same-length-3 c = search needs
@@ -100,9 +105,36 @@ same-length-4 c = search needs
 returns-3 : tie.Need-returns-3
 unfolding changedAnswer
 returns-3 c =
-    let k = c .before .before .before .before .before .before .before .before .before .before in
+    let k = c .before .before .before .before .before in
     let s = start k in
-    by-taken (given s) (s .args .key .values) (s .args .content) (small s) _ (k .before .plan-insert .ensures) _
+    by-refused (given s) (s .args .key .values) (s .args .content) (small s) _ (planning k .plan-insert .ensures) _
+    (k .pack-key .ensures) _ (c .before .step .given .1)
+
+enum-known-step-2 : tie.Need-enum-known-step-2
+enum-known-step-2 c = search needs
+
+cast-insert-record : tie.Need-cast-insert-record
+cast-insert-record c = search needs
+
+insert-record-requires : tie.Need-insert-record-requires
+insert-record-requires c κs =
+    let k = c .before .before .before .before .before .before in
+    let s = start k in
+    lent-taken (given s) (s .args .key .values) (s .args .content) (small s) _ (planning k .plan-insert .ensures) _
+    (k .pack-key .ensures) _ _ _ (c .before .before .step2 .given .1)
+
+same-length-5 : tie.Need-same-length-5
+same-length-5 c = search needs
+
+same-length-6 : tie.Need-same-length-6
+same-length-6 c = search needs
+
+returns-4 : tie.Need-returns-4
+unfolding changedAnswer
+returns-4 c =
+    let k = c .before .before .before .before .before .before .before .before .before in
+    let s = start k in
+    by-taken (given s) (s .args .key .values) (s .args .content) (small s) _ (planning k .plan-insert .ensures) _
     (k .pack-key .ensures) _ _ _ (c .before .before .before .before .before .step2 .given .1) _
     (c .before .before .insert-record .ensures)
 
@@ -114,16 +146,16 @@ cast-insert-record-2 c = search needs
 
 insert-record-requires-2 : tie.Need-insert-record-requires-2
 insert-record-requires-2 c κs =
-    let k = c .before .before .before .before .before .before .before in
+    let k = c .before .before .before .before .before .before in
     let s = start k in
-    lent-got (given s) (s .args .key .values) (s .args .content) (small s) _ (k .before .plan-insert .ensures) _
+    lent-got (given s) (s .args .key .values) (s .args .content) (small s) _ (planning k .plan-insert .ensures) _
     (k .pack-key .ensures) _ _ (c .before .before .step3 .given .1)
 
 pack-page-requires : tie.Need-pack-page-requires
 pack-page-requires c κs =
-    let k = c .before .before .before .before .before .before .before .before .before .before in
+    let k = c .before .before .before .before .before .before .before .before .before in
     let s = start k in
-    word-fits (given s) (s .args .key .values) (s .args .content) (small s) _ (k .before .plan-insert .ensures) _
+    word-fits (given s) (s .args .key .values) (s .args .content) (small s) _ (planning k .plan-insert .ensures) _
     (k .pack-key .ensures) _ _ (c .before .before .before .before .before .step3 .given .1)
 
 widths-of-requires : tie.Need-widths-of-requires
@@ -137,60 +169,12 @@ cast-fill-2 c = search needs
 
 fill-requires : tie.Need-fill-requires
 fill-requires c κs =
-    let k = c .before .before .before .before .before .before .before .before .before .before .before .before .before
-    .before in
+    let k = c .before .before .before .before .before .before .before .before .before .before .before .before .before in
     let s = start k in
-    fill-fits (given s) (s .args .key .values) (s .args .content) (small s) _ (k .before .plan-insert .ensures) _
+    fill-fits (given s) (s .args .key .values) (s .args .content) (small s) _ (planning k .plan-insert .ensures) _
     (k .pack-key .ensures) _ _
     (c .before .before .before .before .before .before .before .before .before .step3 .given .1) _
     (c .before .before .widths-of .ensures)
-
-same-length-5 : tie.Need-same-length-5
-same-length-5 c = search needs
-
-same-length-6 : tie.Need-same-length-6
-same-length-6 c = search needs
-
-returns-4 : tie.Need-returns-4
-unfolding changedAnswer
-returns-4 c =
-    let k = c .before .before .before .before .before .before .before .before .before .before .before .before .before
-    .before .before .before .before in
-    let s = start k in
-    by-got (given s) (s .args .key .values) (s .args .content) (small s) _ (k .before .plan-insert .ensures) _
-    (k .pack-key .ensures) _ _
-    (c .before .before .before .before .before .before .before .before .before .before .before .before .step3 .given
-    .1) _
-    (c .before .before .before .before .before .before .before .before .before .insert-record2 .ensures) _
-    (c .before .before .before .before .before .widths-of .ensures) _
-    (c .before .before .before .before .before .before .pack-page .ensures) _ (c .before .before .fill .ensures)
-
-enum-known-step-4 : tie.Need-enum-known-step-4
-enum-known-step-4 c = search needs
-
-divide-words-requires : tie.Need-divide-words-requires
-divide-words-requires c κs =
-    let k = c .before .before .before .before .before .before .before in
-    let s = start k in
-    words-lent (given s) (s .args .key .values) (s .args .content) (small s) _ (k .before .plan-insert .ensures) _
-    (k .pack-key .ensures) _ _ _ (c .before .before .step4 .given .1)
-
-cast-divide-pages : tie.Need-cast-divide-pages
-cast-divide-pages c = search needs
-
-cast-divide-pages-2 : tie.Need-cast-divide-pages-2
-cast-divide-pages-2 c = search needs
-
-divide-pages-requires : tie.Need-divide-pages-requires
-divide-pages-requires c κs =
-    let k = c .before .before .before .before .before .before .before .before .before .before .before .before in
-    let s = start k in
-    let told = c .before .before .before .before .before .before .before .step4 .given .1 in (
-      pages-lent (given s) (s .args .key .values) (s .args .content) (small s) _ (k .before .plan-insert .ensures) _
-          (k .pack-key .ensures) _ _ _ told,
-      cut-fits (given s) (s .args .key .values) (s .args .content) (small s) _ (k .before .plan-insert .ensures) _
-          (k .pack-key .ensures) _ _ _ told,
-    )
 
 same-length-7 : tie.Need-same-length-7
 same-length-7 c = search needs
@@ -202,12 +186,58 @@ returns-5 : tie.Need-returns-5
 unfolding changedAnswer
 returns-5 c =
     let k = c .before .before .before .before .before .before .before .before .before .before .before .before .before
-    .before .before in
+    .before .before .before in
     let s = start k in
-    by-divided (given s) (s .args .key .values) (s .args .content) (small s) _ (k .before .plan-insert .ensures) _
-    (k .pack-key .ensures) _ _ _
-    (c .before .before .before .before .before .before .before .before .before .before .step4 .given .1) _
-    (c .before .before .divide-pages .ensures) _ _
+    let told = c .before .before .before .before .before .before .before .before .before .before .before .before .step3
+    .given .1 in
+    by-got (given s) (s .args .key .values) (s .args .content) (small s) _ (planning k .plan-insert .ensures) _
+    (k .pack-key .ensures) _ _ told (guarded k) _
+    (c .before .before .before .before .before .before .before .before .before .insert-record2 .ensures) _
+    (c .before .before .before .before .before .widths-of .ensures) _
+    (c .before .before .before .before .before .before .pack-page .ensures) _ (c .before .before .fill .ensures)
+
+enum-known-step-4 : tie.Need-enum-known-step-4
+enum-known-step-4 c = search needs
+
+divide-words-requires : tie.Need-divide-words-requires
+divide-words-requires c κs =
+    let k = c .before .before .before .before .before .before in
+    let s = start k in
+    words-lent (given s) (s .args .key .values) (s .args .content) (small s) _ (planning k .plan-insert .ensures) _
+    (k .pack-key .ensures) _ _ _ (c .before .before .step4 .given .1)
+
+cast-divide-pages : tie.Need-cast-divide-pages
+cast-divide-pages c = search needs
+
+cast-divide-pages-2 : tie.Need-cast-divide-pages-2
+cast-divide-pages-2 c = search needs
+
+divide-pages-requires : tie.Need-divide-pages-requires
+divide-pages-requires c κs =
+    let k = c .before .before .before .before .before .before .before .before .before .before .before in
+    let s = start k in
+    let told = c .before .before .before .before .before .before .before .step4 .given .1 in (
+      pages-lent (given s) (s .args .key .values) (s .args .content) (small s) _ (planning k .plan-insert .ensures) _
+          (k .pack-key .ensures) _ _ _ told,
+      cut-fits (given s) (s .args .key .values) (s .args .content) (small s) _ (planning k .plan-insert .ensures) _
+          (k .pack-key .ensures) _ _ _ told,
+    )
+
+same-length-9 : tie.Need-same-length-9
+same-length-9 c = search needs
+
+same-length-10 : tie.Need-same-length-10
+same-length-10 c = search needs
+
+returns-6 : tie.Need-returns-6
+unfolding changedAnswer
+returns-6 c =
+    let k = c .before .before .before .before .before .before .before .before .before .before .before .before .before
+    .before in
+    let s = start k in
+    let told = c .before .before .before .before .before .before .before .before .before .before .step4 .given .1 in
+    by-divided (given s) (s .args .key .values) (s .args .content) (small s) _ (planning k .plan-insert .ensures) _
+    (k .pack-key .ensures) _ _ _ told (guarded k) _ (c .before .before .divide-pages .ensures) _ _
     (c .before .before .before .before .before .before .before .divide-words .ensures)
 
 pub insert-spec : {M : Type 1} → statement M
@@ -217,18 +247,22 @@ insert-spec =
     key-number-requires
     returns
     plan-insert-requires
-    pack-key-requires
-    cast-capacity
-    enum-known-step
+    insert-keeps-requires
     same-length
     same-length-2
     returns-2
-    enum-known-step-2
-    cast-insert-record
-    insert-record-requires
+    pack-key-requires
+    cast-capacity
+    enum-known-step
     same-length-3
     same-length-4
     returns-3
+    enum-known-step-2
+    cast-insert-record
+    insert-record-requires
+    same-length-5
+    same-length-6
+    returns-4
     enum-known-step-3
     cast-insert-record-2
     insert-record-requires-2
@@ -237,14 +271,14 @@ insert-spec =
     cast-fill
     cast-fill-2
     fill-requires
-    same-length-5
-    same-length-6
-    returns-4
+    same-length-7
+    same-length-8
+    returns-5
     enum-known-step-4
     divide-words-requires
     cast-divide-pages
     cast-divide-pages-2
     divide-pages-requires
-    same-length-7
-    same-length-8
-    returns-5)
+    same-length-9
+    same-length-10
+    returns-6)

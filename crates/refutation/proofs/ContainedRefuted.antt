@@ -1,0 +1,148 @@
+-- Wrong changes of spoiled stores: each contradicts `contained`, whatever else it does. Assumes nothing.
+use Prim.Native.Nat.{ℕ}
+use mathlib.Core.Path.{_≡_, refl, sym, ap, _∙_}
+use mathlib.Core.Bool.{Bool, true, false, true≢false}
+use mathlib.Core.List.{List, [], _∷_}
+use mathlib.Core.Logic.{⊎-elim}
+use native.Mathlib.Omega.{arith}
+use lib.ListN.{getD}
+use Rattle.shape.specs.Refusal.{Answer}
+use Rattle.shape.specs.Shape.{widthsOf}
+use Rattle.shape.specs.Key.{encodings}
+use Rattle.split.specs.Steps.{stepsBelow, steps, step, stepNumber, stepsOf, depth}
+use Rattle.split.specs.Bits.{splitBit}
+use Rattle.address.specs.Address.{highestBit, createdBy, latestStep, formula, addressFrom, address}
+use Rattle.address.specs.Doubling.{sides}
+use Rattle.cell.specs.Cell.{sumBits, cell, cellAddress}
+use Rattle.region.specs.Strings.{emptyString, listBit}
+use Rattle.record.specs.declared.Content.{Content}
+use Rattle.page.specs.Page.{countOf, pageAt}
+use Rattle.word.specs.Word.{wordOf}
+use Rattle.word.specs.declared.Leaf.the-variants.{Page}
+use Rattle.model.specs.Model.{Reply}
+use Rattle.store.specs.Store.{Store, wordAt}
+use Rattle.store.specs.Contained.{JoinedWith, GivesWay, Written}
+use Rattle.store.specs.Promises.{InsertPromise, DeletePromise}
+use Rattle.table.specs.Table.{twoTwo, key}
+use Rattle.refutation.specs.Stores.{zeroedWord, lowTally}
+
+-- ---- what is computed
+
+abbrev keyString : List ℕ → ℕ → Bool
+keyString values = splitBit (widthsOf twoTwo) (encodings twoTwo values)
+
+-- the strings 100 and 101
+abbrev lower : ℕ → Bool
+lower = listBit (true ∷ false ∷ false ∷ [])
+
+abbrev upper : ℕ → Bool
+upper = listBit (true ∷ false ∷ true ∷ [])
+
+pub record Computed (words : List ℕ) : Type 0 where
+  -- the word of (2,2) at T = 3, and the first bits of two keys
+  pub own : wordAt twoTwo 3 (zeroedWord .memory .words) (keyString (key 2 2)) ≡ 0
+  pub one : keyString (key 2 2) 0 ≡ true
+  pub zero : keyString (key 0 0) 0 ≡ false
+  -- words of other leaves before
+  pub first : wordAt twoTwo 3 (zeroedWord .memory .words) emptyString ≡ wordOf (Page 0 1)
+  pub low : wordAt twoTwo 3 (lowTally .memory .words) lower ≡ wordOf (Page 1 3)
+  pub high : wordAt twoTwo 3 (lowTally .memory .words) upper ≡ wordOf (Page 2 3)
+  -- the cell of the string 0 at T = 3, and of 10 at T = 2
+  pub at-0 : wordAt twoTwo 3 words emptyString ≡ getD words 0 0
+  pub low-at-1 : wordAt twoTwo 2 words lower ≡ getD words 1 0
+  pub high-at-1 : wordAt twoTwo 2 words upper ≡ getD words 1 0
+
+computed : (words : List ℕ) → Computed words
+unfolding
+    widthsOf encodings stepsBelow steps step stepNumber stepsOf depth splitBit
+    highestBit createdBy latestStep formula addressFrom address sides sumBits cell cellAddress
+computed words =
+    record {
+      own = refl;
+      one = refl;
+      zero = refl;
+      first = refl;
+      low = refl;
+      high = refl;
+      at-0 = refl;
+      low-at-1 = refl;
+      high-at-1 = refl;
+    }
+
+-- ---- inserts
+
+-- no leaf is joined with the key's, whose word names depth 0
+none-joined : (new : (ℕ → Bool) → ℕ) (q : ℕ → Bool)
+    → JoinedWith (wordAt twoTwo 3 (zeroedWord .memory .words)) new (keyString (key 2 2)) q → ⊥
+none-joined new q j = omega (arith, j .above, computed [] .own)
+
+module _ (content : Content) (answer : Answer Reply) (after : Store) where
+  -- the zeroed word of one cell is taken as a leaf of depth 0: the whole directory, the word of the leaf 0 among it, is
+  -- set to the word of the free page 3
+  pub fills-directory : InsertPromise zeroedWord (key 2 2) content answer after → after .state .depth ≡ 3
+      → getD (after .memory .words) 0 0 ≡ wordOf (Page 3 0) → ⊥
+  fills-directory p e filled = ⊎-elim same gives (p .contained .words-kept emptyString)
+    where
+      same : wordAt (after .state .shape) (after .state .depth) (after .memory .words) emptyString
+          ≡ wordAt twoTwo 3 (zeroedWord .memory .words) emptyString → ⊥
+      same w =
+          let now : wordAt twoTwo 3 (after .memory .words) emptyString
+          ≡ wordAt twoTwo 3 (zeroedWord .memory .words) emptyString = rw (p .shape-kept, e) at w in
+          let word : wordOf (Page 3 0) ≡ wordOf (Page 0 1) =
+          sym filled ∙ sym (computed (after .memory .words) .at-0) ∙ now ∙ computed [] .first in
+          omega (arith, word)
+
+      gives : GivesWay (wordAt twoTwo 3 (zeroedWord .memory .words))
+          (wordAt (after .state .shape) (after .state .depth) (after .memory .words)) (keyString (key 2 2)) emptyString
+          → ⊥
+      gives way =
+          ⊎-elim (λ a. true≢false (sym (computed [] .one) ∙ sym (a 0 (omega (arith, computed [] .first)))))
+          (none-joined _ emptyString) (way .1)
+
+  -- the record is put into page 0, which the leaf 0 has
+  pub writes-other-page : InsertPromise zeroedWord (key 2 2) content answer after
+      → countOf (pageAt 2 (after .memory .bytes) 0) ≡ 2 → ⊥
+  writes-other-page p two = ⊎-elim same written (p .contained .bytes-kept 0 (omega arith))
+    where
+      same : pageAt 2 (after .memory .bytes) 0 ≡ pageAt 2 (zeroedWord .memory .bytes) 0 → ⊥
+      same e = let one : _≡_ {A = ℕ} 2 1 = sym two ∙ ap countOf e in omega (arith, one)
+
+      written : Written zeroedWord after (keyString (key 2 2)) 0 → ⊥
+      written =
+          ⊎-elim (λ own. omega (arith, own .1, computed [] .own))
+          (⊎-elim (λ j. none-joined _ (j .0) (j .1)) (λ free. let one : _≡_ {A = ℕ} 1 0 = free .0 in omega (arith, one)))
+
+-- ---- a delete
+
+-- T is set by a tally that has no leaf of depth 3: the leaves 100 and 101 would have one cell
+pub lowers-depth : (answer : Answer Reply) (after : Store) → DeletePromise lowTally (key 0 0) answer after
+    → after .state .depth ≡ 2 → ⊥
+lowers-depth answer after p e =
+    let one : wordOf (Page 1 3) ≡ wordOf (Page 2 3) =
+    sym (kept 1 lower refl (computed [] .low)) ∙ computed words .low-at-1 ∙ sym (computed words .high-at-1)
+    ∙ kept 2 upper refl (computed [] .high) in
+    omega (arith, one)
+  where
+    words : List ℕ
+    words = after .memory .words
+
+    -- a leaf of depth 3 whose first bit is 1 is neither the key's nor joined with it
+    kept : (h : ℕ) (q : ℕ → Bool) → q 0 ≡ true
+        → wordAt twoTwo 3 (lowTally .memory .words) q ≡ wordOf (Page h 3)
+        → wordAt twoTwo 2 (after .memory .words) q ≡ wordOf (Page h 3)
+    kept h q first w = ⊎-elim same gives (p .contained .words-kept q)
+      where
+        same : wordAt (after .state .shape) (after .state .depth) (after .memory .words) q
+            ≡ wordAt twoTwo 3 (lowTally .memory .words) q
+            → wordAt twoTwo 2 (after .memory .words) q ≡ wordOf (Page h 3)
+        same k =
+            let now : wordAt twoTwo 2 (after .memory .words) q ≡ wordAt twoTwo 3 (lowTally .memory .words) q =
+            rw (p .shape-kept, e) at k in
+            now ∙ w
+
+        gives : GivesWay (wordAt twoTwo 3 (lowTally .memory .words))
+            (wordAt (after .state .shape) (after .state .depth) (after .memory .words)) (keyString (key 0 0)) q
+            → wordAt twoTwo 2 (after .memory .words) q ≡ wordOf (Page h 3)
+        gives way =
+            absurd (⊎-elim (λ a. true≢false (sym first ∙ a 0 (omega (arith, w)) ∙ computed [] .zero))
+            (λ j. true≢false (sym first ∙ sym (j .agree 0 (omega (arith, w, j .depth))) ∙ computed [] .zero)) (way .1))
