@@ -30,18 +30,18 @@ pub fn delete(state: State, dir: &mut [u32], pages: &mut [u8], key: Key) -> Chan
     }
     let plan = plan_delete(state, dir, pages, key);
     let values = key.values;
-    if !delete_keeps(state, dir, values, plan) {
-        return Change {
-            answer: Changed::Refused(9),
-            state,
-        };
-    }
     match plan {
         Plan::Refused(n) => Change {
             answer: Changed::Refused(n),
             state,
         },
         Plan::Keep(found) => {
+            if !delete_keeps(state, dir, values, Plan::Keep(found)) {
+                return Change {
+                    answer: Changed::Refused(9),
+                    state,
+                };
+            }
             keep_leaf(state, dir, pages, values, found);
             Change {
                 answer: Changed::Done,
@@ -49,6 +49,12 @@ pub fn delete(state: State, dir: &mut [u32], pages: &mut [u8], key: Key) -> Chan
             }
         }
         Plan::Join(found, join) => {
+            if !delete_keeps(state, dir, values, Plan::Join(found, join)) {
+                return Change {
+                    answer: Changed::Refused(9),
+                    state,
+                };
+            }
             let joined = join_leaves(state, dir, pages, values, found, join);
             Change {
                 answer: Changed::Done,

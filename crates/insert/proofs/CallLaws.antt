@@ -125,7 +125,7 @@ module _ (before : Store) (values : List ℕ) (content : Content) where
             got .depth-le,
           )
 
-      pub by-got : InsertGuarded (before .state) (before .memory .words) values plan
+      pub by-got : InsertGuarded (before .state) (before .memory .words) values (Get g x)
           → (bytes′ : List ℕ) → bytes′ ≡ insertedPages b g 0 0 (packedBytes key content) bytes
           → (ws : List ℕ) → ws ≡ widthsOf s → (word : ℕ) → word ≡ wordOf (Page g x) → (words′ : List ℕ)
           → Filled ws (before .state .depth) x (splitBit ws values) word (before .memory .words) words′
@@ -135,8 +135,7 @@ module _ (before : Store) (values : List ℕ) (content : Content) where
           (λ bs. InsertPromise before values content (accepted changed) (store (before .state) words′ bs))
           (sym (d ∙ ap (λ k. insertedPages b g 0 0 (packedBytes k content) bytes) ek))
           (promise-got before values content (got .asked) small g x got words′ filled
-          (contained-got before values (packedKey values) content g x got lent-got
-          (subst (InsertGuarded (before .state) (before .memory .words) values) e guarded) words′ filled _ refl))
+          (contained-got before values (packedKey values) content g x got lent-got guarded words′ filled _ refl))
         where
           filled : Filled (widthsOf s) (before .state .depth) x (splitBit (widthsOf s) values) (wordOf (Page g x))
               (before .memory .words) words′
@@ -198,7 +197,8 @@ module _ (before : Store) (values : List ℕ) (content : Content) where
             room = dividing .half .room;
           }
 
-      pub by-divided : InsertGuarded (before .state) (before .memory .words) values plan → (bytes′ : List ℕ)
+      pub by-divided : InsertGuarded (before .state) (before .memory .words) values (Divide split cut free)
+          → (bytes′ : List ℕ)
           → bytes′ ≡ dividedPages b (split .page) free cut (packedBytes key content) bytes
           → (after : State) (words′ : List ℕ) → WordsDivided (before .state) values split free (before .memory .words)
           after words′
@@ -221,4 +221,4 @@ module _ (before : Store) (values : List ℕ) (content : Content) where
           contained =
               subst (λ st. Contained before (store st words′ new) (splitBit (widthsOf s) values)) (w .state)
               (contained-divided before values (packedKey values) content split cut free dividing pages-lent cut-fits
-              (subst (InsertGuarded (before .state) (before .memory .words) values) e guarded) after words′ w new refl)
+              guarded after words′ w new refl)

@@ -34,10 +34,6 @@ pub fn insert(state: State, dir: &mut [u32], pages: &mut [u8], key: Key, content
     }
     let step = plan_insert(state, dir, pages, key);
     let values = key.values;
-    if !insert_keeps(state, dir, values, step) {
-        let answer = Changed::Refused(9);
-        return Change { answer, state };
-    }
     let packed = pack_key(key);
     let shape = state.shape;
     let capacity = shape.capacity as usize;
@@ -60,6 +56,10 @@ pub fn insert(state: State, dir: &mut [u32], pages: &mut [u8], key: Key, content
             return Change { answer, state };
         }
         Plan::Get(page, depth) => {
+            if !insert_keeps(state, dir, values, Plan::Get(page, depth)) {
+                let answer = Changed::Refused(9);
+                return Change { answer, state };
+            }
             insert_record(pages, capacity, page as usize, 0, 0, packed, content);
             let word = pack_page(page, depth);
             fill(
@@ -74,6 +74,10 @@ pub fn insert(state: State, dir: &mut [u32], pages: &mut [u8], key: Key, content
             return Change { answer, state };
         }
         Plan::Divide(split, cut, free) => {
+            if !insert_keeps(state, dir, values, Plan::Divide(split, cut, free)) {
+                let answer = Changed::Refused(9);
+                return Change { answer, state };
+            }
             let divided = divide_words(state, dir, values, split, cut.bit, free);
             divide_pages(
                 pages,

@@ -11,9 +11,9 @@ ghost use Rattle.directory.specs.Directory.{DirectoryFits};
 ghost use Rattle.intact.specs.Intact.{FoldTold};
 ghost use Rattle.intact.specs.Private.{StepTold, PairTold};
 
-// Whether each cell of depth t that is not in the region of a key's first u split bits holds the word
-// of the cell of its first u bits. Step by step: at depth s the region of the key's first s bits is
-// left out.
+// Whether each cell of depth t that is not in the region of a key's first u split bits holds the
+// word of the cell of its first u bits. Step by step: at depth s the region of the key's first s
+// bits is left out.
 pub fn folds(widths: Widths, key: [u32; 4], u: u64, t: u64, dir: &[u32]) -> bool
     requires { ⌜ DirectoryFits (widthList widths) t (length (now dir)) × (u ≤ t) ⌝ }
     ensures { λ r. ⌜ FoldTold (widthList widths) u t (splitBit (widthList widths) key) (now (dir .entry)) r ⌝ }
@@ -29,8 +29,8 @@ pub fn folds(widths: Widths, key: [u32; 4], u: u64, t: u64, dir: &[u32]) -> bool
     true
 }
 
-// Whether each cell of depth s + 1 holds the word of the cell of its first s bits, but for the cell of
-// depth s at the address own.
+// Whether each cell of depth s + 1 holds the word of the cell of its first s bits, but for the cell
+// of depth s at the address own.
 fn step_folds(widths: Widths, s: u64, own: u64, dir: &[u32]) -> bool
     requires { ⌜ DirectoryFits (widthList widths) (suc s) (length (now dir)) ⌝ }
     ensures { λ r. ⌜ StepTold (widthList widths) s own (now (dir .entry)) r ⌝ }

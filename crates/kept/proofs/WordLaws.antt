@@ -1,5 +1,5 @@
 -- Laws of words that are kept, over functions of strings: nothing changes; one whole leaf changes; a leaf and its
--- siblings change. Two forms for a reader. Assumes nothing.
+-- siblings change. Assumes nothing.
 use Prim.Native.Nat.{ℕ, suc, _-_, _≤_, _<_}
 use mathlib.Core.Path.{_≡_, sym, ap, _∙_, subst}
 use mathlib.Core.Bool.{Bool, true, false, not, false≢true, true≢false}
@@ -98,29 +98,3 @@ module _ (old new : (ℕ → Bool) → ℕ) (key : ℕ → Bool) where
       go : Agree y key p ⊎ (Agree y key p → ⊥) → (new p ≡ old p) ⊎ GivesWay old new key p
       go (inl a) = inr (inside (agree-or-leaves key p (suc m - y) y (suc m) (omega arith) a))
       go (inr n) = inl (outside p n)
-
-  -- ---- for a reader
-
-  -- where the key's leaf gets no less deep: a string whose word was not the key's has its word
-  pub kept-other-word : WordsKept old new key → depthNamed (old key) ≤ depthNamed (new key) → (p : ℕ → Bool)
-      → (old p ≡ old key → ⊥) → new p ≡ old p
-  kept-other-word k l p n = go (k p)
-    where
-      go : (new p ≡ old p) ⊎ GivesWay old new key p → new p ≡ old p
-      go (inl e) = e
-      go (inr (whole, inl a)) = absurd (n (sym (whole key a)))
-      go (inr (whole, inr j)) = absurd (omega (arith, j .above, j .within))
-
-  -- in any case: a string whose word was not the key's nor that of a sibling that the key's leaf is joined with
-  pub kept-other-words : WordsKept old new key → (p : ℕ → Bool) → (old p ≡ old key → ⊥)
-      → ((z : ℕ) → depthNamed (new key) ≤ z → z < depthNamed (old key) → old p ≡ old (sibling key z) → ⊥)
-      → new p ≡ old p
-  kept-other-words k p n others = go (k p)
-    where
-      go : (new p ≡ old p) ⊎ GivesWay old new key p → new p ≡ old p
-      go (inl e) = e
-      go (inr (whole, inl a)) = absurd (n (sym (whole key a)))
-      go (inr (whole, inr j)) =
-          let leaves : Leaves key p (j .z) = record { agree = j .agree; differ = j .differ } in
-          let a = agree-of-leaves key p (sibling key (j .z)) (j .z) leaves (leaves-sibling key (j .z)) in
-          absurd (others (j .z) (j .within) (j .above) (sym (whole (sibling key (j .z)) (rw (j .depth) a))))

@@ -7,9 +7,7 @@ use Rattle.store.specs.Promises.{keyNumber}
 use Rattle.store.specs.Store.{Store, store}
 use Rattle.lent.proofs.LentLaws.{keyNumber-by}
 use Rattle.removal.specs.Plan.{RecordFound, StaysAlone, JoinPlanned, Planned}
-use Rattle.removal.specs.declared.Plan.the-variants.{Keep, Join}
 use Rattle.removal.proofs.MetLaws.{directoryLent}
-use Rattle.guard.specs.Guard.{DeleteGuarded}
 use Rattle.delete.proofs.FoundLaws.{promise-early, recordLent}
 use Rattle.delete.proofs.GuardLaws.{promise-not-whole}
 use Rattle.delete.proofs.KeptLaws.{promise-kept}
@@ -34,40 +32,34 @@ number c =
 abbrev given : tie.Start → Store
 given s = store (s .args .state) (s .args .dir .now) (s .args .pages .now)
 
--- where the call began, from the test
-abbrev start : tie.After-delete-keeps → tie.Start
-start t = t .before .before .before .before .before .before .before .before .before .before
+-- where the call began, from the plan
+abbrev start : tie.After-plan-delete → tie.Start
+start p = p .before .before .before .before .before .before .before
 
--- the plan of a leaf that stays, and what the tests tell of it
+-- the early refusals let the key pass
+early : (p : tie.After-plan-delete) → let s = start p in keyNumber (given s) (s .args .key .values) ≡ 0
+early p =
+    let e = p .before .before .before in
+    sym (number (e .before)) ∙ e .if1 .left
+
+-- the plan of a leaf that stays
 kept : (c : tie.After-plan2)
     → let s = start (c .before .before .before) in
     let r = c .plan2 .given .0 .0 in
-    (RecordFound (given s) (s .args .key .values) r × StaysAlone (given s) (s .args .key .values) (r .page) (r .depth))
-    × DeleteGuarded (s .args .state) (s .args .dir .now) (s .args .key .values) (Keep r)
+    RecordFound (given s) (s .args .key .values) r × StaysAlone (given s) (s .args .key .values) (r .page) (r .depth)
 kept c =
-    let t = c .before .before .before in
-    let a = start t .args in (
-      subst (Planned (given (start t)) (a .key .values)) (c .plan2 .given .1)
-          (t .before .before .before .plan-delete .ensures),
-      subst (DeleteGuarded (a .state) (a .dir .now) (a .key .values)) (c .plan2 .given .1)
-          (t .delete-keeps .ensures .yes (not-false _ (c .before .before .if2 .left))),
-    )
+    let p = c .before .before .before in
+    subst (Planned (given (start p)) (start p .args .key .values)) (c .plan2 .given .1) (p .plan-delete .ensures)
 
 -- and of one that is joined
 joined : (c : tie.After-plan3)
     → let s = start (c .before .before .before) in
     let r = c .plan3 .given .0 .0 in
     let j = c .plan3 .given .0 .1 .0 in
-    (RecordFound (given s) (s .args .key .values) r × JoinPlanned (given s) (s .args .key .values) r j)
-    × DeleteGuarded (s .args .state) (s .args .dir .now) (s .args .key .values) (Join r j)
+    RecordFound (given s) (s .args .key .values) r × JoinPlanned (given s) (s .args .key .values) r j
 joined c =
-    let t = c .before .before .before in
-    let a = start t .args in (
-      subst (Planned (given (start t)) (a .key .values)) (c .plan3 .given .1)
-          (t .before .before .before .plan-delete .ensures),
-      subst (DeleteGuarded (a .state) (a .dir .now) (a .key .values)) (c .plan3 .given .1)
-          (t .delete-keeps .ensures .yes (not-false _ (c .before .before .if2 .left))),
-    )
+    let p = c .before .before .before in
+    subst (Planned (given (start p)) (start p .args .key .values)) (c .plan3 .given .1) (p .plan-delete .ensures)
 
 key-number-requires : tie.Need-key-number-requires
 key-number-requires c κs = search needs
@@ -81,10 +73,16 @@ returns c =
 plan-delete-requires : tie.Need-plan-delete-requires
 plan-delete-requires c κs = sym (number (c .before .before .before)) ∙ c .before .before .if1 .left
 
+enum-known-plan : tie.Need-enum-known-plan
+enum-known-plan c = search needs
+
+enum-known-plan-2 : tie.Need-enum-known-plan-2
+enum-known-plan-2 c = search needs
+
 delete-keeps-requires : tie.Need-delete-keeps-requires
 delete-keeps-requires c κs =
-    let s = c .before .before .before .before .before .before .before .before .before in
-    record { bytes = s .args .pages .now; planned = c .before .before .plan-delete .ensures; thirteen = thirteen s }
+    let s = start (c .before .before .before .before .before) in
+    record { bytes = s .args .pages .now; planned = kept (c .before .before); thirteen = thirteen s }
 
 same-length : tie.Need-same-length
 same-length c = search needs
@@ -95,21 +93,14 @@ same-length-2 c = search needs
 returns-2 : tie.Need-returns-2
 unfolding changedAnswer
 returns-2 c =
-    let s = start (c .before) in
-    let e = c .before .before .before .before .before .before .before in
-    promise-not-whole (given s) (s .args .key .values) _ (c .before .before .before .before .plan-delete .ensures) _
-    (c .before .delete-keeps .ensures) (not-true _ (c .if2 .taken)) (sym (number (e .before)) ∙ e .if1 .left)
-
-enum-known-plan : tie.Need-enum-known-plan
-enum-known-plan c = search needs
-
-enum-known-plan-2 : tie.Need-enum-known-plan-2
-enum-known-plan-2 c = search needs
+    let p = c .before .before .before .before .before .before .before in
+    promise-not-whole (given (start p)) (start p .args .key .values) _ (kept (c .before .before .before .before)) _
+    (c .before .delete-keeps .ensures) (not-true _ (c .if2 .taken)) (early p)
 
 keep-leaf-requires : tie.Need-keep-leaf-requires
 keep-leaf-requires c κs =
-    let s = start (c .before .before .before .before .before .before) in
-    let f = kept (c .before .before .before) .0 .0 in (
+    let s = start (c .before .before .before .before .before .before .before .before .before) in
+    let f = kept (c .before .before .before .before .before .before) .0 in (
       (directoryLent (given s) (s .args .key .values) _ _ (f .leaf), f .leaf .deep),
       recordLent (given s) (s .args .key .values) _ f,
     )
@@ -117,14 +108,10 @@ keep-leaf-requires c κs =
 enum-known-plan-3 : tie.Need-enum-known-plan-3
 enum-known-plan-3 c = search needs
 
-join-leaves-requires : tie.Need-join-leaves-requires
-join-leaves-requires c κs =
-    let s = start (c .before .before .before .before .before .before) in
-    let v = s .args .key .values in
-    let k = joined (c .before .before .before) .0 in (
-      (directoryLent (given s) v _ _ (k .0 .leaf), leavesLent (given s) v _ (k .0) _ (k .1) (thirteen s)),
-      pairLent (given s) v _ (k .0) _ (k .1),
-    )
+delete-keeps-requires-2 : tie.Need-delete-keeps-requires-2
+delete-keeps-requires-2 c κs =
+    let s = start (c .before .before .before .before .before) in
+    record { bytes = s .args .pages .now; planned = joined (c .before .before); thirteen = thirteen s }
 
 same-length-3 : tie.Need-same-length-3
 same-length-3 c = search needs
@@ -135,9 +122,18 @@ same-length-4 c = search needs
 returns-3 : tie.Need-returns-3
 unfolding changedAnswer
 returns-3 c =
-    let s = start (c .before .before .before .before) in
-    subst (Planned (given s) (s .args .key .values)) (c .before .plan .given .1)
-    (c .before .before .before .before .before .before .before .plan-delete .ensures)
+    let p = c .before .before .before .before .before .before .before in
+    promise-not-whole (given (start p)) (start p .args .key .values) _ (joined (c .before .before .before .before)) _
+    (c .before .delete-keeps2 .ensures) (not-true _ (c .if3 .taken)) (early p)
+
+join-leaves-requires : tie.Need-join-leaves-requires
+join-leaves-requires c κs =
+    let s = start (c .before .before .before .before .before .before .before .before .before) in
+    let v = s .args .key .values in
+    let k = joined (c .before .before .before .before .before .before) in (
+      (directoryLent (given s) v _ _ (k .0 .leaf), leavesLent (given s) v _ (k .0) _ (k .1) (thirteen s)),
+      pairLent (given s) v _ (k .0) _ (k .1),
+    )
 
 same-length-5 : tie.Need-same-length-5
 same-length-5 c = search needs
@@ -148,12 +144,9 @@ same-length-6 c = search needs
 returns-4 : tie.Need-returns-4
 unfolding changedAnswer
 returns-4 c =
-    let p = c .before .before .before .before .before .before .before .before in
-    let s = start (p .before .before .before) in
-    let k = kept p in
-    let done = c .before .before .before .before .keep-leaf in
-    promise-kept (given s) (s .args .key .values) _ (k .0 .0) _ _ (done .ensures .0) (done .ensures .1) (k .0 .1)
-    (k .1)
+    let p = c .before .before .before .before in
+    subst (Planned (given (start p)) (start p .args .key .values)) (c .before .plan .given .1)
+    (p .plan-delete .ensures)
 
 same-length-7 : tie.Need-same-length-7
 same-length-7 c = search needs
@@ -164,12 +157,28 @@ same-length-8 c = search needs
 returns-5 : tie.Need-returns-5
 unfolding changedAnswer
 returns-5 c =
-    let p = c .before .before .before .before .before .before .before .before in
-    let s = start (p .before .before .before) in
-    let k = joined p in
+    let s = start (c .before .before .before .before .before .before .before .before .before .before .before .before .before .before) in
+    let k = kept (c .before .before .before .before .before .before .before .before .before .before .before) in
+    let test = c .before .before .before .before .before .before .before in
+    let done = c .before .before .before .before .keep-leaf in
+    promise-kept (given s) (s .args .key .values) _ (k .0) _ _ (done .ensures .0) (done .ensures .1) (k .1)
+    (test .before .delete-keeps .ensures .yes (not-false _ (test .if2 .left)))
+
+same-length-9 : tie.Need-same-length-9
+same-length-9 c = search needs
+
+same-length-10 : tie.Need-same-length-10
+same-length-10 c = search needs
+
+returns-6 : tie.Need-returns-6
+unfolding changedAnswer
+returns-6 c =
+    let s = start (c .before .before .before .before .before .before .before .before .before .before .before .before .before .before) in
+    let k = joined (c .before .before .before .before .before .before .before .before .before .before .before) in
+    let test = c .before .before .before .before .before .before .before in
     let done = c .before .before .before .before .join-leaves in
-    promise-joined (given s) (s .args .key .values) _ (k .0 .0) _ (k .0 .1) (done .result) _ _ (done .ensures .0)
-    (done .ensures .1) (thirteen s) (k .1)
+    promise-joined (given s) (s .args .key .values) _ (k .0) _ (k .1) (done .result) _ _ (done .ensures .0)
+    (done .ensures .1) (thirteen s) (test .before .delete-keeps2 .ensures .yes (not-false _ (test .if3 .left)))
 
 pub delete-spec : {M : Type 1} → statement M
 delete-spec =
@@ -178,21 +187,25 @@ delete-spec =
     key-number-requires
     returns
     plan-delete-requires
+    enum-known-plan
+    enum-known-plan-2
     delete-keeps-requires
     same-length
     same-length-2
     returns-2
-    enum-known-plan
-    enum-known-plan-2
     keep-leaf-requires
     enum-known-plan-3
-    join-leaves-requires
+    delete-keeps-requires-2
     same-length-3
     same-length-4
     returns-3
+    join-leaves-requires
     same-length-5
     same-length-6
     returns-4
     same-length-7
     same-length-8
-    returns-5)
+    returns-5
+    same-length-9
+    same-length-10
+    returns-6)

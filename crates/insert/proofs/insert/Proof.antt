@@ -1,6 +1,6 @@
 -- `insert::insert` meets its contract: a refusal keeps the promise, and so does each plan carried out. Assumes nothing.
 use Prim.Native.Nat.{_^_, _<_}
-use mathlib.Core.Path.{_≡_, sym, _∙_}
+use mathlib.Core.Path.{_≡_, sym, _∙_, subst}
 use lib.ListN.{length, length-map}
 use borrow.Author.Needs.{needs}
 use borrow.Author.Tests.{not-true, not-false}
@@ -9,8 +9,8 @@ use Rattle.store.specs.Promises.{keyNumber}
 use Rattle.store.specs.Store.{Store, store}
 use Rattle.lent.proofs.LentLaws.{keyNumber-by}
 use Rattle.lent.proofs.PassedLaws.{passed}
+use Rattle.plan.specs.Private.{Planned}
 use Rattle.plan.proofs.MetLaws.{sixteen}
-use Rattle.guard.specs.Guard.{InsertGuarded}
 use Rattle.insert.proofs.CallLaws.{by-early, by-guard, by-refused, lent-taken, by-taken, lent-got, word-fits}
 use Rattle.insert.proofs.CallLaws.{fill-fits, by-got, words-lent, pages-lent, cut-fits, by-divided}
 use Rattle.insert.proofs.insert.Statement.{statement}
@@ -18,11 +18,11 @@ use Rattle.insert.proofs.insert.Tie as tie
 
 -- where the call began, and the store as it came
 abbrev start : tie.After-pack-key → tie.Start
-start k = k .before .before .before .before .before .before .before .before .before .before .before .before
+start k = k .before .before .before .before .before .before .before .before .before
 
 -- its plan
 abbrev planning : tie.After-pack-key → tie.After-plan-insert
-planning k = k .before .before .before .before .before
+planning k = k .before .before
 
 abbrev given : tie.Start → Store
 given s = store (s .args .state) (s .args .dir .now) (s .args .pages .now)
@@ -42,11 +42,11 @@ number c =
     let a = c .before .before .before .args in
     c .key-number .ensures ∙ sym (keyNumber-by (a .state) (a .dir .now) (a .pages .now) (a .key .values))
 
--- what the tests tell of the plan
-guarded : (k : tie.After-pack-key)
-    → let a = start k .args in
-    InsertGuarded (a .state) (a .dir .now) (a .key .values) (planning k .plan-insert .result)
-guarded k = k .before .before .insert-keeps .ensures .yes (not-false _ (k .before .if2 .left))
+-- they let the key pass
+early : (k : tie.After-pack-key) → let s = start k in keyNumber (given s) (s .args .key .values) ≡ 0
+early k =
+    let e = k .before .before .before .before .before in
+    sym (number (e .before)) ∙ e .if1 .left
 
 key-number-requires : tie.Need-key-number-requires
 key-number-requires c κs = search needs
@@ -63,29 +63,9 @@ plan-insert-requires c κs =
     let e = c .before .before in
     sym (number (e .before)) ∙ e .if1 .left
 
-insert-keeps-requires : tie.Need-insert-keeps-requires
-insert-keeps-requires c κs =
-    let s = c .before .before .before .before .before .before .before .before .before in
-    record { bytes = s .args .pages .now; planned = c .before .before .plan-insert .ensures }
-
-same-length : tie.Need-same-length
-same-length c = search needs
-
-same-length-2 : tie.Need-same-length-2
-same-length-2 c = search needs
-
-returns-2 : tie.Need-returns-2
-unfolding changedAnswer
-returns-2 c =
-    let s = c .before .before .before .before .before .before .before .before .before .before .before in
-    let e = c .before .before .before .before .before .before .before in
-    by-guard (given s) (s .args .key .values) (s .args .content) _
-    (c .before .before .before .before .plan-insert .ensures) _ (c .before .insert-keeps .ensures)
-    (not-true _ (c .if2 .taken)) (sym (number (e .before)) ∙ e .if1 .left)
-
 pack-key-requires : tie.Need-pack-key-requires
 pack-key-requires c κs =
-    let e = c .before .before .before .before .before .before .before in
+    let e = c .before .before .before .before in
     let s = e .before .before .before .before in
     let p = passed (given s) (s .args .key .values) (sym (number (e .before)) ∙ e .if1 .left) in
     sixteen (s .args .state .shape) (s .args .key .values) (s .args .content) (p .shape) (p .fits) (four s)
@@ -96,15 +76,15 @@ cast-capacity c = search needs
 enum-known-step : tie.Need-enum-known-step
 enum-known-step c = search needs
 
-same-length-3 : tie.Need-same-length-3
-same-length-3 c = search needs
+same-length : tie.Need-same-length
+same-length c = search needs
 
-same-length-4 : tie.Need-same-length-4
-same-length-4 c = search needs
+same-length-2 : tie.Need-same-length-2
+same-length-2 c = search needs
 
-returns-3 : tie.Need-returns-3
+returns-2 : tie.Need-returns-2
 unfolding changedAnswer
-returns-3 c =
+returns-2 c =
     let k = c .before .before .before .before .before in
     let s = start k in
     by-refused (given s) (s .args .key .values) (s .args .content) (small s) _ (planning k .plan-insert .ensures) _
@@ -123,15 +103,15 @@ insert-record-requires c κs =
     lent-taken (given s) (s .args .key .values) (s .args .content) (small s) _ (planning k .plan-insert .ensures) _
     (k .pack-key .ensures) _ _ _ (c .before .before .step2 .given .1)
 
-same-length-5 : tie.Need-same-length-5
-same-length-5 c = search needs
+same-length-3 : tie.Need-same-length-3
+same-length-3 c = search needs
 
-same-length-6 : tie.Need-same-length-6
-same-length-6 c = search needs
+same-length-4 : tie.Need-same-length-4
+same-length-4 c = search needs
 
-returns-4 : tie.Need-returns-4
+returns-3 : tie.Need-returns-3
 unfolding changedAnswer
-returns-4 c =
+returns-3 c =
     let k = c .before .before .before .before .before .before .before .before .before in
     let s = start k in
     by-taken (given s) (s .args .key .values) (s .args .content) (small s) _ (planning k .plan-insert .ensures) _
@@ -141,25 +121,51 @@ returns-4 c =
 enum-known-step-3 : tie.Need-enum-known-step-3
 enum-known-step-3 c = search needs
 
+insert-keeps-requires : tie.Need-insert-keeps-requires
+insert-keeps-requires c κs =
+    let k = c .before .before .before .before .before .before in
+    let s = start k in
+    record {
+      bytes = s .args .pages .now;
+      planned = subst (Planned (given s) (s .args .key .values)) (c .before .before .step3 .given .1)
+          (planning k .plan-insert .ensures);
+    }
+
+same-length-5 : tie.Need-same-length-5
+same-length-5 c = search needs
+
+same-length-6 : tie.Need-same-length-6
+same-length-6 c = search needs
+
+returns-4 : tie.Need-returns-4
+unfolding changedAnswer
+returns-4 c =
+    let k = c .before .before .before .before .before .before .before .before in
+    let s = start k in
+    by-guard (given s) (s .args .key .values) (s .args .content) _
+    (subst (Planned (given s) (s .args .key .values)) (c .before .before .before .before .step3 .given .1)
+    (planning k .plan-insert .ensures)) _
+    (c .before .insert-keeps .ensures) (not-true _ (c .if2 .taken)) (early k)
+
 cast-insert-record-2 : tie.Need-cast-insert-record-2
 cast-insert-record-2 c = search needs
 
 insert-record-requires-2 : tie.Need-insert-record-requires-2
 insert-record-requires-2 c κs =
-    let k = c .before .before .before .before .before .before in
+    let k = c .before .before .before .before .before .before .before .before .before in
     let s = start k in
     lent-got (given s) (s .args .key .values) (s .args .content) (small s) _ (planning k .plan-insert .ensures) _
-    (k .pack-key .ensures) _ _ (c .before .before .step3 .given .1)
+    (k .pack-key .ensures) _ _ (c .before .before .before .before .before .step3 .given .1)
 
 pack-page-requires : tie.Need-pack-page-requires
 pack-page-requires c κs =
-    let k = c .before .before .before .before .before .before .before .before .before in
+    let k = c .before .before .before .before .before .before .before .before .before .before .before .before in
     let s = start k in
     word-fits (given s) (s .args .key .values) (s .args .content) (small s) _ (planning k .plan-insert .ensures) _
-    (k .pack-key .ensures) _ _ (c .before .before .before .before .before .step3 .given .1)
+    (k .pack-key .ensures) _ _ (c .before .before .before .before .before .before .before .before .step3 .given .1)
 
 widths-of-requires : tie.Need-widths-of-requires
-widths-of-requires c κs = search needs
+widths-of-requires c = search needs
 
 cast-fill : tie.Need-cast-fill
 cast-fill c = search needs
@@ -169,12 +175,13 @@ cast-fill-2 c = search needs
 
 fill-requires : tie.Need-fill-requires
 fill-requires c κs =
-    let k = c .before .before .before .before .before .before .before .before .before .before .before .before .before in
+    let k = c .before .before .before .before .before .before .before .before .before .before .before .before .before
+    .before .before .before in
     let s = start k in
+    let told = c .before .before .before .before .before .before .before .before .before .before .before .before
+    .step3 .given .1 in
     fill-fits (given s) (s .args .key .values) (s .args .content) (small s) _ (planning k .plan-insert .ensures) _
-    (k .pack-key .ensures) _ _
-    (c .before .before .before .before .before .before .before .before .before .step3 .given .1) _
-    (c .before .before .widths-of .ensures)
+    (k .pack-key .ensures) _ _ told _ (c .before .before .widths-of .ensures)
 
 same-length-7 : tie.Need-same-length-7
 same-length-7 c = search needs
@@ -186,12 +193,13 @@ returns-5 : tie.Need-returns-5
 unfolding changedAnswer
 returns-5 c =
     let k = c .before .before .before .before .before .before .before .before .before .before .before .before .before
-    .before .before .before in
+    .before .before .before .before .before .before in
     let s = start k in
-    let told = c .before .before .before .before .before .before .before .before .before .before .before .before .step3
-    .given .1 in
+    let told = c .before .before .before .before .before .before .before .before .before .before .before .before
+    .before .before .before .step3 .given .1 in
+    let test = c .before .before .before .before .before .before .before .before .before .before .before in
     by-got (given s) (s .args .key .values) (s .args .content) (small s) _ (planning k .plan-insert .ensures) _
-    (k .pack-key .ensures) _ _ told (guarded k) _
+    (k .pack-key .ensures) _ _ told (test .before .insert-keeps .ensures .yes (not-false _ (test .if2 .left))) _
     (c .before .before .before .before .before .before .before .before .before .insert-record2 .ensures) _
     (c .before .before .before .before .before .widths-of .ensures) _
     (c .before .before .before .before .before .before .pack-page .ensures) _ (c .before .before .fill .ensures)
@@ -199,29 +207,15 @@ returns-5 c =
 enum-known-step-4 : tie.Need-enum-known-step-4
 enum-known-step-4 c = search needs
 
-divide-words-requires : tie.Need-divide-words-requires
-divide-words-requires c κs =
+insert-keeps-requires-2 : tie.Need-insert-keeps-requires-2
+insert-keeps-requires-2 c κs =
     let k = c .before .before .before .before .before .before in
     let s = start k in
-    words-lent (given s) (s .args .key .values) (s .args .content) (small s) _ (planning k .plan-insert .ensures) _
-    (k .pack-key .ensures) _ _ _ (c .before .before .step4 .given .1)
-
-cast-divide-pages : tie.Need-cast-divide-pages
-cast-divide-pages c = search needs
-
-cast-divide-pages-2 : tie.Need-cast-divide-pages-2
-cast-divide-pages-2 c = search needs
-
-divide-pages-requires : tie.Need-divide-pages-requires
-divide-pages-requires c κs =
-    let k = c .before .before .before .before .before .before .before .before .before .before .before in
-    let s = start k in
-    let told = c .before .before .before .before .before .before .before .step4 .given .1 in (
-      pages-lent (given s) (s .args .key .values) (s .args .content) (small s) _ (planning k .plan-insert .ensures) _
-          (k .pack-key .ensures) _ _ _ told,
-      cut-fits (given s) (s .args .key .values) (s .args .content) (small s) _ (planning k .plan-insert .ensures) _
-          (k .pack-key .ensures) _ _ _ told,
-    )
+    record {
+      bytes = s .args .pages .now;
+      planned = subst (Planned (given s) (s .args .key .values)) (c .before .before .step4 .given .1)
+          (planning k .plan-insert .ensures);
+    }
 
 same-length-9 : tie.Need-same-length-9
 same-length-9 c = search needs
@@ -232,13 +226,57 @@ same-length-10 c = search needs
 returns-6 : tie.Need-returns-6
 unfolding changedAnswer
 returns-6 c =
+    let k = c .before .before .before .before .before .before .before .before in
+    let s = start k in
+    by-guard (given s) (s .args .key .values) (s .args .content) _
+    (subst (Planned (given s) (s .args .key .values)) (c .before .before .before .before .step4 .given .1)
+    (planning k .plan-insert .ensures)) _
+    (c .before .insert-keeps2 .ensures) (not-true _ (c .if3 .taken)) (early k)
+
+divide-words-requires : tie.Need-divide-words-requires
+divide-words-requires c κs =
+    let k = c .before .before .before .before .before .before .before .before .before in
+    let s = start k in
+    words-lent (given s) (s .args .key .values) (s .args .content) (small s) _ (planning k .plan-insert .ensures) _
+    (k .pack-key .ensures) _ _ _ (c .before .before .before .before .before .step4 .given .1)
+
+cast-divide-pages : tie.Need-cast-divide-pages
+cast-divide-pages c = search needs
+
+cast-divide-pages-2 : tie.Need-cast-divide-pages-2
+cast-divide-pages-2 c = search needs
+
+divide-pages-requires : tie.Need-divide-pages-requires
+divide-pages-requires c κs =
     let k = c .before .before .before .before .before .before .before .before .before .before .before .before .before
     .before in
     let s = start k in
-    let told = c .before .before .before .before .before .before .before .before .before .before .step4 .given .1 in
+    let told = c .before .before .before .before .before .before .before .before .before .before .step4 .given .1 in (
+      pages-lent (given s) (s .args .key .values) (s .args .content) (small s) _ (planning k .plan-insert .ensures) _
+          (k .pack-key .ensures) _ _ _ told,
+      cut-fits (given s) (s .args .key .values) (s .args .content) (small s) _ (planning k .plan-insert .ensures) _
+          (k .pack-key .ensures) _ _ _ told,
+    )
+
+same-length-11 : tie.Need-same-length-11
+same-length-11 c = search needs
+
+same-length-12 : tie.Need-same-length-12
+same-length-12 c = search needs
+
+returns-7 : tie.Need-returns-7
+unfolding changedAnswer
+returns-7 c =
+    let k = c .before .before .before .before .before .before .before .before .before .before .before .before .before
+    .before .before .before .before in
+    let s = start k in
+    let told = c .before .before .before .before .before .before .before .before .before .before .before .before
+    .before .step4 .given .1 in
+    let test = c .before .before .before .before .before .before .before .before .before in
     by-divided (given s) (s .args .key .values) (s .args .content) (small s) _ (planning k .plan-insert .ensures) _
-    (k .pack-key .ensures) _ _ _ told (guarded k) _ (c .before .before .divide-pages .ensures) _ _
-    (c .before .before .before .before .before .before .before .divide-words .ensures)
+    (k .pack-key .ensures) _ _ _ told (test .before .insert-keeps2 .ensures .yes (not-false _ (test .if3 .left))) _
+    (c .before .before .divide-pages .ensures) _ _ (c .before .before .before .before .before .before .before
+    .divide-words .ensures)
 
 pub insert-spec : {M : Type 1} → statement M
 insert-spec =
@@ -247,23 +285,23 @@ insert-spec =
     key-number-requires
     returns
     plan-insert-requires
-    insert-keeps-requires
-    same-length
-    same-length-2
-    returns-2
     pack-key-requires
     cast-capacity
     enum-known-step
-    same-length-3
-    same-length-4
-    returns-3
+    same-length
+    same-length-2
+    returns-2
     enum-known-step-2
     cast-insert-record
     insert-record-requires
+    same-length-3
+    same-length-4
+    returns-3
+    enum-known-step-3
+    insert-keeps-requires
     same-length-5
     same-length-6
     returns-4
-    enum-known-step-3
     cast-insert-record-2
     insert-record-requires-2
     pack-page-requires
@@ -275,10 +313,14 @@ insert-spec =
     same-length-8
     returns-5
     enum-known-step-4
+    insert-keeps-requires-2
+    same-length-9
+    same-length-10
+    returns-6
     divide-words-requires
     cast-divide-pages
     cast-divide-pages-2
     divide-pages-requires
-    same-length-9
-    same-length-10
-    returns-6)
+    same-length-11
+    same-length-12
+    returns-7)
