@@ -8,3 +8,4 @@ pub mod InsertRefuted
 pub mod LookupRefuted
 pub mod QueryRefuted
 pub mod SoundLaws
+pub mod TableStoreLaws
