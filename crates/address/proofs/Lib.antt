@@ -6,5 +6,6 @@ pub mod DoublingLaws
 pub mod LatestLaws
 pub mod MapLaws
 pub mod PairLaws
+pub mod RoundTripLaws
 pub mod SearchLaws
 pub mod SideLaws

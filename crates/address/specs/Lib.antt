@@ -3,3 +3,4 @@ pub mod Answers
 pub mod Doubling
 pub mod Map
 pub mod Private
+pub mod RoundTrip

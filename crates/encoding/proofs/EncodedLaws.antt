@@ -251,6 +251,7 @@ every-list cs a =
     record {
       words = All-encoded cs a;
       bytes = All-outputsBefore cs a;
-      count = callCount-encoded cs;
       calls = callsIn-encoded cs a;
+      replayed = λ answers h.
+          ap (callsIn (encoded cs) (outputsBefore cs)) (callCount-encoded cs answers h) ∙ callsIn-encoded cs a;
     }

@@ -81,12 +81,14 @@ outputsBefore (c ∷ cs) = outputBefore c ++ outputsBefore cs
 
 -- ---- every list
 
--- the words and bytes of a list of calls are words and bytes, and with room for the answers a replay runs these calls
+-- the words of a list of calls have 32 bits and its bytes 8; they say these calls, and with room for the answers it is
+-- these calls that a replay runs
 pub record Encodes (cs : List Call) : Type 0 where
   pub words : All (λ w. w < 2 ^ 32) (encoded cs)
   pub bytes : All (λ byte. byte < 2 ^ 8) (outputsBefore cs)
-  pub count : (answers : List ℕ) → answerSize * length cs ≤ length answers → callCount (encoded cs) answers ≡ length cs
   pub calls : callsIn (encoded cs) (outputsBefore cs) (length cs) ≡ cs
+  pub replayed : (answers : List ℕ) → answerSize * length cs ≤ length answers
+      → callsIn (encoded cs) (outputsBefore cs) (callCount (encoded cs) answers) ≡ cs
 
 -- every list of such calls is the `callsIn` of some words and bytes
 abbrev pub EveryList : Type 0

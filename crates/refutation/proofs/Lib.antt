@@ -10,3 +10,4 @@ pub mod InsertRefuted
 pub mod LookupRefuted
 pub mod QueryRefuted
 pub mod SoundLaws
+pub mod TableStoreLaws

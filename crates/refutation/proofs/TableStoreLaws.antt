@@ -1,0 +1,34 @@
+-- The store of the proof table's entries (a) and (b), by computing. Assumes nothing.
+use mathlib.Core.Path.{_≡_, refl}
+use mathlib.Core.List.{[]}
+use Rattle.shape.specs.Refusal.{firstNumber}
+use Rattle.shape.specs.Shape.{widthsOf}
+use Rattle.shape.specs.Key.{keyFits, encodings}
+use Rattle.split.specs.Steps.{stepsBelow, steps, step, stepNumber, stepsOf, depth}
+use Rattle.split.specs.Bits.{splitBit}
+use Rattle.address.specs.Address.{highestBit, createdBy, latestStep, formula, addressFrom, address}
+use Rattle.address.specs.Doubling.{sides}
+use Rattle.cell.specs.Cell.{sumBits, cell, cellAddress}
+use Rattle.model.specs.Limits.{logarithm, pageLimitOf, depthLimitOf, freshShape, fixedBy}
+use Rattle.model.specs.Model.{numberFor, setAfter, next}
+use Rattle.model.specs.Sets.{divisionOf}
+use Rattle.table.specs.Table.{four, wide, setAfterAll, divisionAfter, directoryWords}
+use Rattle.refutation.specs.Stores.{fourRecords, setOfFour}
+use Rattle.refutation.specs.TableStore.{TableStore}
+use Rattle.refutation.proofs.SoundLaws.{fourRecords-sound}
+
+setAfterAll-four : setAfterAll wide [] four ≡ setOfFour
+unfolding
+    firstNumber widthsOf keyFits encodings stepsBelow steps step splitBit
+    logarithm pageLimitOf depthLimitOf freshShape fixedBy numberFor setAfter next divisionOf
+setAfterAll-four = refl
+
+directoryWords-four : fourRecords .memory .words ≡ directoryWords (divisionAfter four)
+unfolding
+    firstNumber widthsOf keyFits encodings stepsBelow steps step stepNumber stepsOf depth splitBit
+    highestBit createdBy latestStep formula addressFrom address sides sumBits cell cellAddress
+    logarithm pageLimitOf depthLimitOf freshShape fixedBy numberFor setAfter next divisionOf
+directoryWords-four = refl
+
+pub table-store : TableStore
+table-store = record { set = setAfterAll-four; sound = fourRecords-sound; words = directoryWords-four }
