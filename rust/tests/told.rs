@@ -1,13 +1,13 @@
-//! Damage of each kind on random sound stores: how many calls are answered as the plain model answers them on the store
-//! as it was, how many with 9, how many silently wrong. Damage that a call meets and has to tell is told in every case,
-//! and an accepted change loses nothing that another leaf answers for. A refused call leaves every slice and every
-//! guard as it came (`LentStore` compares them).
-use mdeh_tests::cells::Cells;
+//! Damage of each kind on random sound stores: how many calls, half of them near the damage, are answered as the plain
+//! model answers them on the store as it was, how many with 9, how many silently wrong. Damage that a call meets and has
+//! to tell is told in every case, and an accepted change loses nothing that another leaf answers for. A refused call
+//! leaves every slice and every guard as it came (`LentStore` compares them).
+use mdeh_tests::cells::{Cell, Cells};
 use mdeh_tests::compare::Comparisons;
 use mdeh_tests::host::{self, Shape};
 use mdeh_tests::lent::{lend_bytes, LentStore};
 use mdeh_tests::plain::damage::memory::{Aged, KINDS};
-use mdeh_tests::plain::image::{Image, Laid, DEPTH};
+use mdeh_tests::plain::image::{page_of, Image, Laid, DEPTH};
 use mdeh_tests::plain::judge::judge;
 use mdeh_tests::plain::kept::Change;
 use mdeh_tests::plain::leaves::{greatest_depth, Record};
@@ -55,6 +55,30 @@ fn some_key(random: &mut Random, model: &Model) -> [u32; 4] {
         stored if stored > 0 && random.below(2) == 1 => model.records[random.below(stored)].key,
         _ => random_key(random, model),
     }
+}
+
+/// The strings of the cells whose word or page is another than it was.
+fn harmed_cells(cells: &Cells, now: &Image, image: &Image) -> Vec<Vec<bool>> {
+    let is_harmed = |cell: &Cell| {
+        let word = now.dir[cell.address];
+        word != image.dir[cell.address] || page_of(word).is_some_and(|g| !now.same_page(image, g))
+    };
+    cells.all(now.state[DEPTH] as usize).into_iter().filter(is_harmed).map(|cell| cell.bits).collect()
+}
+
+/// A key, which is in a harmed cell in every other case.
+fn near_key(random: &mut Random, model: &Model, harmed: &[Vec<bool>]) -> [u32; 4] {
+    let key = some_key(random, model);
+    if harmed.is_empty() || random.below(2) == 0 {
+        return key;
+    }
+    let cell = &harmed[random.below(harmed.len())];
+    let stored: Vec<&Record> = model.records.iter().filter(|record| record.bits.starts_with(cell)).collect();
+    if !stored.is_empty() && random.below(2) == 1 {
+        return stored[random.below(stored.len())].key;
+    }
+    let bits = model.split_bits(key);
+    model.key_of(&[cell, &bits[cell.len()..]].concat())
 }
 
 // ---- the answers
@@ -190,6 +214,7 @@ fn never_wrong(kind: &str, name: &str) -> bool {
 fn damage_of_each_kind() {
     let mut random = Random::new(SEED);
     let mut faults = vec![];
+    let mut depths = [0; 13];
     for (kind, harm) in KINDS {
         let mut shares = [Share::default(); 4];
         let mut stores = 0;
@@ -199,8 +224,10 @@ fn damage_of_each_kind() {
             stores += 1;
             let cells = Cells::of_store(&image);
             let damaged = Damaged { model: &model, image: &image, cells: &cells };
+            let harmed = harmed_cells(&cells, &aged.now, &image);
+            depths[aged.now.state[DEPTH] as usize] += 1;
             for call in 0..4 * CALLS {
-                let (name, key) = (NAMES[call % 4], some_key(&mut random, &model));
+                let (name, key) = (NAMES[call % 4], near_key(&mut random, &model, &harmed));
                 let answer = damaged.call(&mut random, name, key);
                 shares[call % 4].add(&answer);
                 let Answer { right, nine, untold, lost } = answer;
@@ -211,7 +238,9 @@ fn damage_of_each_kind() {
         }
         NAMES.iter().zip(&shares).for_each(|(name, share)| share.print(kind, name));
     }
+    println!("stores with T from 0 to 12: {depths:?}");
     assert!(faults.is_empty(), "{} faults, the first: {}", faults.len(), faults[0]);
+    assert!(depths.iter().all(|&stores| stores > 0), "a T that no store has");
 }
 
 #[test]
