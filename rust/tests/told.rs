@@ -4,8 +4,8 @@
 //! leaves every slice and every guard as it came (`LentStore` compares them).
 use mdeh_tests::cells::{Cell, Cells};
 use mdeh_tests::compare::Comparisons;
-use mdeh_tests::host::{self, Shape};
-use mdeh_tests::lent::{lend_bytes, LentStore};
+use mdeh_tests::host::Shape;
+use mdeh_tests::lent::{lend_bytes, record_lost, LentStore};
 use mdeh_tests::plain::damage::memory::{Aged, KINDS};
 use mdeh_tests::plain::image::{page_of, Image, Laid, DEPTH};
 use mdeh_tests::plain::judge::judge;
@@ -19,7 +19,7 @@ use mdeh_tests::random::Random;
 const SEED: u64 = 0x6d64_6568_2d30_3133;
 
 /// The stores of each kind, and the calls of each sort on one store.
-const STORES: usize = 200;
+const STORES: usize = 150;
 const CALLS: usize = 6;
 
 // ---- the stores
@@ -181,22 +181,8 @@ impl Damaged<'_> {
         }
         let after = Reading::new(image, self.cells);
         let change = Change { before, after, bits: self.model.split_bits(key) };
-        let lost = change.others_kept().err().or_else(|| self.record_lost(&change));
+        let lost = change.others_kept().err().or_else(|| record_lost(&change));
         Answer { lost, ..answer }
-    }
-
-    /// A record that was found in another leaf, and after a change is not found there with the same payload. A leaf of
-    /// a depth that a wrong tally does not have any more is told.
-    fn record_lost(&self, change: &Change) -> Option<String> {
-        self.model.records.iter().find_map(|Record { bits, key, .. }| {
-            let [before, after] = [&change.before, &change.after].map(|reading| {
-                let Image { state, dir, pages } = reading.image;
-                host::lookup(state, dir, pages, *key)
-            });
-            let told = after == Err(9) && !change.after.word_fair(change.before.word(bits));
-            let lost = before.is_ok() && !bits.starts_with(change.region()) && after != before && !told;
-            lost.then(|| format!("record {key:?}: {before:?}, {after:?}"))
-        })
     }
 }
 
