@@ -1,6 +1,7 @@
 //! Slices lent to calls, between guards that no call may change.
 use crate::host::{self, CheckResult, HostQuery, LookupResult, QueryResult};
 use crate::plain::image::{Image, Laid, DEPTH, DEPTH_LIMIT, PAGE_LIMIT, STATE};
+use crate::plain::kept::Change;
 use crate::plain::model::Model;
 use crate::random::Random;
 use std::fmt::Debug;
@@ -181,4 +182,19 @@ fn answer<T: PartialEq + Debug>(number: u32, values: T, zeros: T) -> Result<T, u
     }
     assert_eq!(values, zeros, "values beside number {number}");
     Err(number)
+}
+
+/// A record that a lookup found in another leaf before an accepted change, and that it does not find with the same
+/// payload after it. A leaf of a depth that a wrong tally does not have any more is told, and not lost.
+pub fn record_lost(change: &Change) -> Option<String> {
+    change.before.keys().into_iter().find_map(|key| {
+        let [found, now] = [&change.before, &change.after].map(|reading| {
+            let Image { state, dir, pages } = reading.image;
+            host::lookup(state, dir, pages, key)
+        });
+        let bits = change.before.model.split_bits(key);
+        let told = now == Err(9) && !change.after.word_fair(change.before.word(&bits));
+        let lost = found.is_ok() && !bits.starts_with(change.region()) && now != found && !told;
+        lost.then(|| format!("record {key:?}: {found:?}, then {now:?}"))
+    })
 }

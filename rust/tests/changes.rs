@@ -1,9 +1,9 @@
 //! Insert and delete where they are refused early, on unsound stores and on random memory: they end, answer 9 where
 //! they meet damage that they have to tell, otherwise 9 or what is ordinary for the call; with any number nothing is
-//! changed (`LentStore` compares it, and the guards), and with none no word or page of another leaf is.
+//! changed (`LentStore` compares it, and the guards), and with none no word, page or record of another leaf is.
 use mdeh_tests::cells::Cells;
 use mdeh_tests::compare::Comparisons;
-use mdeh_tests::lent::LentStore;
+use mdeh_tests::lent::{record_lost, LentStore};
 use mdeh_tests::plain::image::{word_of, Image, Laid, DEPTH, PAGE_LIMIT};
 use mdeh_tests::plain::judge::{early_number, limits_hold};
 use mdeh_tests::plain::kept::Change;
@@ -174,7 +174,8 @@ fn is_ordinary(
         (_, Err(number)) => number == 5,
         (_, Ok(())) => {
             let bits = before.model.split_bits(key);
-            Change { before, after: Reading::new(after, cells), bits }.others_kept().is_ok()
+            let change = Change { before, after: Reading::new(after, cells), bits };
+            change.others_kept().is_ok() && record_lost(&change).is_none()
         }
     }
 }

@@ -1,13 +1,13 @@
-//! Damage of each kind on random sound stores: how many calls are answered as the plain model answers them on the store
-//! as it was, how many with 9, how many silently wrong. Damage that a call meets and has to tell is told in every case,
-//! and an accepted change loses nothing that another leaf answers for. A refused call leaves every slice and every
-//! guard as it came (`LentStore` compares them).
-use mdeh_tests::cells::Cells;
+//! Damage of each kind on random sound stores: how many calls, half of them near the damage, are answered as the plain
+//! model answers them on the store as it was, how many with 9, how many silently wrong. Damage that a call meets and has
+//! to tell is told in every case, and an accepted change loses nothing that another leaf answers for. A refused call
+//! leaves every slice and every guard as it came (`LentStore` compares them).
+use mdeh_tests::cells::{Cell, Cells};
 use mdeh_tests::compare::Comparisons;
-use mdeh_tests::host::{self, Shape};
-use mdeh_tests::lent::{lend_bytes, LentStore};
-use mdeh_tests::plain::damage::memory::{Aged, KINDS};
-use mdeh_tests::plain::image::{Image, Laid, DEPTH};
+use mdeh_tests::host::Shape;
+use mdeh_tests::lent::{lend_bytes, record_lost, LentStore};
+use mdeh_tests::plain::damage::memory::{Aged, Kind, CALLS, KINDS};
+use mdeh_tests::plain::image::{page_of, Image, Laid, DEPTH};
 use mdeh_tests::plain::judge::judge;
 use mdeh_tests::plain::kept::Change;
 use mdeh_tests::plain::leaves::{greatest_depth, Record};
@@ -18,9 +18,9 @@ use mdeh_tests::random::Random;
 
 const SEED: u64 = 0x6d64_6568_2d30_3133;
 
-/// The stores of each kind, and the calls of each sort on one store.
-const STORES: usize = 200;
-const CALLS: usize = 6;
+/// The stores of each kind, and how often each call is made on one.
+const STORES: usize = 150;
+const TURNS: usize = 6;
 
 // ---- the stores
 
@@ -57,10 +57,31 @@ fn some_key(random: &mut Random, model: &Model) -> [u32; 4] {
     }
 }
 
-// ---- the answers
+/// The strings of the cells whose word or page is another than it was.
+fn harmed_cells(cells: &Cells, now: &Image, image: &Image) -> Vec<Vec<bool>> {
+    let is_harmed = |cell: &Cell| {
+        let word = now.dir[cell.address];
+        word != image.dir[cell.address] || page_of(word).is_some_and(|g| !now.same_page(image, g))
+    };
+    cells.all(now.state[DEPTH] as usize).into_iter().filter(is_harmed).map(|cell| cell.bits).collect()
+}
 
-/// The calls, by name.
-const NAMES: [&str; 4] = ["lookup", "query", "insert", "delete"];
+/// A key, which is in a harmed cell in every other case.
+fn near_key(random: &mut Random, model: &Model, harmed: &[Vec<bool>]) -> [u32; 4] {
+    let key = some_key(random, model);
+    if harmed.is_empty() || random.below(2) == 0 {
+        return key;
+    }
+    let cell = &harmed[random.below(harmed.len())];
+    let stored: Vec<&Record> = model.records.iter().filter(|record| record.bits.starts_with(cell)).collect();
+    if !stored.is_empty() && random.below(2) == 1 {
+        return stored[random.below(stored.len())].key;
+    }
+    let bits = model.split_bits(key);
+    model.key_of(&[cell, &bits[cell.len()..]].concat())
+}
+
+// ---- the answers
 
 /// What came of a call: whether its answer is the model's, whether it is 9 and whether it should be and is not, and what
 /// the call lost.
@@ -89,6 +110,7 @@ struct Share {
 }
 
 impl Share {
+    /// Counts an answer.
     fn add(&mut self, answer: &Answer) {
         match answer {
             Answer { nine: true, .. } => self.nine += 1,
@@ -99,10 +121,11 @@ impl Share {
         self.lost += u64::from(answer.lost.is_some());
     }
 
-    fn print(&self, kind: &str, name: &str) {
+    /// Prints the line of a kind of damage and a call.
+    fn print(&self, kind: &str, call: &str) {
         let all = (self.right + self.nine + self.wrong) as f64;
         let [right, nine, wrong] = [self.right, self.nine, self.wrong].map(|part| part as f64 * 100.0 / all);
-        print!("{kind}, {name}: right {right:.1} %, 9 {nine:.1} %, silently wrong {wrong:.1} %; ");
+        print!("{kind}, {call}: right {right:.1} %, 9 {nine:.1} %, silently wrong {wrong:.1} %; ");
         println!("{} untold, {} lost", self.untold, self.lost);
     }
 }
@@ -157,32 +180,8 @@ impl Damaged<'_> {
         }
         let after = Reading::new(image, self.cells);
         let change = Change { before, after, bits: self.model.split_bits(key) };
-        let lost = change.others_kept().err().or_else(|| self.record_lost(&change));
+        let lost = change.others_kept().err().or_else(|| record_lost(&change));
         Answer { lost, ..answer }
-    }
-
-    /// A record that was found in another leaf, and after a change is not found there with the same payload. A leaf of
-    /// a depth that a wrong tally does not have any more is told.
-    fn record_lost(&self, change: &Change) -> Option<String> {
-        self.model.records.iter().find_map(|Record { bits, key, .. }| {
-            let [before, after] = [&change.before, &change.after].map(|reading| {
-                let Image { state, dir, pages } = reading.image;
-                host::lookup(state, dir, pages, *key)
-            });
-            let told = after == Err(9) && !change.after.word_fair(change.before.word(bits));
-            let lost = before.is_ok() && !bits.starts_with(change.region()) && after != before && !told;
-            lost.then(|| format!("record {key:?}: {before:?}, {after:?}"))
-        })
-    }
-}
-
-/// Whether no call of a name may be silently wrong: damage of this kind is told by all that meet it. A copied page may
-/// pass for a free one, or a free one for a leaf's, so that an insert answers by a wrong number of free pages.
-fn never_wrong(kind: &str, name: &str) -> bool {
-    match kind {
-        "words zeroed" | "another page in a word" | "one entry of the tally" => true,
-        "a page copied over another" => name != "insert",
-        _ => false,
     }
 }
 
@@ -190,7 +189,8 @@ fn never_wrong(kind: &str, name: &str) -> bool {
 fn damage_of_each_kind() {
     let mut random = Random::new(SEED);
     let mut faults = vec![];
-    for (kind, harm) in KINDS {
+    let mut depths = [0; 13];
+    for Kind { name: kind, harm, told_by } in KINDS {
         let mut shares = [Share::default(); 4];
         let mut stores = 0;
         while stores < STORES {
@@ -199,19 +199,23 @@ fn damage_of_each_kind() {
             stores += 1;
             let cells = Cells::of_store(&image);
             let damaged = Damaged { model: &model, image: &image, cells: &cells };
-            for call in 0..4 * CALLS {
-                let (name, key) = (NAMES[call % 4], some_key(&mut random, &model));
-                let answer = damaged.call(&mut random, name, key);
-                shares[call % 4].add(&answer);
+            let harmed = harmed_cells(&cells, &aged.now, &image);
+            depths[aged.now.state[DEPTH] as usize] += 1;
+            for turn in 0..4 * TURNS {
+                let (call, key) = (CALLS[turn % 4], near_key(&mut random, &model, &harmed));
+                let answer = damaged.call(&mut random, call, key);
+                shares[turn % 4].add(&answer);
                 let Answer { right, nine, untold, lost } = answer;
-                if untold || lost.is_some() || never_wrong(kind, name) && !nine && !right {
-                    faults.push(format!("{kind}: {name} {key:?}, untold {untold}, lost {lost:?}: {image:?}"));
+                if untold || lost.is_some() || told_by.contains(&call) && !nine && !right {
+                    faults.push(format!("{kind}: {call} {key:?}, untold {untold}, lost {lost:?}: {image:?}"));
                 }
             }
         }
-        NAMES.iter().zip(&shares).for_each(|(name, share)| share.print(kind, name));
+        CALLS.iter().zip(&shares).for_each(|(call, share)| share.print(kind, call));
     }
+    println!("stores with T from 0 to 12: {depths:?}");
     assert!(faults.is_empty(), "{} faults, the first: {}", faults.len(), faults[0]);
+    assert!(depths.iter().all(|&stores| stores > 0), "a T that no store has");
 }
 
 #[test]
@@ -221,10 +225,10 @@ fn sound_stores() {
         let (model, Aged { now, .. }) = aged_store(&mut random);
         let cells = Cells::of_store(&now);
         let sound = Damaged { model: &model, image: &now, cells: &cells };
-        for call in 0..4 * CALLS {
-            let key = some_key(&mut random, &model);
-            let Answer { right, untold, lost, .. } = sound.call(&mut random, NAMES[call % 4], key);
-            assert!(right && !untold && lost.is_none(), "{} {key:?}, {lost:?}: {now:?}", NAMES[call % 4]);
+        for turn in 0..4 * TURNS {
+            let (call, key) = (CALLS[turn % 4], some_key(&mut random, &model));
+            let Answer { right, untold, lost, .. } = sound.call(&mut random, call, key);
+            assert!(right && !untold && lost.is_none(), "{call} {key:?}, {lost:?}: {now:?}");
         }
     }
 }

@@ -57,6 +57,13 @@ impl Reading<'_> {
         !key_refused(self.model.shape, key) && self.model.split_bits(key).starts_with(string)
     }
 
+    /// The keys of all records in pages, of up to b in each.
+    pub fn keys(&self) -> Vec<[u32; 4]> {
+        let most = self.model.shape.capacity as usize;
+        let of_page = |g| (0..self.image.count(g).min(most)).map(move |i| self.image.content(g, i).0);
+        (0..self.model.page_limit).flat_map(of_page).collect()
+    }
+
     /// The keys of page g by their strings, if all of them begin with this one and stand in split order.
     pub fn ordered(&self, g: usize, string: &[bool]) -> Option<Vec<Vec<bool>>> {
         let count = self.image.count(g);

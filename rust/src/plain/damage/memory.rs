@@ -11,18 +11,30 @@ pub struct Aged {
 /// Damages the store of now; `None` where this store cannot be damaged so.
 pub type Harm = fn(&mut Random, &Aged) -> Option<Image>;
 
-/// The kinds of damage, by name.
-pub const KINDS: [(&str, Harm); 10] = [
-    ("words zeroed", words_zeroed),
-    ("two words swapped", words_swapped),
-    ("one bit of a word", word_bit),
-    ("another page in a word", other_page),
-    ("an older directory", older_directory),
-    ("an older directory and state", older_directory_and_state),
-    ("older pages", older_pages),
-    ("a page copied over another", page_copied),
-    ("one bit of a page", page_bit),
-    ("one entry of the tally", tally_entry),
+/// A kind of damage.
+pub struct Kind {
+    pub name: &'static str,
+    pub harm: Harm,
+    /// the calls that are never silently wrong: all that they meet of it is told
+    pub told_by: &'static [&'static str],
+}
+
+/// The calls, by name.
+pub const CALLS: [&str; 4] = ["lookup", "query", "insert", "delete"];
+
+/// The kinds of damage. A copied page may be one that was free, or pass for a free one, so that an insert finds too few
+/// or too many of them.
+pub const KINDS: [Kind; 10] = [
+    Kind { name: "words zeroed", harm: words_zeroed, told_by: &CALLS },
+    Kind { name: "two words swapped", harm: words_swapped, told_by: &[] },
+    Kind { name: "one bit of a word", harm: word_bit, told_by: &[] },
+    Kind { name: "another page in a word", harm: other_page, told_by: &CALLS },
+    Kind { name: "an older directory", harm: older_directory, told_by: &[] },
+    Kind { name: "an older directory and state", harm: older_directory_and_state, told_by: &[] },
+    Kind { name: "older pages", harm: older_pages, told_by: &[] },
+    Kind { name: "a page copied over another", harm: page_copied, told_by: &["lookup", "query", "delete"] },
+    Kind { name: "one bit of a page", harm: page_bit, told_by: &[] },
+    Kind { name: "one entry of the tally", harm: tally_entry, told_by: &CALLS },
 ];
 
 /// The store of now with a change, if it is one.
