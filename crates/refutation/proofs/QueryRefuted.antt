@@ -125,8 +125,8 @@ module _ (store : Store) (q : List (Option ℕ)) (out out′ : List ℕ) (k : �
           apart (sym (getD-drop (recordSize * written) out′ k 0) ∙ ap (λ bytes. getD bytes k 0) same
           ∙ getD-drop (recordSize * written) out k 0)
 
--- "Checked in this order": 3 for a query that names attribute 2 of two, and gives attribute 0 a value out of bounds; on a
--- store that is not sound
+-- "Checked in this order": 3 for a query that names attribute 2 of two, and gives attribute 0 a value out of bounds; on
+-- a store that is not sound
 pub three-before-eight : (out out′ : List ℕ)
     → QueryPromise wordPastPages (some 4 ∷ none ∷ some 0 ∷ none ∷ []) out (refused 3) out′ → ⊥
 unfolding firstNumber inBounds shapeConditions namesUnused recordBytes lentConditions queryNumber
