@@ -44,8 +44,9 @@
  * to 32 KiB of stack (measured), never a signal, a lock or a system call.
  *
  * LAYOUTS. Bit 0 is the least significant; numbers of several bytes are little-endian.
- *   state      word 0 attribute count d; 1-4 widths (0 past d); 5 page capacity b; 6 P; 7 L; 8 directory depth T; 9-21
- *              how many leaves there are at depths 0 to 12. A leaf is a part of the key space with at most b records.
+ *   state      word 0 attribute count d; 1-4 widths (mdeh_fresh writes 0 past d; those past d are ignored); 5 page
+ *              capacity b; 6 P; 7 L; 8 directory depth T; 9-21 how many leaves there are at depths 0 to 12. A leaf is
+ *              a part of the key space with at most b records.
  *   directory  the first 2^T words are in use, each for one cell: bits 0-15 the page number plus one, or 0 for a leaf
  *              without records, bits 16-19 the leaf's depth, the others 0. A leaf of depth x has 2^(T-x) cells, all
  *              with one word. mdeh_address gives a cell's place from its index vector. That of a key's cell has for
@@ -83,7 +84,8 @@ extern "C" {
 /* What a number says. */
 enum {
     MDEH_ACCEPTED = 0,          /* the call did what it was asked */
-    MDEH_REFUSED_SHAPE = 1,     /* shape outside its bounds, also that of a state; fewer than 22 state words */
+    MDEH_REFUSED_SHAPE = 1,     /* shape outside its bounds, also that of a state; all but fresh: fewer than 22 state
+                                   words, which show no shape */
     MDEH_REFUSED_MEMORY = 2,    /* fresh: fewer than 22 state words, no directory word, no whole page; later: fewer than
                                    2^L words or P pages */
     MDEH_REFUSED_VALUE = 3,     /* value or index of 2^width or more, address past the last, unused value not 0 */
@@ -202,7 +204,7 @@ static inline const char *mdeh_reason(uint32_t number) {
     switch (number) {
     case MDEH_ACCEPTED: return "accepted";
     case MDEH_REFUSED_SHAPE: return "the shape is outside its bounds";
-    case MDEH_REFUSED_MEMORY: return "too few directory words or page bytes are lent";
+    case MDEH_REFUSED_MEMORY: return "too few words or page bytes are lent";
     case MDEH_REFUSED_VALUE: return "a value, index or address is too large, or an unused value is not 0";
     case MDEH_REFUSED_STORED: return "the key is stored already";
     case MDEH_REFUSED_ABSENT: return "the key is not stored";

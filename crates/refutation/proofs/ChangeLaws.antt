@@ -24,6 +24,13 @@ use Rattle.store.specs.Promises.{ChangePromise}
 pub refused-not-accepted : {A : Type 0} (x : A) (n : ℕ) → refused n ≡ accepted x → ⊥
 refused-not-accepted x n e = let z : false ≡ true = cc in false≢true z
 
+pub refused-number : {m n : ℕ} → _≡_ {A = Answer Reply} (refused m) (refused n) → m ≡ n
+refused-number e = cc
+
+pub listed-written : {w w′ t t′ r r′ : ℕ}
+    → _≡_ {A = Answer Reply} (accepted (listed w t r)) (accepted (listed w′ t′ r′)) → w ≡ w′
+listed-written e = cc
+
 pub listed-total : {w w′ t t′ r r′ : ℕ}
     → _≡_ {A = Answer Reply} (accepted (listed w t r)) (accepted (listed w′ t′ r′)) → t ≡ t′
 listed-total e = cc

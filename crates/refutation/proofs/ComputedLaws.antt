@@ -3,7 +3,7 @@
 use Prim.Native.Nat.{ℕ, min, _/_}
 use mathlib.Core.Path.{_≡_, refl}
 use mathlib.Core.Bool.{Bool, true, false}
-use mathlib.Core.List.{List, [], _∷_}
+use mathlib.Core.List.{List, [], _∷_, _++_}
 use lib.ListN.{length, getD, replicate}
 use Rattle.shape.specs.Refusal.{accepted, refused, firstNumber}
 use Rattle.shape.specs.Shape.{inBounds, shapeConditions, widthsOf}
@@ -32,6 +32,10 @@ use Rattle.refutation.specs.Stores.{fourRecords, setOfFour}
 pub first-leaf : divisionOf twoTwo setOfOne ≡ leaf setOfOne
 unfolding widthsOf divisionOf
 first-leaf = refl
+
+pub leaf-of-two : divisionOf twoTwo setOfTwo ≡ leaf setOfTwo
+unfolding widthsOf divisionOf
+leaf-of-two = refl
 
 pub leaves-of-three : divisionOf twoTwo setOfThree ≡ divided (leaf setOfOne) (leaf setOfTwo)
 unfolding widthsOf stepsBelow steps step splitBit divisionOf
@@ -82,6 +86,8 @@ pub record Deletes : Type 0 where
   -- of (0,0), where there is no other record
   pub only-answer : outcomeOn oneRecord setOfOne (deleteCall (key 0 0)) .answer ≡ accepted changed
   pub only-leaves : leavesAfter oneRecord setOfOne (deleteCall (key 0 0)) ≡ leaf []
+  -- of (2,0) beside (3,1)
+  pub rest-leaves : leavesAfter twoRecords setOfTwo (deleteCall (key 2 0)) ≡ leaf (recordAt 3 1 12 ∷ [])
   -- where there is none
   pub absent-answer : outcomeOn noRecord [] (deleteCall (key 0 0)) .answer ≡ refused 5
   -- of (2,1), of (0,0), among four
@@ -99,6 +105,7 @@ deletes =
     record {
       only-answer = refl;
       only-leaves = refl;
+      rest-leaves = refl;
       absent-answer = refl;
       joined-leaves = refl;
       emptied-leaves = refl;
@@ -123,6 +130,8 @@ pub record Reads (out : List ℕ) : Type 0 where
   -- what is written where one record fits
   pub first-written : outcomeOn oneRecord setOfOne (queryCall allFree (replicate 12 0)) .output
       ≡ recordBytes twoTwo (recordAt 0 0 10)
+  pub first-written-of-two : outcomeOn oneRecord setOfOne (queryCall allFree (replicate 24 1)) .output
+      ≡ recordBytes twoTwo (recordAt 0 0 10) ++ replicate 12 1
   pub first-of-four-written : outcomeOn fourRecords setOfFour (queryCall allFree (replicate 12 0)) .output
       ≡ recordBytes twoTwo (recordAt 0 0 10)
   -- the bound where attribute 1 is given
@@ -143,6 +152,7 @@ reads out =
       some-listed = refl;
       all-listed = refl;
       first-written = refl;
+      first-written-of-two = refl;
       first-of-four-written = refl;
       some-bound = refl;
     }

@@ -1,23 +1,24 @@
 -- Wrong deletes of document 01: each contradicts `DeletePromise` on a small sound store, whatever else it does.
 -- Assumes nothing.
 use Prim.Native.Nat.{ℕ}
-use mathlib.Core.Path.{_≡_, sym, _∙_}
-use mathlib.Core.List.{[]}
+use mathlib.Core.Path.{_≡_, refl, sym, ap, _∙_}
+use mathlib.Core.List.{[], _∷_}
 use native.Mathlib.Omega.{arith}
-use lib.ListN.{getD}
+use lib.ListN.{length, getD}
 use Rattle.shape.specs.Refusal.{Answer, accepted, refused}
 use Rattle.region.specs.Strings.{emptyString}
-use Rattle.page.specs.Page.{countOf, pageAt}
+use Rattle.page.specs.Page.{countOf, recordsOf, pageAt}
 use Rattle.word.specs.Word.{wordOf}
 use Rattle.word.specs.declared.Leaf.the-variants.{Empty, Page}
-use Rattle.model.specs.Model.{Reply, changed}
+use Rattle.model.specs.Model.{Reply, changed, contentOf}
 use Rattle.store.specs.Store.{Store}
 use Rattle.store.specs.Promises.{DeletePromise}
-use Rattle.table.specs.Table.{key}
-use Rattle.refutation.specs.Stores.{noRecord, oneRecord, setOfOne, fourRecords, setOfFour}
-use Rattle.refutation.proofs.ChangeLaws.{refused-not-accepted, depth-after, shows-after}
-use Rattle.refutation.proofs.ComputedLaws.{deletes, cells}
-use Rattle.refutation.proofs.SoundLaws.{noRecord-sound, oneRecord-sound, fourRecords-sound}
+use Rattle.table.specs.Table.{twoTwo, key}
+use Rattle.refutation.specs.Stores.{recordAt, noRecord, oneRecord, setOfOne, twoRecords, setOfTwo, fourRecords}
+use Rattle.refutation.specs.Stores.{setOfFour}
+use Rattle.refutation.proofs.ChangeLaws.{refused-not-accepted, depth-after, shows-after, kept-after}
+use Rattle.refutation.proofs.ComputedLaws.{leaf-of-two, deletes, cells}
+use Rattle.refutation.proofs.SoundLaws.{noRecord-sound, oneRecord-sound, twoRecords-sound, fourRecords-sound}
 
 module _ (after : Store) where
   -- 5 "delete on a fresh store"
@@ -66,3 +67,31 @@ module _ (answer : Answer Reply) (after : Store) where
       let word : wordOf (Page 1 0) ≡ wordOf (Empty 1) =
       sym e ∙ sym (cells (after .memory .words) .at-0) ∙ shows .word emptyString in
       omega (arith, word)
+
+  -- ---- one of several records
+
+  -- the leaf keeps its page and the other record
+  records-after : DeletePromise twoRecords (key 2 0) answer after
+      → recordsOf twoTwo (pageAt 2 (after .memory .bytes) 0) ≡ recordAt 3 1 12 ∷ []
+  records-after p =
+      let kept = kept-after setOfTwo p twoRecords-sound _ (deletes .rest-leaves) _ leaf-of-two in
+      let same = kept emptyString refl refl 0 0 (omega arith) (cells (twoRecords .memory .words) .root emptyString) in
+      let told = shows-after setOfTwo p twoRecords-sound _ (deletes .rest-leaves) .word emptyString in
+      let page : wordOf (Page (told .0) 0) ≡ wordOf (Page 0 0) = sym (told .2) ∙ same in
+      let first : told .0 ≡ 0 = omega (arith, page) in
+      rw first at (told .3)
+
+  -- done, and the record is left; the other is lost with it; the other is removed in its place
+  pub leaves-record : DeletePromise twoRecords (key 2 0) answer after
+      → recordsOf twoTwo (pageAt 2 (after .memory .bytes) 0) ≡ setOfTwo → ⊥
+  leaves-record p e = let count = ap length (sym e ∙ records-after p) in omega (arith, count)
+
+  pub drops-other : DeletePromise twoRecords (key 2 0) answer after
+      → recordsOf twoTwo (pageAt 2 (after .memory .bytes) 0) ≡ [] → ⊥
+  drops-other p e = let count = ap length (sym e ∙ records-after p) in omega (arith, count)
+
+  pub removes-other : DeletePromise twoRecords (key 2 0) answer after
+      → recordsOf twoTwo (pageAt 2 (after .memory .bytes) 0) ≡ recordAt 2 0 11 ∷ [] → ⊥
+  removes-other p e =
+      let payload : _≡_ {A = ℕ} 11 12 = ap (λ rs. contentOf rs .payload) (sym e ∙ records-after p) in
+      omega (arith, payload)

@@ -1,5 +1,5 @@
--- Wrong programs of document 01's review, steps 3 and 4, against demand 3's own statement: `History` leaves no run from a
--- fresh store that has their outcomes, whatever the outcomes of the calls before. Assumes nothing.
+-- Wrong programs of document 01's review, steps 3 and 4, against demand 3's own statement: `History` leaves no run from
+-- a fresh store that has their outcomes, whatever the outcomes of the calls before. Assumes nothing.
 use Prim.Native.Nat.{ℕ, min, _/_}
 use mathlib.Core.Path.{_≡_, refl, sym, ap, _∙_}
 use mathlib.Core.List.{List, [], _∷_, _++_}
@@ -76,8 +76,8 @@ module _ (demand : History) (fresh after : Store) (p : FreshPromise twoTwo ones 
         omega (arith, same)
 
   module _ (a b c d : Outcome) (output : List ℕ) where
-    -- "one that divides correctly the first time and later only sets T" (review, 3): after the fourth insert the cell of
-    -- (3,1) has no page
+    -- "one that divides correctly the first time and later only sets T" (review, 3): after the fourth insert the cell
+    -- of (3,1) has no page
     pub only-sets-depth : Run fresh (four ++ lookupCall (key 3 1) ∷ [])
         (a ∷ b ∷ c ∷ d ∷ record { answer = refused 5; output = output } ∷ []) after → ⊥
     only-sets-depth r =

@@ -6,19 +6,20 @@ use mathlib.Core.Bool.{Bool, true, false, cond}
 use mathlib.Core.List.{List, [], _∷_}
 use mathlib.Core.Logic.{⊎-elim}
 use native.Mathlib.Omega.{arith}
-use lib.ListN.{getD}
+use lib.ListN.{length, getD}
 use lib.Seq.{getD-drop}
 use Rattle.shape.specs.Refusal.{Answer, refused}
 use Rattle.region.specs.Strings.{emptyString, listBit}
 use Rattle.record.specs.declared.Content.{Content}
-use Rattle.page.specs.Page.{countOf, pageAt}
+use Rattle.page.specs.Page.{countOf, recordsOf, pageAt}
 use Rattle.word.specs.Word.{wordOf}
 use Rattle.word.specs.declared.Leaf.the-variants.{Page}
 use Rattle.model.specs.Model.{Reply, changed}
 use Rattle.store.specs.Store.{Store, wordAt}
 use Rattle.store.specs.Promises.{InsertPromise}
 use Rattle.table.specs.Table.{twoTwo, key}
-use Rattle.refutation.specs.Stores.{noRecord, oneRecord, setOfOne, twoRecords, setOfTwo, threeRecords, setOfThree}
+use Rattle.refutation.specs.Stores.{recordAt, noRecord, oneRecord, setOfOne, twoRecords, setOfTwo, threeRecords}
+use Rattle.refutation.specs.Stores.{setOfThree}
 use Rattle.refutation.proofs.ChangeLaws.{refused-not-accepted, depth-after, shows-after, kept-after, taken-after}
 use Rattle.refutation.proofs.ComputedLaws.{first-leaf, leaves-of-three, inserts, cells}
 use Rattle.refutation.proofs.SoundLaws.{wordOfThree, wordAt-three, noRecord-sound, oneRecord-sound}
@@ -134,6 +135,28 @@ module _ (content : Content) (answer : Answer Reply) (after : Store) where
       let page : wordOf (Page 1 0) ≡ wordOf (Page 0 0) =
       sym e ∙ sym (cells (after .memory .words) .root emptyString) ∙ same in
       omega (arith, page)
+
+  -- a leaf that has room takes the record into its page, beside those that it has
+  records-after : InsertPromise oneRecord (key 0 1) content answer after
+      → recordsOf twoTwo (pageAt 2 (after .memory .bytes) 0)
+      ≡ recordAt 0 0 10 ∷ record { key = key 0 1; content = content } ∷ []
+  records-after p =
+      let leaves = inserts content .second-leaves in
+      let kept = kept-after setOfOne p oneRecord-sound _ leaves _ first-leaf in
+      let same = kept emptyString refl refl 0 0 (omega arith) (cells (oneRecord .memory .words) .root emptyString) in
+      let told = shows-after setOfOne p oneRecord-sound _ leaves .word emptyString in
+      let page : wordOf (Page (told .0) 0) ≡ wordOf (Page 0 0) = sym (told .2) ∙ same in
+      let first : told .0 ≡ 0 = omega (arith, page) in
+      rw first at (told .3)
+
+  -- the record that it had is lost, or the new one is not there
+  pub drops-other : InsertPromise oneRecord (key 0 1) content answer after
+      → recordsOf twoTwo (pageAt 2 (after .memory .bytes) 0) ≡ record { key = key 0 1; content = content } ∷ [] → ⊥
+  drops-other p e = let count = ap length (sym e ∙ records-after p) in omega (arith, count)
+
+  pub not-taken : InsertPromise oneRecord (key 0 1) content answer after
+      → recordsOf twoTwo (pageAt 2 (after .memory .bytes) 0) ≡ setOfOne → ⊥
+  not-taken p e = let count = ap length (sym e ∙ records-after p) in omega (arith, count)
 
   -- "which page a leaf that newly gets one takes, of those free, divided or joined": the leaf 101 takes page 0, which
   -- the leaf 0 has

@@ -1,28 +1,33 @@
--- Wrong queries of document 01: each contradicts `QueryPromise` on a small store that is sound where the query reads.
--- Assumes nothing.
-use Prim.Native.Nat.{ℕ, _/_, min}
+-- Wrong queries of document 01: each contradicts `QueryPromise` on a small store that is sound where the query reads;
+-- what is promised on any store contradicts the last ones. Assumes nothing.
+use Prim.Native.Nat.{ℕ, _+_, _*_, _/_, _≤_, min}
 use mathlib.Core.Path.{_≡_, refl, sym, ap, _∙_}
 use mathlib.Core.Bool.{Bool, true, false, _&&_, Bool·beq, false≢true}
-use mathlib.Core.List.{List, []}
+use mathlib.Core.List.{List, [], _∷_}
+use mathlib.Core.Logic.{⊎-elim}
 use native.Mathlib.Omega.{arith}
-use mathlib.Core.Option.{Option}
-use lib.ListN.{length, getD, replicate}
-use Rattle.shape.specs.Refusal.{Answer, accepted, refused}
-use Rattle.shape.specs.Shape.{widthsOf}
+use mathlib.Core.Option.{Option, none, some}
+use lib.ListN.{length, drop, getD, replicate}
+use lib.Seq.{getD-drop}
+use Rattle.shape.specs.Refusal.{Answer, accepted, refused, firstNumber}
+use Rattle.shape.specs.Shape.{inBounds, shapeConditions, widthsOf}
+use Rattle.shape.specs.Key.{namesUnused}
 use Rattle.split.specs.Steps.{stepsBelow, steps, step}
 use Rattle.record.specs.Record.{Record}
 use Rattle.record.specs.Bytes.{recordSize, recordBytes}
 use Rattle.page.specs.Page.{pageSize}
 use Rattle.model.specs.Model.{Reply, listed, queryCall}
 use Rattle.model.specs.Sets.{queryBits, readsBound}
-use Rattle.store.specs.Store.{Store}
+use Rattle.store.specs.Store.{Store, lentConditions}
 use Rattle.store.specs.Sound.{Sound}
-use Rattle.store.specs.Promises.{QueryPromise, SoundWhereRead, SameWhereRead}
+use Rattle.store.specs.Promises.{queryNumber, QueryPromise, SoundWhereRead, SameWhereRead}
 use Rattle.store.proofs.ReadLaws.{soundWhereRead-of-sound}
 use Rattle.table.specs.Table.{twoTwo}
 use Rattle.refutation.specs.Stores.{recordAt, noRecord, oneRecord, threeRecords, setOfThree, otherPage}
-use Rattle.refutation.specs.Stores.{fourRecords, setOfFour, allFree, givenFirst, givenSecond, outcomeOn}
-use Rattle.refutation.proofs.ChangeLaws.{refused-not-accepted, listed-total, listed-reads}
+use Rattle.refutation.specs.Stores.{wordPastPages, fourRecords, setOfFour, allFree, givenFirst, givenSecond}
+use Rattle.refutation.specs.Stores.{outcomeOn}
+use Rattle.refutation.proofs.ChangeLaws.{refused-not-accepted, refused-number, listed-written, listed-total}
+use Rattle.refutation.proofs.ChangeLaws.{listed-reads}
 use Rattle.refutation.proofs.ComputedLaws.{reads, leaves-of-three}
 use Rattle.refutation.proofs.SoundLaws.{wordOfThree, wordAt-three, noRecord-sound, oneRecord-sound}
 use Rattle.refutation.proofs.SoundLaws.{threeRecords-sound-2, fourRecords-sound}
@@ -87,6 +92,47 @@ writes-last answer p =
     let output = model-answer fourRecords-sound p .1 ∙ reads [] .first-of-four-written in
     let payload : _≡_ {A = ℕ} 12 10 = ap (λ bytes. getD bytes 8 0) output in
     omega (arith, payload)
+
+-- "its other bytes are as they came": the bytes behind the one record are cleared
+pub clears-rest : (answer : Answer Reply) (out′ : List ℕ)
+    → QueryPromise oneRecord allFree (replicate 24 1) answer out′ → getD out′ 12 0 ≡ 0 → ⊥
+unfolding recordBytes
+clears-rest answer out′ p e =
+    let output = model-answer oneRecord-sound p .1 ∙ reads [] .first-written-of-two in
+    let byte : _≡_ {A = ℕ} 0 1 = sym e ∙ ap (λ bytes. getD bytes 12 0) output in
+    omega (arith, byte)
+
+-- ---- any store, sound or not
+
+module _ (store : Store) (q : List (Option ℕ)) (out out′ : List ℕ) (k : ℕ) where
+  -- "All of them return the number and change nothing.": a byte of the output is written, and the call refused
+  pub writes-when-refused : (n : ℕ) → QueryPromise store q out (refused n) out′
+      → (getD out′ k 0 ≡ getD out k 0 → ⊥) → ⊥
+  writes-when-refused n p apart = apart (ap (λ bytes. getD bytes k 0) (p .unchanged n refl))
+
+  -- "other output bytes untouched": one behind the written records is another
+  pub writes-past-written : queryNumber store q ≡ 0 → (written total n : ℕ)
+      → QueryPromise store q out (accepted (listed written total n)) out′
+      → (getD out′ (recordSize * written + k) 0 ≡ getD out (recordSize * written + k) 0 → ⊥) → ⊥
+  writes-past-written e written total n p apart = ⊎-elim counts (λ r. refused-not-accepted _ 9 (sym r)) (p .ordinary e)
+    where
+      counts : (w t r : ℕ)
+          × (_≡_ {A = Answer Reply} (accepted (listed written total n)) (accepted (listed w t r))) × (w ≤ t)
+          × (recordSize * w ≤ length out) × (drop (recordSize * w) out′ ≡ drop (recordSize * w) out) → ⊥
+      counts c =
+          let same : drop (recordSize * written) out′ ≡ drop (recordSize * written) out =
+          rw (listed-written (c .3)) (c .6) in
+          apart (sym (getD-drop (recordSize * written) out′ k 0) ∙ ap (λ bytes. getD bytes k 0) same
+          ∙ getD-drop (recordSize * written) out k 0)
+
+-- "Checked in this order": 3 for a query that names attribute 2 of two, and gives attribute 0 a value out of bounds; on
+-- a store that is not sound
+pub three-before-eight : (out out′ : List ℕ)
+    → QueryPromise wordPastPages (some 4 ∷ none ∷ some 0 ∷ none ∷ []) out (refused 3) out′ → ⊥
+unfolding firstNumber inBounds shapeConditions namesUnused recordBytes lentConditions queryNumber
+three-before-eight out out′ p =
+    let same : _≡_ {A = ℕ} 3 8 = refused-number (p .early-refused 7 refl) in
+    omega (arith, same)
 
 -- ---- "one that takes its records from a scan of every page" (review, 4)
 

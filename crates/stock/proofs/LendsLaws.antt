@@ -9,4 +9,9 @@ use Rattle.stock.specs.Lends.{Lends}
 pub lends-same : {words bytes output words′ bytes′ output′ : List ℕ} → Lends words bytes output
     → length words′ ≡ length words → length bytes′ ≡ length bytes → length output′ ≡ length output
     → Lends words′ bytes′ output′
-lends-same l w b o = record { words-lent = w ∙ l .words-lent; bytes-lent = b ∙ l .bytes-lent; output-lent = o ∙ l .output-lent }
+lends-same l w b o =
+    record {
+      words-lent = w ∙ l .words-lent;
+      bytes-lent = b ∙ l .bytes-lent;
+      output-lent = o ∙ l .output-lent;
+    }

@@ -70,7 +70,7 @@ impl Display for Refusal {
     fn fmt(&self, f: &mut Formatter<'_>) -> fmt::Result {
         f.write_str(match self {
             Refusal::Shape => "the shape is outside its bounds",
-            Refusal::Memory => "too few directory words or page bytes are lent",
+            Refusal::Memory => "too few words or page bytes are lent",
             Refusal::Value => "a value, index or address is too large, or an unused value is not 0",
             Refusal::Stored => "the key is stored already",
             Refusal::Absent => "the key is not stored",
