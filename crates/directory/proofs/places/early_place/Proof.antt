@@ -10,8 +10,10 @@ returns : tie.Need-returns
 returns c =
     let s = c .before .before in
     let p = s .pre in
-    let w = s .args .widths in
-    (omega (arith, p .1, p .0 0, p .0 1, p .0 2, p .0 3), steps-four (w .w0) (w .w1) (w .w2) (w .w3) (s .args .t))
+    let w = s .args .widths in (
+      omega (arith, p .1, p .0 0, p .0 1, p .0 2, p .0 3),
+      steps-four (w .w0) (w .w1) (w .w2) (w .w3) (s .args .t),
+    )
 
 add-result : tie.Need-add-result
 add-result c =
@@ -22,8 +24,10 @@ returns-2 : tie.Need-returns-2
 returns-2 c =
     let s = c .before .before .before .before in
     let p = s .pre in
-    let w = s .args .widths in
-    (omega (arith, p .1, p .0 0, p .0 1, p .0 2), steps-three (w .w0) (w .w1) (w .w2) (w .w3) (s .args .t) (omega arith))
+    let w = s .args .widths in (
+      omega (arith, p .1, p .0 0, p .0 1, p .0 2),
+      steps-three (w .w0) (w .w1) (w .w2) (w .w3) (s .args .t) (omega arith),
+    )
 
 mul-result : tie.Need-mul-result
 mul-result c = search needs
@@ -37,8 +41,10 @@ returns-3 : tie.Need-returns-3
 returns-3 c =
     let s = c .before .before .before .before .before .before in
     let p = s .pre in
-    let w = s .args .widths in
-    (omega (arith, p .1, p .0 0, p .0 1), steps-two (w .w0) (w .w1) (w .w2) (w .w3) (s .args .t) (omega arith) (omega arith))
+    let w = s .args .widths in (
+      omega (arith, p .1, p .0 0, p .0 1),
+      steps-two (w .w0) (w .w1) (w .w2) (w .w3) (s .args .t) (omega arith) (omega arith),
+    )
 
 mul-result-2 : tie.Need-mul-result-2
 mul-result-2 c =
@@ -49,8 +55,10 @@ returns-4 : tie.Need-returns-4
 returns-4 c =
     let s = c .before .before .before .before .before .before in
     let p = s .pre in
-    let w = s .args .widths in
-    (omega (arith, p .1, p .0 0), steps-one (w .w0) (w .w1) (w .w2) (w .w3) (s .args .t) (omega arith) (omega arith) (omega arith))
+    let w = s .args .widths in (
+      omega (arith, p .1, p .0 0),
+      steps-one (w .w0) (w .w1) (w .w2) (w .w3) (s .args .t) (omega arith) (omega arith) (omega arith),
+    )
 
 pub early-place-spec : {M : Type 1} → statement M
 early-place-spec =
