@@ -28,7 +28,7 @@ use Rattle.ends.specs.Ends.{keyBegins}
 -- ---- the first h bits of a value of w
 
 -- they are the bits of a quotient
-bitOf-high : (w h v k : ℕ) → h ≤ w → k < h → bitOf h (v / 2 ^ (w - h)) k ≡ bitOf w v k
+pub bitOf-high : (w h v k : ℕ) → h ≤ w → k < h → bitOf h (v / 2 ^ (w - h)) k ≡ bitOf w v k
 bitOf-high w h v k l m =
     let e : (w - h) + (h - suc k) ≡ w - suc k = omega arith in
     ap (λ n. eqb (n % 2) 1) (shr-shr v (w - h) (h - suc k) ∙ ap (λ i. v / 2 ^ i) e)
@@ -45,7 +45,7 @@ lt-of-high w h v l b =
 
 -- ---- values within the widths
 
-indexFits-of-below : (ws is : List ℕ) → ((j : ℕ) → j < length ws → getD is j 0 < 2 ^ getD ws j 0)
+pub indexFits-of-below : (ws is : List ℕ) → ((j : ℕ) → j < length ws → getD is j 0 < 2 ^ getD ws j 0)
     → indexFits ws is ≡ true
 indexFits-of-below [] is h = refl
 indexFits-of-below (w ∷ ws) [] h = refl

@@ -76,7 +76,7 @@ zero-of-values z l h =
 packedValue-zero : (j : ℕ) → packedValue 0 j ≡ 0
 packedValue-zero j = ap (λ n. n % 2 ^ 16) (zero-div (2 ^ (16 * j)))
 
-packedValue-packedKey : (f : ℕ → ℕ) → SixteenBits (perAttribute f) → (j : ℕ) → j < 4
+pub packedValue-packedKey : (f : ℕ → ℕ) → SixteenBits (perAttribute f) → (j : ℕ) → j < 4
     → packedValue (packedKey (perAttribute f)) j ≡ f j
 unfolding unpackedKey
 packedValue-packedKey f b zero l = ap (λ v. getD v 0 0) (unpackedKey-packedKey (perAttribute f) b)

@@ -32,7 +32,7 @@ use Rattle.lent.proofs.LentLaws.{shape-of-lentNumberBy}
 use Rattle.lent.proofs.LimitsLaws.{limits-parts, limits-of-sound}
 use Rattle.walk.specs.declared.Noted.{Noted}
 use Rattle.walk.specs.declared.Noted.the-variants.{Pages, Damaged}
-use Rattle.walk.specs.Rows.{Rows, mostPages}
+use Rattle.walk.specs.Rows.{Table, mostPages}
 use Rattle.walk.specs.Seen.{walkSeen, Put, Walkable}
 use Rattle.walk.proofs.BoundLaws.{mostPages-le}
 use Rattle.walk.proofs.StartLaws.{length-walkSeen-le}
@@ -71,7 +71,7 @@ module _ (st : State) (words bytes : List ℕ) (q : List (Option ℕ))
       (λ S h. true≢false (sym (limits-of-sound (withBytes (store st words bytes) (h .0)) S (h .1)) ∙ e))
 
   module _ (can : limitsHold st ≡ true) where
-    -- what the walk asks besides its rows
+    -- what the walk asks besides its table
     pub limits-walk : (inBounds (st .shape) ≡ true) × (st .depth ≤ 12) × (st .depth ≤ total (widthsOf (st .shape)))
         × (2 ^ st .depth ≤ length words) × (st .limits .pages ≤ 4096) × (pagesSize st ≤ length bytes)
     limits-walk =
@@ -93,7 +93,7 @@ module _ (st : State) (words bytes : List ℕ) (q : List (Option ℕ))
         omega (arith, p, mostPages-le rows (st .depth) 0)
 
     pub walkable : (rows : List ℕ) (room : ℕ)
-        → Rows (widthsOf (st .shape)) (queryBits (st .shape) q) (st .depth) rows → mostPages rows (st .depth) 0 ≤ room
+        → Table st (queryBits (st .shape) q) rows → mostPages rows (st .depth) 0 ≤ room
         → Walkable st rows (length words) (length bytes) room
     walkable rows room t l = record {
       shape = limits-walk .0;
@@ -109,10 +109,10 @@ module _ (st : State) (words bytes : List ℕ) (q : List (Option ℕ))
 
     -- the list has room for what the walk sees
     pub seen-room : (rows : List ℕ) (room : ℕ)
-        → Rows (widthsOf (st .shape)) (queryBits (st .shape) q) (st .depth) rows → mostPages rows (st .depth) 0 ≤ room
+        → Table st (queryBits (st .shape) q) rows → mostPages rows (st .depth) 0 ≤ room
         → length (walkSeen st words bytes (queryBits (st .shape) q) .pages) ≤ room
     seen-room rows room t l =
-        length-walkSeen-le st rows words bytes room (walkable rows room t l) _ refl (queryBits (st .shape) q) t .0
+        length-walkSeen-le st rows words bytes room (walkable rows room t l) (queryBits (st .shape) q) t .0
 
     module _ (list : List ℕ) (r : Noted) (later : List ℕ)
         (o : Put list (walkSeen st words bytes (queryBits (st .shape) q)) r later)

@@ -14,7 +14,8 @@ use lib.ListN.{getD, drop, length}
 use lib.Pow.{shr-shr}
 use lib.Seq.{drop-cons}
 use Rattle.split.specs.Steps.{bitValue}
-use Rattle.walk.specs.Private.{depthsOf, hasDepth}
+use Rattle.walk.specs.Rows.{depthsOf}
+use Rattle.walk.specs.Private.{hasDepth}
 
 eqb-bitValue : (β : Bool) → eqb (bitValue β) 1 ≡ β
 eqb-bitValue true = refl

@@ -10,6 +10,7 @@ use native.Mathlib.Nat.{zero-add}
 use lib.ListN.{getD, take, length}
 use Rattle.lists.specs.Filter.{filter}
 use Rattle.lists.specs.Members.{All}
+use Rattle.lists.proofs.Bools.{and-split}
 use Rattle.shape.specs.Shape.{widthsOf, total}
 use Rattle.shape.specs.declared.Shape.{Shape}
 use Rattle.region.specs.Strings.{emptyString}
@@ -69,20 +70,20 @@ module _ (st : State) (words bytes : List ℕ) (q : ℕ → QueryBit) (list : Li
 
     -- each is one of the P pages, and its count is 1 to b
     pub noted-readable : (i : ℕ) → i < n
-        → Readable (st .limits .pages) (fairPage (st .shape .capacity) bytes) (getD later i 0)
-    unfolding walkSeen
+        → Readable (st .limits .pages) (st .shape .capacity) bytes (getD later i 0)
+    unfolding walkSeen fairPage
     noted-readable i l =
-        let fair = fairPage (st .shape .capacity) bytes in
-        let P = st .limits .pages in
+        let Q : ℕ → Type 0 = Readable (st .limits .pages) (st .shape .capacity) bytes in
         let T = st .depth in
         let here : getD (s .pages) i 0 ≡ getD later i 0 =
         sym (ap (λ xs. getD xs i 0) (o .lines)
         ∙ ap (λ k. getD (emit list 0 (s .pages)) k 0) (sym (zero-add i))
         ∙ getD-emit list 0 (s .pages) i (omega (arith, length-noted)) (omega (arith, length-noted))) in
-        subst (Readable P fair) here
-        (All-getD (Readable P fair) (s .pages)
-        (All-seen (Readable P fair) (λ x p. wordAt (st .shape) x words p) (leafSeen st bytes)
-        (λ x p w. All-noted P fair _ w) (queryEnters q) T T emptyString 0) i
+        subst Q here
+        (All-getD Q (s .pages)
+        (All-seen Q (λ x p. wordAt (st .shape) x words p) (leafSeen st bytes)
+        (λ x p w. All-noted Q (st .limits .pages) _ _ (λ g k e. (k, and-split _ _ e .0)) w) (queryEnters q) T T
+        emptyString 0) i
         (omega (arith, length-noted)))
 
 -- ---- a store that is sound where the query reads it

@@ -9,7 +9,7 @@ use native.Mathlib.Omega.{arith}
 use lib.ListN.{getD, length}
 use borrow.Author.Tests.{le-leb}
 use Rattle.lists.specs.Filter.{filter, all, nonEmpty}
-use Rattle.lists.proofs.Bools.{and-split}
+use Rattle.lists.proofs.Bools.{and-split, and-both}
 use Rattle.shape.specs.Shape.{Fit, widthsOf, total}
 use Rattle.shape.specs.declared.Shape.{Shape}
 use Rattle.split.specs.Steps.{steps}
@@ -29,6 +29,7 @@ use Rattle.store.specs.Store.{Store, wordAt}
 use Rattle.store.specs.Sound.{LeafWord, Sound}
 use Rattle.store.specs.Promises.{withBytes, SoundWhereRead}
 use Rattle.shape.proofs.ShapeLaws.{shapeNumber-true, capacity-bounds}
+use Rattle.ends.proofs.SoundLaws.{endsBegin-shown}
 use Rattle.change.proofs.BoundLaws.{leaf-counted}
 use Rattle.walk.specs.Seen.{fieldOf, depthOf, fairPage, tallied, noted, leafSeen, walkSeen}
 use Rattle.walk.specs.Pages.{pageIn, readPages}
@@ -115,9 +116,9 @@ module _ (store : Store) (q : ℕ → QueryBit) (S : List Record) (h : SoundWher
       (leaf-word p) n in
       ap (recordsOf s) (h .3 p e (pageIn (store .state) words p) (leafDepth p 0 D) (w .0) (w .1)) ∙ w .2
 
-  -- so that its count is 1 to b
+  -- so that its count is 1 to b, and its ends are the leaf's
   page-fair : (p : ℕ → Bool) → queryEnters q (leafDepth p 0 D) p ≡ true → nonEmpty (leafRecords p 0 D) ≡ true
-      → fairPage (s .capacity) (store .memory .bytes) (pageIn (store .state) words p) ≡ true
+      → fairPage s (store .memory .bytes) (leafDepth p 0 D) p (pageIn (store .state) words p) ≡ true
   unfolding fairPage divisionOf
   page-fair p e n =
       let page = pageAt (s .capacity) (store .memory .bytes) (pageIn (store .state) words p) in
@@ -128,7 +129,8 @@ module _ (store : Store) (q : ℕ → QueryBit) (S : List Record) (h : SoundWher
       length-leafRecords-le (recordBit s) (s .capacity) p (total (widthsOf s)) 0 S
       (capacity-bounds s (shapeNumber-true s (sound .shape)) .0)
       (set-parts .0) in
-      within-true (s .capacity) (countOf page) (omega arith) (omega arith)
+      and-both _ _ (within-true (s .capacity) (countOf page) (omega arith) (omega arith))
+      (endsBegin-shown s (shapeNumber-true s (sound .shape)) S (sound .set) p page (page-records p e n) n)
 
   -- its depth has a leaf in the tally
   leaf-tallied : (p : ℕ → Bool) → tallied (store .state .tally) (leafDepth p 0 D) ≡ true

@@ -3,18 +3,20 @@
 -- bits of a string. Assumes nothing.
 use Prim.Native.Nat.{ℕ, zero, suc, _+_, _-_, _/_, _%_, _^_, _≤_}
 use mathlib.Core.Path.{_≡_}
-use mathlib.Core.Bool.{Bool, true, false, cond}
+use mathlib.Core.Bool.{Bool, true, false, cond, _&&_}
 use mathlib.Core.List.{List, [], _∷_, _++_}
 use lib.Dec.{eqb, ltb, leb}
 use lib.ListN.{getD, length, set}
 use Rattle.shape.specs.Shape.{within, inBounds, widthsOf, total}
+use Rattle.shape.specs.declared.Shape.{Shape}
 use Rattle.region.specs.Strings.{withBit, emptyString}
 use Rattle.region.specs.Query.{QueryBit, queryEnters}
 use Rattle.page.specs.Page.{countOf, pageAt}
+use Rattle.ends.specs.Ends.{endsBegin}
 use Rattle.store.specs.declared.State.{State}
 use Rattle.store.specs.declared.Tally.{Tally}
 use Rattle.store.specs.Store.{pagesSize, wordAt}
-use Rattle.walk.specs.Rows.{Rows, mostPages}
+use Rattle.walk.specs.Rows.{Table, mostPages}
 use Rattle.walk.specs.declared.Noted.{Noted}
 use Rattle.walk.specs.declared.Noted.the-variants.{Pages, Damaged}
 
@@ -50,9 +52,12 @@ fieldOf word = word % 2 ^ 16
 abbrev pub depthOf : ℕ → ℕ
 depthOf word = word / 2 ^ 16
 
--- the count of page g is one that a leaf's page can have, 1 to b
-unfoldable pub fairPage : ℕ → List ℕ → ℕ → Bool
-fairPage b bytes g = within 1 b (countOf (pageAt b bytes g))
+-- page g is one that a leaf of the first x bits of p can have: its count is 1 to b, and the first and the last of its
+-- records have values in bounds and begin with those bits
+unfoldable pub fairPage : Shape → List ℕ → ℕ → (ℕ → Bool) → ℕ → Bool
+fairPage s bytes x p g =
+    let page = pageAt (s .capacity) bytes g in
+    within 1 (s .capacity) (countOf page) && endsBegin (widthsOf s) x p page (countOf page)
 
 -- "the tally of leaves (empty ones too)" has one at depth x
 unfoldable pub tallied : Tally → ℕ → Bool
@@ -70,7 +75,7 @@ noted P has fair word =
 -- the word of a leaf of the first x bits of p
 abbrev pub leafSeen : State → List ℕ → ℕ → (ℕ → Bool) → ℕ → Seen
 leafSeen st bytes x p word =
-    noted (st .limits .pages) (tallied (st .tally) x) (fairPage (st .shape .capacity) bytes) word
+    noted (st .limits .pages) (tallied (st .tally) x) (fairPage (st .shape) bytes x p) word
 
 -- ---- a walk
 
@@ -114,13 +119,13 @@ pub record Put (list : List ℕ) (s : Seen) (r : Noted) (later : List ℕ) : Typ
   pub answer : r ≡ answerOf s
   pub lines : later ≡ emit list 0 (s .pages)
 
--- of each query whose rows these are
+-- of each query whose table this is
 abbrev pub Noting : State → (rows words bytes list : List ℕ) → Noted → List ℕ → Type 0
 Noting st rows words bytes list r later =
-    (q : ℕ → QueryBit) → Rows (widthsOf (st .shape)) q (st .depth) rows
+    (q : ℕ → QueryBit) → Table st q rows
     → Put list (walkSeen st words bytes q) r later
 
--- what the walk asks of a state, its rows, the lengths of its slices and the room in the list
+-- what the walk asks of a state, its table, the lengths of its slices and the room in the list
 pub record Walkable (st : State) (rows : List ℕ) (words bytes room : ℕ) : Type 0 where
   pub shape : inBounds (st .shape) ≡ true
   pub depth-twelve : st .depth ≤ 12
@@ -129,5 +134,5 @@ pub record Walkable (st : State) (rows : List ℕ) (words bytes room : ℕ) : Ty
   pub most-pages : st .limits .pages ≤ 4096
   pub pages-lent : pagesSize st ≤ bytes
   pub query : ℕ → QueryBit
-  pub table : Rows (widthsOf (st .shape)) query (st .depth) rows
+  pub table : Table st query rows
   pub list-lent : mostPages rows (st .depth) 0 ≤ room

@@ -1,4 +1,4 @@
--- `walk::depths_of` meets its contract: what is put together so far, with the rest from depth x on, is all. Falling
+-- `walk::steps::depths_of` meets its contract: what is put together so far, with the rest from depth x on, is all. Falling
 -- number: the depths left. Assumes nothing.
 use Prim.Native.Nat.{_+_, _-_, _*_, _^_, _≤_, _<_}
 use mathlib.Core.Path.{_≡_, sym, ap, _∙_}
@@ -10,10 +10,10 @@ use native.Mathlib.Numerals.{add-one}
 use lib.ListN.{drop, length, length-map, drop-of-length-le}
 use lib.Pow.{pow-mono}
 use Rattle.lists.proofs.Shifts.{one-shifted}
-use Rattle.walk.specs.Private.{depthsOf}
+use Rattle.walk.specs.Rows.{depthsOf}
 use Rattle.walk.proofs.DepthLaws.{depths-leaf, depths-none}
-use Rattle.walk.proofs.depths_of.Statement.{statement}
-use Rattle.walk.proofs.depths_of.Tie as tie
+use Rattle.walk.proofs.steps.depths_of.Statement.{statement}
+use Rattle.walk.proofs.steps.depths_of.Tie as tie
 
 abbrev Inv-loop : tie.InvT-loop
 Inv-loop tally depths₀ x₀ depths x =
