@@ -35,7 +35,8 @@ module _ (before : Store) (S : List Record) (sound : Sound before S) where
   -- ---- the word of a string
 
   module _ (p : ℕ → Bool) where
-    leaf-counted : 1 ≤ getD (before .state .tally .leaves) (leafDepth p 0 (divisionOn before S)) 0
+    -- its leaf is counted
+    pub leaf-counted : 1 ≤ getD (before .state .tally .leaves) (leafDepth p 0 (divisionOn before S)) 0
     leaf-counted =
         omega (
           arith,

@@ -57,7 +57,7 @@ fn seek_key(state: State, dir: &[u32], pages: &[u8], key: Key) -> Found
 // The record of a packed key in the leaf that a word names: 9 for a word that no sound store has, 5
 // for a leaf without a page, which is not read.
 fn seek_by_word(state: State, pages: &[u8], word: u32, key: u64) -> Found
-    requires { ⌜ (state .shape .capacity ≤ 16) × (state .limits .pages ≤ 4096) ⌝ }
+    requires { ⌜ (state .shape .capacity ≤ 16) × (state .limits .pages ≤ 4096) × (state .depth ≤ 12) ⌝ }
     requires { ⌜ pagesSize state ≤ length (now pages) ⌝ }
     ensures { λ r. ⌜ foundAnswer r ≡ wordAnswer state (now (pages .entry)) key word ⌝ }
 {

@@ -16,6 +16,7 @@ use siblings::sibling_of;
 use store::State;
 use tally::tally_holds;
 use word::Leaf;
+use word::pack_empty;
 use word::unpack;
 ghost use mathlib.Core.Path.{_≡_};
 ghost use Prim.Native.Nat.{_<_, _≤_};
@@ -118,8 +119,9 @@ fn place_on(pages: &[u8], capacity: usize, g: usize, n: usize, key: u64) -> usiz
     find_key(&pages[start..end], n, key)
 }
 
-// The plan for a leaf below depth 0: it stays where its sibling is divided or empty. 9 for a word
-// of the sibling that no sound store has.
+// The plan for a leaf below depth 0: it stays where its sibling is divided. 9 for a word of the
+// sibling that no sound store has: also for a leaf above the key's leaf, or an empty one beside it,
+// whose words are all up to that of the latter.
 fn plan_sibling(state: State, dir: &[u32], pages: &[u8], key: Key, found: Stored) -> Plan
     requires { ⌜ RecordFound (store state (now dir) (now pages)) (key .values) found ⌝ }
     requires { ⌜ 0 < found .depth ⌝ }
@@ -128,6 +130,9 @@ fn plan_sibling(state: State, dir: &[u32], pages: &[u8], key: Key, found: Stored
     let values = key.values;
     let word = sibling_of(state, dir, values, found.depth - 1);
     if !word_holds(state, word) {
+        return Plan::Refused(9);
+    }
+    if word <= pack_empty(found.depth) {
         return Plan::Refused(9);
     }
     let sibling = unpack(word);

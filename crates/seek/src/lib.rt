@@ -21,12 +21,19 @@ pub fn key_word(widths: Widths, t: u64, dir: &[u32], values: [u32; 4]) -> u32
     dir[cell as usize]
 }
 
-// Whether a sound store can have a word: its depth is at most T, its page one of the P. Where a bit of
-// 20-31 is set the depth is 16 or more, so that it is above T.
+// Whether a sound store can have a word: its depth is at most T and one that the tally has a leaf of,
+// its page one of the P. Where a bit of 20-31 is set the depth is 16 or more, so that it is above T.
 pub fn word_holds(state: State, word: u32) -> bool
+    requires { ⌜ state .depth ≤ 12 ⌝ }
     ensures { λ r. ⌜ r ≡ wordHolds state word ⌝ }
 {
-    if state.depth < word >> 16 {
+    let depth = word >> 16;
+    if state.depth < depth {
+        return false;
+    }
+    let tally = state.tally;
+    let leaves = tally.leaves;
+    if leaves[depth as usize] == 0 {
         return false;
     }
     let limits = state.limits;

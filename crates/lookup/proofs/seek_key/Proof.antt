@@ -77,7 +77,7 @@ seek-by-word-requires c κs =
     let st = c .before .before .before .before .before .before .before .before .before .args .state in
     let p = early (c .before .before .before .before .before .before .before) in
     let l = limits-parts st (held (c .before .before .before .before .before)) in
-    ((capacity-bounds (st .shape) (p .shape) .1, l .1), p .pages-lent)
+    ((capacity-bounds (st .shape) (p .shape) .1, l .1, le-trans (l .4) (l .2)), p .pages-lent)
 
 returns-2 : tie.Need-returns-2
 returns-2 c =

@@ -68,7 +68,9 @@ key-word-requires c κs =
     (le-trans (t .within-limit) (t .bits)) _ (le-trans (pow-mono (t .within-limit)) (t .words-lent))
 
 word-holds-requires : tie.Need-word-holds-requires
-word-holds-requires c κs = search needs
+word-holds-requires c κs =
+    let t = told (c .before .before .before .before) in
+    le-trans (t .within-limit) (t .short)
 
 returns-2 : tie.Need-returns-2
 returns-2 c =
