@@ -51,19 +51,22 @@ stepsBefore-lt w0 w1 w2 w3 t g fit l b = go (lt-or-le g 64)
         let ws = w0 ∷ w1 ∷ w2 ∷ w3 ∷ [] in
         absurd (omega (arith, b .before, ap (λ x. length (stepsBelow ws x)) e, length-steps w0 w1 w2 w3 fit))
 
+-- the depths at a place add up
+pub stepsBefore-depths : (w0 w1 w2 w3 g h0 h1 h2 h3 : ℕ) → g ≤ 64
+    → h0 ≡ min w0 ((g + 3 - 0) / 4) → h1 ≡ min w1 ((g + 3 - 1) / 4)
+    → h2 ≡ min w2 ((g + 3 - 2) / 4) → h3 ≡ min w3 ((g + 3 - 3) / 4)
+    → StepsBefore (w0 ∷ w1 ∷ w2 ∷ w3 ∷ []) (h0 + h1 + h2 + h3) g
+unfolding depthBefore
+stepsBefore-depths w0 w1 w2 w3 g h0 h1 h2 h3 l e0 e1 e2 e3 =
+    record { low = l; before = length-stepsBelow (w0 ∷ w1 ∷ w2 ∷ w3 ∷ []) g ∙ rw (e0, e1, e2, e3) }
+
 -- the steps of the first k bits are those before place 4k
 pub stepsBefore-rounds : (w0 w1 w2 w3 k m0 m1 m2 m3 : ℕ) → k ≤ 16
     → m0 ≡ min w0 k → m1 ≡ min w1 k → m2 ≡ min w2 k → m3 ≡ min w3 k
     → StepsBefore (w0 ∷ w1 ∷ w2 ∷ w3 ∷ []) (m0 + m1 + m2 + m3) (4 * k)
-unfolding depthBefore
-stepsBefore-rounds w0 w1 w2 w3 k m0 m1 m2 m3 h e0 e1 e2 e3 = record {
-  low = omega arith;
-  before = length-stepsBelow (w0 ∷ w1 ∷ w2 ∷ w3 ∷ []) (4 * k)
-      ∙ rw (place 0 (omega arith), place 1 (omega arith), place 2 (omega arith), place 3 (omega arith), e0, e1, e2, e3);
-}
-  where
-    place : (j : ℕ) → j < 4 → (4 * k + 3 - j) / 4 ≡ k
-    place j l = omega arith
+stepsBefore-rounds w0 w1 w2 w3 k m0 m1 m2 m3 h e0 e1 e2 e3 =
+    stepsBefore-depths w0 w1 w2 w3 (4 * k) m0 m1 m2 m3 (omega arith) (omega arith) (omega arith) (omega arith)
+    (omega arith)
 
 -- the first k bits of an attribute in use are at most k steps, of another none
 bits-le : (w m k : ℕ) → m ≡ min w 1 → min w (min k 16) ≤ m * k

@@ -1,4 +1,5 @@
 // Places 4k + j of the pairs (bit k, attribute j), and how many split steps stand before a place.
+use address::pairs::depth_before;
 use address::pairs::width_at;
 use shape::Widths;
 ghost use mathlib.Core.Path.{_≡_};
@@ -12,9 +13,11 @@ pub fn place_of(widths: Widths, t: u64) -> u64
     requires { ⌜ Fit (widthList widths) × (t ≤ total (widthList widths)) ⌝ }
     ensures { λ r. ⌜ StepsBefore (widthList widths) t r ⌝ }
 {
-    let k = rounds(widths, t);
-    let n = steps_of_rounds(widths, k);
-    place_from(widths, t, 4 * k, n)
+    let near = early_place(widths, t);
+    if steps_before(widths, near) == t {
+        return near;
+    }
+    late_place(widths, t)
 }
 
 // The place of step t.
@@ -22,7 +25,7 @@ pub fn step_place(widths: Widths, t: u64) -> u64
     requires { ⌜ Fit (widthList widths) × (t < total (widthList widths)) ⌝ }
     ensures { λ r. ⌜ StepPair (widthList widths) t r ⌝ }
 {
-    step_from(widths, t, place_of(widths, t))
+    step_from(widths, t, late_place(widths, t))
 }
 
 // The place of step t, sought from a place with t steps before it.
@@ -39,6 +42,45 @@ pub fn step_from(widths: Widths, t: u64, start: u64) -> u64
         g += 1;
     }
     0
+}
+
+// A place that has t steps before it as long as no attribute in use is used up: these take turns.
+fn early_place(widths: Widths, t: u64) -> u64
+    requires { ⌜ Fit (widthList widths) × (t ≤ total (widthList widths)) ⌝ }
+    ensures { λ r. ⌜ r ≤ 64 ⌝ }
+{
+    if widths.w3 != 0 {
+        return t;
+    }
+    if widths.w2 != 0 {
+        return t + t / 3;
+    }
+    if widths.w1 != 0 {
+        return t + t / 2 * 2;
+    }
+    4 * t
+}
+
+// How many steps are before a place.
+fn steps_before(widths: Widths, g: u64) -> u64
+    requires { ⌜ Fit (widthList widths) × (g ≤ 64) ⌝ }
+    ensures { λ r. ⌜ StepsBefore (widthList widths) r g ⌝ }
+{
+    let h0 = depth_before(widths.w0, g, 0);
+    let h1 = depth_before(widths.w1, g, 1);
+    let h2 = depth_before(widths.w2, g, 2);
+    let h3 = depth_before(widths.w3, g, 3);
+    h0 + h1 + h2 + h3
+}
+
+// A place with t steps before it, sought from the bits of each attribute that t steps reach.
+fn late_place(widths: Widths, t: u64) -> u64
+    requires { ⌜ Fit (widthList widths) × (t ≤ total (widthList widths)) ⌝ }
+    ensures { λ r. ⌜ StepsBefore (widthList widths) t r ⌝ }
+{
+    let k = rounds(widths, t);
+    let n = steps_of_rounds(widths, k);
+    place_from(widths, t, 4 * k, n)
 }
 
 // A place with t steps before it, sought from one with n.

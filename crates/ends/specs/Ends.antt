@@ -1,5 +1,5 @@
--- Whether a page is its leaf's, by the first and the last of its records (document 01, "Regions of a set": a leaf's keys
--- begin with it). Assumes nothing.
+-- Whether a page is its leaf's, by the first and the last of its records (document 01, "Regions of a set": a leaf's
+-- keys begin with it). Assumes nothing.
 use Prim.Native.Nat.{ℕ, _-_, _^_}
 use mathlib.Core.Bool.{Bool, _&&_}
 use mathlib.Core.List.{List}
@@ -23,8 +23,8 @@ unfoldable pub endsBegin : List ℕ → ℕ → (ℕ → Bool) → List ℕ → 
 endsBegin ws x p page n =
     keyBegins ws x p (unpackedKey (keyAt page 0)) && keyBegins ws x p (unpackedKey (keyAt page (n - 1)))
 
--- the bits of a packed key that are fixed in a leaf of depth x: of the value of attribute j those of its first h_j bits,
--- and those past its width, which are 0. For widths 2, 2 and x = 1 they are 0xfffe and 0xfffc in the first two lanes
+-- the bits of a packed key that are fixed in a leaf of depth x: of the value of attribute j its first h_j bits, and
+-- those past its width, which are 0. For widths 2, 2 and x = 1: 0xfffe, 0xfffc, 0xffff, 0xffff by attribute
 unfoldable pub fixedBits : List ℕ → ℕ → ℕ
 fixedBits ws x = packedKey (perAttribute (λ j. 2 ^ 16 - 2 ^ (getD ws j 0 - depth ws x j)))
 

@@ -1,15 +1,16 @@
 -- Laws of the test of a key against four widths: value by value; of two packed keys at once. Assumes nothing.
-use Prim.Native.Nat.{ℕ, _*_, _/_, _%_, _^_}
+use Prim.Native.Nat.{ℕ, _^_}
 use mathlib.Core.Path.{_≡_, refl, sym, ap, _∙_}
 use mathlib.Core.Bool.{Bool, true, false, _&&_, and-true}
 use mathlib.Core.List.{[], _∷_}
 use native.Mathlib.Omega.{arith}
-use lib.Bits.{bitOr, or-lt, or-add-and, and-le-l, and-le-r, or-shr, or-mod}
+use lib.Bits.{bitOr, or-lt, or-add-and, and-le-l, and-le-r}
 use lib.Dec.{ltb}
 use borrow.Author.Tests.{lt-ltb, ltb-true}
 use Rattle.lists.proofs.Bools.{and-split, and-both, eq-of-iff}
 use Rattle.shape.specs.Shape.{indexFits}
 use Rattle.record.specs.Packed.{packedValue, unpackedKey}
+use Rattle.packed.proofs.BitLaws.{packedValue-or}
 
 -- ---- by the first value that does not fit
 
@@ -50,10 +51,6 @@ ltb-or u v w =
     (λ e.
     let k = and-split (ltb u (2 ^ w)) (ltb v (2 ^ w)) e in
     lt-ltb (bitOr u v) (2 ^ w) (or-lt w u v (ltb-true u (2 ^ w) (k .0)) (ltb-true v (2 ^ w) (k .1))))
-
-packedValue-or : (a b j : ℕ) → packedValue (bitOr a b) j ≡ bitOr (packedValue a j) (packedValue b j)
-packedValue-or a b j =
-    ap (λ n. n % 2 ^ 16) (or-shr a b (16 * j)) ∙ or-mod (a / 2 ^ (16 * j)) (b / 2 ^ (16 * j)) 16
 
 and-pairs : (α β γ δ : Bool) → ((α && β) && (γ && δ)) ≡ ((α && γ) && (β && δ))
 and-pairs true true γ δ = refl

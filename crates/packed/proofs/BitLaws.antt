@@ -1,10 +1,10 @@
--- Laws of single bits: of a remainder, of a value in a packed key, of an exclusive-or. Assumes nothing.
+-- Laws of bits: of a remainder, of the values in a packed key, of an exclusive-or. Assumes nothing.
 use Prim.Native.Nat.{ℕ, zero, suc, _+_, _*_, _-_, _/_, _%_, _^_, _<_}
 use mathlib.Core.Path.{_≡_, refl, ap, _∙_}
 use mathlib.Core.Bool.{not, Bool·beq}
 use native.Mathlib.Omega.{arith}
 use lib.Dec.{eqb}
-use lib.Bits.{bitXor, xor-shr, xor-mod}
+use lib.Bits.{bitAnd, bitOr, bitXor, and-shr, and-mod, or-shr, or-mod, xor-shr, xor-mod}
 use lib.Pow.{field, mod-mod-pow, shr-shr}
 use Rattle.split.specs.Bits.{bitOf}
 use Rattle.record.specs.Packed.{packedValue}
@@ -29,11 +29,20 @@ bitOf-mod w v k h = ap (λ x. eqb x 1) (bit-mod w v (w - suc k) (omega arith))
 pub bit-packedValue : (key j i : ℕ) → i < 16 → packedValue key j / 2 ^ i % 2 ≡ key / 2 ^ (16 * j + i) % 2
 bit-packedValue key j i h = bit-mod 16 (key / 2 ^ (16 * j)) i h ∙ ap (λ x. x % 2) (shr-shr key (16 * j) i)
 
--- ---- of an exclusive-or
+-- bit operations go value by value
+pub packedValue-and : (x y j : ℕ) → packedValue (bitAnd x y) j ≡ bitAnd (packedValue x j) (packedValue y j)
+packedValue-and x y j =
+    ap (λ n. n % 2 ^ 16) (and-shr x y (16 * j)) ∙ and-mod (x / 2 ^ (16 * j)) (y / 2 ^ (16 * j)) 16
 
-packedValue-xor : (x y j : ℕ) → packedValue (bitXor x y) j ≡ bitXor (packedValue x j) (packedValue y j)
+pub packedValue-or : (x y j : ℕ) → packedValue (bitOr x y) j ≡ bitOr (packedValue x j) (packedValue y j)
+packedValue-or x y j =
+    ap (λ n. n % 2 ^ 16) (or-shr x y (16 * j)) ∙ or-mod (x / 2 ^ (16 * j)) (y / 2 ^ (16 * j)) 16
+
+pub packedValue-xor : (x y j : ℕ) → packedValue (bitXor x y) j ≡ bitXor (packedValue x j) (packedValue y j)
 packedValue-xor x y j =
     ap (λ n. n % 2 ^ 16) (xor-shr x y (16 * j)) ∙ xor-mod (x / 2 ^ (16 * j)) (y / 2 ^ (16 * j)) 16
+
+-- ---- of an exclusive-or
 
 xor-bit : (a b : ℕ) → a < 2 → b < 2 → eqb (bitXor a b) 1 ≡ not (Bool·beq (eqb a 1) (eqb b 1))
 xor-bit zero zero h k = refl

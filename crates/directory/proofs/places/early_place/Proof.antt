@@ -1,0 +1,56 @@
+-- `directory::places::early_place` meets its contract: d attributes in use have at most 16d steps. Assumes nothing.
+use native.Mathlib.Omega.{arith}
+use borrow.Author.Needs.{needs}
+use Rattle.directory.proofs.places.early_place.Statement.{statement}
+use Rattle.directory.proofs.places.early_place.Tie as tie
+
+returns : tie.Need-returns
+returns c =
+    let p = c .before .before .pre in
+    omega (arith, p .1, p .0 0, p .0 1, p .0 2, p .0 3)
+
+add-result : tie.Need-add-result
+add-result c =
+    let p = c .before .before .before .before .pre in
+    record { fits = omega (arith, p .1, p .0 0, p .0 1, p .0 2) }
+
+returns-2 : tie.Need-returns-2
+returns-2 c =
+    let p = c .before .before .before .before .pre in
+    omega (arith, p .1, p .0 0, p .0 1, p .0 2)
+
+mul-result : tie.Need-mul-result
+mul-result c = search needs
+
+add-result-2 : tie.Need-add-result-2
+add-result-2 c =
+    let p = c .before .before .before .before .before .before .pre in
+    record { fits = omega (arith, p .1, p .0 0, p .0 1) }
+
+returns-3 : tie.Need-returns-3
+returns-3 c =
+    let p = c .before .before .before .before .before .before .pre in
+    omega (arith, p .1, p .0 0, p .0 1)
+
+mul-result-2 : tie.Need-mul-result-2
+mul-result-2 c =
+    let p = c .before .before .before .before .before .before .pre in
+    record { fits = omega (arith, p .1, p .0 0) }
+
+returns-4 : tie.Need-returns-4
+returns-4 c =
+    let p = c .before .before .before .before .before .before .pre in
+    omega (arith, p .1, p .0 0)
+
+pub early-place-spec : {M : Type 1} → statement M
+early-place-spec =
+    tie.close
+    (tie.spec
+    returns
+    add-result
+    returns-2
+    mul-result
+    add-result-2
+    returns-3
+    mul-result-2
+    returns-4)

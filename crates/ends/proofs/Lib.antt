@@ -1,0 +1,6 @@
+pub mod AgreeLaws
+pub mod BeginLaws
+pub mod Example
+pub mod FixedLaws
+pub mod MaskLaws
+pub mod SoundLaws
