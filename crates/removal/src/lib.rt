@@ -7,6 +7,7 @@ use pages::count_at;
 use record::RECORD_SIZE;
 use record::pack_key;
 use seek::key_word;
+use seek::page_holds;
 use seek::word_holds;
 use select::find_key;
 use shape::Key;
@@ -77,7 +78,8 @@ pub fn plan_delete(state: State, dir: &[u32], pages: &[u8], key: Key) -> Plan
     plan_leaf(state, dir, pages, key, page, depth)
 }
 
-// The plan for a leaf with a page: 9 for a count of 0 or above b, 5 where no record has the key. A
+// The plan for a leaf with a page: 9 for a count of 0 or above b, and where the first or the last
+// record is out of bounds or does not begin with the leaf's string; 5 where no record has the key. A
 // leaf of depth 0 has no sibling.
 fn plan_leaf(state: State, dir: &[u32], pages: &[u8], key: Key, page: u32, depth: u32) -> Plan
     requires { ⌜ LeafMet (store state (now dir) (now pages)) (key .values) page depth ⌝ }
@@ -92,7 +94,11 @@ fn plan_leaf(state: State, dir: &[u32], pages: &[u8], key: Key, page: u32, depth
     if capacity < count {
         return Plan::Refused(9);
     }
-    let place = place_on(pages, capacity, page as usize, count, pack_key(key));
+    let packed = pack_key(key);
+    if !page_holds(shape, pages, page as usize, count, depth, packed) {
+        return Plan::Refused(9);
+    }
+    let place = place_on(pages, capacity, page as usize, count, packed);
     if place == count {
         return Plan::Refused(5);
     }
