@@ -1,7 +1,7 @@
 -- Laws of lookup's answer by case, one for each way that a step of it ends. Assumes nothing.
 use Prim.Native.Nat.{ℕ, _≤_, _<_}
 use mathlib.Core.Path.{_≡_}
-use mathlib.Core.Bool.{true, false}
+use mathlib.Core.Bool.{Bool, true, false}
 use mathlib.Core.List.{List}
 use native.Mathlib.Omega.{arith}
 use borrow.Author.Tests.{le-leb, lt-leb, lt-ltb, le-ltb}
@@ -18,33 +18,39 @@ use Rattle.store.specs.Store.{Store}
 use Rattle.store.specs.declared.State.{State}
 use Rattle.store.proofs.ShownLaws.{wordOn}
 use Rattle.lent.specs.Limits.{limitsHold}
-use Rattle.seek.specs.Hold.{wordHolds}
+use Rattle.seek.specs.Hold.{wordHolds, ownPage}
 use Rattle.lookup.specs.Private.{keyPlace, placeAnswer, pageAnswer, leafAnswer, wordAnswer, soughtAnswer}
 
 -- ---- a page with n records
 
-module _ (b key : ℕ) (page : List ℕ) (n : ℕ) (e : n ≡ countOf page) where
-  pub pageAnswer-none : n ≡ 0 → refused 9 ≡ pageAnswer b page key
+module _ (b key : ℕ) (own : Bool) (page : List ℕ) (n : ℕ) (e : n ≡ countOf page) where
+  pub pageAnswer-none : n ≡ 0 → refused 9 ≡ pageAnswer b own page key
   unfolding pageAnswer
   pageAnswer-none z = rw (← e, z)
 
-  pub pageAnswer-many : b < n → refused 9 ≡ pageAnswer b page key
+  pub pageAnswer-many : b < n → refused 9 ≡ pageAnswer b own page key
   unfolding pageAnswer
   pageAnswer-many h = rw (← e, le-leb 1 n (omega arith), lt-leb n b h)
 
   module _ (some : n ≡ 0 → ⊥) (few : n ≤ b) where
-    pub pageAnswer-place : pageAnswer b page key ≡ placeAnswer page n (keyPlace page key n 0)
+    -- the page of another leaf
+    pub pageAnswer-other : own ≡ false → refused 9 ≡ pageAnswer b own page key
     unfolding pageAnswer
-    pageAnswer-place = rw (← e, le-leb 1 n (omega arith), le-leb n b few)
+    pageAnswer-other o = rw (← e, le-leb 1 n (omega arith), le-leb n b few, o)
 
-    pub pageAnswer-absent : (i : ℕ) → i ≡ keyPlace page key n 0 → i ≡ n → refused 5 ≡ pageAnswer b page key
-    unfolding placeAnswer
-    pageAnswer-absent i p h = rw (pageAnswer-place, ← p, le-ltb i n (omega arith))
+    module _ (o : own ≡ true) where
+      pub pageAnswer-place : pageAnswer b own page key ≡ placeAnswer page n (keyPlace page key n 0)
+      unfolding pageAnswer
+      pageAnswer-place = rw (← e, le-leb 1 n (omega arith), le-leb n b few, o)
 
-    pub pageAnswer-found : (i : ℕ) → i ≡ keyPlace page key n 0 → i < n
-        → accepted (found (contentAt page i) 1) ≡ pageAnswer b page key
-    unfolding placeAnswer
-    pageAnswer-found i p h = rw (pageAnswer-place, ← p, lt-ltb i n h)
+      pub pageAnswer-absent : (i : ℕ) → i ≡ keyPlace page key n 0 → i ≡ n → refused 5 ≡ pageAnswer b own page key
+      unfolding placeAnswer
+      pageAnswer-absent i p h = rw (pageAnswer-place, ← p, le-ltb i n (omega arith))
+
+      pub pageAnswer-found : (i : ℕ) → i ≡ keyPlace page key n 0 → i < n
+          → accepted (found (contentAt page i) 1) ≡ pageAnswer b own page key
+      unfolding placeAnswer
+      pageAnswer-found i p h = rw (pageAnswer-place, ← p, lt-ltb i n h)
 
 -- ---- a leaf, as a word names it
 
@@ -59,7 +65,8 @@ module _ (st : State) (bytes : List ℕ) (key word : ℕ) where
     wordAnswer-empty x e = rw (holds, e)
 
     pub wordAnswer-page : (g x : ℕ) → leafOf word ≡ Page g x
-        → pageAnswer (st .shape .capacity) (pageAt (st .shape .capacity) bytes g) key ≡ wordAnswer st bytes key word
+        → let page = pageAt (st .shape .capacity) bytes g in
+        pageAnswer (st .shape .capacity) (ownPage (st .shape) x key page (countOf page)) page key ≡ wordAnswer st bytes key word
     unfolding wordAnswer leafAnswer
     wordAnswer-page g x e = rw (holds, e)
 

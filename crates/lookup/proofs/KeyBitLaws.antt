@@ -17,8 +17,9 @@ use Rattle.split.specs.Bits.{bitOf, splitBit}
 use Rattle.split.proofs.DepthLaws.{step-of, step-here}
 use Rattle.cell.specs.Cell.{Agree}
 use Rattle.region.specs.Query.{agrees}
-use Rattle.record.specs.Packed.{packedKey}
+use Rattle.record.specs.Packed.{packedKey, unpackedKey, SixteenBits}
 use Rattle.record.proofs.KeyLaws.{length-steps-widthsOf, splitBit-same}
+use Rattle.record.proofs.PackedLaws.{unpackedKey-packedKey}
 use Rattle.model.specs.Sets.{queryBits}
 use Rattle.model.proofs.MatchLaws.{agrees-of-bits}
 use Rattle.store.specs.Promises.{keyQuery}
@@ -34,6 +35,11 @@ module _ (s : Shape) (values : List ℕ) where
   pub packedKey-encodings : packedKey values ≡ packedKey (encodings s values)
   unfolding packedKey encodings
   packedKey-encodings = refl
+
+  pub unpackedKey-encodings : SixteenBits (encodings s values)
+      → unpackedKey (packedKey (encodings s values)) ≡ encodings s values
+  unfolding encodings
+  unpackedKey-encodings b = unpackedKey-packedKey (encodings s values) b
 
   module _ (good : shapeNumber s ≡ 0) where
     pub Agree-encodings : Agree (total (widthsOf s)) (splitBit (widthsOf s) values)

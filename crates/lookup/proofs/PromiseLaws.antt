@@ -1,7 +1,7 @@
 -- Lookup's promise: kept by the number of an early refusal, and by the answer of the store otherwise. Assumes nothing.
 use Prim.Native.Nat.{ℕ}
 use mathlib.Core.Path.{_≡_, refl, sym, ap, subst, _∙_}
-use mathlib.Core.Bool.{Bool, true, false, not, cond}
+use mathlib.Core.Bool.{Bool, true, false, not, _&&_, cond}
 use mathlib.Core.List.{List}
 use mathlib.Core.Logic.{_⊎_, inl, inr}
 use native.Mathlib.Omega.{arith}
@@ -9,6 +9,7 @@ use lib.Dec.{ltb}
 use Rattle.shape.specs.Refusal.{Answer, accepted, refused}
 use Rattle.shape.specs.Shape.{within, widthsOf}
 use Rattle.shape.specs.Key.{keyFits}
+use Rattle.shape.specs.declared.Shape.{Shape}
 use Rattle.split.specs.Bits.{splitBit}
 use Rattle.record.specs.declared.Content.{Content}
 use Rattle.record.specs.Record.{Record}
@@ -24,7 +25,7 @@ use Rattle.store.specs.Promises.{keyNumber, LookupPromise}
 use Rattle.store.specs.declared.State.{State}
 use Rattle.store.proofs.ShownLaws.{wordOn}
 use Rattle.lent.specs.Limits.{limitsHold}
-use Rattle.seek.specs.Hold.{wordHolds}
+use Rattle.seek.specs.Hold.{wordHolds, ownPage}
 use Rattle.lookup.specs.Private.{keyPlace, placeAnswer, pageAnswer, leafAnswer, wordAnswer, soughtAnswer}
 use Rattle.lookup.proofs.EarlyLaws.{passed}
 use Rattle.lookup.proofs.SoughtLaws.{keyNumber-read, soughtAnswer-stored}
@@ -48,24 +49,25 @@ placeAnswer-ordinary page n i = go (ltb i n)
     go true = inl (contentAt page i, refl)
     go false = inr (inl refl)
 
-pageAnswer-ordinary : (b key : ℕ) (page : List ℕ) → Ordinary (pageAnswer b page key)
+pageAnswer-ordinary : (b key : ℕ) (own : Bool) (page : List ℕ) → Ordinary (pageAnswer b own page key)
 unfolding pageAnswer
-pageAnswer-ordinary b key page =
+pageAnswer-ordinary b key own page =
     let n = countOf page in
     let i = keyPlace page key n 0 in
-    ordinary-or-nine (within 1 b n) (placeAnswer page n i) (placeAnswer-ordinary page n i)
+    ordinary-or-nine (within 1 b n && own) (placeAnswer page n i) (placeAnswer-ordinary page n i)
 
-leafAnswer-ordinary : (b key : ℕ) (bytes : List ℕ) (leaf : Leaf) → Ordinary (leafAnswer b bytes key leaf)
+leafAnswer-ordinary : (s : Shape) (key : ℕ) (bytes : List ℕ) (leaf : Leaf) → Ordinary (leafAnswer s bytes key leaf)
 unfolding leafAnswer
-leafAnswer-ordinary b key bytes (Empty depth) = inr (inl refl)
-leafAnswer-ordinary b key bytes (Page g depth) = pageAnswer-ordinary b key (pageAt b bytes g)
+leafAnswer-ordinary s key bytes (Empty depth) = inr (inl refl)
+leafAnswer-ordinary s key bytes (Page g depth) =
+    let page = pageAt (s .capacity) bytes g in
+    pageAnswer-ordinary (s .capacity) key (ownPage s depth key page (countOf page)) page
 
 wordAnswer-ordinary : (st : State) (bytes : List ℕ) (key word : ℕ) → Ordinary (wordAnswer st bytes key word)
 unfolding wordAnswer
 wordAnswer-ordinary st bytes key word =
-    let b = st .shape .capacity in
-    ordinary-or-nine (wordHolds st word) (leafAnswer b bytes key (leafOf word))
-    (leafAnswer-ordinary b key bytes (leafOf word))
+    ordinary-or-nine (wordHolds st word) (leafAnswer (st .shape) bytes key (leafOf word))
+    (leafAnswer-ordinary (st .shape) key bytes (leafOf word))
 
 soughtAnswer-ordinary : (store : Store) (values : List ℕ) → Ordinary (soughtAnswer store values)
 unfolding soughtAnswer

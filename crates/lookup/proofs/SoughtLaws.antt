@@ -16,7 +16,7 @@ use Rattle.split.specs.Bits.{splitBit}
 use Rattle.region.specs.Strings.{sameBits}
 use Rattle.region.specs.Division.{leafDepth, leafRecords}
 use Rattle.record.specs.Record.{Record, recordBit}
-use Rattle.record.specs.Packed.{packedKey, SixteenBits}
+use Rattle.record.specs.Packed.{packedKey, unpackedKey, SixteenBits}
 use Rattle.record.proofs.KeyLaws.{key-below-bytes}
 use Rattle.page.specs.Page.{countOf, recordsOf, pageAt}
 use Rattle.page.proofs.FieldLaws.{length-recordsFrom}
@@ -29,16 +29,20 @@ use Rattle.store.specs.Store.{Store}
 use Rattle.store.specs.Sound.{Sound}
 use Rattle.store.specs.Promises.{keyNumber, keyQuery, withBytes, SoundWhereRead}
 use Rattle.store.proofs.AgreeLaws.{Agree-le, wordAt-agree}
-use Rattle.store.proofs.ShownLaws.{wordOn, shape-of-Sound, depth-of-Sound, leafRecords-page}
+use Rattle.store.proofs.ShownLaws.{wordOn, wordOn-depth, shape-of-Sound, depth-of-Sound, leafRecords-page}
 use Rattle.store.proofs.SetLaws.{length-leafRecords}
 use Rattle.store.proofs.DividedLaws.{leafDepth-le-total, leafRecords-divisionOf}
 use Rattle.store.proofs.KeyLaws.{keyWord, stored-no-page, stored-page}
 use Rattle.lent.proofs.LimitsLaws.{limits-of-sound}
+use Rattle.seek.specs.Hold.{ownPage}
 use Rattle.seek.proofs.HoldLaws.{word-of-sound}
+use Rattle.ends.specs.Ends.{endsBegin}
+use Rattle.ends.proofs.SoundLaws.{endsBegin-shown}
 use Rattle.lookup.specs.Private.{pageAnswer, wordAnswer, soughtAnswer}
 use Rattle.lookup.proofs.CaseLaws.{pageAnswer-place, wordAnswer-empty, wordAnswer-page, soughtAnswer-word}
 use Rattle.lookup.proofs.EarlyLaws.{keyNumber-lent}
-use Rattle.lookup.proofs.KeyBitLaws.{packedKey-encodings, Agree-encodings, agrees-keyQuery}
+use Rattle.lookup.proofs.KeyBitLaws.{packedKey-encodings, unpackedKey-encodings}
+use Rattle.lookup.proofs.KeyBitLaws.{Agree-encodings, agrees-keyQuery}
 use Rattle.lookup.proofs.StoredLaws.{storedAnswer, placeAnswer-stored}
 
 -- ---- a leaf's page
@@ -55,13 +59,13 @@ module _ (s : Shape) (good : shapeNumber s ≡ 0) (S : List Record) (set : isSet
       (all-filter (inShape s) (λ r. sameBits p (recordBit s r) x 0) (inShape s) (λ r f e. f) S
       (inShape-of-isSet s S set))
 
-  pub pageAnswer-stored : (b : ℕ) (key page : List ℕ) → SixteenBits key → recordsOf s page ≡ records
-      → nonEmpty records ≡ true → length records ≤ b
-      → pageAnswer b page (packedKey key) ≡ storedAnswer (stored key (recordsOf s page))
-  pageAnswer-stored b key page k e h l =
+  pub pageAnswer-stored : (b : ℕ) (own : Bool) (key page : List ℕ) → own ≡ true → SixteenBits key
+      → recordsOf s page ≡ records → nonEmpty records ≡ true → length records ≤ b
+      → pageAnswer b own page (packedKey key) ≡ storedAnswer (stored key (recordsOf s page))
+  pageAnswer-stored b own key page o k e h l =
       let n = countOf page in
       let count : n ≡ length records = sym (length-recordsFrom s n 2 page) ∙ ap length e in
-      pageAnswer-place b (packedKey key) page n refl (λ z. some records h (sym count ∙ z)) (omega arith)
+      pageAnswer-place b (packedKey key) own page n refl (λ z. some records h (sym count ∙ z)) (omega arith) o
       ∙ placeAnswer-stored s good key page k n n 0 (omega arith) (ap (all (inShape s)) e ∙ all-inShape)
     where
       some : (rs : List Record) → nonEmpty rs ≡ true → length rs ≡ 0 → ⊥
@@ -119,10 +123,10 @@ module _ (store : Store) (values : List ℕ) (S : List Record)
   wordAnswer-sound f (suc g) e =
       sym (wordAnswer-page (store .state) (store .memory .bytes) (packedKey values) (keyWord whole key)
       (word-of-sound whole S sound bits) g _ (leafOf-suc (keyWord whole key) g e))
-      ∙ ap (λ page. pageAnswer (s .capacity) page (packedKey values)) read
-      ∙ ap (pageAnswer (s .capacity) page) (packedKey-encodings s values)
-      ∙ pageAnswer-stored s good S (sound .set) bits (s .capacity) key page
-      (key-below-bytes s good key (length-encodings s values) (indexFits-encodings s values ∙ f)) (leaf .2) (leaf .3)
+      ∙ ap (λ page.
+      pageAnswer (s .capacity) (ownPage s depth (packedKey values) page (countOf page)) page (packedKey values)) read
+      ∙ ap (pageAnswer (s .capacity) _ page) (packedKey-encodings s values)
+      ∙ pageAnswer-stored s good S (sound .set) bits (s .capacity) _ key page own sixteen (leaf .2) (leaf .3)
       (length-leafRecords s S (sound .set) (sound .shape) bits)
       ∙ ap storedAnswer (sym (stored-page whole S sound key g plus .1))
     where
@@ -137,6 +141,22 @@ module _ (store : Store) (values : List ℕ) (S : List Record)
           × (recordsOf s page ≡ leafRecords bits 0 (divisionOf s S))
           × (nonEmpty (leafRecords bits 0 (divisionOf s S)) ≡ true)
       leaf = leafRecords-page whole S sound bits g plus
+
+      sixteen : SixteenBits key
+      sixteen = key-below-bytes s good key (length-encodings s values) (indexFits-encodings s values ∙ f)
+
+      -- the leaf's depth, and the key back from its packed form
+      depth : ℕ
+      depth = keyWord whole key / 2 ^ 16
+
+      unpacked : unpackedKey (packedKey values) ≡ key
+      unpacked = ap unpackedKey (packedKey-encodings s values) ∙ unpackedKey-encodings s values sixteen
+
+      own : ownPage s depth (packedKey values) page (countOf page) ≡ true
+      own =
+          ap (λ k. endsBegin (widthsOf s) depth (splitBit (widthsOf s) k) page (countOf page)) unpacked
+          ∙ ap (λ x. endsBegin (widthsOf s) x bits page (countOf page)) (wordOn-depth whole S sound bits)
+          ∙ endsBegin-shown s good S (sound .set) bits page (leaf .2) (leaf .3)
 
       -- the page of the key's leaf is as that of the sound store
       read : pageAt (s .capacity) (store .memory .bytes) g ≡ page

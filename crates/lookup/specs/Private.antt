@@ -1,23 +1,27 @@
 -- What lookup answers on any store, sound or not, step by step: the place of a key on a page, the page, the leaf, the
 -- store (document 01, "Calls", "Refused calls" 5 and 9). Assumes nothing.
-use Prim.Native.Nat.{ℕ, zero, suc}
-use mathlib.Core.Bool.{cond}
+use Prim.Native.Nat.{ℕ, zero, suc, _≤_}
+use mathlib.Core.Path.{_≡_}
+use mathlib.Core.Bool.{Bool, true, _&&_, cond}
 use mathlib.Core.List.{List}
 use lib.Dec.{ltb, eqb}
+use lib.ListN.{length}
 use Rattle.shape.specs.Refusal.{Answer, accepted, refused}
-use Rattle.shape.specs.Shape.{within, widthsOf}
+use Rattle.shape.specs.Shape.{within, widthsOf, total, indexFits, shapeNumber}
+use Rattle.shape.specs.declared.Shape.{Shape}
 use Rattle.split.specs.Bits.{splitBit}
-use Rattle.record.specs.Packed.{packedKey}
+use Rattle.record.specs.Packed.{packedKey, unpackedKey}
 use Rattle.page.specs.Page.{countOf, pageAt}
 use Rattle.page.specs.Fields.{keyAt, contentAt}
 use Rattle.word.specs.Word.{leafOf}
 use Rattle.word.specs.declared.Leaf.{Leaf}
 use Rattle.word.specs.declared.Leaf.the-variants.{Empty, Page}
 use Rattle.model.specs.Model.{Reply, found}
-use Rattle.store.specs.Store.{Store, wordAt}
+use Rattle.store.specs.Store.{Store, wordAt, pagesSize}
 use Rattle.store.specs.declared.State.{State}
 use Rattle.lent.specs.Limits.{limitsHold}
-use Rattle.seek.specs.Hold.{wordHolds}
+use Rattle.ends.specs.Ends.{endsAgree}
+use Rattle.seek.specs.Hold.{wordHolds, ownPage}
 
 -- ---- a page
 
@@ -30,23 +34,37 @@ keyPlace page key (suc k) i = cond (eqb (keyAt page i) key) i (keyPlace page key
 unfoldable pub placeAnswer : List ℕ → ℕ → ℕ → Answer Reply
 placeAnswer page n i = cond (ltb i n) (accepted (found (contentAt page i) 1)) (refused 5)
 
--- a leaf's page has 1 to b records: 9 for another count
-unfoldable pub pageAnswer : ℕ → List ℕ → ℕ → Answer Reply
-pageAnswer b page key =
+-- a leaf's page has 1 to b records and is the leaf's own: 9 for another page
+unfoldable pub pageAnswer : ℕ → Bool → List ℕ → ℕ → Answer Reply
+pageAnswer b own page key =
     let n = countOf page in
-    cond (within 1 b n) (placeAnswer page n (keyPlace page key n 0)) (refused 9)
+    cond (within 1 b n && own) (placeAnswer page n (keyPlace page key n 0)) (refused 9)
+
+-- so for a page whose first and last record agree with the key in the bits of a mask
+abbrev pub maskedAnswer : ℕ → ℕ → List ℕ → ℕ → Answer Reply
+maskedAnswer b mask page key = pageAnswer b (endsAgree mask key page (countOf page)) page key
 
 -- ---- a leaf, as the word of the key's cell names it
 
 -- "A word taken apart without a page means absent, with no read"
-unfoldable pub leafAnswer : ℕ → List ℕ → ℕ → Leaf → Answer Reply
-leafAnswer b bytes key (Empty depth) = refused 5
-leafAnswer b bytes key (Page g depth) = pageAnswer b (pageAt b bytes g) key
+unfoldable pub leafAnswer : Shape → List ℕ → ℕ → Leaf → Answer Reply
+leafAnswer s bytes key (Empty depth) = refused 5
+leafAnswer s bytes key (Page g depth) =
+    let page = pageAt (s .capacity) bytes g in
+    pageAnswer (s .capacity) (ownPage s depth key page (countOf page)) page key
 
--- 9 for a word that no sound store has: a depth above T, "word with page number P"
+-- 9 for a word that no sound store has: a depth above T or of no leaf, "word with page number P"
 unfoldable pub wordAnswer : State → List ℕ → ℕ → ℕ → Answer Reply
-wordAnswer st bytes key word =
-    cond (wordHolds st word) (leafAnswer (st .shape .capacity) bytes key (leafOf word)) (refused 9)
+wordAnswer st bytes key word = cond (wordHolds st word) (leafAnswer (st .shape) bytes key (leafOf word)) (refused 9)
+
+-- what the search in the leaf that a word names asks: what the early refusals and the limits leave
+pub record KeyPassed (st : State) (bytes : List ℕ) (key : ℕ) : Type 0 where
+  pub shape : shapeNumber (st .shape) ≡ 0
+  pub few : st .limits .pages ≤ 4096
+  pub short : st .depth ≤ 12
+  pub bits : st .depth ≤ total (widthsOf (st .shape))
+  pub lent : pagesSize st ≤ length bytes
+  pub fits : indexFits (widthsOf (st .shape)) (unpackedKey key) ≡ true
 
 -- ---- a store
 

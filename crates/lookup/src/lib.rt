@@ -1,5 +1,7 @@
 // The call Lookup: a key's record, by the word of its cell and the page of its leaf (document 01,
 // "Calls").
+use ends::ends_agree;
+use ends::fixed_bits;
 use lent::key_number;
 use lent::limits_hold;
 use page::content_at;
@@ -23,8 +25,8 @@ ghost use Rattle.page.specs.Page.{pageSize, pageAt};
 ghost use Rattle.pages.specs.Pages.{PageLent};
 ghost use Rattle.store.specs.Answers.{foundAnswer};
 ghost use Rattle.store.specs.Promises.{keyNumber, LookupPromise};
-ghost use Rattle.store.specs.Store.{store, pagesSize};
-ghost use Rattle.lookup.specs.Private.{keyPlace, pageAnswer, wordAnswer, soughtAnswer};
+ghost use Rattle.store.specs.Store.{store};
+ghost use Rattle.lookup.specs.Private.{keyPlace, maskedAnswer, wordAnswer, soughtAnswer, KeyPassed};
 
 // The content of a key's record, and the pages read: 1. Refused with 1, 2, 3, 5 or 9, the first that
 // holds in this order. Writes nothing.
@@ -57,8 +59,7 @@ fn seek_key(state: State, dir: &[u32], pages: &[u8], key: Key) -> Found
 // The record of a packed key in the leaf that a word names: 9 for a word that no sound store has, 5
 // for a leaf without a page, which is not read.
 fn seek_by_word(state: State, pages: &[u8], word: u32, key: u64) -> Found
-    requires { ⌜ (state .shape .capacity ≤ 16) × (state .limits .pages ≤ 4096) ⌝ }
-    requires { ⌜ pagesSize state ≤ length (now pages) ⌝ }
+    requires { ⌜ KeyPassed state (now pages) key ⌝ }
     ensures { λ r. ⌜ foundAnswer r ≡ wordAnswer state (now (pages .entry)) key word ⌝ }
 {
     if !word_holds(state, word) {
@@ -69,30 +70,36 @@ fn seek_by_word(state: State, pages: &[u8], word: u32, key: u64) -> Found
         return Found::Refused(5);
     };
     let shape = state.shape;
-    seek_at(pages, shape.capacity as usize, page as usize, key)
+    let mask = fixed_bits(widths_of(shape), depth as u64);
+    seek_at(pages, shape.capacity as usize, page as usize, key, mask)
 }
 
-// The record of a packed key on page p, which is read.
-fn seek_at(pages: &[u8], capacity: usize, p: usize, key: u64) -> Found
+// The record of a packed key on page p, which is read, in a leaf that fixes the bits of a mask.
+fn seek_at(pages: &[u8], capacity: usize, p: usize, key: u64, mask: u64) -> Found
     requires { ⌜ PageLent capacity p (now pages) ⌝ }
-    ensures { λ r. ⌜ foundAnswer r ≡ pageAnswer capacity (pageAt capacity (now (pages .entry)) p) key ⌝ }
+    ensures { λ r. ⌜ foundAnswer r
+        ≡ maskedAnswer capacity mask (pageAt capacity (now (pages .entry)) p) key ⌝ }
 {
     let size = 2 + RECORD_SIZE * capacity;
     let start = p * size;
     let end = start + size;
-    seek_in_page(&pages[start..end], capacity, key)
+    seek_in_page(&pages[start..end], capacity, key, mask)
 }
 
-// The record of a packed key on a page: 5 where it is not there, 9 for a count of 0 or above b.
-fn seek_in_page(page: &[u8], capacity: usize, key: u64) -> Found
+// The record of a packed key on a page: 5 where it is not there, 9 for a count of 0 or above b, and
+// where the first or the last record does not agree with the key in the bits of the mask.
+fn seek_in_page(page: &[u8], capacity: usize, key: u64, mask: u64) -> Found
     requires { ⌜ (capacity ≤ 16) × (pageSize capacity ≤ length (now page)) ⌝ }
-    ensures { λ r. ⌜ foundAnswer r ≡ pageAnswer capacity (now (page .entry)) key ⌝ }
+    ensures { λ r. ⌜ foundAnswer r ≡ maskedAnswer capacity mask (now (page .entry)) key ⌝ }
 {
     let n = count(page);
     if n == 0 {
         return Found::Refused(9);
     }
     if capacity < n {
+        return Found::Refused(9);
+    }
+    if !ends_agree(page, n, key, mask) {
         return Found::Refused(9);
     }
     let i = find_key(page, n, key);

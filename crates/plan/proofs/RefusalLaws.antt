@@ -1,7 +1,7 @@
 -- Laws of a plan up to the page of the key's leaf, one for each way that it ends: what it refuses is what the call
 -- promises, and what it tells else. Assumes nothing.
 use Prim.Native.Nat.{ℕ, _-_, _^_, _≤_, _<_}
-use mathlib.Core.Path.{_≡_, sym, ap, _∙_, subst}
+use mathlib.Core.Path.{_≡_, refl, sym, ap, _∙_, subst}
 use mathlib.Core.Bool.{true, false, false≢true}
 use mathlib.Core.List.{List}
 use mathlib.Core.Logic.{_⊎_, ⊎-elim}
@@ -27,8 +27,10 @@ use Rattle.store.proofs.ShownLaws.{wordOn}
 use Rattle.lent.specs.Limits.{limitsHold}
 use Rattle.lent.proofs.LimitsLaws.{limits-parts, limits-of-sound}
 use Rattle.lent.proofs.PassedLaws.{passed}
-use Rattle.seek.specs.Hold.{wordHolds}
+use Rattle.ends.specs.Ends.{endsBegin}
+use Rattle.seek.specs.Hold.{wordHolds, ownPage}
 use Rattle.seek.proofs.HoldLaws.{word-of-sound}
+use Rattle.seek.proofs.PageLaws.{unpackedKey-values, endsBegin-word}
 use Rattle.change.proofs.BoundLaws.{count-bounds}
 use Rattle.change.proofs.NumberLaws.{NoFreePage}
 use Rattle.change.proofs.InsertPromiseLaws.{OnSound, insert-unsound, insert-stored, insert-empty-none}
@@ -116,7 +118,14 @@ module _ (before : Store) (values : List ℕ) where
       pub get-planned : (free ≡ P → ⊥) → Planned before values (Get free x)
       get-planned n =
           let f = free-page n in
-          record { asked = m .asked; within = f .0; depth-le = m .depth-le; own = m .own; free = f .1 }
+          record {
+            asked = m .asked;
+            within = f .0;
+            depth-le = m .depth-le;
+            holds = m .holds;
+            own = m .own;
+            free = f .1;
+          }
 
   -- ---- a leaf with a page
 
@@ -129,15 +138,36 @@ module _ (before : Store) (values : List ℕ) where
         let c = count-bounds before S sound (splitBit (widthsOf s) values) g x small (m .own) in
         ⊎-elim (λ z. omega (arith, e, c .0)) (λ l. omega (arith, e, c .1)) h)
 
-    module _ (most : n ≤ b) (bytes : (i : ℕ) → getD (before .memory .bytes) i 0 < 256) where
+    -- a page whose first or last record is not the leaf's
+    pub nine-ends : ownPage s x key (page g) n ≡ false → Planned before values (Refused 9)
+    nine-ends h =
+        nine-unsound (m .asked .early)
+        (λ S sound.
+        let small : g < 2 ^ 16 - 1 = omega (arith, m .within, m .asked .pages-lent .few) in
+        let p = splitBit (widthsOf s) values in
+        false≢true
+        (sym h
+        ∙ ap (λ q. endsBegin (widthsOf s) x (splitBit (widthsOf s) q) (page g) n) unpacked
+        ∙ ap (endsBegin (widthsOf s) x p (page g)) e
+        ∙ endsBegin-word before S sound p g x small (m .own) p (λ t l. refl)))
+      where
+        unpacked : unpackedKey key ≡ values
+        unpacked =
+            let a = m .asked in
+            ap unpackedKey (m .key-is) ∙ unpackedKey-values s values (a .shape) (a .fits) (a .four)
+
+    module _ (most : n ≤ b) (ends : ownPage s x key (page g) n ≡ true)
+        (bytes : (i : ℕ) → getD (before .memory .bytes) i 0 < 256) where
       pub page-met : PageMet before values g x n
       page-met =
           record {
             within = m .within;
             depth-le = m .depth-le;
+            holds = m .holds;
             own = m .own;
             count = e;
             most = most;
+            ends = subst (λ k. ownPage s x k (page g) n ≡ true) (m .key-is) ends;
             bytes = bytes;
           }
 

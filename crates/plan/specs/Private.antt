@@ -7,7 +7,7 @@ use mathlib.Core.List.{List}
 use lib.Dec.{eqb}
 use lib.ListN.{getD, length}
 use Rattle.shape.specs.Refusal.{refused}
-use Rattle.shape.specs.Shape.{widthsOf, total, shapeNumber}
+use Rattle.shape.specs.Shape.{widthsOf, total, indexFits, shapeNumber}
 use Rattle.shape.specs.Key.{keyFits}
 use Rattle.split.specs.Steps.{stepsBelow}
 use Rattle.split.specs.Bits.{splitBit}
@@ -23,6 +23,7 @@ use Rattle.word.specs.declared.Leaf.the-variants.{Empty, Page}
 use Rattle.store.specs.Store.{Store, store, wordAt, pagesSize}
 use Rattle.store.specs.Promises.{keyNumber, InsertPromise}
 use Rattle.store.specs.declared.State.{State}
+use Rattle.seek.specs.Hold.{wordHolds, ownPage}
 use Rattle.tally.specs.Tally.{tallyHolds}
 use Rattle.plan.specs.declared.Split.{Split}
 use Rattle.plan.specs.declared.Cut.{Cut}
@@ -38,6 +39,11 @@ pub record PagesLent (st : State) (bytes : List ℕ) : Type 0 where
   pub shape : shapeNumber (st .shape) ≡ 0
   pub few : st .limits .pages ≤ 4096
   pub lent : pagesSize st ≤ length bytes
+
+-- a packed key within the widths, and a directory depth of at most W
+pub record KeyAsked (st : State) (key : ℕ) : Type 0 where
+  pub bits : st .depth ≤ total (widthsOf (st .shape))
+  pub fits : indexFits (widthsOf (st .shape)) (unpackedKey key) ≡ true
 
 -- how many leaves a tally has at the depths below x
 unfoldable pub leavesAbove : List ℕ → ℕ → ℕ
@@ -96,13 +102,16 @@ module _ (before : Store) (values : List ℕ) where
   abbrev word : ℕ
   word = wordAt (before .state .shape) (before .state .depth) (before .memory .words) (splitBit ws values)
 
-  -- the key's leaf has page g and depth x, and the page has n records
+  -- the key's leaf has page g and depth x, and the page has n records, of which the first and the last have values in
+  -- bounds and begin with the leaf's string
   pub record PageMet (g x n : ℕ) : Type 0 where
     pub within : g < before .state .limits .pages
     pub depth-le : x ≤ before .state .depth
+    pub holds : wordHolds (before .state) word ≡ true
     pub own : word ≡ wordOf (Page g x)
     pub count : n ≡ countOf (page g)
     pub most : n ≤ before .state .shape .capacity
+    pub ends : ownPage (before .state .shape) x (packedKey values) (page g) n ≡ true
     pub bytes : (i : ℕ) → getD (before .memory .bytes) i 0 < 256
 
   -- the key stands between records i - 1 and i of page g, which has n
@@ -122,6 +131,7 @@ module _ (before : Store) (values : List ℕ) where
     pub asked : Asked before values
     pub within : g < before .state .limits .pages
     pub depth-le : x ≤ before .state .depth
+    pub holds : wordHolds (before .state) word ≡ true
     pub own : word ≡ wordOf (Empty x)
     pub free : countOf (page g) ≡ 0
 
@@ -170,6 +180,7 @@ module _ (before : Store) (values : List ℕ) where
   pub record EmptyMet (x : ℕ) : Type 0 where
     pub asked : Asked before values
     pub depth-le : x ≤ before .state .depth
+    pub holds : wordHolds (before .state) word ≡ true
     pub own : word ≡ wordOf (Empty x)
 
   -- or of one with page g
@@ -178,6 +189,7 @@ module _ (before : Store) (values : List ℕ) where
     pub key-is : key ≡ packedKey values
     pub within : g < before .state .limits .pages
     pub depth-le : x ≤ before .state .depth
+    pub holds : wordHolds (before .state) word ≡ true
     pub own : word ≡ wordOf (Page g x)
 
   -- the page is full, and the key falls before record i

@@ -12,6 +12,7 @@ use pages::count_at;
 use record::RECORD_SIZE;
 use record::pack_key;
 use seek::key_word;
+use seek::page_holds;
 use seek::word_holds;
 use shape::Key;
 use shape::widths_of;
@@ -22,14 +23,14 @@ use word::Leaf;
 use word::unpack;
 ghost use mathlib.Core.Path.{_≡_};
 ghost use mathlib.Core.Bool.{true};
-ghost use Prim.Native.Nat.{_/_, _%_, _<_};
+ghost use Prim.Native.Nat.{_/_, _%_, _<_, _≤_};
 ghost use lib.ListN.{getD};
 ghost use Rattle.shape.specs.Shape.{widthsOf};
 ghost use Rattle.pages.specs.Pages.{PageLent};
 ghost use Rattle.store.specs.Store.{store};
 ghost use Rattle.store.specs.Promises.{keyNumber};
 ghost use Rattle.seek.specs.Hold.{wordHolds};
-ghost use Rattle.plan.specs.Private.{PagesLent, Planned, PlannedFrom};
+ghost use Rattle.plan.specs.Private.{PagesLent, KeyAsked, Planned, PlannedFrom};
 ghost use Rattle.plan.specs.Private.{WordMet, EmptyMet, LeafMet, FullMet, DividingMet};
 
 // What is to be done: nothing, with the number of a refusal; a page takes the record at a place among
@@ -84,7 +85,7 @@ pub fn plan_insert(state: State, dir: &[u32], pages: &[u8], key: Key) -> Plan
 
 // In the leaf that the word of a packed key's cell names.
 fn plan_leaf(state: State, pages: &[u8], key: u64, word: u32) -> Plan
-    requires { ⌜ PagesLent state (now pages) × (wordHolds state word ≡ true) ⌝ }
+    requires { ⌜ PagesLent state (now pages) × (wordHolds state word ≡ true) × KeyAsked state key ⌝ }
     ensures { λ r. ⌜ PlannedFrom state (now (pages .entry)) (λ before values. WordMet before values key word) r ⌝ }
 {
     let leaf = unpack(word);
@@ -107,9 +108,11 @@ fn plan_empty(state: State, pages: &[u8], depth: u32) -> Plan
     Plan::Get(free, depth)
 }
 
-// In a leaf with a page: 9 for a count of 0 or above b, 4 where the key is there.
+// In a leaf with a page: 9 for a count of 0 or above b, and where the first or the last record is out
+// of bounds or does not begin with the leaf's string; 4 where the key is there.
 fn plan_page(state: State, pages: &[u8], key: u64, page: u32, depth: u32) -> Plan
-    requires { ⌜ PagesLent state (now pages) × PageLent (state .shape .capacity) page (now pages) ⌝ }
+    requires { ⌜ PagesLent state (now pages) × PageLent (state .shape .capacity) page (now pages)
+        × KeyAsked state key × (depth ≤ state .depth) ⌝ }
     ensures { λ r. ⌜ PlannedFrom state (now (pages .entry)) (λ before values. LeafMet before values key page depth)
         r ⌝ }
 {
@@ -120,6 +123,9 @@ fn plan_page(state: State, pages: &[u8], key: u64, page: u32, depth: u32) -> Pla
         return Plan::Refused(9);
     }
     if capacity < n {
+        return Plan::Refused(9);
+    }
+    if !page_holds(shape, pages, page as usize, n, depth, key) {
         return Plan::Refused(9);
     }
     let size = 2 + RECORD_SIZE * capacity;

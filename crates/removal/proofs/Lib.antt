@@ -2,3 +2,4 @@ pub mod ClimbLaws
 pub mod EarlyLaws
 pub mod MetLaws
 pub mod PairLaws
+pub mod SiblingLaws

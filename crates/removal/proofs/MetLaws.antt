@@ -12,9 +12,11 @@ use lib.Pow.{pow-mono}
 use borrow.Author.Tests.{eqb-true}
 use Rattle.lists.specs.Filter.{nonEmpty}
 use Rattle.shape.specs.Refusal.{refused}
+use Rattle.shape.specs.Shape.{widthsOf}
 use Rattle.shape.specs.Key.{encodings}
 use Rattle.shape.specs.declared.Shape.{Shape}
 use Rattle.shape.proofs.ShapeLaws.{capacity-bounds}
+use Rattle.split.specs.Bits.{splitBit}
 use Rattle.record.specs.Packed.{packedKey, SixteenBits}
 use Rattle.record.proofs.CodecLaws.{AreBytes, AreBytes-field}
 use Rattle.page.specs.Page.{countOf, recordsOf, recordsFrom, pageSize, pageAt}
@@ -35,11 +37,13 @@ use Rattle.change.proofs.BoundLaws.{count-bounds}
 use Rattle.change.proofs.DeletePromiseLaws.{delete-unsound, delete-empty, delete-absent}
 use Rattle.lent.specs.Limits.{limitsHold}
 use Rattle.lent.proofs.LimitsLaws.{limits-of-sound, limits-parts}
-use Rattle.seek.specs.Hold.{wordHolds}
+use Rattle.ends.specs.Ends.{endsBegin}
+use Rattle.seek.specs.Hold.{wordHolds, ownPage, OwnAsked}
 use Rattle.seek.proofs.HoldLaws.{word-of-sound, held-empty, held-page}
+use Rattle.seek.proofs.PageLaws.{unpackedKey-values, indexFits-packed, endsBegin-word}
 use Rattle.removal.specs.Plan.{LeafMet, RecordFound}
 use Rattle.removal.specs.Private.{DirectoryLent}
-use Rattle.lookup.proofs.EarlyLaws.{passed, SixteenBits-of-keyFits}
+use Rattle.lookup.proofs.EarlyLaws.{Passed, passed, SixteenBits-of-keyFits}
 use Rattle.removal.proofs.EarlyLaws.{encodings-values}
 
 -- ---- the place of a key
@@ -107,7 +111,15 @@ module _ (before : Store) (values : List ℕ) where
           → wordHolds (before .state) (wordOn before p) ≡ true → LeafMet before values g x
       leafMet limits g x e h =
           let k = held-page (before .state) (wordOn before p) h g x e in
-          record { early = early; four = four; limits = limits; own-within = k .0; deep = k .1; own = k .2 }
+          record {
+            early = early;
+            four = four;
+            limits = limits;
+            own-within = k .0;
+            deep = k .1;
+            holds = h;
+            own = k .2;
+          }
 
   -- ---- at the leaf, with page g
 
@@ -132,6 +144,23 @@ module _ (before : Store) (values : List ℕ) where
         (λ S sound. let k = count-bounds before S sound p g x g-lt (m .own) in
         none (omega (arith, k .0)) (omega (arith, k .1)))
 
+    -- and its first and last record begin with the leaf's string
+    pub refused-ends : (n : ℕ) → n ≡ countOf page → ownPage s x (packedKey values) page n ≡ false
+        → DeletePromise before values (refused 9) before
+    refused-ends n e h =
+        delete-unsound before values (m .early)
+        (λ S sound.
+        true≢false
+        (sym
+        (ap (λ q. endsBegin (widthsOf s) x (splitBit (widthsOf s) q) page n)
+        (unpackedKey-values s values (k .shape) (k .fits) (m .four))
+        ∙ ap (endsBegin (widthsOf s) x p page) e
+        ∙ endsBegin-word before S sound p g x g-lt (m .own) p (λ t l. refl))
+        ∙ h))
+      where
+        k : Passed before values
+        k = passed before values (m .early)
+
     module _ (are : AreBytes (before .memory .bytes)) (n : ℕ) (e : n ≡ countOf page) where
       six : SixteenBits values
       six =
@@ -152,15 +181,17 @@ module _ (before : Store) (values : List ℕ) where
           (λ S sound. rw (same (m .early) (m .four))
           (ap nonEmpty (ap (stored values) (sym counted) ∙ sameKey-absent s values six page page-are n (sym q ∙ h))))
 
-    pub recordFound : (n : ℕ) → n ≡ countOf page → n ≤ s .capacity → (i : ℕ) → i ≡ keyPlace (packedKey values) page n 0
-        → (i ≡ n → ⊥) → RecordFound before values (record { page = g; depth = x; place = i; count = n })
-    recordFound n e few i q h =
+    pub recordFound : (n : ℕ) → n ≡ countOf page → n ≤ s .capacity → ownPage s x (packedKey values) page n ≡ true
+        → (i : ℕ) → i ≡ keyPlace (packedKey values) page n 0 → (i ≡ n → ⊥)
+        → RecordFound before values (record { page = g; depth = x; place = i; count = n })
+    recordFound n e few ends i q h =
         let l : i < n = omega (arith, keyPlace-le (packedKey values) page n 0) in
         let within : keyPlace (packedKey values) page n 0 < 0 + n = omega arith in
         record {
           leaf = m;
           counted = e;
           few = few;
+          ends = ends;
           place-lt = l;
           here = ap (keyAt page) q ∙ keyAt-keyPlace (packedKey values) page n 0 within;
         }
@@ -186,4 +217,17 @@ module _ (before : Store) (values : List ℕ) where
           capacity-le = capacity-bounds s (k .shape) .1;
           number-lt = omega (arith, most);
           whole = le-trans (page-end-le (s .capacity) h P l) (k .pages-lent);
+        }
+
+    -- what the test of the key's page asks
+    pub ownAsked : (n : ℕ) → 1 ≤ n → n ≤ s .capacity → OwnAsked s (before .memory .bytes) g n x (packedKey values)
+    ownAsked n some few =
+        let k = passed before values (m .early) in
+        record {
+          shape = k .shape;
+          deep = omega (arith, m .deep, directoryLent .deep);
+          fits = indexFits-packed s values (k .shape) (k .fits) (m .four);
+          lent = pageLent g (m .own-within);
+          some = some;
+          few = few;
         }

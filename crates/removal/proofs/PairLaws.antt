@@ -33,6 +33,7 @@ use Rattle.removal.specs.Private.{SiblingMet, JoinMade}
 use Rattle.removal.specs.declared.Stored.{Stored}
 use Rattle.removal.specs.declared.Join.{Join}
 use Rattle.removal.proofs.MetLaws.{refused-word}
+use Rattle.removal.proofs.SiblingLaws.{siblings-deep}
 
 -- in a sound store a leaf and its sibling have two pages
 pub siblings-apart : (before : Store) (S : List Record) → Sound before S → (key : List ℕ) (g h m : ℕ)
@@ -88,6 +89,16 @@ module _ (before : Store) (values : List ℕ) (r : Stored) (f : RecordFound befo
     pub refused-sibling : wordHolds (before .state) word ≡ false → DeletePromise before values (refused 9) before
     refused-sibling e =
         refused-word before values (f .leaf .early) (c .0) (ap (wordHolds (before .state)) (sym (c .2)) ∙ e)
+
+    -- a leaf above the key's leaf, or an empty one beside it
+    pub refused-shallow : word ≤ wordOf (Empty x) → DeletePromise before values (refused 9) before
+    refused-shallow l =
+        let step : suc (x - 1) ≡ x = omega arith in
+        delete-unsound before values (f .leaf .early)
+        (λ S sound.
+        siblings-deep before S sound values g (x - 1) (f .leaf .own-within)
+        (f .leaf .own ∙ ap (λ y. wordOf (Page g y)) (sym step))
+        (c .0, c .1, rw (step, sym (c .2)) l))
 
     stays : ((h : ℕ) → h < P → word ≡ wordOf (Page h x) → suc b < countBefore g + countBefore h)
         → StaysAlone before values g x

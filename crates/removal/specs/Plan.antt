@@ -15,6 +15,7 @@ use Rattle.store.specs.Store.{Store, wordAt}
 use Rattle.store.specs.Promises.{keyNumber, DeletePromise}
 use Rattle.change.specs.Delete.{keyString, AtSibling, JoinFound}
 use Rattle.lent.specs.Limits.{limitsHold}
+use Rattle.seek.specs.Hold.{wordHolds, ownPage}
 use Rattle.tally.specs.Tally.{tallyHolds}
 use Rattle.removal.specs.declared.Stored.{Stored}
 use Rattle.removal.specs.declared.Join.{Join}
@@ -41,13 +42,18 @@ module _ (before : Store) (values : List ℕ) where
     pub limits : limitsHold (before .state) ≡ true
     pub own-within : g < P
     pub deep : x ≤ T
+    pub holds : wordHolds (before .state)
+        (wordAt (before .state .shape) T (before .memory .words) (keyString before values)) ≡ true
     pub own : wordAt (before .state .shape) T (before .memory .words) (keyString before values) ≡ wordOf (Page g x)
 
-  -- and the page has the key's record
+  -- and the page, whose first and last record have values in bounds and begin with the leaf's string, has the key's
+  -- record
   pub record RecordFound (r : Stored) : Type 0 where
     pub leaf : LeafMet (r .page) (r .depth)
     pub counted : r .count ≡ countBefore (r .page)
     pub few : r .count ≤ b
+    pub ends : ownPage (before .state .shape) (r .depth) (packedKey values)
+        (pageAt b (before .memory .bytes) (r .page)) (r .count) ≡ true
     pub place-lt : r .place < r .count
     pub here : keyAt (pageAt b (before .memory .bytes) (r .page)) (r .place) ≡ packedKey values
 

@@ -7,6 +7,7 @@ use pages::count_at;
 use record::RECORD_SIZE;
 use record::pack_key;
 use seek::key_word;
+use seek::page_holds;
 use seek::word_holds;
 use select::find_key;
 use shape::Key;
@@ -16,6 +17,7 @@ use siblings::sibling_of;
 use store::State;
 use tally::tally_holds;
 use word::Leaf;
+use word::pack_empty;
 use word::unpack;
 ghost use mathlib.Core.Path.{_≡_};
 ghost use Prim.Native.Nat.{_<_, _≤_};
@@ -76,7 +78,8 @@ pub fn plan_delete(state: State, dir: &[u32], pages: &[u8], key: Key) -> Plan
     plan_leaf(state, dir, pages, key, page, depth)
 }
 
-// The plan for a leaf with a page: 9 for a count of 0 or above b, 5 where no record has the key. A
+// The plan for a leaf with a page: 9 for a count of 0 or above b, and where the first or the last
+// record is out of bounds or does not begin with the leaf's string; 5 where no record has the key. A
 // leaf of depth 0 has no sibling.
 fn plan_leaf(state: State, dir: &[u32], pages: &[u8], key: Key, page: u32, depth: u32) -> Plan
     requires { ⌜ LeafMet (store state (now dir) (now pages)) (key .values) page depth ⌝ }
@@ -91,7 +94,11 @@ fn plan_leaf(state: State, dir: &[u32], pages: &[u8], key: Key, page: u32, depth
     if capacity < count {
         return Plan::Refused(9);
     }
-    let place = place_on(pages, capacity, page as usize, count, pack_key(key));
+    let packed = pack_key(key);
+    if !page_holds(shape, pages, page as usize, count, depth, packed) {
+        return Plan::Refused(9);
+    }
+    let place = place_on(pages, capacity, page as usize, count, packed);
     if place == count {
         return Plan::Refused(5);
     }
@@ -118,8 +125,9 @@ fn place_on(pages: &[u8], capacity: usize, g: usize, n: usize, key: u64) -> usiz
     find_key(&pages[start..end], n, key)
 }
 
-// The plan for a leaf below depth 0: it stays where its sibling is divided or empty. 9 for a word
-// of the sibling that no sound store has.
+// The plan for a leaf below depth 0: it stays where its sibling is divided. 9 for a word of the
+// sibling that no sound store has: also for a leaf above the key's leaf, or an empty one beside it,
+// whose words are all up to that of the latter.
 fn plan_sibling(state: State, dir: &[u32], pages: &[u8], key: Key, found: Stored) -> Plan
     requires { ⌜ RecordFound (store state (now dir) (now pages)) (key .values) found ⌝ }
     requires { ⌜ 0 < found .depth ⌝ }
@@ -128,6 +136,9 @@ fn plan_sibling(state: State, dir: &[u32], pages: &[u8], key: Key, found: Stored
     let values = key.values;
     let word = sibling_of(state, dir, values, found.depth - 1);
     if !word_holds(state, word) {
+        return Plan::Refused(9);
+    }
+    if word <= pack_empty(found.depth) {
         return Plan::Refused(9);
     }
     let sibling = unpack(word);

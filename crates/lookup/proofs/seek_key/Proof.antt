@@ -1,18 +1,19 @@
 -- `lookup::seek_key` meets its contract: the early refusals and the limits leave what each step asks. Assumes nothing.
-use mathlib.Core.Path.{_≡_, sym, _∙_}
+use mathlib.Core.Path.{_≡_, sym, _∙_, subst}
 use mathlib.Core.Bool.{true}
 use native.Mathlib.Nat.{le-trans}
 use lib.ListN.{length, length-map}
 use lib.Pow.{pow-mono}
 use borrow.Author.Needs.{needs}
 use borrow.Author.Tests.{not-true, not-false}
-use Rattle.shape.specs.Shape.{widthsOf}
-use Rattle.shape.proofs.ShapeLaws.{capacity-bounds}
+use Rattle.shape.specs.Shape.{widthsOf, indexFits}
 use Rattle.split.specs.Bits.{splitBit}
+use Rattle.record.specs.Packed.{unpackedKey}
 use Rattle.store.specs.Answers.{foundAnswer}
 use Rattle.store.specs.Store.{store, wordAt}
 use Rattle.lent.specs.Limits.{limitsHold}
 use Rattle.lent.proofs.LimitsLaws.{limits-parts}
+use Rattle.seek.proofs.PageLaws.{indexFits-packed}
 use Rattle.seek.proofs.WordLaws.{key-word-asks, key-word-is}
 use Rattle.lookup.proofs.CaseLaws.{soughtAnswer-limits, soughtAnswer-word}
 use Rattle.lookup.proofs.EarlyLaws.{Passed, passed, SixteenBits-of-keyFits}
@@ -74,10 +75,19 @@ pack-key-requires c κs =
 
 seek-by-word-requires : tie.Need-seek-by-word-requires
 seek-by-word-requires c κs =
-    let st = c .before .before .before .before .before .before .before .before .before .args .state in
+    let s = c .before .before .before .before .before .before .before .before .before in
+    let st = s .args .state in
     let p = early (c .before .before .before .before .before .before .before) in
     let l = limits-parts st (held (c .before .before .before .before .before)) in
-    ((capacity-bounds (st .shape) (p .shape) .1, l .1), p .pages-lent)
+    record {
+      shape = p .shape;
+      few = l .1;
+      short = le-trans (l .4) (l .2);
+      bits = le-trans (l .4) (l .3);
+      lent = p .pages-lent;
+      fits = subst (λ k. indexFits (widthsOf (st .shape)) (unpackedKey k) ≡ true) (sym (c .pack-key .ensures))
+          (indexFits-packed (st .shape) (s .args .key .values) (p .shape) (p .fits) (four s));
+    }
 
 returns-2 : tie.Need-returns-2
 returns-2 c =

@@ -1,14 +1,16 @@
 -- `plan::plan_insert` meets its contract: the early refusals and the limits leave what each step asks. Assumes nothing.
-use mathlib.Core.Path.{_≡_, sym, _∙_}
+use mathlib.Core.Path.{_≡_, sym, ap, _∙_}
 use native.Mathlib.Nat.{le-trans}
 use lib.ListN.{length, length-map}
 use lib.Pow.{pow-mono}
 use borrow.Author.Needs.{needs}
 use borrow.Author.Tests.{not-true, not-false}
-use Rattle.shape.specs.Shape.{widthsOf}
+use Rattle.shape.specs.Shape.{widthsOf, indexFits}
 use Rattle.split.specs.Bits.{splitBit}
+use Rattle.record.specs.Packed.{unpackedKey}
 use Rattle.store.specs.Store.{store, wordAt}
 use Rattle.lent.proofs.PassedLaws.{passed}
+use Rattle.seek.proofs.PageLaws.{indexFits-packed}
 use Rattle.seek.proofs.WordLaws.{key-word-asks, key-word-is}
 use Rattle.plan.specs.Private.{Asked}
 use Rattle.plan.proofs.MetLaws.{sixteen}
@@ -68,7 +70,9 @@ key-word-requires c κs =
     (le-trans (t .within-limit) (t .bits)) _ (le-trans (pow-mono (t .within-limit)) (t .words-lent))
 
 word-holds-requires : tie.Need-word-holds-requires
-word-holds-requires c κs = search needs
+word-holds-requires c κs =
+    let t = told (c .before .before .before .before) in
+    le-trans (t .within-limit) (t .short)
 
 returns-2 : tie.Need-returns-2
 returns-2 c =
@@ -86,9 +90,16 @@ pack-key-requires c κs =
 
 plan-leaf-requires : tie.Need-plan-leaf-requires
 plan-leaf-requires c κs =
+    let t = told (c .before .before .before .before .before .before .before) in
+    let a = c .before .before .before .before .before .before .before .before .before .before .before .args in
     let holds = c .before .before .word-holds in (
-      told (c .before .before .before .before .before .before .before) .pages-lent,
+      t .pages-lent,
       sym (holds .ensures) ∙ not-false (holds .result) (c .before .if2 .left),
+      record {
+        bits = le-trans (t .within-limit) (t .bits);
+        fits = ap (λ k. indexFits (widthsOf (a .state .shape)) (unpackedKey k)) (c .pack-key .ensures)
+            ∙ indexFits-packed (a .state .shape) (a .key .values) (t .shape) (t .fits) (t .four);
+      },
     )
 
 returns-3 : tie.Need-returns-3

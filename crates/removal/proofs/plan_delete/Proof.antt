@@ -95,7 +95,10 @@ key-word-requires c κs =
     (le-trans (l .4) (l .3)) _ (le-trans (pow-mono (l .4)) (p .words-lent))
 
 word-holds-requires : tie.Need-word-holds-requires
-word-holds-requires c κs = search needs
+word-holds-requires c κs =
+    let s = c .before .before .before .before .before .before .before .before in
+    let l = limits-parts (s .args .state) (limited (c .before .before .before .before)) in
+    le-trans (l .4) (l .2)
 
 returns-2 : tie.Need-returns-2
 returns-2 c =

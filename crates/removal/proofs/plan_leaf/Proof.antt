@@ -1,12 +1,16 @@
 -- `removal::plan_leaf` meets its contract: each way that it ends is a law of the key's leaf. Assumes nothing.
-use mathlib.Core.Path.{_≡_, ap, _∙_}
+use mathlib.Core.Path.{_≡_, sym, ap, _∙_, subst}
 use native.Mathlib.Omega.{arith}
+use borrow.Author.Tests.{not-true, not-false}
 use Rattle.page.specs.Page.{pageAt}
 use Rattle.record.specs.Packed.{packedKey}
 use Rattle.select.specs.KeyPlace.{keyPlace}
 use Rattle.store.specs.Store.{store}
 use Rattle.lookup.proofs.EarlyLaws.{passed, SixteenBits-of-keyFits}
-use Rattle.removal.proofs.MetLaws.{refused-count, refused-absent, recordFound, pageLent}
+use Rattle.seek.specs.Hold.{ownPage, OwnAsked}
+use Rattle.removal.specs.Plan.{RecordFound}
+use Rattle.removal.proofs.MetLaws.{refused-count, refused-ends, refused-absent, recordFound}
+use Rattle.removal.proofs.MetLaws.{pageLent, ownAsked}
 use Rattle.removal.proofs.PairLaws.{stays-root}
 use borrow.Author.Needs.{needs}
 use Rattle.removal.proofs.plan_leaf.Statement.{statement}
@@ -14,16 +18,31 @@ use Rattle.removal.proofs.plan_leaf.Tie as tie
 
 -- the place found is the key's
 placed : (c : tie.After-place-on)
-    → let a = c .before .before .before .before .before .before .before .before .before .args in
+    → let f = c .before .before .before .before .before .before in
+    let a = f .before .before .before .before .before .args in
     c .place-on .result
     ≡ keyPlace (packedKey (a .key .values)) (pageAt (a .state .shape .capacity) (a .pages .now) (a .page))
-    (c .before .before .before .before .count-at .result) 0
+    (f .count-at .result) 0
 placed c =
-    let a = c .before .before .before .before .before .before .before .before .before .args in
-    let n = c .before .before .before .before .count-at .result in
+    let f = c .before .before .before .before .before .before in
+    let a = f .before .before .before .before .before .args in
     c .place-on .ensures
-    ∙ ap (λ key. keyPlace key (pageAt (a .state .shape .capacity) (a .pages .now) (a .page)) n 0)
-    (c .before .pack-key .ensures)
+    ∙ ap (λ key. keyPlace key (pageAt (a .state .shape .capacity) (a .pages .now) (a .page)) (f .count-at .result) 0)
+    (c .before .before .before .pack-key .ensures)
+
+-- what the test of the page tells, of the key's packed form
+tested : (c : tie.After-page-holds)
+    → let f = c .before .before .before .before in
+    let a = f .before .before .before .before .before .args in
+    c .page-holds .result
+    ≡ ownPage (a .state .shape) (a .depth) (packedKey (a .key .values))
+    (pageAt (a .state .shape .capacity) (a .pages .now) (a .page)) (f .count-at .result)
+tested c =
+    let f = c .before .before .before .before in
+    let a = f .before .before .before .before .before .args in
+    c .page-holds .ensures
+    ∙ ap (λ key. ownPage (a .state .shape) (a .depth) key
+    (pageAt (a .state .shape .capacity) (a .pages .now) (a .page)) (f .count-at .result)) (c .before .pack-key .ensures)
 
 cast-capacity : tie.Need-cast-capacity
 cast-capacity c = search needs
@@ -61,51 +80,74 @@ pack-key-requires c κs =
     let k = passed before (a .key .values) (s .pre .early) in
     SixteenBits-of-keyFits (a .state .shape) (a .key .values) (k .shape) (k .fits) (s .pre .four)
 
-place-on-requires : tie.Need-place-on-requires
-place-on-requires c κs =
+page-holds-requires : tie.Need-page-holds-requires
+page-holds-requires c κs =
     let s = c .before .before .before .before .before .before .before .before in
     let a = s .args in
-    let before = store (a .state) (a .dir .now) (a .pages .now) in (
-      pageLent before (a .key .values) (a .page) (a .depth) (s .pre) (a .page) (s .pre .own-within),
-      omega (arith, c .before .if2 .left),
-    )
+    let before = store (a .state) (a .dir .now) (a .pages .now) in
+    let count = c .before .before .before .count-at .result in
+    subst (OwnAsked (a .state .shape) (a .pages .now) (a .page) count (a .depth)) (sym (c .pack-key .ensures))
+    (ownAsked before (a .key .values) (a .page) (a .depth) (s .pre) count (omega (arith, c .before .before .if1 .left))
+    (omega (arith, c .before .if2 .left)))
 
 returns-3 : tie.Need-returns-3
 returns-3 c =
-    let s = c .before .before .before .before .before .before .before .before .before .before in
+    let f = c .before .before .before .before .before in
+    let s = f .before .before .before .before .before in
     let a = s .args in
     let before = store (a .state) (a .dir .now) (a .pages .now) in
-    let count = c .before .before .before .before .before .count-at in
-    let known = c .before .before .before .before .before .before .before .before .shared-slice-known2 .given in
-    refused-absent before (a .key .values) (a .page) (a .depth) (s .pre) (λ i. known i .fits)
-    (count .result) (count .ensures .0) _ (placed (c .before)) (c .if3 .taken)
+    let holds = c .before .page-holds in
+    refused-ends before (a .key .values) (a .page) (a .depth) (s .pre) (f .count-at .result) (f .count-at .ensures .0)
+    (sym (tested (c .before)) ∙ not-true (holds .result) (c .if3 .taken))
+
+place-on-requires : tie.Need-place-on-requires
+place-on-requires c κs =
+    let f = c .before .before .before .before .before in
+    let s = f .before .before .before .before .before in
+    let a = s .args in
+    let before = store (a .state) (a .dir .now) (a .pages .now) in (
+      pageLent before (a .key .values) (a .page) (a .depth) (s .pre) (a .page) (s .pre .own-within),
+      omega (arith, c .before .before .before .if2 .left),
+    )
 
 returns-4 : tie.Need-returns-4
 returns-4 c =
-    let s = c .before .before .before .before .before .before .before .before .before .before .before in
+    let f = c .before .before .before .before .before .before .before in
+    let s = f .before .before .before .before .before in
     let a = s .args in
     let before = store (a .state) (a .dir .now) (a .pages .now) in
-    let count = c .before .before .before .before .before .before .count-at in
-    let found =
-    recordFound before (a .key .values) (a .page) (a .depth) (s .pre) (count .result) (count .ensures .0)
-    (omega (arith, c .before .before .before .before .if2 .left)) _ (placed (c .before .before))
-    (c .before .if3 .left) in
-    (found, stays-root before (a .key .values) _ found (c .if4 .taken))
+    let known = f .before .before .before .shared-slice-known2 .given in
+    refused-absent before (a .key .values) (a .page) (a .depth) (s .pre) (λ i. known i .fits)
+    (f .count-at .result) (f .count-at .ensures .0) _ (placed (c .before)) (c .if4 .taken)
 
-plan-sibling-requires : tie.Need-plan-sibling-requires
-plan-sibling-requires c κs =
-    let s = c .before .before .before .before .before .before .before .before .before .before .before in
+-- the record that was found
+found : (c : tie.Else4)
+    → let f = c .before .before .before .before .before .before .before in
+    let a = f .before .before .before .before .before .args in
+    RecordFound (store (a .state) (a .dir .now) (a .pages .now)) (a .key .values)
+    (record { page = a .page; depth = a .depth; place = c .before .place-on .result; count = f .count-at .result })
+found c =
+    let f = c .before .before .before .before .before .before .before in
+    let s = f .before .before .before .before .before in
     let a = s .args in
     let before = store (a .state) (a .dir .now) (a .pages .now) in
-    let count = c .before .before .before .before .before .before .count-at in (
-      recordFound before (a .key .values) (a .page) (a .depth) (s .pre) (count .result) (count .ensures .0)
-          (omega (arith, c .before .before .before .before .if2 .left)) _ (placed (c .before .before))
-          (c .before .if3 .left),
-      omega (arith, c .if4 .left),
-    )
+    let holds = c .before .before .before .page-holds in
+    recordFound before (a .key .values) (a .page) (a .depth) (s .pre) (f .count-at .result) (f .count-at .ensures .0)
+    (omega (arith, c .before .before .before .before .before .if2 .left)) (sym (tested (c .before .before .before)) ∙ not-false (holds .result)
+    (c .before .before .if3 .left)) _ (placed (c .before)) (c .if4 .left)
 
 returns-5 : tie.Need-returns-5
-returns-5 c = c .plan-sibling .ensures
+returns-5 c =
+    let f = c .before .before .before .before .before .before .before .before in
+    let a = f .before .before .before .before .before .args in
+    let before = store (a .state) (a .dir .now) (a .pages .now) in
+    (found (c .before), stays-root before (a .key .values) _ (found (c .before)) (c .if5 .taken))
+
+plan-sibling-requires : tie.Need-plan-sibling-requires
+plan-sibling-requires c κs = (found (c .before), omega (arith, c .if5 .left))
+
+returns-6 : tie.Need-returns-6
+returns-6 c = c .plan-sibling .ensures
 
 pub plan-leaf-spec : {M : Type 1} → statement M
 plan-leaf-spec =
@@ -116,8 +158,10 @@ plan-leaf-spec =
     returns
     returns-2
     pack-key-requires
-    place-on-requires
+    page-holds-requires
     returns-3
+    place-on-requires
     returns-4
+    returns-5
     plan-sibling-requires
-    returns-5)
+    returns-6)
