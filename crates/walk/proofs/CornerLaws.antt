@@ -1,5 +1,5 @@
--- Laws of the low corner of a region and of the bits that are fixed at a depth: one step more adds the bit that the step
--- sets in a packed key; under the mask of the fixed bits a corner tells the region's keys. Assumes nothing.
+-- Laws of the low corner of a region and of the bits that are fixed at a depth: one step more adds the bit that the
+-- step sets in a packed key; under the mask of the fixed bits a corner tells the region's keys. Assumes nothing.
 use Prim.Native.Nat.{ℕ, zero, suc, _+_, _*_, _-_, _/_, _%_, _^_, _≤_, _<_}
 use mathlib.Core.Path.{_≡_, refl, sym, ap, _∙_, subst}
 use mathlib.Core.Bool.{Bool, true, false, cond}
@@ -39,13 +39,33 @@ packedKey-plus : (f g : ℕ → ℕ) (z y : ℕ) → z < 4 → g z ≡ f z + y �
     → packedKey (perAttribute g) ≡ packedKey (perAttribute f) + 2 ^ (16 * z) * y
 unfolding packedKey
 packedKey-plus f g zero y h e o =
-    omega (arith, o 1 (omega arith) (λ i. omega arith), o 2 (omega arith) (λ i. omega arith), o 3 (omega arith) (λ i. omega arith))
+    omega (
+      arith,
+      o 1 (omega arith) (λ i. omega arith),
+      o 2 (omega arith) (λ i. omega arith),
+      o 3 (omega arith) (λ i. omega arith),
+    )
 packedKey-plus f g (suc zero) y h e o =
-    omega (arith, o 0 (omega arith) (λ i. omega arith), o 2 (omega arith) (λ i. omega arith), o 3 (omega arith) (λ i. omega arith))
+    omega (
+      arith,
+      o 0 (omega arith) (λ i. omega arith),
+      o 2 (omega arith) (λ i. omega arith),
+      o 3 (omega arith) (λ i. omega arith),
+    )
 packedKey-plus f g (suc (suc zero)) y h e o =
-    omega (arith, o 0 (omega arith) (λ i. omega arith), o 1 (omega arith) (λ i. omega arith), o 3 (omega arith) (λ i. omega arith))
+    omega (
+      arith,
+      o 0 (omega arith) (λ i. omega arith),
+      o 1 (omega arith) (λ i. omega arith),
+      o 3 (omega arith) (λ i. omega arith),
+    )
 packedKey-plus f g (suc (suc (suc zero))) y h e o =
-    omega (arith, o 0 (omega arith) (λ i. omega arith), o 1 (omega arith) (λ i. omega arith), o 2 (omega arith) (λ i. omega arith))
+    omega (
+      arith,
+      o 0 (omega arith) (λ i. omega arith),
+      o 1 (omega arith) (λ i. omega arith),
+      o 2 (omega arith) (λ i. omega arith),
+    )
 packedKey-plus f g (suc (suc (suc (suc z)))) y h e o = absurd (omega arith)
 
 -- ---- at a step
@@ -261,7 +281,7 @@ module _ (ws : List ℕ) (fit : Fit ws) (x : ℕ) (p : ℕ → Bool) (key : ℕ)
         endsAgree-endsBegin ws four fit x within key fits page n
         ∙ endsBegin-agree ws x (splitBit ws (unpackedKey key)) p agree page n
 
--- the bits that are fixed are 64 at most
+-- the mask fits
 pub fixedBits-lt : (ws : List ℕ) (x : ℕ) → fixedBits ws x < 2 ^ 64
 unfolding fixedBits
 fixedBits-lt ws x = packedKey-lt _ sixteen

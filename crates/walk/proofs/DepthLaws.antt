@@ -58,8 +58,10 @@ hasDepth-none depths x h =
 regroup : (d n b m : ℕ) → d + n * b + n * 2 * m ≡ d + n * (b + 2 * m)
 regroup d n b m = omega arith
 
-module _ (ns : List ℕ) (x depths : ℕ) (more : x < length ns) (e : depths + 2 ^ x * depthsOf (drop x ns) ≡ depthsOf ns) where
-  depths-next : (depths + 2 ^ x * bitValue (leb 1 (getD ns x 0))) + 2 ^ (x + 1) * depthsOf (drop (x + 1) ns) ≡ depthsOf ns
+module _ (ns : List ℕ) (x depths : ℕ) (more : x < length ns)
+    (e : depths + 2 ^ x * depthsOf (drop x ns) ≡ depthsOf ns) where
+  depths-next : depths + 2 ^ x * bitValue (leb 1 (getD ns x 0)) + 2 ^ (x + 1) * depthsOf (drop (x + 1) ns)
+      ≡ depthsOf ns
   unfolding depthsOf
   depths-next =
       let here : depthsOf (drop x ns) ≡ bitValue (leb 1 (getD ns x 0)) + 2 * depthsOf (drop (x + 1) ns) =

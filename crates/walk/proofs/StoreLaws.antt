@@ -137,8 +137,8 @@ module _ (store : Store) (q : ℕ → QueryBit) (S : List Record) (h : SoundWher
   unfolding tallied
   leaf-tallied p = le-leb 1 _ (leaf-counted (withBytes store (h .0)) S sound p)
 
-  shows-leaves : ShowsLeaves (λ x p. wordAt s x words p) (leafSeen (store .state) (store .memory .bytes)) (queryEnters q)
-      T D
+  shows-leaves : ShowsLeaves (λ x p. wordAt s x words p) (leafSeen (store .state) (store .memory .bytes))
+      (queryEnters q) T D
   shows-leaves = record {
     own-word = λ t p l z.
         ap (λ a. getD words a 0)

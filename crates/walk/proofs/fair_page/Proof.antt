@@ -34,7 +34,8 @@ counted : (c : tie.After-wide2)
     c .before .before .wide .result + 256 * c .wide2 .result ≡ countOf (s .args .page .now)
 counted c =
     let s = c .before .before .before .before .before in
-    countOf-two (s .args .page .now) _ _ (omega (arith, s .pre .1)) (c .before .before .wide .ensures .0) (c .wide2 .ensures .0)
+    countOf-two (s .args .page .now) _ _ (omega (arith, s .pre .1)) (c .before .before .wide .ensures .0)
+    (c .wide2 .ensures .0)
 
 returns : tie.Need-returns
 returns c =
