@@ -7,12 +7,12 @@ use mdeh_tests::compare::Comparisons;
 use mdeh_tests::host::Shape;
 use mdeh_tests::lent::{lend_bytes, record_lost, LentStore};
 use mdeh_tests::plain::damage::memory::{Aged, Kind, CALLS, KINDS};
-use mdeh_tests::plain::image::{page_of, Image, Laid, DEPTH};
+use mdeh_tests::plain::image::{page_of, word_of, Image, Laid, Placed, DEPTH};
 use mdeh_tests::plain::judge::judge;
 use mdeh_tests::plain::kept::Change;
 use mdeh_tests::plain::leaves::{greatest_depth, Record};
 use mdeh_tests::plain::model::Model;
-use mdeh_tests::plain::reading::Reading;
+use mdeh_tests::plain::reading::{sibling, Reading};
 use mdeh_tests::plain::samples::{query_of, random_key, random_model};
 use mdeh_tests::random::Random;
 
@@ -293,4 +293,37 @@ fn an_empty_leaf_with_a_word_zeroed_takes_no_record() {
         }
     }
     count.end(2 * (4 + 4));
+}
+
+// ---- a page that two leaves name
+
+/// A delete would join its leaf with a sibling whose words name a third leaf's page, and take that leaf's records.
+#[test]
+fn a_sibling_with_another_leafs_page_is_not_joined() {
+    let mut count = Comparisons::default();
+    let mut random = Random::new(SEED);
+    let (mut stores, mut records) = (0, 0);
+    while stores < 100 {
+        let model = random_model(&mut random);
+        let Laid { mut image, leaves, .. } = Laid::new(&mut random, &model);
+        let [leaf, third] = [0; 2].map(|_| &leaves[random.below(leaves.len())]);
+        let beside = |placed: &&Placed| leaf.leaf.depth() > 0 && placed.leaf.bits == sibling(&leaf.leaf.bits);
+        let Some(other) = leaves.iter().find(beside) else { continue };
+        let [Some(g), Some(h), Some(page)] = [leaf, other, third].map(|placed| placed.page) else { continue };
+        let both = leaf.leaf.records.len() + third.leaf.records.len() - 1;
+        if page == g || page == h || both > model.shape.capacity as usize {
+            continue;
+        }
+        stores += 1;
+        other.cells.iter().for_each(|&a| image.dir[a] = word_of(Some(page), other.leaf.depth()));
+        let mut store = LentStore::new(&mut random, &image);
+        for Record { key, .. } in &leaf.leaf.records {
+            count.same(store.delete(*key), Err(9), format_args!("{key:?}: {image:?}"));
+        }
+        for Record { key, payload, .. } in &third.leaf.records {
+            count.same(store.lookup(*key), Ok((*payload, 1)), format_args!("{key:?}: {image:?}"));
+        }
+        records += leaf.leaf.records.len() + third.leaf.records.len();
+    }
+    count.end(records as u64);
 }
