@@ -2,7 +2,8 @@
 // (document 01, "Calls").
 use delete_steps::join_leaves;
 use delete_steps::keep_leaf;
-use guard::delete_keeps;
+use guard::join_keeps;
+use guard::removal_keeps;
 use lent::key_number;
 use removal::Plan;
 use removal::plan_delete;
@@ -36,7 +37,7 @@ pub fn delete(state: State, dir: &mut [u32], pages: &mut [u8], key: Key) -> Chan
             state,
         },
         Plan::Keep(found) => {
-            if !delete_keeps(state, dir, values, Plan::Keep(found)) {
+            if !removal_keeps(state, dir, values, found) {
                 return Change {
                     answer: Changed::Refused(9),
                     state,
@@ -49,7 +50,7 @@ pub fn delete(state: State, dir: &mut [u32], pages: &mut [u8], key: Key) -> Chan
             }
         }
         Plan::Join(found, join) => {
-            if !delete_keeps(state, dir, values, Plan::Join(found, join)) {
+            if !join_keeps(state, dir, values, found, join) {
                 return Change {
                     answer: Changed::Refused(9),
                     state,

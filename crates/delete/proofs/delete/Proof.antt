@@ -1,11 +1,13 @@
--- `delete::delete` meets its contract: the promise is kept by an early refusal, by a refusal of the plan or of the tests,
--- and by what the planned steps leave. Assumes nothing.
+-- `delete::delete` meets its contract: the promise is kept by an early refusal, by a refusal of the plan or of the
+-- tests, and by what the planned steps leave. Assumes nothing.
 use mathlib.Core.Path.{_≡_, sym, subst, _∙_}
+use native.Mathlib.Omega.{arith}
 use lib.ListN.{length, length-map}
 use Rattle.store.specs.Answers.{changedAnswer}
 use Rattle.store.specs.Promises.{keyNumber}
 use Rattle.store.specs.Store.{Store, store}
 use Rattle.lent.proofs.LentLaws.{keyNumber-by}
+use Rattle.lent.proofs.LimitsLaws.{limits-parts}
 use Rattle.removal.specs.Plan.{RecordFound, StaysAlone, JoinPlanned, Planned}
 use Rattle.removal.proofs.MetLaws.{directoryLent}
 use Rattle.delete.proofs.FoundLaws.{promise-early, recordLent}
@@ -79,10 +81,15 @@ enum-known-plan c = search needs
 enum-known-plan-2 : tie.Need-enum-known-plan-2
 enum-known-plan-2 c = search needs
 
-delete-keeps-requires : tie.Need-delete-keeps-requires
-delete-keeps-requires c κs =
+removal-keeps-requires : tie.Need-removal-keeps-requires
+removal-keeps-requires c κs =
     let s = start (c .before .before .before .before .before) in
-    record { bytes = s .args .pages .now; planned = kept (c .before .before); thirteen = thirteen s }
+    let leaf = kept (c .before .before) .0 .leaf in
+    let few = limits-parts (s .args .state) (leaf .limits) .1 in (
+      directoryLent (given s) (s .args .key .values) _ _ leaf,
+      leaf .deep,
+      omega (arith, leaf .own-within, few),
+    )
 
 same-length : tie.Need-same-length
 same-length c = search needs
@@ -95,7 +102,7 @@ unfolding changedAnswer
 returns-2 c =
     let p = c .before .before .before .before .before .before .before in
     promise-not-whole (given (start p)) (start p .args .key .values) _ (kept (c .before .before .before .before)) _
-    (c .before .delete-keeps .ensures) (not-true _ (c .if2 .taken)) (early p)
+    (c .before .removal-keeps .ensures) (not-true _ (c .if2 .taken)) (early p)
 
 keep-leaf-requires : tie.Need-keep-leaf-requires
 keep-leaf-requires c κs =
@@ -108,10 +115,16 @@ keep-leaf-requires c κs =
 enum-known-plan-3 : tie.Need-enum-known-plan-3
 enum-known-plan-3 c = search needs
 
-delete-keeps-requires-2 : tie.Need-delete-keeps-requires-2
-delete-keeps-requires-2 c κs =
+join-keeps-requires : tie.Need-join-keeps-requires
+join-keeps-requires c κs =
     let s = start (c .before .before .before .before .before) in
-    record { bytes = s .args .pages .now; planned = joined (c .before .before); thirteen = thirteen s }
+    let v = s .args .key .values in
+    let k = joined (c .before .before) in
+    let leaf = k .0 .leaf in
+    let few = limits-parts (s .args .state) (leaf .limits) .1 in (
+      (directoryLent (given s) v _ _ leaf, leavesLent (given s) v _ (k .0) _ (k .1) (thirteen s)),
+      (omega (arith, leaf .own-within, few), omega (arith, k .1 .met .other-within, few)),
+    )
 
 same-length-3 : tie.Need-same-length-3
 same-length-3 c = search needs
@@ -124,7 +137,7 @@ unfolding changedAnswer
 returns-3 c =
     let p = c .before .before .before .before .before .before .before in
     promise-not-whole (given (start p)) (start p .args .key .values) _ (joined (c .before .before .before .before)) _
-    (c .before .delete-keeps2 .ensures) (not-true _ (c .if3 .taken)) (early p)
+    (c .before .join-keeps .ensures) (not-true _ (c .if3 .taken)) (early p)
 
 join-leaves-requires : tie.Need-join-leaves-requires
 join-leaves-requires c κs =
@@ -157,12 +170,13 @@ same-length-8 c = search needs
 returns-5 : tie.Need-returns-5
 unfolding changedAnswer
 returns-5 c =
-    let s = start (c .before .before .before .before .before .before .before .before .before .before .before .before .before .before) in
+    let s = start (c .before .before .before .before .before .before .before .before .before .before .before .before
+    .before .before) in
     let k = kept (c .before .before .before .before .before .before .before .before .before .before .before) in
     let test = c .before .before .before .before .before .before .before in
     let done = c .before .before .before .before .keep-leaf in
     promise-kept (given s) (s .args .key .values) _ (k .0) _ _ (done .ensures .0) (done .ensures .1) (k .1)
-    (test .before .delete-keeps .ensures .yes (not-false _ (test .if2 .left)))
+    (test .before .removal-keeps .ensures .yes (not-false _ (test .if2 .left)))
 
 same-length-9 : tie.Need-same-length-9
 same-length-9 c = search needs
@@ -173,12 +187,13 @@ same-length-10 c = search needs
 returns-6 : tie.Need-returns-6
 unfolding changedAnswer
 returns-6 c =
-    let s = start (c .before .before .before .before .before .before .before .before .before .before .before .before .before .before) in
+    let s = start (c .before .before .before .before .before .before .before .before .before .before .before .before
+    .before .before) in
     let k = joined (c .before .before .before .before .before .before .before .before .before .before .before) in
     let test = c .before .before .before .before .before .before .before in
     let done = c .before .before .before .before .join-leaves in
     promise-joined (given s) (s .args .key .values) _ (k .0) _ (k .1) (done .result) _ _ (done .ensures .0)
-    (done .ensures .1) (thirteen s) (test .before .delete-keeps2 .ensures .yes (not-false _ (test .if3 .left)))
+    (done .ensures .1) (thirteen s) (test .before .join-keeps .ensures .yes (not-false _ (test .if3 .left)))
 
 pub delete-spec : {M : Type 1} → statement M
 delete-spec =
@@ -189,13 +204,13 @@ delete-spec =
     plan-delete-requires
     enum-known-plan
     enum-known-plan-2
-    delete-keeps-requires
+    removal-keeps-requires
     same-length
     same-length-2
     returns-2
     keep-leaf-requires
     enum-known-plan-3
-    delete-keeps-requires-2
+    join-keeps-requires
     same-length-3
     same-length-4
     returns-3
