@@ -2,6 +2,7 @@ pub mod BlockLaws
 pub mod CellLaws
 pub mod DoublingLaws
 pub mod KeyLaws
+pub mod LatestLaws
 pub mod MaskLaws
 pub mod PlaceLaws
 pub mod RegionLaws

@@ -15,7 +15,7 @@ use Rattle.split.specs.Steps.{steps}
 use Rattle.split.proofs.StepLaws.{length-steps}
 use Rattle.split.proofs.DepthLaws.{depth-z}
 use Rattle.address.specs.Address.{address}
-use Rattle.address.specs.Private.{InBox, StepPair}
+use Rattle.address.specs.Private.{InBox, StepPair, latestPair}
 use Rattle.address.proofs.SideLaws.{In-sides-get}
 use Rattle.cell.specs.Cell.{cell, cellAddress, Agree}
 use Rattle.cell.proofs.CellLaws.{In-cell, cell-agree, cell-zero-bits, cell-zero-bit}
@@ -25,6 +25,7 @@ use Rattle.directory.specs.Private.{StepsBefore, bitSet, RegionAt, Block
 use Rattle.directory.proofs.PlaceLaws.{stepNumber-pair, stepPair-lt, stepsBefore-pair}
 use Rattle.directory.proofs.CellLaws.{cut, agree-cut, cut-past, withBit, withBit-here, agree-withBit, agree-sym}
 use Rattle.directory.proofs.CellLaws.{agree-trans, agree-le, agree-suc, inBox-cell, cell-bitSet}
+use Rattle.directory.proofs.LatestLaws.{latestPair-cell}
 use Rattle.directory.proofs.BlockLaws.{full, agree-full, full-past, blockFirst, blockLast}
 use Rattle.directory.proofs.BlockLaws.{first-le-last, block, filled-block}
 
@@ -178,7 +179,7 @@ module _ (ws is : List ℕ) (x t word start : ℕ) (before : List ℕ) (r : Regi
         last-is q c =
             cell-blockLast ws (r .fits .fit) y s pair x (inv .from) q ∙ ap (bitSet s) (inv .last-cell q c) ∙ sym d
 
-        pub block-fits : BlockFits ws first end (length now)
+        pub block-fits : BlockFits ws s first end (length now)
         unfolding cellAddress
         block-fits =
             let f = first-is p (r .string .1) in
@@ -188,8 +189,15 @@ module _ (ws is : List ℕ) (x t word start : ℕ) (before : List ℕ) (r : Regi
             let le : 2 ^ suc y ≤ 2 ^ t = pow-mono next in
             let top : 2 ^ t ≤ 2 ^ 12 = pow-mono (r .fits .short) in
             record {
+              low = pair .low;
               first-in = subst (InBox ws) f (inBox-cell ws (r .fits .fit) (suc y) (blockFirst x y p));
               last-in = subst (InBox ws) l (inBox-cell ws (r .fits .fit) (suc y) (blockLast x y p));
+              first-latest =
+                  subst (λ v. latestPair v ≡ s + 1) f
+                  (latestPair-cell ws (r .fits .fit) y s pair (blockFirst x y p) (withBit-here (cut x p) y true));
+              last-latest =
+                  subst (λ v. latestPair v ≡ s + 1) l
+                  (latestPair-cell ws (r .fits .fit) y s pair (blockLast x y p) (withBit-here (full x p) y true));
               order =
                   subst (λ v. address ws v ≤ address ws end) f
                   (subst (λ v. address ws (cell ws (suc y) (blockFirst x y p)) ≤ address ws v) l

@@ -9,7 +9,7 @@ use lib.Dec.{eqb}
 use lib.ListN.{getD, length, set}
 use Rattle.split.specs.Steps.{stepsBelow}
 use Rattle.address.specs.Address.{address}
-use Rattle.address.specs.Private.{InBox}
+use Rattle.address.specs.Private.{InBox, latestPair}
 use Rattle.cell.specs.Cell.{cell, cellAddress}
 use Rattle.directory.specs.Directory.{DirectoryFits, Filled}
 
@@ -53,10 +53,14 @@ abbrev pub BlocksFilled : List ℕ → List ℕ → ℕ → ℕ → ℕ → List
 BlocksFilled ws is x t word before after =
     (p : ℕ → Bool) → cell ws x p ≡ is → Filled ws x x p word before before → Filled ws t x p word before after
 
--- the first and the last vector of a block have addresses of a directory in a slice of so many words
-pub record BlockFits (ws first last : List ℕ) (size : ℕ) : Type 0 where
+-- the first and the last vector of a block have addresses of a directory in a slice of so many words; the latest pair
+-- of both is at place g
+pub record BlockFits (ws : List ℕ) (g : ℕ) (first last : List ℕ) (size : ℕ) : Type 0 where
+  pub low : g < 64
   pub first-in : InBox ws first
   pub last-in : InBox ws last
+  pub first-latest : latestPair first ≡ g + 1
+  pub last-latest : latestPair last ≡ g + 1
   pub order : address ws first ≤ address ws last
   pub room : address ws last < size
   pub short : address ws last < 4096

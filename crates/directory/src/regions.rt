@@ -6,6 +6,7 @@ use super::places::place_of;
 use super::places::step_from;
 use super::vectors::with_bit;
 use address::Index;
+use address::digits::address_before;
 use address::locate;
 use shape::Widths;
 ghost use Prim.Native.Nat.{_+_, _<_, _≤_};
@@ -44,20 +45,21 @@ fn fill_blocks(widths: Widths, index: Index, start: u64, x: u64, t: u64, word: u
         let step = step_from(widths, y, g);
         let first = with_bit(index, step);
         last = with_bit(last, step);
-        fill_block(widths, first, last, word, dir);
+        fill_block(widths, first, last, step, word, dir);
         g = step + 1;
         y += 1;
     }
 }
 
-// Sets the cells of a block from its first to its last, where the bits that vary are 0 and 1.
-fn fill_block(widths: Widths, first: Index, last: Index, word: u32, dir: &mut [u32])
-    requires { ⌜ BlockFits (widthList widths) (indexList first) (indexList last) (length (now dir)) ⌝ }
+// Sets the cells of a block from its first to its last, where the bits that vary are 0 and 1. The pair
+// at place g appended them all.
+fn fill_block(widths: Widths, first: Index, last: Index, g: u64, word: u32, dir: &mut [u32])
+    requires { ⌜ BlockFits (widthList widths) g (indexList first) (indexList last) (length (now dir)) ⌝ }
     ensures { λ _. ⌜ BlockFilled (widthList widths) (indexList first) (indexList last) word
         (now (dir .entry)) (now (dir .exit)) ⌝ }
 {
-    let base = locate(widths, first);
-    let end = locate(widths, last);
+    let base = address_before(widths, first, g);
+    let end = address_before(widths, last, g);
     fill_mask(base, end - base, word, dir);
 }
 

@@ -5,11 +5,11 @@ use borrow.Author.Needs.{needs}
 use Rattle.directory.proofs.regions.fill_block.Statement.{statement}
 use Rattle.directory.proofs.regions.fill_block.Tie as tie
 
-locate-requires : tie.Need-locate-requires
-locate-requires c κs = search needs
+address-before-requires : tie.Need-address-before-requires
+address-before-requires c κs = search needs
 
-locate-requires-2 : tie.Need-locate-requires-2
-locate-requires-2 c κs = search needs
+address-before-requires-2 : tie.Need-address-before-requires-2
+address-before-requires-2 c κs = search needs
 
 sub-fill-mask : tie.Need-sub-fill-mask
 sub-fill-mask c = search needs
@@ -23,16 +23,16 @@ same-length c = search needs
 returns : tie.Need-returns
 returns c =
     let m = c .before .before .fill-mask .ensures in
-    let first = c .before .before .before .before .before .locate .ensures in
-    let last = c .before .before .before .before .locate2 .ensures in
+    let first = c .before .before .before .before .before .address-before .ensures in
+    let last = c .before .before .before .before .address-before2 .ensures in
     rw (sym first, sym last) m
 
 pub fill-block-spec : {M : Type 1} → statement M
 fill-block-spec =
     tie.close
     (tie.spec
-    locate-requires
-    locate-requires-2
+    address-before-requires
+    address-before-requires-2
     sub-fill-mask
     fill-mask-requires
     same-length
