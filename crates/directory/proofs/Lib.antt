@@ -5,6 +5,7 @@ pub mod KeyLaws
 pub mod MaskLaws
 pub mod PlaceLaws
 pub mod RegionLaws
+pub mod ReverseLaws
 pub mod ShownLaws
 pub mod SubsetLaws
 pub mod VectorLaws
