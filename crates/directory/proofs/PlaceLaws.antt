@@ -4,18 +4,18 @@ use mathlib.Core.Path.{_≡_, refl, ap, _∙_, subst}
 use mathlib.Core.List.{List, [], _∷_}
 use mathlib.Core.Logic.{_⊎_, inl, inr}
 use native.Mathlib.Omega.{arith}
-use native.Mathlib.Nat.{le-trans, le-of-eq, add-le-add, add-mul}
+use native.Mathlib.Nat.{le-trans, le-of-eq, add-le-add}
 use native.Mathlib.Numerals.{add-one}
 use lib.ListN.{getD, take, length}
 use lib.Seq.{take-append-seam}
-use Rattle.lists.proofs.Numbers.{lt-or-le, eq-or-ne}
+use Rattle.lists.proofs.Numbers.{lt-or-le}
 use Rattle.shape.specs.Shape.{Fit, total}
 use Rattle.split.specs.Steps.{stepsBelow, steps, stepNumber, stepsOf, depth}
 use Rattle.split.proofs.StepLaws.{depthBefore, stepsOf-stepsBelow, length-stepsBelow, length-steps}
 use Rattle.split.proofs.StepLaws.{length-stepsBelow-step, length-stepsBelow-skip, stepsBelow-prefix}
 use Rattle.split.proofs.DepthLaws.{stepNumber-below}
 use Rattle.address.specs.Private.{StepPair}
-use Rattle.directory.specs.Private.{StepsBefore, stepsOfBits}
+use Rattle.directory.specs.Private.{StepsBefore}
 
 -- ---- the search
 
@@ -60,33 +60,40 @@ unfolding depthBefore
 stepsBefore-depths w0 w1 w2 w3 g h0 h1 h2 h3 l e0 e1 e2 e3 =
     record { low = l; before = length-stepsBelow (w0 ∷ w1 ∷ w2 ∷ w3 ∷ []) g ∙ rw (e0, e1, e2, e3) }
 
--- the steps of the first k bits are those before place 4k
-pub stepsBefore-rounds : (w0 w1 w2 w3 k m0 m1 m2 m3 : ℕ) → k ≤ 16
-    → m0 ≡ min w0 k → m1 ≡ min w1 k → m2 ≡ min w2 k → m3 ≡ min w3 k
-    → StepsBefore (w0 ∷ w1 ∷ w2 ∷ w3 ∷ []) (m0 + m1 + m2 + m3) (4 * k)
-stepsBefore-rounds w0 w1 w2 w3 k m0 m1 m2 m3 h e0 e1 e2 e3 =
-    stepsBefore-depths w0 w1 w2 w3 (4 * k) m0 m1 m2 m3 (omega arith) (omega arith) (omega arith) (omega arith)
+-- ---- where the attributes in use take turns, no more than t steps are before the place
+
+module _ (w0 w1 w2 w3 g : ℕ) where
+  -- of each attribute at most the bits whose turn has come
+  steps-le : (t b0 b1 b2 b3 : ℕ) → min w0 ((g + 3 - 0) / 4) ≤ b0 → min w1 ((g + 3 - 1) / 4) ≤ b1
+      → min w2 ((g + 3 - 2) / 4) ≤ b2 → min w3 ((g + 3 - 3) / 4) ≤ b3 → b0 + b1 + b2 + b3 ≤ t
+      → length (stepsBelow (w0 ∷ w1 ∷ w2 ∷ w3 ∷ []) g) ≤ t
+  unfolding depthBefore
+  steps-le t b0 b1 b2 b3 l0 l1 l2 l3 h =
+      le-trans (le-of-eq (length-stepsBelow (w0 ∷ w1 ∷ w2 ∷ w3 ∷ []) g))
+      (le-trans (add-le-add (add-le-add (add-le-add l0 l1) l2) l3) h)
+
+pub steps-four : (w0 w1 w2 w3 t : ℕ) → length (stepsBelow (w0 ∷ w1 ∷ w2 ∷ w3 ∷ []) t) ≤ t
+steps-four w0 w1 w2 w3 t =
+    steps-le w0 w1 w2 w3 t t ((t + 3) / 4) ((t + 2) / 4) ((t + 1) / 4) (t / 4) (omega arith) (omega arith) (omega arith)
+    (omega arith) (omega arith)
+
+pub steps-three : (w0 w1 w2 w3 t : ℕ) → w3 ≡ 0 → length (stepsBelow (w0 ∷ w1 ∷ w2 ∷ w3 ∷ []) (t + t / 3)) ≤ t
+steps-three w0 w1 w2 w3 t e =
+    let g = t + t / 3 in
+    steps-le w0 w1 w2 w3 g t ((g + 3) / 4) ((g + 2) / 4) ((g + 1) / 4) 0 (omega arith) (omega arith) (omega arith)
+    (omega arith) (omega arith)
+
+pub steps-two : (w0 w1 w2 w3 t : ℕ) → w2 ≡ 0 → w3 ≡ 0
+    → length (stepsBelow (w0 ∷ w1 ∷ w2 ∷ w3 ∷ []) (t + t / 2 * 2)) ≤ t
+steps-two w0 w1 w2 w3 t d e =
+    let g = t + t / 2 * 2 in
+    steps-le w0 w1 w2 w3 g t ((g + 3) / 4) ((g + 2) / 4) 0 0 (omega arith) (omega arith) (omega arith) (omega arith)
     (omega arith)
 
--- the first k bits of an attribute in use are at most k steps, of another none
-bits-le : (w m k : ℕ) → m ≡ min w 1 → min w (min k 16) ≤ m * k
-bits-le w m k e = go (eq-or-ne w 0)
-  where
-    go : (w ≡ 0) ⊎ (w ≡ 0 → ⊥) → min w (min k 16) ≤ m * k
-    go (inl z) = omega (arith, z)
-    go (inr n) = let one : m ≡ 1 = omega arith in rw one (omega arith)
-
--- so that with t shared among those in use no more than t are reached
-pub stepsOfBits-le : (w0 w1 w2 w3 m0 m1 m2 m3 k t : ℕ) → m0 ≡ min w0 1 → m1 ≡ min w1 1 → m2 ≡ min w2 1 → m3 ≡ min w3 1
-    → (m0 + m1 + m2 + m3) * k ≤ t → stepsOfBits (w0 ∷ w1 ∷ w2 ∷ w3 ∷ []) (min k 16) ≤ t
-stepsOfBits-le w0 w1 w2 w3 m0 m1 m2 m3 k t e0 e1 e2 e3 l =
-    le-trans
-    (add-le-add (add-le-add (add-le-add (bits-le w0 m0 k e0) (bits-le w1 m1 k e1)) (bits-le w2 m2 k e2))
-    (bits-le w3 m3 k e3))
-    (le-trans (le-of-eq shared) l)
-  where
-    shared : m0 * k + m1 * k + m2 * k + m3 * k ≡ (m0 + m1 + m2 + m3) * k
-    shared = rw (add-mul (m0 + m1 + m2) m3 k, add-mul (m0 + m1) m2 k, add-mul m0 m1 k)
+pub steps-one : (w0 w1 w2 w3 t : ℕ) → w1 ≡ 0 → w2 ≡ 0 → w3 ≡ 0
+    → length (stepsBelow (w0 ∷ w1 ∷ w2 ∷ w3 ∷ []) (4 * t)) ≤ t
+steps-one w0 w1 w2 w3 t c d e =
+    steps-le w0 w1 w2 w3 (4 * t) t t 0 0 0 (omega arith) (omega arith) (omega arith) (omega arith) (omega arith)
 
 -- ---- the pair of a step
 

@@ -1,6 +1,6 @@
 -- Definitions that only private functions' contracts cite: places and the steps before them, vectors with a bit set or
 -- cleared, halves of cells. Assumes nothing.
-use Prim.Native.Nat.{ℕ, suc, _+_, _-_, _/_, _%_, _^_, _≤_, _<_, min}
+use Prim.Native.Nat.{ℕ, suc, _+_, _-_, _/_, _%_, _^_, _≤_, _<_}
 use mathlib.Core.Path.{_≡_}
 use mathlib.Core.Bool.{Bool, cond}
 use mathlib.Core.List.{List}
@@ -19,10 +19,6 @@ use Rattle.directory.specs.Directory.{DirectoryFits, Filled}
 pub record StepsBefore (ws : List ℕ) (t g : ℕ) : Type 0 where
   pub low : g ≤ 64
   pub before : length (stepsBelow ws g) ≡ t
-
--- how many steps are of the first k bits
-abbrev pub stepsOfBits : List ℕ → ℕ → ℕ
-stepsOfBits ws k = min (getD ws 0 0) k + min (getD ws 1 0) k + min (getD ws 2 0) k + min (getD ws 3 0) k
 
 -- ---- index vectors
 

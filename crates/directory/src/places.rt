@@ -2,11 +2,12 @@
 use address::pairs::depth_before;
 use address::pairs::width_at;
 use shape::Widths;
-ghost use mathlib.Core.Path.{_≡_};
-ghost use Prim.Native.Nat.{_*_, _<_, _≤_, min};
+ghost use Prim.Native.Nat.{_<_, _≤_};
+ghost use lib.ListN.{length};
 ghost use Rattle.shape.specs.Shape.{Fit, widthList, total};
+ghost use Rattle.split.specs.Steps.{stepsBelow};
 ghost use Rattle.address.specs.Private.{StepPair};
-ghost use Rattle.directory.specs.Private.{StepsBefore, stepsOfBits};
+ghost use Rattle.directory.specs.Private.{StepsBefore};
 
 // A place with t steps before it.
 pub fn place_of(widths: Widths, t: u64) -> u64
@@ -14,10 +15,8 @@ pub fn place_of(widths: Widths, t: u64) -> u64
     ensures { λ r. ⌜ StepsBefore (widthList widths) t r ⌝ }
 {
     let near = early_place(widths, t);
-    if steps_before(widths, near) == t {
-        return near;
-    }
-    late_place(widths, t)
+    let n = steps_before(widths, near);
+    place_from(widths, t, near, n)
 }
 
 // The place of step t.
@@ -25,7 +24,7 @@ pub fn step_place(widths: Widths, t: u64) -> u64
     requires { ⌜ Fit (widthList widths) × (t < total (widthList widths)) ⌝ }
     ensures { λ r. ⌜ StepPair (widthList widths) t r ⌝ }
 {
-    step_from(widths, t, late_place(widths, t))
+    step_from(widths, t, place_of(widths, t))
 }
 
 // The place of step t, sought from a place with t steps before it.
@@ -44,10 +43,11 @@ pub fn step_from(widths: Widths, t: u64, start: u64) -> u64
     0
 }
 
-// A place that has t steps before it as long as no attribute in use is used up: these take turns.
+// A place with at most t steps before it: with t as long as no attribute in use is used up, since
+// these take turns.
 fn early_place(widths: Widths, t: u64) -> u64
     requires { ⌜ Fit (widthList widths) × (t ≤ total (widthList widths)) ⌝ }
-    ensures { λ r. ⌜ r ≤ 64 ⌝ }
+    ensures { λ r. ⌜ (r ≤ 64) × (length (stepsBelow (widthList widths) r) ≤ t) ⌝ }
 {
     if widths.w3 != 0 {
         return t;
@@ -73,16 +73,6 @@ fn steps_before(widths: Widths, g: u64) -> u64
     h0 + h1 + h2 + h3
 }
 
-// A place with t steps before it, sought from the bits of each attribute that t steps reach.
-fn late_place(widths: Widths, t: u64) -> u64
-    requires { ⌜ Fit (widthList widths) × (t ≤ total (widthList widths)) ⌝ }
-    ensures { λ r. ⌜ StepsBefore (widthList widths) t r ⌝ }
-{
-    let k = rounds(widths, t);
-    let n = steps_of_rounds(widths, k);
-    place_from(widths, t, 4 * k, n)
-}
-
 // A place with t steps before it, sought from one with n.
 fn place_from(widths: Widths, t: u64, start: u64, n: u64) -> u64
     requires { ⌜ Fit (widthList widths) × (t ≤ total (widthList widths))
@@ -98,44 +88,4 @@ fn place_from(widths: Widths, t: u64, start: u64, n: u64) -> u64
         g += 1;
     }
     g
-}
-
-// How many steps are of the first k bits.
-fn steps_of_rounds(widths: Widths, k: u64) -> u64
-    requires { ⌜ Fit (widthList widths) × (k ≤ 16) ⌝ }
-    ensures { λ r. ⌜ StepsBefore (widthList widths) r (4 * k) ⌝ }
-    ensures { λ r. ⌜ r ≡ stepsOfBits (widthList widths) k ⌝ }
-{
-    lesser(widths.w0, k) + lesser(widths.w1, k) + lesser(widths.w2, k) + lesser(widths.w3, k)
-}
-
-// How many bits of each attribute t steps reach at least: t shared among the attributes in use.
-fn rounds(widths: Widths, t: u64) -> u64
-    ensures { λ r. ⌜ (r ≤ 16) × (stepsOfBits (widthList widths) r ≤ t) ⌝ }
-{
-    let d = lesser(widths.w0, 1)
-        + lesser(widths.w1, 1)
-        + lesser(widths.w2, 1)
-        + lesser(widths.w3, 1);
-    lesser(share(t, d), 16)
-}
-
-// The share of t that each of d has, up to 4.
-fn share(t: u64, d: u64) -> u64
-    requires { ⌜ d ≤ 4 ⌝ }
-    ensures { λ r. ⌜ d * r ≤ t ⌝ }
-{
-    match d {
-        1 => t,
-        2 => t / 2,
-        3 => t / 3,
-        _ => t / 4,
-    }
-}
-
-// The lesser of two numbers.
-fn lesser(a: u64, b: u64) -> u64
-    ensures { λ r. ⌜ r ≡ min a b ⌝ }
-{
-    if a < b { a } else { b }
 }

@@ -14,7 +14,6 @@ use Rattle.shape.specs.Shape.{Fit, total, indexFits}
 use Rattle.shape.specs.Key.{perAttribute}
 use Rattle.split.specs.Bits.{splitBit}
 use Rattle.cell.specs.Cell.{Agree}
-use Rattle.region.specs.Strings.{sameBits}
 use Rattle.region.proofs.StringLaws.{sameBits-comm, sameBits-ext}
 use Rattle.record.specs.Packed.{packedKey, packedValue, unpackedKey}
 use Rattle.record.proofs.PackedLaws.{getD-unpackedKey}

@@ -4,3 +4,4 @@ pub mod Example
 pub mod FixedLaws
 pub mod MaskLaws
 pub mod SoundLaws
+pub mod StepLaws

@@ -1,24 +1,23 @@
 -- The test of a page's first and last record passes where the page shows a leaf of a set: in a sound store, for every
 -- leaf with a page. Assumes nothing.
-use Prim.Native.Nat.{ℕ, zero, suc, _+_, _-_, _*_, _%_, _^_, _≤_, _<_}
-use mathlib.Core.Path.{_≡_, refl, sym, ap, _∙_, subst}
+use Prim.Native.Nat.{ℕ, _+_, _-_, _%_, _^_, _≤_, _<_}
+use mathlib.Core.Path.{_≡_, sym, ap, _∙_, subst}
 use mathlib.Core.Bool.{Bool, true, _&&_, false≢true}
 use mathlib.Core.List.{List, [], _∷_}
 use native.Mathlib.Omega.{arith}
-use lib.ListN.{getD, length}
+use lib.ListN.{length}
 use Rattle.lists.specs.Filter.{all, nonEmpty}
 use Rattle.lists.proofs.Bools.{and-split, and-both}
-use Rattle.lists.proofs.FilterLaws.{all-and, all-imp}
+use Rattle.lists.proofs.FilterLaws.{all-and}
 use Rattle.shape.specs.Shape.{widthsOf, total, indexFits, shapeNumber}
 use Rattle.shape.specs.declared.Shape.{Shape}
-use Rattle.split.specs.Bits.{splitBit}
 use Rattle.region.specs.Strings.{sameBits}
 use Rattle.region.specs.Division.{leafDepth, leafRecords}
 use Rattle.region.proofs.StringLaws.{sameBits-comm}
 use Rattle.region.proofs.StringLeafLaws.{all-leafRecords, all-sameBits-leafRecords}
 use Rattle.record.specs.Record.{Record, recordBit}
 use Rattle.record.specs.Bytes.{recordOf}
-use Rattle.record.specs.Packed.{packedKey, unpackedKey}
+use Rattle.record.specs.Packed.{unpackedKey}
 use Rattle.record.proofs.ByteLaws.{perAttribute-getD}
 use Rattle.record.proofs.CodecLaws.{packedKey-recordOf}
 use Rattle.record.proofs.KeyLaws.{key-below-bytes}
@@ -31,7 +30,7 @@ use Rattle.model.specs.Sets.{inShape, isSet, divisionOf}
 use Rattle.model.proofs.SetLaws.{length-of-inShape, fits-of-inShape, inShape-of-isSet}
 use Rattle.store.specs.Store.{Store}
 use Rattle.store.specs.Sound.{Sound}
-use Rattle.store.proofs.ShownLaws.{wordOn, divisionOn, shape-of-Sound, leafRecords-page}
+use Rattle.store.proofs.ShownLaws.{wordOn, shape-of-Sound, leafRecords-page}
 use Rattle.ends.specs.Ends.{keyBegins, endsBegin}
 
 length-of-nonEmpty : {A : Type 0} (xs : List A) → nonEmpty xs ≡ true → 1 ≤ length xs

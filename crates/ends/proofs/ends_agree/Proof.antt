@@ -1,5 +1,5 @@
 -- `ends::ends_agree` meets its contract: the two keys as they are read. Assumes nothing.
-use mathlib.Core.Path.{_≡_, refl}
+use mathlib.Core.Path.{refl}
 use Rattle.ends.specs.Ends.{endsAgree}
 use borrow.Author.Needs.{needs}
 use Rattle.ends.proofs.ends_agree.Statement.{statement}

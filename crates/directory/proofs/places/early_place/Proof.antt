@@ -1,13 +1,19 @@
--- `directory::places::early_place` meets its contract: d attributes in use have at most 16d steps. Assumes nothing.
+-- `directory::places::early_place` meets its contract: d attributes in use have at most 16d steps, and take turns.
+-- Assumes nothing.
 use native.Mathlib.Omega.{arith}
+use Rattle.directory.proofs.PlaceLaws.{steps-four, steps-three, steps-two, steps-one}
 use borrow.Author.Needs.{needs}
 use Rattle.directory.proofs.places.early_place.Statement.{statement}
 use Rattle.directory.proofs.places.early_place.Tie as tie
 
 returns : tie.Need-returns
 returns c =
-    let p = c .before .before .pre in
-    omega (arith, p .1, p .0 0, p .0 1, p .0 2, p .0 3)
+    let s = c .before .before in
+    let p = s .pre in
+    let w = s .args .widths in (
+      omega (arith, p .1, p .0 0, p .0 1, p .0 2, p .0 3),
+      steps-four (w .w0) (w .w1) (w .w2) (w .w3) (s .args .t),
+    )
 
 add-result : tie.Need-add-result
 add-result c =
@@ -16,8 +22,12 @@ add-result c =
 
 returns-2 : tie.Need-returns-2
 returns-2 c =
-    let p = c .before .before .before .before .pre in
-    omega (arith, p .1, p .0 0, p .0 1, p .0 2)
+    let s = c .before .before .before .before in
+    let p = s .pre in
+    let w = s .args .widths in (
+      omega (arith, p .1, p .0 0, p .0 1, p .0 2),
+      steps-three (w .w0) (w .w1) (w .w2) (w .w3) (s .args .t) (omega arith),
+    )
 
 mul-result : tie.Need-mul-result
 mul-result c = search needs
@@ -29,8 +39,12 @@ add-result-2 c =
 
 returns-3 : tie.Need-returns-3
 returns-3 c =
-    let p = c .before .before .before .before .before .before .pre in
-    omega (arith, p .1, p .0 0, p .0 1)
+    let s = c .before .before .before .before .before .before in
+    let p = s .pre in
+    let w = s .args .widths in (
+      omega (arith, p .1, p .0 0, p .0 1),
+      steps-two (w .w0) (w .w1) (w .w2) (w .w3) (s .args .t) (omega arith) (omega arith),
+    )
 
 mul-result-2 : tie.Need-mul-result-2
 mul-result-2 c =
@@ -39,8 +53,12 @@ mul-result-2 c =
 
 returns-4 : tie.Need-returns-4
 returns-4 c =
-    let p = c .before .before .before .before .before .before .pre in
-    omega (arith, p .1, p .0 0)
+    let s = c .before .before .before .before .before .before in
+    let p = s .pre in
+    let w = s .args .widths in (
+      omega (arith, p .1, p .0 0),
+      steps-one (w .w0) (w .w1) (w .w2) (w .w3) (s .args .t) (omega arith) (omega arith) (omega arith),
+    )
 
 pub early-place-spec : {M : Type 1} → statement M
 early-place-spec =
