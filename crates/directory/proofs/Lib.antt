@@ -6,6 +6,7 @@ pub mod LatestLaws
 pub mod MaskLaws
 pub mod PlaceLaws
 pub mod RegionLaws
+pub mod ReverseLaws
 pub mod ShownLaws
 pub mod SubsetLaws
 pub mod VectorLaws

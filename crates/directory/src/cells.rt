@@ -6,7 +6,7 @@ use address::locate;
 use address::pairs::depth_before;
 use shape::Widths;
 ghost use mathlib.Core.Path.{_≡_};
-ghost use Prim.Native.Nat.{_≤_};
+ghost use Prim.Native.Nat.{_≤_, _<_};
 ghost use lib.ListN.{length};
 ghost use Rattle.shape.specs.Shape.{Fit, widthList, total};
 ghost use Rattle.split.specs.Steps.{stepsBelow};
@@ -41,8 +41,30 @@ pub fn cell_before(widths: Widths, key: [u32; 4], g: u64) -> Index
     Index { i0, i1, i2, i3 }
 }
 
-// The first h of an encoding's w bits as an index: the first of them with weight 1.
+// The first h of an encoding's w bits as an index: the first of them with weight 1. Up to 8 are
+// reversed at once.
 fn index_of_bits(w: u64, encoding: u64, h: u64) -> u64
+    requires { ⌜ (h ≤ w) × (w ≤ 16) ⌝ }
+    ensures { λ r. ⌜ r ≡ sumBits (bitOf w encoding) h ⌝ }
+{
+    if h <= 8 {
+        return reversed((encoding >> (w - h)) & 0xff, h);
+    }
+    index_of_many(w, encoding, h)
+}
+
+// The last h bits of a byte in reverse order. Two products lay each bit beside its place, and a third
+// adds what the masks leave of them.
+fn reversed(byte: u64, h: u64) -> u64
+    requires { ⌜ (byte < 256) × (h ≤ 8) ⌝ }
+    ensures { λ r. ⌜ r ≡ sumBits (bitOf h byte) h ⌝ }
+{
+    let laid = ((byte * 0x0802) & 0x22110) | ((byte * 0x8020) & 0x88440);
+    (((laid * 0x10101) >> 16) & 0xff) >> (8 - h)
+}
+
+// The same one by one.
+fn index_of_many(w: u64, encoding: u64, h: u64) -> u64
     requires { ⌜ (h ≤ w) × (w ≤ 16) ⌝ }
     ensures { λ r. ⌜ r ≡ sumBits (bitOf w encoding) h ⌝ }
 {

@@ -1,45 +1,36 @@
--- `directory::cells::index_of_bits` meets its contract: the bits are taken from the last to the first. Assumes nothing.
-use Prim.Native.Nat.{_-_}
+-- `directory::cells::index_of_bits` meets its contract: up to 8 bits are the last of a byte. Assumes nothing.
+use Prim.Native.Nat.{_-_, _/_, _^_}
+use mathlib.Core.Path.{_∙_}
 use native.Mathlib.Omega.{arith}
-use Rattle.directory.proofs.KeyLaws.{Taken, taken-zero, taken-suc, taken-end}
+use borrow.Author.Needs.{needs}
+use Rattle.directory.proofs.ReverseLaws.{byte-lt, bits-of-byte}
 use Rattle.directory.proofs.cells.index_of_bits.Statement.{statement}
 use Rattle.directory.proofs.cells.index_of_bits.Tie as tie
 
-abbrev Inv-loop : tie.InvT-loop
-Inv-loop w encoding h rest₀ index₀ k₀ rest index k = Taken w encoding h rest index k
+sub-reversed : tie.Need-sub-reversed
+sub-reversed c = search needs
 
-abbrev μ-loop : tie.MeasureT-loop
-μ-loop w encoding h rest₀ index₀ k₀ rest index k = h - k
+shr-reversed : tie.Need-shr-reversed
+shr-reversed c = search needs
 
-sub-rest : tie.Need-sub-rest Inv-loop μ-loop
-sub-rest c = omega arith
+reversed-requires : tie.Need-reversed-requires
+reversed-requires c κs =
+    let a = c .before .args in
+    (byte-lt (a .encoding / 2 ^ (a .w - a .h)), c .if1 .taken)
 
-shr-rest : tie.Need-shr-rest Inv-loop μ-loop
-shr-rest c = omega arith
-
-loop-holds : tie.Need-loop-holds Inv-loop μ-loop
-loop-holds c = taken-zero (c .args .w) (c .args .encoding) (c .args .h)
-
-add-k : tie.Need-add-k Inv-loop μ-loop
-add-k c = omega arith
-
-loop-less : tie.Need-loop-less Inv-loop μ-loop
-loop-less c = omega arith
-
-loop-again : tie.Need-loop-again Inv-loop μ-loop
-loop-again c =
-    let s = c .before .before in
-    let l = c .before .loop in
-    taken-suc (s .args .w) (s .args .encoding) (s .args .h) (l .rest) (l .index) (l .k) (l .inv) (s .pre .0) (s .pre .1)
-    (c .loop-test .taken)
-
-returns : tie.Need-returns Inv-loop μ-loop
+returns : tie.Need-returns
 returns c =
     let s = c .before .before in
-    let l = c .before .loop in
-    taken-end (s .args .w) (s .args .encoding) (s .args .h) (l .rest) (l .index) (l .k) (l .inv) (c .loop-test .left)
+    let a = s .args in
+    c .reversed .ensures ∙ bits-of-byte (a .w) (a .encoding) (a .h) (s .pre .0) (c .before .if1 .taken)
+
+index-of-many-requires : tie.Need-index-of-many-requires
+index-of-many-requires c κs = search needs
+
+returns-2 : tie.Need-returns-2
+returns-2 c = c .index-of-many .ensures
 
 pub index-of-bits-spec : {M : Type 1} → statement M
 index-of-bits-spec =
     tie.close
-    (tie.spec Inv-loop μ-loop sub-rest shr-rest loop-holds add-k loop-less loop-again returns)
+    (tie.spec sub-reversed shr-reversed reversed-requires returns index-of-many-requires returns-2)
