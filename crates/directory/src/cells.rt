@@ -47,6 +47,9 @@ fn index_of_bits(w: u64, encoding: u64, h: u64) -> u64
     requires { ⌜ (h ≤ w) × (w ≤ 16) ⌝ }
     ensures { λ r. ⌜ r ≡ sumBits (bitOf w encoding) h ⌝ }
 {
+    if h == 0 {
+        return 0;
+    }
     if h <= 8 {
         return reversed((encoding >> (w - h)) & 0xff, h);
     }

@@ -45,7 +45,7 @@ pub fn step_from(widths: Widths, t: u64, start: u64) -> u64
 
 // A place with at most t steps before it: with t as long as no attribute in use is used up, since
 // these take turns.
-fn early_place(widths: Widths, t: u64) -> u64
+pub fn early_place(widths: Widths, t: u64) -> u64
     requires { ⌜ Fit (widthList widths) × (t ≤ total (widthList widths)) ⌝ }
     ensures { λ r. ⌜ (r ≤ 64) × (length (stepsBelow (widthList widths) r) ≤ t) ⌝ }
 {
@@ -62,7 +62,7 @@ fn early_place(widths: Widths, t: u64) -> u64
 }
 
 // How many steps are before a place.
-fn steps_before(widths: Widths, g: u64) -> u64
+pub fn steps_before(widths: Widths, g: u64) -> u64
     requires { ⌜ Fit (widthList widths) × (g ≤ 64) ⌝ }
     ensures { λ r. ⌜ StepsBefore (widthList widths) r g ⌝ }
 {

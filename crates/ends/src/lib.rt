@@ -1,7 +1,9 @@
 // Whether a page is its leaf's, by the first and the last of its records (document 01, "Regions of
 // a set"): under a mask of the bits that the leaf fixes both agree with a key of the leaf.
 use address::pairs::depth_before;
+use directory::places::early_place;
 use directory::places::place_of;
+use directory::places::steps_before;
 use page::key_at;
 use shape::Widths;
 ghost use mathlib.Core.Path.{_≡_};
@@ -12,11 +14,16 @@ ghost use Rattle.split.specs.Steps.{stepsBelow};
 ghost use Rattle.page.specs.Fields.{recordOffset};
 ghost use Rattle.ends.specs.Ends.{fixedBits, endsAgree};
 
-// The bits of a packed key that are fixed in a leaf of depth x.
+// The bits of a packed key that are fixed in a leaf of depth x. Most often the place of its steps is
+// the one tried first.
 pub fn fixed_bits(widths: Widths, x: u64) -> u64
     requires { ⌜ Fit (widthList widths) × (x ≤ total (widthList widths)) ⌝ }
     ensures { λ r. ⌜ r ≡ fixedBits (widthList widths) x ⌝ }
 {
+    let near = early_place(widths, x);
+    if steps_before(widths, near) == x {
+        return fixed_bits_before(widths, near);
+    }
     fixed_bits_before(widths, place_of(widths, x))
 }
 

@@ -23,7 +23,8 @@ use Rattle.store.specs.Store.{Store, wordAt}
 use Rattle.store.specs.Promises.{SoundWhereRead}
 use Rattle.walk.specs.declared.Noted.{Noted}
 use Rattle.walk.specs.declared.Noted.the-variants.{Pages, Damaged}
-use Rattle.walk.specs.Seen.{Seen, fairPage, leafSeen, walkSeen, emit, answerOf, Put}
+use Rattle.walk.specs.Seen.{Seen, fairPage, leafSeen, walkSeen, answerOf, Put}
+use Rattle.walk.specs.Rows.{emit}
 use Rattle.walk.specs.Pages.{readPages}
 use Rattle.walk.proofs.SeenLaws.{getD-emit, take-emit}
 use Rattle.walk.proofs.BoundLaws.{length-noted-le, length-seen-le, Readable, All-noted, All-seen}

@@ -1,12 +1,12 @@
 -- What a walk over the regions sees in any directory and any pages, sound or not (document 01, "Calls"): the pages
 -- that it notes, in order, and whether all that it met is as in a sound store. The region of depth x is the first x
 -- bits of a string. Assumes nothing.
-use Prim.Native.Nat.{ℕ, zero, suc, _+_, _-_, _/_, _%_, _^_, _≤_}
+use Prim.Native.Nat.{ℕ, zero, suc, _-_, _/_, _%_, _^_, _≤_}
 use mathlib.Core.Path.{_≡_}
 use mathlib.Core.Bool.{Bool, true, false, cond, _&&_}
 use mathlib.Core.List.{List, [], _∷_, _++_}
 use lib.Dec.{eqb, ltb, leb}
-use lib.ListN.{getD, length, set}
+use lib.ListN.{getD, length}
 use Rattle.shape.specs.Shape.{within, inBounds, widthsOf, total}
 use Rattle.shape.specs.declared.Shape.{Shape}
 use Rattle.region.specs.Strings.{withBit, emptyString}
@@ -16,7 +16,7 @@ use Rattle.ends.specs.Ends.{endsBegin}
 use Rattle.store.specs.declared.State.{State}
 use Rattle.store.specs.declared.Tally.{Tally}
 use Rattle.store.specs.Store.{pagesSize, wordAt}
-use Rattle.walk.specs.Rows.{Table, mostPages}
+use Rattle.walk.specs.Rows.{emit, Table, mostPages}
 use Rattle.walk.specs.declared.Noted.{Noted}
 use Rattle.walk.specs.declared.Noted.the-variants.{Pages, Damaged}
 
@@ -104,11 +104,6 @@ walkSeen st words bytes q =
     0
 
 -- ---- the contract
-
--- numbers put into a list from place n on
-unfoldable pub emit : List ℕ → ℕ → List ℕ → List ℕ
-emit list n [] = list
-emit list n (y ∷ ys) = emit (set list n y) (n + 1) ys
 
 -- what a walk answers
 abbrev pub answerOf : Seen → Noted
