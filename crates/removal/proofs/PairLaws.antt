@@ -6,11 +6,14 @@ use mathlib.Core.Bool.{Bool, true, false, not, true≢false, false≢true}
 use mathlib.Core.List.{List}
 use native.Mathlib.Omega.{arith}
 use Rattle.shape.specs.Refusal.{refused}
+use Rattle.shape.specs.Shape.{widthsOf}
+use Rattle.split.specs.Bits.{splitBit}
 use Rattle.cell.specs.Cell.{Agree}
 use Rattle.region.specs.Strings.{sibling}
 use Rattle.region.specs.Division.{leafDepth}
 use Rattle.region.proofs.StringLaws.{withBit-same}
 use Rattle.record.specs.Record.{Record}
+use Rattle.record.specs.Packed.{packedKey}
 use Rattle.page.specs.Page.{countOf, pageAt}
 use Rattle.word.specs.Word.{wordOf, leafOf}
 use Rattle.word.specs.declared.Leaf.the-variants.{Empty, Page}
@@ -24,14 +27,17 @@ use Rattle.change.proofs.BoundLaws.{count-bounds}
 use Rattle.change.proofs.DeletePromiseLaws.{delete-unsound}
 use Rattle.change.proofs.DeleteWordLaws.{leaf-of-page-word}
 use Rattle.lent.proofs.LimitsLaws.{limits-parts}
+use Rattle.ends.specs.Ends.{endsBegin}
 use Rattle.seek.specs.Hold.{wordHolds}
 use Rattle.seek.proofs.HoldLaws.{held-empty, held-page}
+use Rattle.seek.proofs.PageLaws.{unpackedKey-values, endsBegin-word}
 use Rattle.tally.specs.Tally.{tallyHolds}
 use Rattle.tally.proofs.CountLaws.{tallyHolds-of-sound}
 use Rattle.removal.specs.Plan.{RecordFound, StaysAlone, JoinPlanned}
-use Rattle.removal.specs.Private.{SiblingMet, JoinMade}
+use Rattle.removal.specs.Private.{SiblingMet, JoinMade, siblingPage}
 use Rattle.removal.specs.declared.Stored.{Stored}
 use Rattle.removal.specs.declared.Join.{Join}
+use Rattle.lookup.proofs.EarlyLaws.{Passed, passed}
 use Rattle.removal.proofs.MetLaws.{refused-word}
 use Rattle.removal.proofs.SiblingLaws.{siblings-deep}
 
@@ -157,6 +163,31 @@ module _ (before : Store) (values : List ℕ) (r : Stored) (f : RecordFound befo
         let c = s .other in
         let n = count-bounds before S sound (c .0) h x (omega (arith, most, s .other-within)) (c .2) in
         none (omega (arith, n .0)) (omega (arith, n .1)))
+
+    -- its first and last record begin with the sibling's string
+    pub refused-other-ends : (k : ℕ) → k ≡ countBefore h
+        → siblingPage (before .state .shape) x (packedKey values) (pageAt b (before .memory .bytes) h) k ≡ false
+        → DeletePromise before values (refused 9) before
+    refused-other-ends k e none =
+        unsound (λ S sound.
+        let c = s .other in
+        true≢false
+        (sym
+        (ap (λ q. endsBegin ws x (sibling (splitBit ws q) (x - 1)) page k)
+        (unpackedKey-values (before .state .shape) values (early .shape) (early .fits) (f .leaf .four))
+        ∙ ap (endsBegin ws x (sibling p (x - 1)) page) e
+        ∙ endsBegin-word before S sound (c .0) h x (omega (arith, most, s .other-within)) (c .2) (sibling p (x - 1))
+        (λ t l. c .1 t (omega (arith, step))))
+        ∙ none))
+      where
+        early : Passed before values
+        early = passed before values (f .leaf .early)
+
+        ws : List ℕ
+        ws = widthsOf (before .state .shape)
+
+        page : List ℕ
+        page = pageAt b (before .memory .bytes) h
 
     pub refused-tally : tallyHolds (before .state .tally .leaves) ≡ false
         → DeletePromise before values (refused 9) before

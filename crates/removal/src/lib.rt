@@ -13,6 +13,7 @@ use select::find_key;
 use shape::Key;
 use shape::widths_of;
 use siblings::plan_join;
+use siblings::sibling_holds;
 use siblings::sibling_of;
 use store::State;
 use tally::tally_holds;
@@ -152,7 +153,9 @@ fn plan_sibling(state: State, dir: &[u32], pages: &[u8], key: Key, found: Stored
 }
 
 // The plan for a leaf and its sibling of the same depth, with page `other`: they are joined where
-// both fit one page without the record. 9 for a page, a count or a tally that no sound store has.
+// both fit one page without the record. 9 for a page, a count or a tally that no sound store has,
+// and where the first or the last record of that page is out of bounds or does not begin with the
+// sibling's string.
 fn plan_pair(state: State, dir: &[u32], pages: &[u8], key: Key, found: Stored, other: u32) -> Plan
     requires { ⌜ RecordFound (store state (now dir) (now pages)) (key .values) found ⌝ }
     requires { ⌜ SiblingMet (store state (now dir) (now pages)) (key .values) found other ⌝ }
@@ -168,6 +171,10 @@ fn plan_pair(state: State, dir: &[u32], pages: &[u8], key: Key, found: Stored, o
         return Plan::Refused(9);
     }
     if capacity < count {
+        return Plan::Refused(9);
+    }
+    let packed = pack_key(key);
+    if !sibling_holds(shape, pages, other as usize, count, found.depth, packed) {
         return Plan::Refused(9);
     }
     if capacity + 1 < found.count + count {

@@ -1,7 +1,9 @@
 // The siblings of a key's regions, and what a join makes of them: the key's leaf and its sibling
 // give way to one leaf, which takes in the empty siblings above.
 use super::Join;
+use address::pairs::width_at;
 use directory::places::step_place;
+use seek::page_holds;
 use shape::Shape;
 use shape::widths_of;
 use sibling::bit_at;
@@ -16,7 +18,10 @@ ghost use Rattle.shape.specs.Shape.{shapeNumber, widthsOf, total};
 ghost use Rattle.split.specs.Bits.{splitBit};
 ghost use Rattle.store.specs.Store.{store};
 ghost use Rattle.change.specs.Delete.{AtSibling};
+ghost use Rattle.page.specs.Page.{pageAt};
+ghost use Rattle.seek.specs.Hold.{OwnAsked};
 ghost use Rattle.removal.specs.Private.{DirectoryLent, Climbed, JoinMade};
+ghost use Rattle.removal.specs.Private.{siblingPage, KeyIn, SiblingKey};
 
 // The join of a leaf of depth x with its sibling, which has page `other` and so many records.
 pub fn plan_join(
@@ -66,6 +71,29 @@ pub fn sibling_of(state: State, dir: &[u32], values: [u32; 4], z: u32) -> u32
 {
     let widths = widths_of(state.shape);
     sibling_word(widths, values, z as u64, state.depth as u64, dir)
+}
+
+// Whether page g, of n records, can be that of the sibling of the leaf of a depth in which a packed
+// key falls: its first and its last record have values in bounds and begin with the sibling's
+// string.
+pub fn sibling_holds(shape: Shape, pages: &[u8], g: usize, n: usize, depth: u32, key: u64) -> bool
+    requires { ⌜ OwnAsked shape (now pages) g n depth key × (0 < depth) ⌝ }
+    ensures { λ r. ⌜ r
+        ≡ siblingPage shape depth key (pageAt (shape .capacity) (now (pages .entry)) g) n ⌝ }
+{
+    let beside = sibling_key(shape, key, depth - 1);
+    page_holds(shape, pages, g, n, depth, beside)
+}
+
+// A packed key of the sibling of a packed key's region of z + 1 bits: with the other bit at step z.
+fn sibling_key(shape: Shape, key: u64, z: u32) -> u64
+    requires { ⌜ KeyIn shape key × (z < total (widthsOf shape)) ⌝ }
+    ensures { λ r. ⌜ SiblingKey shape key z r ⌝ }
+{
+    let widths = widths_of(shape);
+    let g = step_place(widths, z as u64);
+    let w = width_at(widths, g % 4);
+    key ^ (1u64 << (16 * (g % 4) + (w - (g / 4 + 1))))
 }
 
 // The split bit of a key at a step.
