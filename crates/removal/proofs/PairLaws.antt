@@ -205,14 +205,16 @@ module _ (before : Store) (values : List ℕ) (r : Stored) (f : RecordFound befo
           rw (sym same) (omega (arith, e, f .counted)))
 
       pub joinPlanned : r .count + k ≤ b + 1 → k ≤ b → (h ≡ g → ⊥) → tallyHolds (before .state .tally .leaves) ≡ true
+          → siblingPage (before .state .shape) x (packedKey values) (pageAt b (before .memory .bytes) h) k ≡ true
           → (j : Join) → JoinMade (before .state) (before .memory .words) values x h k j → JoinPlanned before values r j
-      joinPlanned l few apart holds j made =
+      joinPlanned l few apart holds ends j made =
           record {
             depth-step = made .depth-step;
             met = met;
             apart = λ d. apart (sym (made .other) ∙ sym d);
             counted = rw (made .other) (made .count ∙ e);
             few = rw (made .count) few;
+            ends = rw (made .other, made .count) ends;
             bit = made .bit;
             tally = holds;
           }

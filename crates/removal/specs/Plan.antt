@@ -21,6 +21,7 @@ use Rattle.removal.specs.declared.Stored.{Stored}
 use Rattle.removal.specs.declared.Join.{Join}
 use Rattle.removal.specs.declared.Plan.{Plan}
 use Rattle.removal.specs.declared.Plan.the-variants as plan
+use Rattle.removal.specs.Private.{siblingPage}
 
 module _ (before : Store) (values : List ℕ) where
   abbrev P : ℕ
@@ -63,13 +64,16 @@ module _ (before : Store) (values : List ℕ) where
       → AtSibling before values m (λ w. (h : ℕ) → h < P → w ≡ wordOf (Page h (suc m))
       → suc b < countBefore g + countBefore h)
 
-  -- the leaf is joined with its sibling, whose page is another one
+  -- the leaf is joined with its sibling, whose page is another one; its first and last record have values in bounds and
+  -- begin with the sibling's string
   pub record JoinPlanned (r : Stored) (j : Join) : Type 0 where
     pub depth-step : r .depth ≡ suc (j .step)
     pub met : JoinFound before values (r .page) (j .other) (j .step) (j .top)
     pub apart : r .page ≡ j .other → ⊥
     pub counted : j .count ≡ countBefore (j .other)
     pub few : j .count ≤ b
+    pub ends : siblingPage (before .state .shape) (r .depth) (packedKey values)
+        (pageAt b (before .memory .bytes) (j .other)) (j .count) ≡ true
     pub bit : j .bit ≡ keyString before values (j .step)
     pub tally : tallyHolds (before .state .tally .leaves) ≡ true
 

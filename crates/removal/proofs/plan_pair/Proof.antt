@@ -139,13 +139,20 @@ returns-7 c =
     let a = s .args in
     let before = store (a .state) (a .dir .now) (a .pages .now) in
     let count = counted .count-at in
-    let holds = c .before .before .before .tally-holds in (
+    let holds = c .before .before .before .tally-holds in
+    let tested = c .before .before .before .before .before .before in
+    let begins = tested .before .sibling-holds in (
       s .pre .0,
       joinPlanned before (a .key .values) (a .found) (s .pre .0) (a .other) (s .pre .1) (count .result)
           (count .ensures .0) (omega (arith, c .before .before .before .before .if5 .left))
-          (omega (arith, c .before .before .before .before .before .before .before .before .before .if3 .left)) (counted .before .if1 .left)
-          (sym (holds .ensures) ∙ not-false (holds .result) (c .before .before .if6 .left)) _
-          (c .plan-join .ensures),
+          (omega (arith, tested .before .before .before .if3 .left)) (counted .before .if1 .left)
+          (sym (holds .ensures) ∙ not-false (holds .result) (c .before .before .if6 .left))
+          (ap (λ key. siblingPage (a .state .shape) (a .found .depth) key
+          (pageAt (a .state .shape .capacity) (a .pages .now) (a .other)) (count .result))
+          (sym (tested .before .before .pack-key .ensures))
+          ∙ sym (begins .ensures)
+          ∙ not-false (begins .result) (tested .if4 .left))
+          _ (c .plan-join .ensures),
     )
 
 pub plan-pair-spec : {M : Type 1} → statement M
