@@ -44,7 +44,8 @@ pub reversal-bits : (byte h : ℕ) → byte < 256 → h ≤ 8 → reversal byte 
 reversal-bits byte h l k =
     eqb-true (reversal byte h) (sumBits (bitOf h byte) h)
     (allBelow-at (λ b. eqb (reversal b h) (sumBits (bitOf h b) h)) 256 byte
-    (allBelow-at (λ i. allBelow 256 (λ b. eqb (reversal b i) (sumBits (bitOf i b) i))) 9 h all-reversed (omega arith)) l)
+    (allBelow-at (λ i. allBelow 256 (λ b. eqb (reversal b i) (sumBits (bitOf i b) i))) 9 h all-reversed (omega arith))
+    l)
 
 -- the product stays small
 pub laid-lt : (byte : ℕ) → laid byte < 2 ^ 20

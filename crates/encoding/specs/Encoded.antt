@@ -26,8 +26,8 @@ givenMark (some v) = 1
 abbrev pub FourWords : List ℕ → Type 0
 FourWords values = (length values ≡ 4) × All (λ v. v < 2 ^ 32) values
 
--- the calls that words and bytes can say: those of four values, as all calls of the running code are, each value and the
--- payload below 2^32; the bytes of a query's output fewer than 2^32
+-- the calls that words and bytes can say: those of four values, as all calls of the running code are, each value and
+-- the payload below 2^32; the bytes of a query's output fewer than 2^32
 abbrev pub Encodable : Call → Type 0
 Encodable (insertCall values content) = FourWords values × (content .payload < 2 ^ 32)
 Encodable (deleteCall values) = FourWords values

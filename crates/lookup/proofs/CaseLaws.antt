@@ -66,7 +66,8 @@ module _ (st : State) (bytes : List ℕ) (key word : ℕ) where
 
     pub wordAnswer-page : (g x : ℕ) → leafOf word ≡ Page g x
         → let page = pageAt (st .shape .capacity) bytes g in
-        pageAnswer (st .shape .capacity) (ownPage (st .shape) x key page (countOf page)) page key ≡ wordAnswer st bytes key word
+        pageAnswer (st .shape .capacity) (ownPage (st .shape) x key page (countOf page)) page key
+        ≡ wordAnswer st bytes key word
     unfolding wordAnswer leafAnswer
     wordAnswer-page g x e = rw (holds, e)
 

@@ -1,4 +1,5 @@
--- The leaves of a set of records are document 01's: in a set no two records have one key, and a page holds one at least.
+-- The leaves of a set of records are document 01's: in a set no two records have one key, and a page holds one at
+-- least.
 -- Assumes nothing.
 use mathlib.Core.Path.{_≡_}
 use mathlib.Core.Bool.{Bool, true}

@@ -90,30 +90,35 @@ returns-3 c =
     let word = c .before .before .before .before .before .before .before .sibling-of in (
       s .pre .0,
       stays-empty before (a .key .values) (a .found) (s .pre .0) (s .pre .1) (word .result) (word .ensures)
-          (held (c .before .before .before .before .before)) _ (sym (c .before .before .unpack .ensures) ∙ c .enum-told .given .1),
+          (held (c .before .before .before .before .before)) _
+          (sym (c .before .before .unpack .ensures) ∙ c .enum-told .given .1),
     )
 
 returns-4 : tie.Need-returns-4
 returns-4 c =
-    let s = c .before .before .before .before .before .before .before .before .before .before .before .before .before .before .before in
+    let known = c .before .before .before .before .before .before .before .before .before .before in
+    let s = known .before .before .before .before .before in
     let a = s .args in
     let before = store (a .state) (a .dir .now) (a .pages .now) in
-    let word = c .before .before .before .before .before .before .before .before .before .before .sibling-of in (
+    let word = known .sibling-of in (
       s .pre .0,
       stays-deep before (a .key .values) (a .found) (s .pre .0) (s .pre .1) (word .result) (word .ensures)
-          (held (c .before .before .before .before .before .before .before .before)) _ _ (named (c .before .before .before))
+          (held (c .before .before .before .before .before .before .before .before)) _ _
+          (named (c .before .before .before))
           (c .if3 .taken),
     )
 
 plan-pair-requires : tie.Need-plan-pair-requires
 plan-pair-requires c κs =
-    let s = c .before .before .before .before .before .before .before .before .before .before .before .before .before .before .before in
+    let known = c .before .before .before .before .before .before .before .before .before .before in
+    let s = known .before .before .before .before .before in
     let a = s .args in
     let before = store (a .state) (a .dir .now) (a .pages .now) in
-    let word = c .before .before .before .before .before .before .before .before .before .before .sibling-of in (
+    let word = known .sibling-of in (
       s .pre .0,
       siblingMet before (a .key .values) (a .found) (s .pre .0) (s .pre .1) (word .result) (word .ensures)
-          (held (c .before .before .before .before .before .before .before .before)) _ _ (named (c .before .before .before))
+          (held (c .before .before .before .before .before .before .before .before)) _ _
+          (named (c .before .before .before))
           (c .if3 .left),
     )
 

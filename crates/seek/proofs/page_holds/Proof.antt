@@ -1,5 +1,5 @@
--- `seek::page_holds` meets its contract: what is lent is the page, and the mask is that of the leaf's fixed bits. Assumes
--- nothing.
+-- `seek::page_holds` meets its contract: what is lent is the page, and the mask is that of the leaf's fixed bits.
+-- Assumes nothing.
 use mathlib.Core.Path.{ap, _∙_}
 use borrow.Author.Needs.{needs}
 use Rattle.page.specs.Page.{pageAt}
