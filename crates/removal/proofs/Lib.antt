@@ -3,3 +3,4 @@ pub mod EarlyLaws
 pub mod MetLaws
 pub mod PairLaws
 pub mod SiblingLaws
+pub mod SidePageLaws

@@ -6,11 +6,14 @@ use mathlib.Core.Bool.{Bool, true, false, not, true≢false, false≢true}
 use mathlib.Core.List.{List}
 use native.Mathlib.Omega.{arith}
 use Rattle.shape.specs.Refusal.{refused}
+use Rattle.shape.specs.Shape.{widthsOf, total, indexFits}
+use Rattle.split.specs.Bits.{splitBit}
 use Rattle.cell.specs.Cell.{Agree}
 use Rattle.region.specs.Strings.{sibling}
 use Rattle.region.specs.Division.{leafDepth}
 use Rattle.region.proofs.StringLaws.{withBit-same}
 use Rattle.record.specs.Record.{Record}
+use Rattle.record.specs.Packed.{packedKey, unpackedKey}
 use Rattle.page.specs.Page.{countOf, pageAt}
 use Rattle.word.specs.Word.{wordOf, leafOf}
 use Rattle.word.specs.declared.Leaf.the-variants.{Empty, Page}
@@ -24,15 +27,18 @@ use Rattle.change.proofs.BoundLaws.{count-bounds}
 use Rattle.change.proofs.DeletePromiseLaws.{delete-unsound}
 use Rattle.change.proofs.DeleteWordLaws.{leaf-of-page-word}
 use Rattle.lent.proofs.LimitsLaws.{limits-parts}
-use Rattle.seek.specs.Hold.{wordHolds}
+use Rattle.ends.specs.Ends.{endsBegin}
+use Rattle.seek.specs.Hold.{wordHolds, OwnAsked}
 use Rattle.seek.proofs.HoldLaws.{held-empty, held-page}
+use Rattle.seek.proofs.PageLaws.{unpackedKey-values, indexFits-packed, endsBegin-word}
+use Rattle.lookup.proofs.EarlyLaws.{passed}
 use Rattle.tally.specs.Tally.{tallyHolds}
 use Rattle.tally.proofs.CountLaws.{tallyHolds-of-sound}
 use Rattle.removal.specs.Plan.{RecordFound, StaysAlone, JoinPlanned}
-use Rattle.removal.specs.Private.{SiblingMet, JoinMade}
+use Rattle.removal.specs.Private.{SiblingMet, JoinMade, siblingPage}
 use Rattle.removal.specs.declared.Stored.{Stored}
 use Rattle.removal.specs.declared.Join.{Join}
-use Rattle.removal.proofs.MetLaws.{refused-word}
+use Rattle.removal.proofs.MetLaws.{refused-word, directoryLent, pageLent}
 use Rattle.removal.proofs.SiblingLaws.{siblings-deep}
 
 -- in a sound store a leaf and its sibling have two pages
@@ -73,8 +79,11 @@ module _ (before : Store) (values : List ℕ) (r : Stored) (f : RecordFound befo
   abbrev p : ℕ → Bool
   p = keyString before values
 
+  abbrev pageOf : ℕ → List ℕ
+  pageOf h = pageAt b (before .memory .bytes) h
+
   abbrev countBefore : ℕ → ℕ
-  countBefore h = countOf (pageAt b (before .memory .bytes) h)
+  countBefore h = countOf (pageOf h)
 
   most : P ≤ 4096
   most = limits-parts (before .state) (f .leaf .limits) .1
@@ -158,6 +167,58 @@ module _ (before : Store) (values : List ℕ) (r : Stored) (f : RecordFound befo
         let n = count-bounds before S sound (c .0) h x (omega (arith, most, s .other-within)) (c .2) in
         none (omega (arith, n .0)) (omega (arith, n .1)))
 
+    -- the sibling's page against the key's packed form
+    siblingPage-key : (k m : ℕ) → siblingPage (before .state .shape) m (packedKey values) (pageOf h) k
+        ≡ endsBegin (widthsOf (before .state .shape)) (suc m) (sibling p m) (pageOf h) k
+    siblingPage-key k m =
+        let e = passed before values (f .leaf .early) in
+        ap (λ q. endsBegin (widthsOf (before .state .shape)) (suc m)
+        (sibling (splitBit (widthsOf (before .state .shape)) q) m) (pageOf h) k)
+        (unpackedKey-values (before .state .shape) values (e .shape) (e .fits) (f .leaf .four))
+
+    -- what the test of the sibling's page asks
+    pub sideAsked : (k : ℕ) → 1 ≤ k → k ≤ b → (j : Join)
+        → JoinMade (before .state) (before .memory .words) values x h k j → (key : ℕ) → key ≡ packedKey values
+        → OwnAsked (before .state .shape) (before .memory .bytes) h k (j .step) key
+        × (j .step < total (widthsOf (before .state .shape)))
+        × (j .bit ≡ splitBit (widthsOf (before .state .shape)) (unpackedKey key) (j .step))
+    sideAsked k some few j made key e =
+        let q = passed before values (f .leaf .early) in
+        let d = directoryLent before values g x (f .leaf) in
+        let deep : j .step < total (widthsOf (before .state .shape)) =
+        omega (arith, made .depth-step, f .leaf .deep, d .deep) in (
+          record {
+            shape = q .shape;
+            deep = omega arith;
+            fits = ap (λ n. indexFits (widthsOf (before .state .shape)) (unpackedKey n)) e
+                ∙ indexFits-packed (before .state .shape) values (q .shape) (q .fits) (f .leaf .four);
+            lent = pageLent before values g x (f .leaf) h (s .other-within);
+            some = some;
+            few = few;
+          },
+          deep,
+          made .bit
+              ∙ ap (λ v. splitBit (widthsOf (before .state .shape)) v (j .step))
+              (sym (ap unpackedKey e
+              ∙ unpackedKey-values (before .state .shape) values (q .shape) (q .fits) (f .leaf .four))),
+        )
+
+    pub refused-other-ends : (k : ℕ) → k ≡ countBefore h → (m : ℕ) → x ≡ suc m
+        → siblingPage (before .state .shape) m (packedKey values) (pageOf h) k ≡ false
+        → DeletePromise before values (refused 9) before
+    refused-other-ends k e m d none =
+        unsound (λ S sound.
+        let c = s .other in
+        let same : x - 1 ≡ m = omega arith in
+        true≢false
+        (sym
+        (siblingPage-key k m
+        ∙ ap (endsBegin (widthsOf (before .state .shape)) (suc m) (sibling p m) (pageOf h)) e
+        ∙ endsBegin-word before S sound (c .0) h (suc m) (omega (arith, most, s .other-within))
+        (c .2 ∙ ap (λ y. wordOf (Page h y)) d) (sibling p m)
+        (subst (λ z. Agree (suc z) (sibling p z) (c .0)) same (c .1)))
+        ∙ none))
+
     pub refused-tally : tallyHolds (before .state .tally .leaves) ≡ false
         → DeletePromise before values (refused 9) before
     refused-tally e = unsound (λ S sound. true≢false (sym (tallyHolds-of-sound before S sound) ∙ e))
@@ -174,14 +235,17 @@ module _ (before : Store) (values : List ℕ) (r : Stored) (f : RecordFound befo
           rw (sym same) (omega (arith, e, f .counted)))
 
       pub joinPlanned : r .count + k ≤ b + 1 → k ≤ b → (h ≡ g → ⊥) → tallyHolds (before .state .tally .leaves) ≡ true
-          → (j : Join) → JoinMade (before .state) (before .memory .words) values x h k j → JoinPlanned before values r j
-      joinPlanned l few apart holds j made =
+          → (j : Join) → JoinMade (before .state) (before .memory .words) values x h k j
+          → siblingPage (before .state .shape) (j .step) (packedKey values) (pageOf h) k ≡ true
+          → JoinPlanned before values r j
+      joinPlanned l few apart holds j made ends =
           record {
             depth-step = made .depth-step;
             met = met;
             apart = λ d. apart (sym (made .other) ∙ sym d);
             counted = rw (made .other) (made .count ∙ e);
             few = rw (made .count) few;
+            ends = rw (made .count, made .other) (sym (siblingPage-key k (j .step)) ∙ ends);
             bit = made .bit;
             tally = holds;
           }

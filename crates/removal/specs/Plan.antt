@@ -6,6 +6,8 @@ use mathlib.Core.Bool.{true}
 use mathlib.Core.List.{List}
 use lib.ListN.{length}
 use Rattle.shape.specs.Refusal.{refused}
+use Rattle.shape.specs.Shape.{widthsOf}
+use Rattle.region.specs.Strings.{sibling}
 use Rattle.record.specs.Packed.{packedKey}
 use Rattle.page.specs.Page.{countOf, pageAt}
 use Rattle.page.specs.Fields.{keyAt}
@@ -15,6 +17,7 @@ use Rattle.store.specs.Store.{Store, wordAt}
 use Rattle.store.specs.Promises.{keyNumber, DeletePromise}
 use Rattle.change.specs.Delete.{keyString, AtSibling, JoinFound}
 use Rattle.lent.specs.Limits.{limitsHold}
+use Rattle.ends.specs.Ends.{endsBegin}
 use Rattle.seek.specs.Hold.{wordHolds, ownPage}
 use Rattle.tally.specs.Tally.{tallyHolds}
 use Rattle.removal.specs.declared.Stored.{Stored}
@@ -70,6 +73,9 @@ module _ (before : Store) (values : List ℕ) where
     pub apart : r .page ≡ j .other → ⊥
     pub counted : j .count ≡ countBefore (j .other)
     pub few : j .count ≤ b
+    -- the sibling's first and last record have values in bounds and begin with its string
+    pub ends : endsBegin (widthsOf (before .state .shape)) (suc (j .step)) (sibling (keyString before values) (j .step))
+        (pageAt b (before .memory .bytes) (j .other)) (j .count) ≡ true
     pub bit : j .bit ≡ keyString before values (j .step)
     pub tally : tallyHolds (before .state .tally .leaves) ≡ true
 

@@ -2,14 +2,19 @@
 -- contracts cite these. Assumes nothing.
 use Prim.Native.Nat.{ℕ, suc, _-_, _^_, _≤_, _<_}
 use mathlib.Core.Path.{_≡_}
+use mathlib.Core.Bool.{Bool}
 use mathlib.Core.List.{List, []}
 use Rattle.shape.specs.Shape.{shapeNumber, widthsOf, total}
+use Rattle.shape.specs.declared.Shape.{Shape}
 use Rattle.split.specs.Bits.{splitBit}
+use Rattle.region.specs.Strings.{sibling}
+use Rattle.record.specs.Packed.{unpackedKey}
 use Rattle.word.specs.Word.{wordOf}
 use Rattle.word.specs.declared.Leaf.the-variants.{Empty, Page}
 use Rattle.store.specs.Store.{Store, store}
 use Rattle.store.specs.declared.State.{State}
 use Rattle.change.specs.Delete.{AtSibling}
+use Rattle.ends.specs.Ends.{endsBegin}
 use Rattle.removal.specs.declared.Stored.{Stored}
 use Rattle.removal.specs.declared.Join.{Join}
 
@@ -20,6 +25,12 @@ pub record SiblingMet (before : Store) (values : List ℕ) (r : Stored) (h : ℕ
   pub divided : 0 < r .depth
   pub other-within : h < before .state .limits .pages
   pub other : AtSibling before values (r .depth - 1) (λ w. w ≡ wordOf (Page h (r .depth)))
+
+-- a page of n records can be that of the sibling of a packed key's region of m + 1 bits, where that is a leaf: its first
+-- and its last record have values in bounds and begin with the sibling's string
+abbrev pub siblingPage : Shape → ℕ → ℕ → List ℕ → ℕ → Bool
+siblingPage s m key page n =
+    endsBegin (widthsOf s) (suc m) (sibling (splitBit (widthsOf s) (unpackedKey key)) m) page n
 
 -- ---- siblings above
 

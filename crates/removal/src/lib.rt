@@ -14,6 +14,7 @@ use shape::Key;
 use shape::widths_of;
 use siblings::plan_join;
 use siblings::sibling_of;
+use siblings::sibling_page_holds;
 use store::State;
 use tally::tally_holds;
 use word::Leaf;
@@ -152,7 +153,8 @@ fn plan_sibling(state: State, dir: &[u32], pages: &[u8], key: Key, found: Stored
 }
 
 // The plan for a leaf and its sibling of the same depth, with page `other`: they are joined where
-// both fit one page without the record. 9 for a page, a count or a tally that no sound store has.
+// both fit one page without the record. 9 for a page, a count or a tally that no sound store has, and
+// where the first or the last record of the sibling's page is not the sibling's.
 fn plan_pair(state: State, dir: &[u32], pages: &[u8], key: Key, found: Stored, other: u32) -> Plan
     requires { ⌜ RecordFound (store state (now dir) (now pages)) (key .values) found ⌝ }
     requires { ⌜ SiblingMet (store state (now dir) (now pages)) (key .values) found other ⌝ }
@@ -178,5 +180,17 @@ fn plan_pair(state: State, dir: &[u32], pages: &[u8], key: Key, found: Stored, o
     }
     let values = key.values;
     let join = plan_join(state, dir, values, found.depth, other, count);
+    let packed = pack_key(key);
+    if !sibling_page_holds(
+        shape,
+        pages,
+        other as usize,
+        count,
+        join.step,
+        packed,
+        join.bit,
+    ) {
+        return Plan::Refused(9);
+    }
     Plan::Join(found, join)
 }

@@ -2,6 +2,10 @@
 // give way to one leaf, which takes in the empty siblings above.
 use super::Join;
 use directory::places::step_place;
+use packed::pair_bit;
+use page::key_at;
+use record::RECORD_SIZE;
+use seek::page_holds;
 use shape::Shape;
 use shape::widths_of;
 use sibling::bit_at;
@@ -9,14 +13,20 @@ use sibling::sibling_word;
 use store::State;
 use word::pack_empty;
 ghost use mathlib.Core.Path.{_≡_};
+ghost use mathlib.Core.Bool.{not, Bool·beq};
 ghost use mathlib.Core.List.{[]};
 ghost use Prim.Native.Nat.{_<_, _≤_};
 ghost use lib.ListN.{length};
 ghost use Rattle.shape.specs.Shape.{shapeNumber, widthsOf, total};
 ghost use Rattle.split.specs.Bits.{splitBit};
+ghost use Rattle.record.specs.Packed.{unpackedKey};
+ghost use Rattle.page.specs.Fields.{keyAt};
+ghost use Rattle.page.specs.Page.{pageAt};
+ghost use Rattle.pages.specs.Pages.{PageLent};
 ghost use Rattle.store.specs.Store.{store};
 ghost use Rattle.change.specs.Delete.{AtSibling};
-ghost use Rattle.removal.specs.Private.{DirectoryLent, Climbed, JoinMade};
+ghost use Rattle.seek.specs.Hold.{OwnAsked};
+ghost use Rattle.removal.specs.Private.{DirectoryLent, Climbed, JoinMade, siblingPage};
 
 // The join of a leaf of depth x with its sibling, which has page `other` and so many records.
 pub fn plan_join(
@@ -76,4 +86,51 @@ fn step_bit(shape: Shape, values: [u32; 4], step: u32) -> bool
     let widths = widths_of(shape);
     let pair = step_place(widths, step as u64);
     bit_at(widths, values, pair)
+}
+
+// Whether the first and the last of the n records of page g have values in bounds and begin with the
+// string of a sibling: the bits of a packed key before a step, where it has this bit, then the other
+// bit.
+pub fn sibling_page_holds(
+    shape: Shape,
+    pages: &[u8],
+    g: usize,
+    n: usize,
+    step: u32,
+    key: u64,
+    bit: bool,
+) -> bool
+    requires { ⌜ OwnAsked shape (now pages) g n step key × (step < total (widthsOf shape))
+        × (bit ≡ splitBit (widthsOf shape) (unpackedKey key) step) ⌝ }
+    ensures { λ r. ⌜ r ≡ siblingPage shape step key (pageAt (shape .capacity) (now (pages .entry)) g) n ⌝ }
+{
+    if !page_holds(shape, pages, g, n, step, key) {
+        return false;
+    }
+    if !differ(bit, bit_on(shape, pages, g, 0, step)) {
+        return false;
+    }
+    differ(bit, bit_on(shape, pages, g, n - 1, step))
+}
+
+// The split bit at a step of record i of page g.
+fn bit_on(shape: Shape, pages: &[u8], g: usize, i: usize, step: u32) -> bool
+    requires { ⌜ (shapeNumber shape ≡ 0) × (step < total (widthsOf shape))
+        × PageLent (shape .capacity) g (now pages) × (i < shape .capacity) ⌝ }
+    ensures { λ r. ⌜ r ≡ splitBit (widthsOf shape)
+        (unpackedKey (keyAt (pageAt (shape .capacity) (now (pages .entry)) g) i)) step ⌝ }
+{
+    let widths = widths_of(shape);
+    let pair = step_place(widths, step as u64);
+    let size = 2 + RECORD_SIZE * (shape.capacity as usize);
+    let start = g * size;
+    let end = start + size;
+    pair_bit(widths, key_at(&pages[start..end], i), pair)
+}
+
+// Whether two bits differ.
+fn differ(a: bool, b: bool) -> bool
+    ensures { λ r. ⌜ r ≡ Bool·beq (not a) b ⌝ }
+{
+    if a { !b } else { b }
 }

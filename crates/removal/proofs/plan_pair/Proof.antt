@@ -1,10 +1,15 @@
 -- `removal::plan_pair` meets its contract: each way that it ends is a law of a leaf and its sibling. Assumes nothing.
-use mathlib.Core.Path.{sym, _∙_}
+use mathlib.Core.Path.{_≡_, sym, ap, _∙_}
 use native.Mathlib.Omega.{arith}
 use borrow.Author.Tests.{not-true, not-false}
+use Rattle.record.specs.Packed.{packedKey}
+use Rattle.page.specs.Page.{pageAt}
 use Rattle.store.specs.Store.{store}
+use Rattle.lookup.proofs.EarlyLaws.{passed, SixteenBits-of-keyFits}
+use Rattle.removal.specs.Private.{JoinMade, siblingPage}
 use Rattle.removal.proofs.MetLaws.{directoryLent, pageLent}
-use Rattle.removal.proofs.PairLaws.{refused-shared, refused-other-count, refused-tally, stays-full, joinPlanned}
+use Rattle.removal.proofs.PairLaws.{refused-shared, refused-other-count, refused-other-ends}
+use Rattle.removal.proofs.PairLaws.{refused-tally, stays-full, sideAsked, joinPlanned}
 use borrow.Author.Needs.{needs}
 use Rattle.removal.proofs.plan_pair.Statement.{statement}
 use Rattle.removal.proofs.plan_pair.Tie as tie
@@ -88,20 +93,76 @@ plan-join-requires c κs =
       found .leaf .deep,
     )
 
-returns-6 : tie.Need-returns-6
-returns-6 c =
-    let earlier = c .before .before .before .before .before .before .before .before .before in
-    let s = earlier .before .before .before .before .before .before in
+-- what the join was made of
+made : (c : tie.After-plan-join)
+    → let f = c .before .before .before .before .before .before .before .before in
+    let a = f .before .before .before .before .before .before .before .args in
+    JoinMade (a .state) (a .dir .now) (a .key .values) (a .found .depth) (a .other) (f .count-at .result)
+    (c .plan-join .result)
+made c = c .plan-join .ensures
+
+pack-key-requires : tie.Need-pack-key-requires
+pack-key-requires c κs =
+    let f = c .before .before .before .before .before .before .before .before in
+    let s = f .before .before .before .before .before .before .before in
     let a = s .args in
     let before = store (a .state) (a .dir .now) (a .pages .now) in
-    let count = c .before .before .before .before .before .before .before .before .count-at in
-    let holds = c .before .before .before .tally-holds in (
+    let k = passed before (a .key .values) (s .pre .0 .leaf .early) in
+    SixteenBits-of-keyFits (a .state .shape) (a .key .values) (k .shape) (k .fits) (s .pre .0 .leaf .four)
+
+sibling-page-holds-requires : tie.Need-sibling-page-holds-requires
+sibling-page-holds-requires c κs =
+    let f = c .before .before .before .before .before .before .before .before .before in
+    let s = f .before .before .before .before .before .before .before in
+    let a = s .args in
+    let before = store (a .state) (a .dir .now) (a .pages .now) in
+    sideAsked before (a .key .values) (a .found) (s .pre .0) (a .other) (s .pre .1) (f .count-at .result)
+    (omega (arith, c .before .before .before .before .before .before .before .before .if2 .left))
+    (omega (arith, c .before .before .before .before .before .before .before .if3 .left)) _ (made (c .before)) _
+    (c .pack-key .ensures)
+
+-- what the test of the sibling's page tells, of the key's packed form
+tested : (c : tie.After-sibling-page-holds)
+    → let f = c .before .before .before .before .before .before .before .before .before .before in
+    let a = f .before .before .before .before .before .before .before .args in
+    c .sibling-page-holds .result
+    ≡ siblingPage (a .state .shape) (c .before .before .plan-join .result .step) (packedKey (a .key .values))
+    (pageAt (a .state .shape .capacity) (a .pages .now) (a .other)) (f .count-at .result)
+tested c =
+    let f = c .before .before .before .before .before .before .before .before .before .before in
+    let a = f .before .before .before .before .before .before .before .args in
+    c .sibling-page-holds .ensures
+    ∙ ap (λ key. siblingPage (a .state .shape) (c .before .before .plan-join .result .step) key
+    (pageAt (a .state .shape .capacity) (a .pages .now) (a .other)) (f .count-at .result)) (c .before .pack-key .ensures)
+
+returns-6 : tie.Need-returns-6
+returns-6 c =
+    let f = c .before .before .before .before .before .before .before .before .before .before .before in
+    let s = f .before .before .before .before .before .before .before in
+    let a = s .args in
+    let before = store (a .state) (a .dir .now) (a .pages .now) in
+    let holds = c .before .sibling-page-holds in
+    refused-other-ends before (a .key .values) (a .found) (s .pre .0) (a .other) (s .pre .1) (f .count-at .result)
+    (f .count-at .ensures .0) _ (made (c .before .before .before) .depth-step)
+    (sym (tested (c .before)) ∙ not-true (holds .result) (c .if6 .taken))
+
+returns-7 : tie.Need-returns-7
+returns-7 c =
+    let f = c .before .before .before .before .before .before .before .before .before .before .before in
+    let s = f .before .before .before .before .before .before .before in
+    let a = s .args in
+    let before = store (a .state) (a .dir .now) (a .pages .now) in
+    let tally = c .before .before .before .before .before .before .tally-holds in
+    let holds = c .before .sibling-page-holds in (
       s .pre .0,
-      joinPlanned before (a .key .values) (a .found) (s .pre .0) (a .other) (s .pre .1) (count .result)
-          (count .ensures .0) (omega (arith, c .before .before .before .before .if4 .left))
-          (omega (arith, c .before .before .before .before .before .before .if3 .left))
-          (earlier .if1 .left) (sym (holds .ensures) ∙ not-false (holds .result) (c .before .before .if5 .left)) _
-          (c .plan-join .ensures),
+      joinPlanned before (a .key .values) (a .found) (s .pre .0) (a .other) (s .pre .1) (f .count-at .result)
+          (f .count-at .ensures .0)
+          (omega (arith, c .before .before .before .before .before .before .before .if4 .left))
+          (omega (arith, c .before .before .before .before .before .before .before .before .before .if3 .left))
+          (f .before .if1 .left)
+          (sym (tally .ensures) ∙ not-false (tally .result) (c .before .before .before .before .before .if5 .left)) _
+          (made (c .before .before .before))
+          (sym (tested (c .before)) ∙ not-false (holds .result) (c .if6 .left)),
     )
 
 pub plan-pair-spec : {M : Type 1} → statement M
@@ -119,4 +180,7 @@ plan-pair-spec =
     tally-holds-requires
     returns-5
     plan-join-requires
-    returns-6)
+    pack-key-requires
+    sibling-page-holds-requires
+    returns-6
+    returns-7)
