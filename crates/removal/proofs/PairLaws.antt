@@ -2,9 +2,12 @@
 -- refusal 9. Assumes nothing.
 use Prim.Native.Nat.{ℕ, suc, _+_, _-_, _≤_, _<_}
 use mathlib.Core.Path.{_≡_, refl, sym, ap, _∙_, subst}
-use mathlib.Core.Bool.{Bool, true, false, not, true≢false, false≢true}
+use mathlib.Core.Bool.{Bool, true, false, not, _&&_, true≢false, false≢true}
 use mathlib.Core.List.{List}
 use native.Mathlib.Omega.{arith}
+use lib.Dec.{ltb}
+use borrow.Author.Tests.{ltb-false}
+use Rattle.lists.proofs.Bools.{and-split}
 use Rattle.shape.specs.Refusal.{refused}
 use Rattle.shape.specs.Shape.{widthsOf, total, indexFits}
 use Rattle.split.specs.Bits.{splitBit}
@@ -35,7 +38,7 @@ use Rattle.lookup.proofs.EarlyLaws.{passed}
 use Rattle.tally.specs.Tally.{tallyHolds}
 use Rattle.tally.proofs.CountLaws.{tallyHolds-of-sound}
 use Rattle.removal.specs.Plan.{RecordFound, StaysAlone, JoinPlanned}
-use Rattle.removal.specs.Private.{SiblingMet, JoinMade, siblingPage}
+use Rattle.removal.specs.Private.{SiblingMet, JoinMade, siblingHolds, siblingPage}
 use Rattle.removal.specs.declared.Stored.{Stored}
 use Rattle.removal.specs.declared.Join.{Join}
 use Rattle.removal.proofs.MetLaws.{refused-word, directoryLent, pageLent}
@@ -95,12 +98,12 @@ module _ (before : Store) (values : List ℕ) (r : Stored) (f : RecordFound befo
   -- ---- the word of a cell of the sibling
 
   module _ (divided : 0 < x) (word : ℕ) (c : AtSibling before values (x - 1) (λ w. word ≡ w)) where
-    pub refused-sibling : wordHolds (before .state) word ≡ false → DeletePromise before values (refused 9) before
-    refused-sibling e =
+    refused-word-there : wordHolds (before .state) word ≡ false → DeletePromise before values (refused 9) before
+    refused-word-there e =
         refused-word before values (f .leaf .early) (c .0) (ap (wordHolds (before .state)) (sym (c .2)) ∙ e)
 
     -- a leaf above the key's leaf, or an empty one beside it
-    pub refused-shallow : word ≤ wordOf (Empty x) → DeletePromise before values (refused 9) before
+    refused-shallow : word ≤ wordOf (Empty x) → DeletePromise before values (refused 9) before
     refused-shallow l =
         let step : suc (x - 1) ≡ x = omega arith in
         delete-unsound before values (f .leaf .early)
@@ -108,6 +111,20 @@ module _ (before : Store) (values : List ℕ) (r : Stored) (f : RecordFound befo
         siblings-deep before S sound values g (x - 1) (f .leaf .own-within)
         (f .leaf .own ∙ ap (λ y. wordOf (Page g y)) (sym step))
         (c .0, c .1, rw (step, sym (c .2)) l))
+
+    pub refused-sibling : siblingHolds (before .state) x word ≡ false → DeletePromise before values (refused 9) before
+    unfolding siblingHolds
+    refused-sibling e = by-word (wordHolds (before .state) word) refl
+      where
+        by-word : (β : Bool) → wordHolds (before .state) word ≡ β → DeletePromise before values (refused 9) before
+        by-word false h = refused-word-there h
+        by-word true h =
+            refused-shallow (ltb-false (wordOf (Empty x)) word
+            (sym (ap (λ β. β && ltb (wordOf (Empty x)) word) h) ∙ e))
+
+    pub held-sibling : siblingHolds (before .state) x word ≡ true → wordHolds (before .state) word ≡ true
+    unfolding siblingHolds
+    held-sibling e = and-split (wordHolds (before .state) word) (ltb (wordOf (Empty x)) word) e .0
 
     stays : ((h : ℕ) → h < P → word ≡ wordOf (Page h x) → suc b < countBefore g + countBefore h)
         → StaysAlone before values g x

@@ -2,8 +2,9 @@
 -- contracts cite these. Assumes nothing.
 use Prim.Native.Nat.{ℕ, suc, _-_, _^_, _≤_, _<_}
 use mathlib.Core.Path.{_≡_}
-use mathlib.Core.Bool.{Bool}
+use mathlib.Core.Bool.{Bool, _&&_}
 use mathlib.Core.List.{List, []}
+use lib.Dec.{ltb}
 use Rattle.shape.specs.Shape.{shapeNumber, widthsOf, total}
 use Rattle.shape.specs.declared.Shape.{Shape}
 use Rattle.split.specs.Bits.{splitBit}
@@ -15,6 +16,7 @@ use Rattle.store.specs.Store.{Store, store}
 use Rattle.store.specs.declared.State.{State}
 use Rattle.change.specs.Delete.{AtSibling}
 use Rattle.ends.specs.Ends.{endsBegin}
+use Rattle.seek.specs.Hold.{wordHolds}
 use Rattle.removal.specs.declared.Stored.{Stored}
 use Rattle.removal.specs.declared.Join.{Join}
 
@@ -25,6 +27,11 @@ pub record SiblingMet (before : Store) (values : List ℕ) (r : Stored) (h : ℕ
   pub divided : 0 < r .depth
   pub other-within : h < before .state .limits .pages
   pub other : AtSibling before values (r .depth - 1) (λ w. w ≡ wordOf (Page h (r .depth)))
+
+-- a sound store can have a word at the sibling of a leaf of depth x that has a page: a leaf above depth x would hold that
+-- leaf's region, and with an empty leaf beside it the region of both would not be divided
+unfoldable pub siblingHolds : State → ℕ → ℕ → Bool
+siblingHolds st x w = wordHolds st w && ltb (wordOf (Empty x)) w
 
 -- a page of n records can be that of the sibling of a packed key's region of m + 1 bits, where that is a leaf: its first
 -- and its last record have values in bounds and begin with the sibling's string

@@ -15,10 +15,10 @@ use shape::widths_of;
 use siblings::plan_join;
 use siblings::sibling_of;
 use siblings::sibling_page_holds;
+use siblings::sibling_word_holds;
 use store::State;
 use tally::tally_holds;
 use word::Leaf;
-use word::pack_empty;
 use word::unpack;
 ghost use mathlib.Core.Path.{_≡_};
 ghost use Prim.Native.Nat.{_<_, _≤_};
@@ -127,8 +127,7 @@ fn place_on(pages: &[u8], capacity: usize, g: usize, n: usize, key: u64) -> usiz
 }
 
 // The plan for a leaf below depth 0: it stays where its sibling is divided. 9 for a word of the
-// sibling that no sound store has: also for a leaf above the key's leaf, or an empty one beside it,
-// whose words are all up to that of the latter.
+// sibling that no sound store has.
 fn plan_sibling(state: State, dir: &[u32], pages: &[u8], key: Key, found: Stored) -> Plan
     requires { ⌜ RecordFound (store state (now dir) (now pages)) (key .values) found ⌝ }
     requires { ⌜ 0 < found .depth ⌝ }
@@ -136,10 +135,7 @@ fn plan_sibling(state: State, dir: &[u32], pages: &[u8], key: Key, found: Stored
 {
     let values = key.values;
     let word = sibling_of(state, dir, values, found.depth - 1);
-    if !word_holds(state, word) {
-        return Plan::Refused(9);
-    }
-    if word <= pack_empty(found.depth) {
+    if !sibling_word_holds(state, word, found.depth) {
         return Plan::Refused(9);
     }
     let sibling = unpack(word);

@@ -6,6 +6,7 @@ use packed::pair_bit;
 use page::key_at;
 use record::RECORD_SIZE;
 use seek::page_holds;
+use seek::word_holds;
 use shape::Shape;
 use shape::widths_of;
 use sibling::bit_at;
@@ -26,7 +27,7 @@ ghost use Rattle.pages.specs.Pages.{PageLent};
 ghost use Rattle.store.specs.Store.{store};
 ghost use Rattle.change.specs.Delete.{AtSibling};
 ghost use Rattle.seek.specs.Hold.{OwnAsked};
-ghost use Rattle.removal.specs.Private.{DirectoryLent, Climbed, JoinMade, siblingPage};
+ghost use Rattle.removal.specs.Private.{DirectoryLent, Climbed, JoinMade, siblingHolds, siblingPage};
 
 // The join of a leaf of depth x with its sibling, which has page `other` and so many records.
 pub fn plan_join(
@@ -86,6 +87,19 @@ fn step_bit(shape: Shape, values: [u32; 4], step: u32) -> bool
     let widths = widths_of(shape);
     let pair = step_place(widths, step as u64);
     bit_at(widths, values, pair)
+}
+
+// Whether a sound store can have a word at the sibling of a leaf of a depth that has a page: its leaf
+// is not above that leaf, and none without a page beside it. The words of all these are up to that of
+// the latter.
+pub fn sibling_word_holds(state: State, word: u32, depth: u32) -> bool
+    requires { ⌜ (state .depth ≤ 12) × (depth < 16) ⌝ }
+    ensures { λ r. ⌜ r ≡ siblingHolds state depth word ⌝ }
+{
+    if !word_holds(state, word) {
+        return false;
+    }
+    pack_empty(depth) < word
 }
 
 // Whether the first and the last of the n records of page g have values in bounds and begin with the
