@@ -1,7 +1,7 @@
 -- Laws of the cell of a key: an index from the first bits of an encoding, taken from the last; the four indices.
 -- Assumes nothing.
 use Prim.Native.Nat.{ℕ, zero, suc, _+_, _*_, _-_, _/_, _%_, _^_, _≤_, _<_}
-use mathlib.Core.Path.{_≡_, refl, sym, ap, _∙_}
+use mathlib.Core.Path.{_≡_, refl, sym, ap, _∙_, subst}
 use mathlib.Core.Bool.{Bool}
 use mathlib.Core.List.{List, [], _∷_}
 use native.Mathlib.Omega.{arith}
@@ -18,7 +18,9 @@ use Rattle.split.proofs.DepthLaws.{depth-width}
 use Rattle.split.proofs.BitLaws.{splitBit-stepNumber}
 use Rattle.cell.specs.Cell.{sumBits, attributeBit, cell}
 use Rattle.cell.proofs.Strings.{sumBits-lt, sumBits-agree, bitValue-digit}
+use Rattle.directory.specs.Private.{reversedBits}
 use Rattle.directory.proofs.PlaceLaws.{depth-place}
+use Rattle.directory.proofs.ReverseLaws.{four-more}
 
 -- ---- an index from an encoding's bits
 
@@ -88,12 +90,47 @@ module _ (w encoding h : ℕ) where
             ∙ sumBits-first (λ m. bitOf w encoding (h - suc k + m)) k
             ∙ omega (arith, first, later)
 
+    -- the same in numbers
+    taken-next : h ≤ w → w ≤ 16 → k < h → Taken w encoding h (rest / 2) (index * 2 + rest % 2) (k + 1)
+    taken-next hw hs l =
+        let low : bitAnd rest 1 < 2 = omega (arith, and-mask rest 1) in
+        let small : index * 2 < 2 ^ 64 = omega (arith, taken-lt (omega arith)) in
+        subst (λ i. Taken w encoding h (rest / 2) i (k + 1))
+        (ap (λ x. bitOr x (bitAnd rest 1)) (mod-eq-of-lt small)
+        ∙ or-shifted index 1 (bitAnd rest 1) low
+        ∙ omega (arith, and-mask rest 1))
+        (taken-suc hw hs l)
+
     pub taken-end : h ≤ k → index ≡ sumBits (bitOf w encoding) h
     taken-end l =
         let e : k ≡ h = omega (arith, inv .within) in
         inv .taken
         ∙ ap (λ n. sumBits (λ m. bitOf w encoding (h - n + m)) n) e
         ∙ sumBits-agree h _ _ (λ m lm. let z : h - h + m ≡ m = omega arith in ap (bitOf w encoding) z)
+
+-- what is taken, by equal numbers
+taken-same : (w encoding h : ℕ) {rest rest′ index index′ k k′ : ℕ} → rest ≡ rest′ → index ≡ index′ → k ≡ k′
+    → Taken w encoding h rest index k → Taken w encoding h rest′ index′ k′
+taken-same w encoding h r i k t =
+    record {
+      within = omega (arith, t .within, k);
+      taken = sym i ∙ t .taken ∙ ap (λ n. sumBits (λ m. bitOf w encoding (h - n + m)) n) k;
+      left = sym r ∙ t .left ∙ ap (λ n. encoding / 2 ^ (w - h + n)) k;
+    }
+
+-- four bits more
+pub taken-four : (w encoding h rest index k : ℕ) → Taken w encoding h rest index k → h ≤ w → w ≤ 16 → k + 4 ≤ h
+    → (r : ℕ) → r ≡ reversedBits (bitAnd rest 15) → r < 16
+    → Taken w encoding h (rest / 16) (bitOr (index * 16 % 2 ^ 64) r) (k + 4)
+taken-four w encoding h rest index k inv hw hs l r e m =
+    let t1 = taken-next w encoding h rest index k inv hw hs (omega arith) in
+    let t2 = taken-next w encoding h _ _ _ t1 hw hs (omega arith) in
+    let t3 = taken-next w encoding h _ _ _ t2 hw hs (omega arith) in
+    let t4 = taken-next w encoding h _ _ _ t3 hw hs (omega arith) in
+    let i = four-more index rest r (taken-lt w encoding h rest index k inv (omega arith)) e m in
+    let q : rest / 2 / 2 / 2 / 2 ≡ rest / 16 = omega arith in
+    let n : k + 1 + 1 + 1 + 1 ≡ k + 4 = omega arith in
+    taken-same w encoding h q (sym i) n t4
 
 -- ---- the four indices
 

@@ -1,6 +1,6 @@
 -- Definitions that only private functions' contracts cite: places and the steps before them, vectors with a bit set or
 -- cleared, halves of cells. Assumes nothing.
-use Prim.Native.Nat.{ℕ, suc, _+_, _-_, _/_, _%_, _^_, _≤_, _<_}
+use Prim.Native.Nat.{ℕ, suc, _+_, _-_, _*_, _/_, _%_, _^_, _≤_, _<_}
 use mathlib.Core.Path.{_≡_}
 use mathlib.Core.Bool.{Bool, cond}
 use mathlib.Core.List.{List}
@@ -79,3 +79,7 @@ pub record MaskFilled (base mask word : ℕ) (before after : List ℕ) : Type 0 
 abbrev pub BlockFilled : List ℕ → List ℕ → List ℕ → ℕ → List ℕ → List ℕ → Type 0
 BlockFilled ws first last word before after =
     MaskFilled (address ws first) (address ws last - address ws first) word before after
+
+-- four bits in reverse order: 3 (0011) gives 12 (1100)
+abbrev pub reversedBits : ℕ → ℕ
+reversedBits n = n % 2 * 8 + n / 2 % 2 * 4 + n / 4 % 2 * 2 + n / 8 % 2

@@ -13,6 +13,7 @@ ghost use Rattle.split.specs.Steps.{stepsBelow};
 ghost use Rattle.split.specs.Bits.{bitOf, splitBit};
 ghost use Rattle.address.specs.Answers.{indexList};
 ghost use Rattle.cell.specs.Cell.{sumBits, cell, cellAddress};
+ghost use Rattle.directory.specs.Private.{reversedBits};
 
 // The address of a key's cell in a directory of depth t.
 pub fn find_cell(widths: Widths, key: [u32; 4], t: u64) -> u64
@@ -41,33 +42,9 @@ pub fn cell_before(widths: Widths, key: [u32; 4], g: u64) -> Index
     Index { i0, i1, i2, i3 }
 }
 
-// The first h of an encoding's w bits as an index: the first of them with weight 1. Up to 8 are
-// reversed at once.
+// The first h of an encoding's w bits as an index: the first of them with weight 1. They are taken
+// from the last on, four at once while there are so many.
 fn index_of_bits(w: u64, encoding: u64, h: u64) -> u64
-    requires { ⌜ (h ≤ w) × (w ≤ 16) ⌝ }
-    ensures { λ r. ⌜ r ≡ sumBits (bitOf w encoding) h ⌝ }
-{
-    if h == 0 {
-        return 0;
-    }
-    if h <= 8 {
-        return reversed((encoding >> (w - h)) & 0xff, h);
-    }
-    index_of_many(w, encoding, h)
-}
-
-// The last h bits of a byte in reverse order. Two products lay each bit beside its place, and a third
-// adds what the masks leave of them.
-fn reversed(byte: u64, h: u64) -> u64
-    requires { ⌜ (byte < 256) × (h ≤ 8) ⌝ }
-    ensures { λ r. ⌜ r ≡ sumBits (bitOf h byte) h ⌝ }
-{
-    let laid = ((byte * 0x0802) & 0x22110) | ((byte * 0x8020) & 0x88440);
-    (((laid * 0x10101) >> 16) & 0xff) >> (8 - h)
-}
-
-// The same one by one.
-fn index_of_many(w: u64, encoding: u64, h: u64) -> u64
     requires { ⌜ (h ≤ w) × (w ≤ 16) ⌝ }
     ensures { λ r. ⌜ r ≡ sumBits (bitOf w encoding) h ⌝ }
 {
@@ -75,9 +52,23 @@ fn index_of_many(w: u64, encoding: u64, h: u64) -> u64
     let mut index: u64 = 0;
     let mut k: u64 = 0;
     while k < h {
-        index = (index << 1) | (rest & 1);
-        rest = rest >> 1;
-        k += 1;
+        if k + 4 <= h {
+            index = (index << 4) | reversed(rest & 0xf);
+            rest = rest >> 4;
+            k += 4;
+        } else {
+            index = (index << 1) | (rest & 1);
+            rest = rest >> 1;
+            k += 1;
+        }
     }
     index
+}
+
+// Four bits in reverse order, from the table of all sixteen.
+fn reversed(four: u64) -> u64
+    requires { ⌜ four < 16 ⌝ }
+    ensures { λ r. ⌜ (r ≡ reversedBits four) × (r < 16) ⌝ }
+{
+    (0xf7b3d591e6a2c480 >> (4 * four)) & 0xf
 }

@@ -219,16 +219,15 @@ module _ (before : Store) (values : List ℕ) where
           whole = le-trans (page-end-le (s .capacity) h P l) (k .pages-lent);
         }
 
-    -- what the test of the key's page asks, and that of its sibling's
-    pub ownAsked : (h : ℕ) → h < P → (n : ℕ) → 1 ≤ n → n ≤ s .capacity
-        → OwnAsked s (before .memory .bytes) h n x (packedKey values)
-    ownAsked h within n some few =
+    -- what the test of the key's page asks
+    pub ownAsked : (n : ℕ) → 1 ≤ n → n ≤ s .capacity → OwnAsked s (before .memory .bytes) g n x (packedKey values)
+    ownAsked n some few =
         let k = passed before values (m .early) in
         record {
           shape = k .shape;
           deep = omega (arith, m .deep, directoryLent .deep);
           fits = indexFits-packed s values (k .shape) (k .fits) (m .four);
-          lent = pageLent h within;
+          lent = pageLent g (m .own-within);
           some = some;
           few = few;
         }

@@ -2,18 +2,21 @@
 -- refusal 9. Assumes nothing.
 use Prim.Native.Nat.{ℕ, suc, _+_, _-_, _≤_, _<_}
 use mathlib.Core.Path.{_≡_, refl, sym, ap, _∙_, subst}
-use mathlib.Core.Bool.{Bool, true, false, not, true≢false, false≢true}
+use mathlib.Core.Bool.{Bool, true, false, not, _&&_, true≢false, false≢true}
 use mathlib.Core.List.{List}
 use native.Mathlib.Omega.{arith}
+use lib.Dec.{ltb}
+use borrow.Author.Tests.{ltb-false}
+use Rattle.lists.proofs.Bools.{and-split}
 use Rattle.shape.specs.Refusal.{refused}
-use Rattle.shape.specs.Shape.{widthsOf}
+use Rattle.shape.specs.Shape.{widthsOf, total, indexFits}
 use Rattle.split.specs.Bits.{splitBit}
 use Rattle.cell.specs.Cell.{Agree}
 use Rattle.region.specs.Strings.{sibling}
 use Rattle.region.specs.Division.{leafDepth}
 use Rattle.region.proofs.StringLaws.{withBit-same}
 use Rattle.record.specs.Record.{Record}
-use Rattle.record.specs.Packed.{packedKey}
+use Rattle.record.specs.Packed.{packedKey, unpackedKey}
 use Rattle.page.specs.Page.{countOf, pageAt}
 use Rattle.word.specs.Word.{wordOf, leafOf}
 use Rattle.word.specs.declared.Leaf.the-variants.{Empty, Page}
@@ -28,17 +31,17 @@ use Rattle.change.proofs.DeletePromiseLaws.{delete-unsound}
 use Rattle.change.proofs.DeleteWordLaws.{leaf-of-page-word}
 use Rattle.lent.proofs.LimitsLaws.{limits-parts}
 use Rattle.ends.specs.Ends.{endsBegin}
-use Rattle.seek.specs.Hold.{wordHolds}
+use Rattle.seek.specs.Hold.{wordHolds, OwnAsked}
 use Rattle.seek.proofs.HoldLaws.{held-empty, held-page}
-use Rattle.seek.proofs.PageLaws.{unpackedKey-values, endsBegin-word}
+use Rattle.seek.proofs.PageLaws.{unpackedKey-values, indexFits-packed, endsBegin-word}
+use Rattle.lookup.proofs.EarlyLaws.{passed}
 use Rattle.tally.specs.Tally.{tallyHolds}
 use Rattle.tally.proofs.CountLaws.{tallyHolds-of-sound}
 use Rattle.removal.specs.Plan.{RecordFound, StaysAlone, JoinPlanned}
-use Rattle.removal.specs.Private.{SiblingMet, JoinMade, siblingPage}
+use Rattle.removal.specs.Private.{SiblingMet, JoinMade, siblingHolds, siblingPage}
 use Rattle.removal.specs.declared.Stored.{Stored}
 use Rattle.removal.specs.declared.Join.{Join}
-use Rattle.lookup.proofs.EarlyLaws.{Passed, passed}
-use Rattle.removal.proofs.MetLaws.{refused-word}
+use Rattle.removal.proofs.MetLaws.{refused-word, directoryLent, pageLent}
 use Rattle.removal.proofs.SiblingLaws.{siblings-deep}
 
 -- in a sound store a leaf and its sibling have two pages
@@ -79,8 +82,11 @@ module _ (before : Store) (values : List ℕ) (r : Stored) (f : RecordFound befo
   abbrev p : ℕ → Bool
   p = keyString before values
 
+  abbrev pageOf : ℕ → List ℕ
+  pageOf h = pageAt b (before .memory .bytes) h
+
   abbrev countBefore : ℕ → ℕ
-  countBefore h = countOf (pageAt b (before .memory .bytes) h)
+  countBefore h = countOf (pageOf h)
 
   most : P ≤ 4096
   most = limits-parts (before .state) (f .leaf .limits) .1
@@ -92,12 +98,12 @@ module _ (before : Store) (values : List ℕ) (r : Stored) (f : RecordFound befo
   -- ---- the word of a cell of the sibling
 
   module _ (divided : 0 < x) (word : ℕ) (c : AtSibling before values (x - 1) (λ w. word ≡ w)) where
-    pub refused-sibling : wordHolds (before .state) word ≡ false → DeletePromise before values (refused 9) before
-    refused-sibling e =
+    refused-word-there : wordHolds (before .state) word ≡ false → DeletePromise before values (refused 9) before
+    refused-word-there e =
         refused-word before values (f .leaf .early) (c .0) (ap (wordHolds (before .state)) (sym (c .2)) ∙ e)
 
     -- a leaf above the key's leaf, or an empty one beside it
-    pub refused-shallow : word ≤ wordOf (Empty x) → DeletePromise before values (refused 9) before
+    refused-shallow : word ≤ wordOf (Empty x) → DeletePromise before values (refused 9) before
     refused-shallow l =
         let step : suc (x - 1) ≡ x = omega arith in
         delete-unsound before values (f .leaf .early)
@@ -105,6 +111,20 @@ module _ (before : Store) (values : List ℕ) (r : Stored) (f : RecordFound befo
         siblings-deep before S sound values g (x - 1) (f .leaf .own-within)
         (f .leaf .own ∙ ap (λ y. wordOf (Page g y)) (sym step))
         (c .0, c .1, rw (step, sym (c .2)) l))
+
+    pub refused-sibling : siblingHolds (before .state) x word ≡ false → DeletePromise before values (refused 9) before
+    unfolding siblingHolds
+    refused-sibling e = by-word (wordHolds (before .state) word) refl
+      where
+        by-word : (β : Bool) → wordHolds (before .state) word ≡ β → DeletePromise before values (refused 9) before
+        by-word false h = refused-word-there h
+        by-word true h =
+            refused-shallow (ltb-false (wordOf (Empty x)) word
+            (sym (ap (λ β. β && ltb (wordOf (Empty x)) word) h) ∙ e))
+
+    pub held-sibling : siblingHolds (before .state) x word ≡ true → wordHolds (before .state) word ≡ true
+    unfolding siblingHolds
+    held-sibling e = and-split (wordHolds (before .state) word) (ltb (wordOf (Empty x)) word) e .0
 
     stays : ((h : ℕ) → h < P → word ≡ wordOf (Page h x) → suc b < countBefore g + countBefore h)
         → StaysAlone before values g x
@@ -164,30 +184,57 @@ module _ (before : Store) (values : List ℕ) (r : Stored) (f : RecordFound befo
         let n = count-bounds before S sound (c .0) h x (omega (arith, most, s .other-within)) (c .2) in
         none (omega (arith, n .0)) (omega (arith, n .1)))
 
-    -- its first and last record begin with the sibling's string
-    pub refused-other-ends : (k : ℕ) → k ≡ countBefore h
-        → siblingPage (before .state .shape) x (packedKey values) (pageAt b (before .memory .bytes) h) k ≡ false
+    -- the sibling's page against the key's packed form
+    siblingPage-key : (k m : ℕ) → siblingPage (before .state .shape) m (packedKey values) (pageOf h) k
+        ≡ endsBegin (widthsOf (before .state .shape)) (suc m) (sibling p m) (pageOf h) k
+    siblingPage-key k m =
+        let e = passed before values (f .leaf .early) in
+        ap (λ q. endsBegin (widthsOf (before .state .shape)) (suc m)
+        (sibling (splitBit (widthsOf (before .state .shape)) q) m) (pageOf h) k)
+        (unpackedKey-values (before .state .shape) values (e .shape) (e .fits) (f .leaf .four))
+
+    -- what the test of the sibling's page asks
+    pub sideAsked : (k : ℕ) → 1 ≤ k → k ≤ b → (j : Join)
+        → JoinMade (before .state) (before .memory .words) values x h k j → (key : ℕ) → key ≡ packedKey values
+        → OwnAsked (before .state .shape) (before .memory .bytes) h k (j .step) key
+        × (j .step < total (widthsOf (before .state .shape)))
+        × (j .bit ≡ splitBit (widthsOf (before .state .shape)) (unpackedKey key) (j .step))
+    sideAsked k some few j made key e =
+        let q = passed before values (f .leaf .early) in
+        let d = directoryLent before values g x (f .leaf) in
+        let deep : j .step < total (widthsOf (before .state .shape)) =
+        omega (arith, made .depth-step, f .leaf .deep, d .deep) in (
+          record {
+            shape = q .shape;
+            deep = omega arith;
+            fits = ap (λ n. indexFits (widthsOf (before .state .shape)) (unpackedKey n)) e
+                ∙ indexFits-packed (before .state .shape) values (q .shape) (q .fits) (f .leaf .four);
+            lent = pageLent before values g x (f .leaf) h (s .other-within);
+            some = some;
+            few = few;
+          },
+          deep,
+          made .bit
+              ∙ ap (λ v. splitBit (widthsOf (before .state .shape)) v (j .step))
+              (sym (ap unpackedKey e
+              ∙ unpackedKey-values (before .state .shape) values (q .shape) (q .fits) (f .leaf .four))),
+        )
+
+    pub refused-other-ends : (k : ℕ) → k ≡ countBefore h → (m : ℕ) → x ≡ suc m
+        → siblingPage (before .state .shape) m (packedKey values) (pageOf h) k ≡ false
         → DeletePromise before values (refused 9) before
-    refused-other-ends k e none =
+    refused-other-ends k e m d none =
         unsound (λ S sound.
         let c = s .other in
+        let same : x - 1 ≡ m = omega arith in
         true≢false
         (sym
-        (ap (λ q. endsBegin ws x (sibling (splitBit ws q) (x - 1)) page k)
-        (unpackedKey-values (before .state .shape) values (early .shape) (early .fits) (f .leaf .four))
-        ∙ ap (endsBegin ws x (sibling p (x - 1)) page) e
-        ∙ endsBegin-word before S sound (c .0) h x (omega (arith, most, s .other-within)) (c .2) (sibling p (x - 1))
-        (λ t l. c .1 t (omega (arith, step))))
+        (siblingPage-key k m
+        ∙ ap (endsBegin (widthsOf (before .state .shape)) (suc m) (sibling p m) (pageOf h)) e
+        ∙ endsBegin-word before S sound (c .0) h (suc m) (omega (arith, most, s .other-within))
+        (c .2 ∙ ap (λ y. wordOf (Page h y)) d) (sibling p m)
+        (subst (λ z. Agree (suc z) (sibling p z) (c .0)) same (c .1)))
         ∙ none))
-      where
-        early : Passed before values
-        early = passed before values (f .leaf .early)
-
-        ws : List ℕ
-        ws = widthsOf (before .state .shape)
-
-        page : List ℕ
-        page = pageAt b (before .memory .bytes) h
 
     pub refused-tally : tallyHolds (before .state .tally .leaves) ≡ false
         → DeletePromise before values (refused 9) before
@@ -205,16 +252,17 @@ module _ (before : Store) (values : List ℕ) (r : Stored) (f : RecordFound befo
           rw (sym same) (omega (arith, e, f .counted)))
 
       pub joinPlanned : r .count + k ≤ b + 1 → k ≤ b → (h ≡ g → ⊥) → tallyHolds (before .state .tally .leaves) ≡ true
-          → siblingPage (before .state .shape) x (packedKey values) (pageAt b (before .memory .bytes) h) k ≡ true
-          → (j : Join) → JoinMade (before .state) (before .memory .words) values x h k j → JoinPlanned before values r j
-      joinPlanned l few apart holds ends j made =
+          → (j : Join) → JoinMade (before .state) (before .memory .words) values x h k j
+          → siblingPage (before .state .shape) (j .step) (packedKey values) (pageOf h) k ≡ true
+          → JoinPlanned before values r j
+      joinPlanned l few apart holds j made ends =
           record {
             depth-step = made .depth-step;
             met = met;
             apart = λ d. apart (sym (made .other) ∙ sym d);
             counted = rw (made .other) (made .count ∙ e);
             few = rw (made .count) few;
-            ends = rw (made .other, made .count) ends;
+            ends = rw (made .count, made .other) (sym (siblingPage-key k (j .step)) ∙ ends);
             bit = made .bit;
             tally = holds;
           }

@@ -1,10 +1,11 @@
 -- Laws of the sibling of a leaf with a page in a sound store: its leaf is no shallower, and not empty at the leaf's own
--- depth. Assumes nothing.
+-- depth; the test of its word, by case. Assumes nothing.
 use Prim.Native.Nat.{ℕ, suc, _≤_, _<_}
 use mathlib.Core.Path.{_≡_, ap}
-use mathlib.Core.Bool.{Bool, not}
+use mathlib.Core.Bool.{Bool, true, false, not}
 use mathlib.Core.List.{List}
 use native.Mathlib.Omega.{arith}
+use lib.Dec.{ltb}
 use lib.ListN.{length}
 use Rattle.shape.specs.Shape.{widthsOf, total}
 use Rattle.shape.specs.declared.Shape.{Shape}
@@ -19,11 +20,14 @@ use Rattle.word.specs.declared.Leaf.the-variants.{Empty, Page}
 use Rattle.model.specs.Sets.{divisionOf}
 use Rattle.store.specs.Store.{Store}
 use Rattle.store.specs.Sound.{Sound}
+use Rattle.store.specs.declared.State.{State}
 use Rattle.store.proofs.DividedLaws.{lt-leafDepth-agree}
 use Rattle.store.proofs.SetLaws.{length-leafRecords}
 use Rattle.store.proofs.ShownLaws.{wordOn, divisionOn, wordOn-depth}
 use Rattle.change.specs.Delete.{keyString, AtSibling}
 use Rattle.change.proofs.DeleteWordLaws.{leaf-of-page-word, sibling-empty}
+use Rattle.seek.specs.Hold.{wordHolds}
+use Rattle.removal.specs.Private.{siblingHolds}
 
 module _ (before : Store) (S : List Record) (sound : Sound before S) (key : List ℕ) (g m : ℕ)
     (l : g < before .state .limits .pages)
@@ -67,3 +71,14 @@ module _ (before : Store) (S : List Record) (sound : Sound before S) (key : List
 
       below : m < leafDepth q 0 D
       below = lt-leafDepth-agree s S (sound .shape) (sound .set) p q m near (omega (arith, depth))
+
+-- ---- the test of the sibling's word, by case
+
+pub siblingHolds-damaged : (st : State) (x w : ℕ) → wordHolds st w ≡ false → false ≡ siblingHolds st x w
+unfolding siblingHolds
+siblingHolds-damaged st x w e = rw e
+
+pub siblingHolds-above : (st : State) (x w : ℕ) → wordHolds st w ≡ true → (empty : ℕ) → empty ≡ wordOf (Empty x)
+    → ltb empty w ≡ siblingHolds st x w
+unfolding siblingHolds
+siblingHolds-above st x w h empty e = rw (h, e)

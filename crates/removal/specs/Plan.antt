@@ -6,6 +6,8 @@ use mathlib.Core.Bool.{true}
 use mathlib.Core.List.{List}
 use lib.ListN.{length}
 use Rattle.shape.specs.Refusal.{refused}
+use Rattle.shape.specs.Shape.{widthsOf}
+use Rattle.region.specs.Strings.{sibling}
 use Rattle.record.specs.Packed.{packedKey}
 use Rattle.page.specs.Page.{countOf, pageAt}
 use Rattle.page.specs.Fields.{keyAt}
@@ -15,13 +17,13 @@ use Rattle.store.specs.Store.{Store, wordAt}
 use Rattle.store.specs.Promises.{keyNumber, DeletePromise}
 use Rattle.change.specs.Delete.{keyString, AtSibling, JoinFound}
 use Rattle.lent.specs.Limits.{limitsHold}
+use Rattle.ends.specs.Ends.{endsBegin}
 use Rattle.seek.specs.Hold.{wordHolds, ownPage}
 use Rattle.tally.specs.Tally.{tallyHolds}
 use Rattle.removal.specs.declared.Stored.{Stored}
 use Rattle.removal.specs.declared.Join.{Join}
 use Rattle.removal.specs.declared.Plan.{Plan}
 use Rattle.removal.specs.declared.Plan.the-variants as plan
-use Rattle.removal.specs.Private.{siblingPage}
 
 module _ (before : Store) (values : List ℕ) where
   abbrev P : ℕ
@@ -64,15 +66,15 @@ module _ (before : Store) (values : List ℕ) where
       → AtSibling before values m (λ w. (h : ℕ) → h < P → w ≡ wordOf (Page h (suc m))
       → suc b < countBefore g + countBefore h)
 
-  -- the leaf is joined with its sibling, whose page is another one; its first and last record have values in bounds and
-  -- begin with the sibling's string
+  -- the leaf is joined with its sibling, whose page is another one
   pub record JoinPlanned (r : Stored) (j : Join) : Type 0 where
     pub depth-step : r .depth ≡ suc (j .step)
     pub met : JoinFound before values (r .page) (j .other) (j .step) (j .top)
     pub apart : r .page ≡ j .other → ⊥
     pub counted : j .count ≡ countBefore (j .other)
     pub few : j .count ≤ b
-    pub ends : siblingPage (before .state .shape) (r .depth) (packedKey values)
+    -- the sibling's first and last record have values in bounds and begin with its string
+    pub ends : endsBegin (widthsOf (before .state .shape)) (suc (j .step)) (sibling (keyString before values) (j .step))
         (pageAt b (before .memory .bytes) (j .other)) (j .count) ≡ true
     pub bit : j .bit ≡ keyString before values (j .step)
     pub tally : tallyHolds (before .state .tally .leaves) ≡ true

@@ -2,12 +2,12 @@
 -- contracts cite these. Assumes nothing.
 use Prim.Native.Nat.{ℕ, suc, _-_, _^_, _≤_, _<_}
 use mathlib.Core.Path.{_≡_}
-use mathlib.Core.Bool.{Bool, true}
+use mathlib.Core.Bool.{Bool, _&&_}
 use mathlib.Core.List.{List, []}
-use Rattle.shape.specs.Shape.{shapeNumber, widthsOf, total, indexFits}
+use lib.Dec.{ltb}
+use Rattle.shape.specs.Shape.{shapeNumber, widthsOf, total}
 use Rattle.shape.specs.declared.Shape.{Shape}
 use Rattle.split.specs.Bits.{splitBit}
-use Rattle.cell.specs.Cell.{Agree}
 use Rattle.region.specs.Strings.{sibling}
 use Rattle.record.specs.Packed.{unpackedKey}
 use Rattle.word.specs.Word.{wordOf}
@@ -16,6 +16,7 @@ use Rattle.store.specs.Store.{Store, store}
 use Rattle.store.specs.declared.State.{State}
 use Rattle.change.specs.Delete.{AtSibling}
 use Rattle.ends.specs.Ends.{endsBegin}
+use Rattle.seek.specs.Hold.{wordHolds}
 use Rattle.removal.specs.declared.Stored.{Stored}
 use Rattle.removal.specs.declared.Join.{Join}
 
@@ -27,27 +28,16 @@ pub record SiblingMet (before : Store) (values : List ℕ) (r : Stored) (h : ℕ
   pub other-within : h < before .state .limits .pages
   pub other : AtSibling before values (r .depth - 1) (λ w. w ≡ wordOf (Page h (r .depth)))
 
--- ---- its page, by a packed key of the key's leaf
+-- a sound store can have a word at the sibling of a leaf of depth x that has a page: a leaf above depth x would hold that
+-- leaf's region, and with an empty leaf beside it the region of both would not be divided
+unfoldable pub siblingHolds : State → ℕ → ℕ → Bool
+siblingHolds st x w = wordHolds st w && ltb (wordOf (Empty x)) w
 
-module _ (s : Shape) where
-  -- the string of a packed key
-  abbrev string : ℕ → ℕ → Bool
-  string key = splitBit (widthsOf s) (unpackedKey key)
-
-  -- a page of n records can be that of the sibling of the key's leaf of depth x: its first and its last record have
-  -- values in bounds and begin with the sibling's string
-  abbrev pub siblingPage : ℕ → ℕ → List ℕ → ℕ → Bool
-  siblingPage x key page n = endsBegin (widthsOf s) x (sibling (string key) (x - 1)) page n
-
-  -- a packed key within the widths
-  pub record KeyIn (key : ℕ) : Type 0 where
-    pub shape : shapeNumber s ≡ 0
-    pub fits : indexFits (widthsOf s) (unpackedKey key) ≡ true
-
-  -- so is r, and it falls into the sibling of the key's region of z + 1 bits
-  pub record SiblingKey (key z r : ℕ) : Type 0 where
-    pub fits : indexFits (widthsOf s) (unpackedKey r) ≡ true
-    pub beside : Agree (suc z) (sibling (string key) z) (string r)
+-- a page of n records can be that of the sibling of a packed key's region of m + 1 bits, where that is a leaf: its first
+-- and its last record have values in bounds and begin with the sibling's string
+abbrev pub siblingPage : Shape → ℕ → ℕ → List ℕ → ℕ → Bool
+siblingPage s m key page n =
+    endsBegin (widthsOf s) (suc m) (sibling (splitBit (widthsOf s) (unpackedKey key)) m) page n
 
 -- ---- siblings above
 

@@ -13,12 +13,12 @@ use select::find_key;
 use shape::Key;
 use shape::widths_of;
 use siblings::plan_join;
-use siblings::sibling_holds;
 use siblings::sibling_of;
+use siblings::sibling_page_holds;
+use siblings::sibling_word_holds;
 use store::State;
 use tally::tally_holds;
 use word::Leaf;
-use word::pack_empty;
 use word::unpack;
 ghost use mathlib.Core.Path.{_≡_};
 ghost use Prim.Native.Nat.{_<_, _≤_};
@@ -127,8 +127,7 @@ fn place_on(pages: &[u8], capacity: usize, g: usize, n: usize, key: u64) -> usiz
 }
 
 // The plan for a leaf below depth 0: it stays where its sibling is divided. 9 for a word of the
-// sibling that no sound store has: also for a leaf above the key's leaf, or an empty one beside it,
-// whose words are all up to that of the latter.
+// sibling that no sound store has.
 fn plan_sibling(state: State, dir: &[u32], pages: &[u8], key: Key, found: Stored) -> Plan
     requires { ⌜ RecordFound (store state (now dir) (now pages)) (key .values) found ⌝ }
     requires { ⌜ 0 < found .depth ⌝ }
@@ -136,10 +135,7 @@ fn plan_sibling(state: State, dir: &[u32], pages: &[u8], key: Key, found: Stored
 {
     let values = key.values;
     let word = sibling_of(state, dir, values, found.depth - 1);
-    if !word_holds(state, word) {
-        return Plan::Refused(9);
-    }
-    if word <= pack_empty(found.depth) {
+    if !sibling_word_holds(state, word, found.depth) {
         return Plan::Refused(9);
     }
     let sibling = unpack(word);
@@ -153,9 +149,8 @@ fn plan_sibling(state: State, dir: &[u32], pages: &[u8], key: Key, found: Stored
 }
 
 // The plan for a leaf and its sibling of the same depth, with page `other`: they are joined where
-// both fit one page without the record. 9 for a page, a count or a tally that no sound store has,
-// and where the first or the last record of that page is out of bounds or does not begin with the
-// sibling's string.
+// both fit one page without the record. 9 for a page, a count or a tally that no sound store has, and
+// where the first or the last record of the sibling's page is not the sibling's.
 fn plan_pair(state: State, dir: &[u32], pages: &[u8], key: Key, found: Stored, other: u32) -> Plan
     requires { ⌜ RecordFound (store state (now dir) (now pages)) (key .values) found ⌝ }
     requires { ⌜ SiblingMet (store state (now dir) (now pages)) (key .values) found other ⌝ }
@@ -173,10 +168,6 @@ fn plan_pair(state: State, dir: &[u32], pages: &[u8], key: Key, found: Stored, o
     if capacity < count {
         return Plan::Refused(9);
     }
-    let packed = pack_key(key);
-    if !sibling_holds(shape, pages, other as usize, count, found.depth, packed) {
-        return Plan::Refused(9);
-    }
     if capacity + 1 < found.count + count {
         return Plan::Keep(found);
     }
@@ -185,5 +176,17 @@ fn plan_pair(state: State, dir: &[u32], pages: &[u8], key: Key, found: Stored, o
     }
     let values = key.values;
     let join = plan_join(state, dir, values, found.depth, other, count);
+    let packed = pack_key(key);
+    if !sibling_page_holds(
+        shape,
+        pages,
+        other as usize,
+        count,
+        join.step,
+        packed,
+        join.bit,
+    ) {
+        return Plan::Refused(9);
+    }
     Plan::Join(found, join)
 }

@@ -87,8 +87,8 @@ page-holds-requires c κs =
     let before = store (a .state) (a .dir .now) (a .pages .now) in
     let count = c .before .before .before .count-at .result in
     subst (OwnAsked (a .state .shape) (a .pages .now) (a .page) count (a .depth)) (sym (c .pack-key .ensures))
-    (ownAsked before (a .key .values) (a .page) (a .depth) (s .pre) (a .page) (s .pre .own-within) count
-    (omega (arith, c .before .before .if1 .left)) (omega (arith, c .before .if2 .left)))
+    (ownAsked before (a .key .values) (a .page) (a .depth) (s .pre) count (omega (arith, c .before .before .if1 .left))
+    (omega (arith, c .before .if2 .left)))
 
 returns-3 : tie.Need-returns-3
 returns-3 c =
@@ -133,9 +133,8 @@ found c =
     let before = store (a .state) (a .dir .now) (a .pages .now) in
     let holds = c .before .before .before .page-holds in
     recordFound before (a .key .values) (a .page) (a .depth) (s .pre) (f .count-at .result) (f .count-at .ensures .0)
-    (omega (arith, c .before .before .before .before .before .if2 .left))
-    (sym (tested (c .before .before .before)) ∙ not-false (holds .result) (c .before .before .if3 .left))
-    _ (placed (c .before)) (c .if4 .left)
+    (omega (arith, c .before .before .before .before .before .if2 .left)) (sym (tested (c .before .before .before)) ∙ not-false (holds .result)
+    (c .before .before .if3 .left)) _ (placed (c .before)) (c .if4 .left)
 
 returns-5 : tie.Need-returns-5
 returns-5 c =

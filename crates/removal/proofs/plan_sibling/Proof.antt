@@ -9,7 +9,8 @@ use Rattle.word.specs.declared.Leaf.the-variants.{Page}
 use Rattle.store.specs.Store.{store}
 use Rattle.seek.specs.Hold.{wordHolds}
 use Rattle.removal.proofs.MetLaws.{directoryLent}
-use Rattle.removal.proofs.PairLaws.{refused-sibling, refused-shallow, stays-empty, stays-deep, siblingMet}
+use Rattle.removal.proofs.PairLaws.{refused-sibling, held-sibling}
+use Rattle.removal.proofs.PairLaws.{stays-empty, stays-deep, siblingMet}
 use borrow.Author.Needs.{needs}
 use Rattle.removal.proofs.plan_sibling.Statement.{statement}
 use Rattle.removal.proofs.plan_sibling.Tie as tie
@@ -18,11 +19,18 @@ use Rattle.removal.proofs.plan_sibling.Tie as tie
 held : (c : tie.Else1)
     → let a = c .before .before .before .before .before .before .before .args in
     wordHolds (a .state) (c .before .before .sibling-of .result) ≡ true
-held c = sym (c .before .word-holds .ensures) ∙ not-false (c .before .word-holds .result) (c .if1 .left)
+held c =
+    let s = c .before .before .before .before .before .before .before in
+    let a = s .args in
+    let before = store (a .state) (a .dir .now) (a .pages .now) in
+    let holds = c .before .sibling-word-holds in
+    let word = c .before .before .sibling-of in
+    held-sibling before (a .key .values) (a .found) (s .pre .0) (s .pre .1) (word .result) (word .ensures)
+    (sym (holds .ensures) ∙ not-false (holds .result) (c .if1 .left))
 
 -- the leaf with a page that it names
 named : (c : tie.After-sibling)
-    → leafOf (c .before .before .before .before .before .before .before .sibling-of .result)
+    → leafOf (c .before .before .before .before .before .sibling-of .result)
     ≡ Page (c .sibling .given .0 .0) (c .sibling .given .0 .1 .0)
 named c = sym (c .before .before .unpack .ensures) ∙ c .sibling .given .1
 
@@ -39,39 +47,23 @@ sibling-of-requires c κs =
       omega (arith, s .pre .1, found .leaf .deep),
     )
 
-word-holds-requires : tie.Need-word-holds-requires
-word-holds-requires c κs =
+sibling-word-holds-requires : tie.Need-sibling-word-holds-requires
+sibling-word-holds-requires c κs =
     let s = c .before .before .before .before .before in
     let a = s .args in
     let before = store (a .state) (a .dir .now) (a .pages .now) in
-    directoryLent before (a .key .values) (a .found .page) (a .found .depth) (s .pre .0 .leaf) .short
+    let lent = directoryLent before (a .key .values) (a .found .page) (a .found .depth) (s .pre .0 .leaf) in
+    (lent .short, omega (arith, s .pre .0 .leaf .deep, lent .short))
 
 returns : tie.Need-returns
 returns c =
     let s = c .before .before .before .before .before .before .before in
     let a = s .args in
     let before = store (a .state) (a .dir .now) (a .pages .now) in
-    let holds = c .before .word-holds in
+    let holds = c .before .sibling-word-holds in
     let word = c .before .before .sibling-of in
     refused-sibling before (a .key .values) (a .found) (s .pre .0) (s .pre .1) (word .result) (word .ensures)
     (sym (holds .ensures) ∙ not-true (holds .result) (c .if1 .taken))
-
-pack-empty-requires : tie.Need-pack-empty-requires
-pack-empty-requires c κs =
-    let s = c .before .before .before .before .before .before .before in
-    let a = s .args in
-    let before = store (a .state) (a .dir .now) (a .pages .now) in
-    let lent = directoryLent before (a .key .values) (a .found .page) (a .found .depth) (s .pre .0 .leaf) in
-    omega (arith, s .pre .0 .leaf .deep, lent .short)
-
-returns-2 : tie.Need-returns-2
-returns-2 c =
-    let s = c .before .before .before .before .before .before .before .before .before in
-    let a = s .args in
-    let before = store (a .state) (a .dir .now) (a .pages .now) in
-    let word = c .before .before .before .before .sibling-of in
-    refused-shallow before (a .key .values) (a .found) (s .pre .0) (s .pre .1) (word .result) (word .ensures)
-    (omega (arith, c .if2 .taken, c .before .pack-empty .ensures))
 
 unpack-requires : tie.Need-unpack-requires
 unpack-requires c κs = search needs
@@ -82,48 +74,43 @@ enum-known-sibling c = search needs
 enum-told : tie.Need-enum-told
 enum-told c = search needs
 
-returns-3 : tie.Need-returns-3
-returns-3 c =
-    let s = c .before .before .before .before .before .before .before .before .before .before .before .before in
+returns-2 : tie.Need-returns-2
+returns-2 c =
+    let s = c .before .before .before .before .before .before .before .before .before .before in
     let a = s .args in
     let before = store (a .state) (a .dir .now) (a .pages .now) in
-    let word = c .before .before .before .before .before .before .before .sibling-of in (
+    let word = c .before .before .before .before .before .sibling-of in (
       s .pre .0,
       stays-empty before (a .key .values) (a .found) (s .pre .0) (s .pre .1) (word .result) (word .ensures)
-          (held (c .before .before .before .before .before)) _
-          (sym (c .before .before .unpack .ensures) ∙ c .enum-told .given .1),
+          (held (c .before .before .before)) _ (sym (c .before .before .unpack .ensures) ∙ c .enum-told .given .1),
     )
 
-returns-4 : tie.Need-returns-4
-returns-4 c =
-    let known = c .before .before .before .before .before .before .before .before .before .before in
-    let s = known .before .before .before .before .before in
+returns-3 : tie.Need-returns-3
+returns-3 c =
+    let s = c .before .before .before .before .before .before .before .before .before .before .before .before .before in
     let a = s .args in
     let before = store (a .state) (a .dir .now) (a .pages .now) in
-    let word = known .sibling-of in (
+    let word = c .before .before .before .before .before .before .before .before .sibling-of in (
       s .pre .0,
       stays-deep before (a .key .values) (a .found) (s .pre .0) (s .pre .1) (word .result) (word .ensures)
-          (held (c .before .before .before .before .before .before .before .before)) _ _
-          (named (c .before .before .before))
-          (c .if3 .taken),
+          (held (c .before .before .before .before .before .before)) _ _ (named (c .before .before .before))
+          (c .if2 .taken),
     )
 
 plan-pair-requires : tie.Need-plan-pair-requires
 plan-pair-requires c κs =
-    let known = c .before .before .before .before .before .before .before .before .before .before in
-    let s = known .before .before .before .before .before in
+    let s = c .before .before .before .before .before .before .before .before .before .before .before .before .before in
     let a = s .args in
     let before = store (a .state) (a .dir .now) (a .pages .now) in
-    let word = known .sibling-of in (
+    let word = c .before .before .before .before .before .before .before .before .sibling-of in (
       s .pre .0,
       siblingMet before (a .key .values) (a .found) (s .pre .0) (s .pre .1) (word .result) (word .ensures)
-          (held (c .before .before .before .before .before .before .before .before)) _ _
-          (named (c .before .before .before))
-          (c .if3 .left),
+          (held (c .before .before .before .before .before .before)) _ _ (named (c .before .before .before))
+          (c .if2 .left),
     )
 
-returns-5 : tie.Need-returns-5
-returns-5 c = c .plan-pair .ensures
+returns-4 : tie.Need-returns-4
+returns-4 c = c .plan-pair .ensures
 
 pub plan-sibling-spec : {M : Type 1} → statement M
 plan-sibling-spec =
@@ -131,14 +118,12 @@ plan-sibling-spec =
     (tie.spec
     sub-sibling-of
     sibling-of-requires
-    word-holds-requires
+    sibling-word-holds-requires
     returns
-    pack-empty-requires
-    returns-2
     unpack-requires
     enum-known-sibling
     enum-told
+    returns-2
     returns-3
-    returns-4
     plan-pair-requires
-    returns-5)
+    returns-4)
