@@ -110,7 +110,8 @@ module _ (content : Content) (answer : Answer Reply) (after : Store) where
       written : Written zeroedWord after (keyString (key 2 2)) 0 → ⊥
       written =
           ⊎-elim (λ own. omega (arith, own .1, computed [] .own))
-          (⊎-elim (λ j. none-joined _ (j .0) (j .1)) (λ free. let one : _≡_ {A = ℕ} 1 0 = free .0 in omega (arith, one)))
+          (⊎-elim (λ j. none-joined _ (j .0) (j .1))
+          (λ free. let one : _≡_ {A = ℕ} 1 0 = free .0 in omega (arith, one)))
 
 -- ---- a delete
 
