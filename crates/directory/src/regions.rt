@@ -51,8 +51,8 @@ fn fill_blocks(widths: Widths, index: Index, start: u64, x: u64, t: u64, word: u
     }
 }
 
-// Sets the cells of a block from its first to its last, where the bits that vary are 0 and 1. The pair
-// at place g appended them all.
+// Sets the cells of a block from its first to its last, where the bits that vary are 0 and 1. The
+// pair at place g appended them all.
 fn fill_block(widths: Widths, first: Index, last: Index, g: u64, word: u32, dir: &mut [u32])
     requires { ⌜ BlockFits (widthList widths) g (indexList first) (indexList last) (length (now dir)) ⌝ }
     ensures { λ _. ⌜ BlockFilled (widthList widths) (indexList first) (indexList last) word

@@ -20,9 +20,9 @@ ghost use Rattle.store.specs.Answers.{changedAnswer};
 ghost use Rattle.store.specs.Promises.{InsertPromise};
 ghost use Rattle.store.specs.Store.{store};
 
-// Adds a record; a full leaf is divided until no leaf has more than b. Refused with 1, 2, 3, 4, 6, 7
-// or 9, the first that holds in this order; a refused call changes nothing. On any store no word and
-// no page of another leaf is lost.
+// Adds a record; a full leaf is divided until no leaf has more than b. Refused with 1, 2, 3, 4, 6,
+// 7 or 9, the first that holds in this order; a refused call changes nothing. On any store no word
+// and no page of another leaf is lost.
 pub fn insert(state: State, dir: &mut [u32], pages: &mut [u8], key: Key, content: Content) -> Change
     ensures { λ r. ⌜ InsertPromise (store state (now (dir .entry)) (now (pages .entry))) (key .values) content
         (changedAnswer (r .answer)) (store (r .state) (now (dir .exit)) (now (pages .exit))) ⌝ }

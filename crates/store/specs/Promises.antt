@@ -90,8 +90,8 @@ pub record ChangePromise (c : Call) (values : List ℕ) (early : ℕ) (numbers :
       ≡ drop (pagesSize (before .state)) (before .memory .bytes)
   -- on any store: the word of every cell outside the key's leaf and the leaves joined with it is, at the new T, the
   -- word that stood there; and the bytes of every page other than the leaf's, the joined ones' and the one newly taken
-  -- are as they were. Shut out: an insert that sets a region after a look at one of its cells, a delete that lowers T
-  -- by a wrong tally
+  -- are as they were. Shut out: an insert that sets a region after a look at one of its cells, a delete that lowers T by
+  -- a wrong tally
   pub contained : Contained before after
       (splitBit (widthsOf (before .state .shape)) (encodings (before .state .shape) values))
   -- on a sound store the model's answer, and a store that shows the model's set
