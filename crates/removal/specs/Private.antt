@@ -28,13 +28,13 @@ pub record SiblingMet (before : Store) (values : List ℕ) (r : Stored) (h : ℕ
   pub other-within : h < before .state .limits .pages
   pub other : AtSibling before values (r .depth - 1) (λ w. w ≡ wordOf (Page h (r .depth)))
 
--- a sound store can have a word at the sibling of a leaf of depth x that has a page: a leaf above depth x would hold that
--- leaf's region, and with an empty leaf beside it the region of both would not be divided
+-- a sound store can have a word at the sibling of a leaf of depth x that has a page: a leaf above depth x would hold
+-- that leaf's region, and with an empty leaf beside it the region of both would not be divided
 unfoldable pub siblingHolds : State → ℕ → ℕ → Bool
 siblingHolds st x w = wordHolds st w && ltb (wordOf (Empty x)) w
 
--- a page of n records can be that of the sibling of a packed key's region of m + 1 bits, where that is a leaf: its first
--- and its last record have values in bounds and begin with the sibling's string
+-- a page of n records can be that of the sibling of a packed key's region of m + 1 bits, where that is a leaf: its
+-- first and its last record have values in bounds and begin with the sibling's string
 abbrev pub siblingPage : Shape → ℕ → ℕ → List ℕ → ℕ → Bool
 siblingPage s m key page n =
     endsBegin (widthsOf s) (suc m) (sibling (splitBit (widthsOf s) (unpackedKey key)) m) page n

@@ -46,9 +46,12 @@ impl Reading<'_> {
     /// Whether page g can be that of the leaf with this string, as far as a call looks: it has 1 to b records, and
     /// the first and the last of them have values in bounds and begin with the string.
     pub fn page_fair(&self, g: usize, string: &[bool]) -> bool {
-        let count = self.image.count(g);
-        (1..=self.model.shape.capacity as usize).contains(&count)
-            && [0, count - 1].iter().all(|&i| self.begins(g, i, string))
+        self.count_fair(g) && [0, self.image.count(g) - 1].iter().all(|&i| self.begins(g, i, string))
+    }
+
+    /// Whether page g has 1 to b records.
+    pub fn count_fair(&self, g: usize) -> bool {
+        (1..=self.model.shape.capacity as usize).contains(&self.image.count(g))
     }
 
     /// Whether record i of page g has values in bounds and begins with a string.

@@ -133,8 +133,9 @@ found c =
     let before = store (a .state) (a .dir .now) (a .pages .now) in
     let holds = c .before .before .before .page-holds in
     recordFound before (a .key .values) (a .page) (a .depth) (s .pre) (f .count-at .result) (f .count-at .ensures .0)
-    (omega (arith, c .before .before .before .before .before .if2 .left)) (sym (tested (c .before .before .before)) ∙ not-false (holds .result)
-    (c .before .before .if3 .left)) _ (placed (c .before)) (c .if4 .left)
+    (omega (arith, c .before .before .before .before .before .if2 .left))
+    (sym (tested (c .before .before .before)) ∙ not-false (holds .result) (c .before .before .if3 .left))
+    _ (placed (c .before)) (c .if4 .left)
 
 returns-5 : tie.Need-returns-5
 returns-5 c =

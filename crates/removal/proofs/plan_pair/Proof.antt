@@ -133,7 +133,8 @@ tested c =
     let a = f .before .before .before .before .before .before .before .args in
     c .sibling-page-holds .ensures
     ∙ ap (λ key. siblingPage (a .state .shape) (c .before .before .plan-join .result .step) key
-    (pageAt (a .state .shape .capacity) (a .pages .now) (a .other)) (f .count-at .result)) (c .before .pack-key .ensures)
+    (pageAt (a .state .shape .capacity) (a .pages .now) (a .other)) (f .count-at .result))
+    (c .before .pack-key .ensures)
 
 returns-6 : tie.Need-returns-6
 returns-6 c =
