@@ -25,11 +25,13 @@
  *
  * SOUND. A store is sound if it shows a set of records as the layouts below say. mdeh_fresh makes a sound store, and
  * every call leaves a sound store sound. On an unsound one (memory that something else wrote) a call still ends and
- * keeps to the slices, but gives 9 or answers from what it meets; an accepted insert or delete leaves the words and
- * pages of all leaves but its key's and those joined with it as they were. mdeh_check tells sound stores from others.
+ * keeps to the slices, but gives 9 or answers from what it meets; an accepted insert or delete leaves all words and
+ * pages but those of its key's leaf and of the leaves joined with it as they were. mdeh_check tells sound stores from
+ * others.
  *
- * CHECK, THEN ASK. A call reads a part of the store and tells the damage that it sees there; on damaged memory a list
- * with number 0 may still lack records. Before people act on a list, ask mdeh_check, then mdeh_query, and let nothing
+ * CHECK, THEN ASK. A call reads a part of the store, and tests of it the words and each page's count, first and last
+ * record; on damaged memory a list with number 0 may still lack records or show wrong ones. Before people act on a
+ * list, ask mdeh_check, then mdeh_query, and let nothing
  * write in between. Check reads the whole store, some 15 ns a record: a third of a millisecond for 20,000; what it does
  * not tell stands under KEEPING. Where it says no, or a call gives 9, the memory was damaged: do not act on it; make a
  * fresh store and insert the event records again.

@@ -38,7 +38,7 @@ fn main() -> Result<(), Refusal> {
     for (key, count) in SEEN {
         store.insert(key, count)?;
     }
-    // people act on the list: check, then ask; a damaged store is to be filled again from what was seen
+    // people act on the list: check, then ask
     if !store.check()? {
         return Err(Refusal::Unsound);
     }

@@ -37,10 +37,11 @@
 //!
 //! # Check, then ask
 //!
-//! A call reads a part of the store and tells the damage that it sees there, by [`Refusal::Unsound`]; on damaged memory
-//! a list may still lack records. Before people act on a list, ask [`Store::check`], which reads the whole store: some
-//! 15 ns a record, a third of a millisecond for 20,000. Where it says no, or a call gives `Unsound`, the memory was
-//! damaged: do not act on it; make a fresh store and insert the event records again.
+//! A call reads a part of the store, and tests of it the words and each page's count, first and last record: damage is
+//! then [`Refusal::Unsound`]. On damaged memory a list may still lack records or show wrong ones. Before people act on a
+//! list, ask [`Store::check`], which reads the whole store: some 15 ns a record, a third of a millisecond for 20,000.
+//! Where it says no, or a call gives `Unsound`, the memory was damaged: do not act on it; make a fresh store and insert
+//! the event records again.
 //!
 //! ```
 //! use mdeh::{Listing, Query, Refusal, Store};
