@@ -31,10 +31,9 @@
  *
  * CHECK, THEN ASK. A call reads a part of the store, and tests of it the words and each page's count, first and last
  * record; on damaged memory a list with number 0 may still lack records or show wrong ones. Before people act on a
- * list, ask mdeh_check, then mdeh_query, and let nothing
- * write in between. Check reads the whole store, some 15 ns a record: a third of a millisecond for 20,000; what it does
- * not tell stands under KEEPING. Where it says no, or a call gives 9, the memory was damaged: do not act on it; make a
- * fresh store and insert the event records again.
+ * list, ask mdeh_check, then mdeh_query, and let nothing write in between. Check reads the whole store, some 15 ns a
+ * record: a third of a millisecond for 20,000; what it does not tell stands under KEEPING. Where it says no, or a call
+ * gives 9, the memory was damaged: do not act on it; make a fresh store and insert the event records again.
  *
  * KEEPING. A store is its 22 state words, its directory and its pages, as they are; it has no pointers, and may be
  * copied, moved and written to a file. Words of the directory from 2^T on need not be kept (T is state word 8). To open
