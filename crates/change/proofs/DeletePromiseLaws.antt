@@ -123,7 +123,7 @@ module _ (before : Store) (values : List ℕ) where
         ap nonEmpty (stored-page before S sound key g field .1) ∙ found
 
     accept : (T′ : ℕ) (tally′ : Tally) (m′ : Memory) → KeepsPast before m′
-        → KeepsOthers before values (changedStore before T′ tally′ m′)
+        → KeepsOthers true before values (changedStore before T′ tally′ m′)
         → OnSound before ((g : ℕ) × (x : ℕ) × (g < before .state .limits .pages)
         × (wordOn before (keyString before key) ≡ wordOf (Page g x)) × (nonEmpty (stored key (recordsOn g)) ≡ true))
         → ((S : List Record) → Sound before S → (r : Record) → r .key ≡ key → stored (r .key) S ≡ r ∷ []
@@ -147,7 +147,7 @@ module _ (before : Store) (values : List ℕ) where
     pub delete-kept : (g x : ℕ) (words′ bytes′ : List ℕ)
         → OnSound before (LeafDeleted before key g x (memory words′ bytes′))
         → OnSound before (nonEmpty (stored key (recordsOn g)) ≡ true) → KeepsPast before (memory words′ bytes′)
-        → KeepsOthers before values (store (before .state) words′ bytes′)
+        → KeepsOthers true before values (store (before .state) words′ bytes′)
         → DeletePromise before values (accepted changed) (store (before .state) words′ bytes′)
     delete-kept g x words′ bytes′ deleted found past others =
         accept (before .state .depth) (before .state .tally) (memory words′ bytes′) past others
@@ -162,7 +162,7 @@ module _ (before : Store) (values : List ℕ) where
         → OnSound before (JoinFound before key g h m y)
         → OnSound before (LeafJoined before key g h m y kept freed T′ tally′ (memory words′ bytes′))
         → OnSound before (nonEmpty (stored key (recordsOn g)) ≡ true) → KeepsPast before (memory words′ bytes′)
-        → KeepsOthers before values (changedStore before T′ tally′ (memory words′ bytes′))
+        → KeepsOthers true before values (changedStore before T′ tally′ (memory words′ bytes′))
         → DeletePromise before values (accepted changed) (changedStore before T′ tally′ (memory words′ bytes′))
     delete-joined g h m y kept freed T′ tally′ words′ bytes′ met joined found past others =
         accept T′ tally′ (memory words′ bytes′) past others

@@ -123,7 +123,7 @@ module _ (before : Store) (values : List ℕ) (content : Content) where
     -- ---- accepted
 
     accept : (T′ : ℕ) (tally′ : Tally) (m′ : Memory) → KeepsPast before m′
-        → KeepsOthers before values (changedStore before T′ tally′ m′)
+        → KeepsOthers false before values (changedStore before T′ tally′ m′)
         → ModelNumber call values (keyNumber before values) numbers before 0
         → ((S : List Record) → Sound before S
         → ShowsNext before (changedStore before T′ tally′ m′) S (withRecord s r S))
@@ -136,7 +136,7 @@ module _ (before : Store) (values : List ℕ) (content : Content) where
     -- the leaf's page takes the record
     pub insert-taken : (g x : ℕ) (bytes′ : List ℕ) → OnSound before (TookRecord before r g x bytes′)
         → KeepsPast before (memory (before .memory .words) bytes′)
-        → KeepsOthers before values (store (before .state) (before .memory .words) bytes′)
+        → KeepsOthers false before values (store (before .state) (before .memory .words) bytes′)
         → InsertPromise before values content (accepted changed) (store (before .state) (before .memory .words) bytes′)
     insert-taken g x bytes′ took past others =
         accept (before .state .depth) (before .state .tally) (memory (before .memory .words) bytes′) past others
@@ -148,7 +148,8 @@ module _ (before : Store) (values : List ℕ) (content : Content) where
 
     -- an empty leaf gets a page
     pub insert-got : (g x : ℕ) (words′ bytes′ : List ℕ) → OnSound before (GotPage before r g x words′ bytes′)
-        → KeepsPast before (memory words′ bytes′) → KeepsOthers before values (store (before .state) words′ bytes′)
+        → KeepsPast before (memory words′ bytes′)
+        → KeepsOthers false before values (store (before .state) words′ bytes′)
         → InsertPromise before values content (accepted changed) (store (before .state) words′ bytes′)
     insert-got g x words′ bytes′ got past others =
         accept (before .state .depth) (before .state .tally) (memory words′ bytes′) past others
@@ -162,7 +163,7 @@ module _ (before : Store) (values : List ℕ) (content : Content) where
     pub insert-divided : (g h x m T′ : ℕ) (tally′ : Tally) (words₁ words′ bytes′ : List ℕ)
         → OnSound before (DividedLeaf before r g h x m T′ tally′ words₁ words′ bytes′)
         → KeepsPast before (memory words′ bytes′)
-        → KeepsOthers before values (changedStore before T′ tally′ (memory words′ bytes′))
+        → KeepsOthers false before values (changedStore before T′ tally′ (memory words′ bytes′))
         → InsertPromise before values content (accepted changed) (changedStore before T′ tally′ (memory words′ bytes′))
     insert-divided g h x m T′ tally′ words₁ words′ bytes′ divided past others =
         accept T′ tally′ (memory words′ bytes′) past others

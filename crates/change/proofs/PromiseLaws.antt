@@ -21,7 +21,7 @@ use Rattle.model.specs.Model.{Call, Reply, changed, replyTo, numberFor, setAfte
 use Rattle.store.specs.Store.{Store, Memory, fixedOf, pagesSize, lentConditions}
 use Rattle.store.specs.Sound.{Sound}
 use Rattle.store.specs.Contained.{Contained}
-use Rattle.store.specs.Promises.{keyNumber, KeepsPages, TakesPages, ChangePromise}
+use Rattle.store.specs.Promises.{keyNumber, KeepsPages, TakesPages, joins, ChangePromise}
 use Rattle.store.specs.declared.Tally.{Tally}
 use Rattle.store.proofs.ShownLaws.{divisionOn}
 use Rattle.change.proofs.RegionLaws.{changedStore, RegionChanged, keeps-of-region, takes-of-region}
@@ -89,10 +89,11 @@ pub record KeepsPast (before : Store) (m′ : Memory) : Type 0 where
   pub bytes-past : drop (pagesSize (before .state)) (m′ .bytes)
       ≡ drop (pagesSize (before .state)) (before .memory .bytes)
 
--- words and pages outside the key's leaf and the leaves joined with it, on any store too
-abbrev pub KeepsOthers : Store → List ℕ → Store → Type 0
-KeepsOthers before values after =
-    Contained before after (splitBit (widthsOf (before .state .shape)) (encodings (before .state .shape) values))
+-- words and pages outside the key's leaf and the leaves joined with it, if the call joins any, on any store too
+abbrev pub KeepsOthers : Bool → Store → List ℕ → Store → Type 0
+KeepsOthers joining before values after =
+    Contained joining before after
+    (splitBit (widthsOf (before .state .shape)) (encodings (before .state .shape) values))
 
 -- ---- a sound store after an accepted call
 
@@ -160,7 +161,7 @@ module _ (c : Call) (values : List ℕ) (early : ℕ) (numbers : List ℕ) (befo
 
   -- on a sound store the call is accepted, and its set shown
   pub promise-accepted : (T′ : ℕ) (tally′ : Tally) (m′ : Memory) → early ≡ 0 → KeepsPast before m′
-      → KeepsOthers before values (changedStore before T′ tally′ m′) → ModelNumber 0
+      → KeepsOthers (joins c) before values (changedStore before T′ tally′ m′) → ModelNumber 0
       → ((S : List Record) → replyTo (fixedOf (before .state)) S c ≡ changed)
       → ((S : List Record) → Sound before S
       → ShowsNext before (changedStore before T′ tally′ m′) S (setAfter (fixedOf (before .state)) S c))

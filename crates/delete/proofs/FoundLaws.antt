@@ -78,7 +78,8 @@ module _ (before : Store) (values : List ℕ) (r : Stored) where
         → Filled (widthsOf s) T′ x (keyString before values) word words words′
         → drop (2 ^ L) words′ ≡ drop (2 ^ L) words
     -- what is kept outside the key's leaf: its string is that of its values
-    pub others : (after : Store) → Contained before after (keyString before values) → KeepsOthers before values after
+    pub others : (after : Store) → Contained true before after (keyString before values)
+        → KeepsOthers true before values after
 
   module _ (f : RecordFound before values r) where
     fits : indexFits (widthsOf s) values ≡ true
@@ -102,7 +103,7 @@ module _ (before : Store) (values : List ℕ) (r : Stored) where
               drop-of-past T′ L words words′ (le-trans h (limits-parts (before .state) (f .leaf .limits) .4)) (w .size)
               (w .past);
           others = λ after c.
-              subst (λ v. Contained before after (splitBit (widthsOf s) v))
+              subst (λ v. Contained true before after (splitBit (widthsOf s) v))
               (sym (encodings-values s values (f .leaf .four))) c;
         }
 

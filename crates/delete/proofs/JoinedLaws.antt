@@ -2,7 +2,7 @@
 -- Assumes nothing.
 use Prim.Native.Nat.{ℕ, _+_, _-_, _*_, _≤_}
 use mathlib.Core.Path.{_≡_, sym, ap, subst, _∙_}
-use mathlib.Core.Bool.{Bool}
+use mathlib.Core.Bool.{Bool, true}
 use mathlib.Core.List.{List}
 use native.Mathlib.Omega.{arith}
 use lib.ListN.{length, drop}
@@ -153,6 +153,6 @@ module _ (before : Store) (values : List ℕ) (r : Stored) (f : RecordFound befo
           (delete-joined before values (f .leaf .early) (r .page) (j .other) (j .step) (j .top) kept freed
           (state′ .depth) (state′ .tally) words′ bytes′ (λ S sound. rw (k .same) (p .met))
           (λ S sound. rw (k .same) (joined S sound)) (λ S sound. rw (k .same) (k .found S sound)) past-joined
-          (subst (λ st. KeepsOthers before values (store st words′ bytes′)) (w .state)
+          (subst (λ st. KeepsOthers true before values (store st words′ bytes′)) (w .state)
           (k .others _
           (contained-joined before values r f j p (leavesLent thirteen) pairLent guarded state′ words′ w bytes′ e))))

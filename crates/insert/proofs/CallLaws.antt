@@ -216,9 +216,9 @@ module _ (before : Store) (values : List ℕ) (content : Content) where
           new : List ℕ
           new = dividedPages b (split .page) free cut (packedBytes (packedKey values) content) bytes
 
-          contained : Contained before (changedStore before (after .depth) (after .tally) (memory words′ new))
+          contained : Contained false before (changedStore before (after .depth) (after .tally) (memory words′ new))
               (splitBit (widthsOf s) values)
           contained =
-              subst (λ st. Contained before (store st words′ new) (splitBit (widthsOf s) values)) (w .state)
+              subst (λ st. Contained false before (store st words′ new) (splitBit (widthsOf s) values)) (w .state)
               (contained-divided before values (packedKey values) content split cut free dividing pages-lent cut-fits
               guarded after words′ w new refl)

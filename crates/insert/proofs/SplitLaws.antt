@@ -1,6 +1,7 @@
 -- Laws of an insert that divides a full leaf: what was planned and done keeps the call's promise. Assumes nothing.
 use Prim.Native.Nat.{ℕ, suc, _-_, max, _^_, _≤_, _<_}
 use mathlib.Core.Path.{_≡_, sym, subst}
+use mathlib.Core.Bool.{false}
 use mathlib.Core.List.{List}
 use native.Mathlib.Omega.{arith}
 use Rattle.shape.specs.Refusal.{accepted}
@@ -74,7 +75,7 @@ module _ (before : Store) (values : List ℕ) (content : Content) (a : Asked bef
   pub depth-le-limit : depth′ ≤ before .state .limits .depth
   depth-le-limit = omega (arith, deeper, a .within-limit, t .met .deep)
 
-  pub promise-divided : Contained before (changedStore before depth′ tally′ (memory words′ after))
+  pub promise-divided : Contained false before (changedStore before depth′ tally′ (memory words′ after))
       (splitBit (widthsOf s) values)
       → InsertPromise before values content (accepted changed)
       (changedStore before depth′ tally′ (memory words′ after))

@@ -2,6 +2,7 @@
 -- call's promise. Assumes nothing.
 use Prim.Native.Nat.{ℕ, _^_, _<_}
 use mathlib.Core.Path.{_≡_, refl, sym, ap, _∙_, subst}
+use mathlib.Core.Bool.{false}
 use mathlib.Core.List.{List, [], _∷_}
 use native.Mathlib.Omega.{arith}
 use lib.ListN.{length}
@@ -71,9 +72,9 @@ module _ (before : Store) (values : List ℕ) (content : Content) (a : Asked bef
   key-is = key-recordFor s values content (a .shape) (a .fits) (a .four)
 
   -- what is kept outside the key's leaf: its string is that of its values
-  pub keeps-others : (after : Store) → Contained before after (splitBit (widthsOf s) values)
-      → KeepsOthers before values after
-  keeps-others after c = subst (λ k. Contained before after (splitBit (widthsOf s) k)) (sym key-is) c
+  pub keeps-others : (after : Store) → Contained false before after (splitBit (widthsOf s) values)
+      → KeepsOthers false before values after
+  keeps-others after c = subst (λ k. Contained false before after (splitBit (widthsOf s) k)) (sym key-is) c
 
   -- ---- a page takes the record
 
@@ -110,7 +111,7 @@ module _ (before : Store) (values : List ℕ) (content : Content) (a : Asked bef
               d);
         }
 
-    pub promise-taken : Contained before (store (before .state) (before .memory .words) after)
+    pub promise-taken : Contained false before (store (before .state) (before .memory .words) after)
         (splitBit (widthsOf s) values)
         → InsertPromise before values content (accepted changed)
         (store (before .state) (before .memory .words) after)
@@ -164,7 +165,7 @@ module _ (before : Store) (values : List ℕ) (content : Content) (a : Asked bef
               d);
         }
 
-    pub promise-got : Contained before (store (before .state) words′ got-after) (splitBit (widthsOf s) values)
+    pub promise-got : Contained false before (store (before .state) words′ got-after) (splitBit (widthsOf s) values)
         → InsertPromise before values content (accepted changed) (store (before .state) words′ got-after)
     promise-got contained =
         insert-got before values content (a .early) g x words′ got-after got

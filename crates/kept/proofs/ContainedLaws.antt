@@ -1,10 +1,11 @@
 -- `Contained` for each form of an accepted insert and delete, on any store: from the plan, what its steps ask, what the
 -- tests tell, and what the steps leave of words and bytes. Assumes nothing.
 use Prim.Native.Nat.{ℕ, suc, _-_, _^_, _≤_, _<_}
-use mathlib.Core.Path.{_≡_, refl, sym, ap, _∙_}
-use mathlib.Core.Bool.{Bool, true, cond}
+use mathlib.Core.Path.{_≡_, refl, sym, ap, _∙_, subst}
+use mathlib.Core.Bool.{Bool, true, false, cond}
 use mathlib.Core.List.{List}
 use mathlib.Core.Logic.{inl, inr}
+use native.Mathlib.Nat.{le-refl}
 use native.Mathlib.Omega.{arith}
 use Rattle.shape.specs.Shape.{widthsOf}
 use Rattle.shape.specs.declared.Shape.{Shape}
@@ -20,7 +21,7 @@ use Rattle.word.specs.Word.{wordOf}
 use Rattle.word.specs.declared.Leaf.the-variants.{Empty, Page}
 use Rattle.word.proofs.WordLaws.{wordOf-depth}
 use Rattle.store.specs.Store.{Store, store, wordAt}
-use Rattle.store.specs.Contained.{depthNamed, JoinedWith, Contained}
+use Rattle.store.specs.Contained.{depthNamed, Whole, JoinedWith, Contained}
 use Rattle.store.specs.declared.State.{State}
 use Rattle.change.specs.Delete.{keyString}
 use Rattle.lent.proofs.LimitsLaws.{limits-parts}
@@ -37,9 +38,11 @@ use Rattle.delete_steps.specs.Private.{RecordLent, PairLent, LeavesLent, LeafWo
 use Rattle.delete_steps.proofs.PageLaws.{pageAt-removedBytes-other, pageAt-joinedBytes-other}
 use Rattle.delete_steps.proofs.StepLaws.{keptPage-lt}
 use Rattle.kept.specs.Tested.{LeafTested, JoinTested}
-use Rattle.kept.proofs.WordLaws.{leaves-sibling, leaf-joined}
+use Rattle.kept.proofs.WordLaws.{leaves-sibling, sibling-joined}
 use Rattle.kept.proofs.PageLaws.{pageAt-dividedPages-other, one-written, two-written}
+use Rattle.kept.proofs.RegionLaws.{filled-whole}
 use Rattle.kept.proofs.StepLaws.{same-kept, get-kept, divide-kept, keep-kept, join-kept, depth-is}
+use Rattle.kept.proofs.StepLaws.{joined-siblings}
 
 module _ (before : Store) (values : List ℕ) where
   abbrev st : State
@@ -71,11 +74,11 @@ module _ (before : Store) (values : List ℕ) where
     -- a page takes the record
     pub contained-taken : (g i n : ℕ) → TakePlanned before values g i n → PageLent b g bytes × (i ≤ n) × (n < b)
         → (bytes′ : List ℕ) → bytes′ ≡ insertedPages b g i n (packedBytes code content) bytes
-        → Contained before (store st words bytes′) key
+        → Contained false before (store st words bytes′) key
     contained-taken g i n planned lent bytes′ e = record {
-      words-kept = same-kept before values words refl;
+      words-kept = same-kept before values false words refl;
       bytes-kept =
-          one-written before (store st words bytes′) key g
+          one-written false before (store st words bytes′) key g
           (λ k o. page-of bytes′ _ e k
           (pageAt-insertedPages-other b g i n (packedBytes code content) bytes (lent .0) (lent .1) (lent .2)
           (length-packedBytes code content) k o))
@@ -87,11 +90,11 @@ module _ (before : Store) (values : List ℕ) where
         → LeafTested st words values x (wordOf (Empty x)) → (words′ : List ℕ)
         → Filled (widthsOf s) (st .depth) x key (wordOf (Page g x)) words words′ → (bytes′ : List ℕ)
         → bytes′ ≡ insertedPages b g 0 0 (packedBytes code content) bytes
-        → Contained before (store st words′ bytes′) key
+        → Contained false before (store st words′ bytes′) key
     contained-got g x planned lent tested words′ f bytes′ e = record {
       words-kept = get-kept before values g x (wordOf (Page g x)) words′ planned tested f;
       bytes-kept =
-          one-written before (store st words′ bytes′) key g
+          one-written false before (store st words′ bytes′) key g
           (λ k o. page-of bytes′ _ e k
           (pageAt-insertedPages-other b g 0 0 (packedBytes code content) bytes (lent .0) (lent .1) (lent .2)
           (length-packedBytes code content) k o))
@@ -104,11 +107,11 @@ module _ (before : Store) (values : List ℕ) where
         → LeafTested st words values (split .depth) (wordOf (Page (split .page) (split .depth)))
         → (st′ : State) (words′ : List ℕ) → WordsDivided st values split free words st′ words′ → (bytes′ : List ℕ)
         → bytes′ ≡ dividedPages b (split .page) free cut (packedBytes code content) bytes
-        → Contained before (store st′ words′ bytes′) key
+        → Contained false before (store st′ words′ bytes′) key
     contained-divided split cut free planned lent fits tested st′ words′ w bytes′ e = record {
       words-kept = divide-kept before values split cut free st′ words′ planned tested w;
       bytes-kept =
-          two-written before (store st′ words′ bytes′) key (split .page) free
+          two-written false before (store st′ words′ bytes′) key (split .page) free
           (λ k n o. page-of bytes′ _ e k
           (pageAt-dividedPages-other b (split .page) free cut (packedBytes code content) bytes (lent .0) (lent .1) fits
           (length-packedBytes code content) k n o))
@@ -151,11 +154,11 @@ module _ (before : Store) (values : List ℕ) where
         → (r .count ≡ 1 → LeafTested st words values (r .depth) (wordOf (Page (r .page) (r .depth))))
         → (words′ : List ℕ) → LeafWords st values r words words′ → (bytes′ : List ℕ)
         → bytes′ ≡ removedBytes b (r .page) (r .place) (r .count) bytes
-        → Contained before (store st words′ bytes′) key
+        → Contained true before (store st words′ bytes′) key
     contained-removed lent tested words′ w bytes′ e = record {
       words-kept = keep-kept before values r found words′ tested w;
       bytes-kept =
-          one-written before (store st words′ bytes′) key (r .page)
+          one-written true before (store st words′ bytes′) key (r .page)
           (λ k n. page-of bytes′ _ e k
           (pageAt-removedBytes-other b (r .page) (r .place) (r .count) bytes (lent .page) (lent .place-lt) (lent .few)
           k n))
@@ -167,16 +170,16 @@ module _ (before : Store) (values : List ℕ) where
         → JoinTested st words values r j → (st′ : State) (words′ : List ℕ) → JoinWords st values r j st′ words words′
         → (bytes′ : List ℕ)
         → bytes′ ≡ joinedBytes (j .bit) b (r .page) (r .place) (r .count) (j .other) (j .count) bytes
-        → Contained before (store st′ words′ bytes′) key
+        → Contained true before (store st′ words′ bytes′) key
     contained-joined j planned leaves lent tested st′ words′ w bytes′ e = record {
       words-kept = join-kept before values r found j st′ words′ planned leaves tested w;
       bytes-kept =
-          two-written before (store st′ words′ bytes′) key (r .page) (j .other)
+          two-written true before (store st′ words′ bytes′) key (r .page) (j .other)
           (λ k n o. page-of bytes′ _ e k
           (pageAt-joinedBytes-other b (r .page) (r .place) (r .count) bytes (lent .own .page) (lent .own .place-lt)
           (lent .own .few) (j .other) (j .count) (lent .page) (planned .few) (lent .fit) (j .bit) k n o))
           (inl (r .depth, found .leaf .own))
-          (inr (inl (beside, joined, (suc m, beside-word))));
+          (inr (inl (beside, joined .0, joined .1, (suc m, beside-word))));
     }
       where
         m : ℕ
@@ -206,11 +209,15 @@ module _ (before : Store) (values : List ℕ) where
             ∙ ap depthNamed (w .new-leaf .inside key (λ i l. refl))
             ∙ wordOf-depth kept (j .top) kept-lt
 
-        joined : JoinedWith (wordAt s (st .depth) words) (wordAt (st′ .shape) (st′ .depth) words′) key beside
+        one-leaf : Whole (wordAt (st′ .shape) (st′ .depth) words′) key
+        one-leaf =
+            subst (λ v. Whole (wordAt v (st′ .depth) words′) key) (sym (ap (λ t. t .shape) (w .state)))
+            (filled-whole (widthsOf s) (st .depth) key words (st′ .depth) (j .top) kept kept-lt words′ (w .new-leaf))
+
+        joined : Whole (wordAt s (st .depth) words) beside
+            × JoinedWith true (wordAt s (st .depth) words) (wordAt (st′ .shape) (st′ .depth) words′) key beside
         joined =
-            leaf-joined (wordAt s (st .depth) words) (wordAt (st′ .shape) (st′ .depth) words′) key m beside
-            (ap depthNamed beside-word
-            ∙ wordOf-depth (j .other) (suc m) (omega (arith, planned .met .other-within, few)))
+            sibling-joined (wordAt s (st .depth) words) (wordAt (st′ .shape) (st′ .depth) words′) key m
+            (joined-siblings before values r found j planned tested m (planned .met .above) (le-refl m))
             (omega (arith, depth-is before values r found, planned .depth-step))
-            (omega (arith, top, planned .met .above))
-            (leaves-sibling key m)
+            (omega (arith, top, planned .met .above)) one-leaf beside (leaves-sibling key m)

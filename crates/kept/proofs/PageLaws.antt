@@ -36,21 +36,21 @@ pageAt-dividedPages-other b g h cut new bytes lg lh f e k n o =
 
 -- ---- pages written
 
-module _ (before after : Store) (key : ℕ → Bool) where
+module _ (joins : Bool) (before after : Store) (key : ℕ → Bool) where
   abbrev Same : ℕ → Type 0
   Same k =
       pageAt (before .state .shape .capacity) (after .memory .bytes) k
       ≡ pageAt (before .state .shape .capacity) (before .memory .bytes) k
 
-  pub two-written : (g h : ℕ) → ((k : ℕ) → (k ≡ g → ⊥) → (k ≡ h → ⊥) → Same k) → Written before after key g
-      → Written before after key h → BytesKept before after key
+  pub two-written : (g h : ℕ) → ((k : ℕ) → (k ≡ g → ⊥) → (k ≡ h → ⊥) → Same k) → Written joins before after key g
+      → Written joins before after key h → BytesKept joins before after key
   two-written g h others wg wh k l = go (eq-or-ne k g) (eq-or-ne k h)
     where
-      go : (k ≡ g) ⊎ (k ≡ g → ⊥) → (k ≡ h) ⊎ (k ≡ h → ⊥) → Same k ⊎ Written before after key k
-      go (inl e) d = inr (subst (Written before after key) (sym e) wg)
-      go (inr n) (inl e) = inr (subst (Written before after key) (sym e) wh)
+      go : (k ≡ g) ⊎ (k ≡ g → ⊥) → (k ≡ h) ⊎ (k ≡ h → ⊥) → Same k ⊎ Written joins before after key k
+      go (inl e) d = inr (subst (Written joins before after key) (sym e) wg)
+      go (inr n) (inl e) = inr (subst (Written joins before after key) (sym e) wh)
       go (inr n) (inr o) = inl (others k n o)
 
-  pub one-written : (g : ℕ) → ((k : ℕ) → (k ≡ g → ⊥) → Same k) → Written before after key g
-      → BytesKept before after key
+  pub one-written : (g : ℕ) → ((k : ℕ) → (k ≡ g → ⊥) → Same k) → Written joins before after key g
+      → BytesKept joins before after key
   one-written g others w = two-written g g (λ k n o. others k n) w w

@@ -1,8 +1,8 @@
 -- The words that each form of an accepted insert and delete keeps, from its plan, the tests and what its steps leave of
 -- the words. Assumes nothing.
 use Prim.Native.Nat.{ℕ, suc, _-_, _^_, _≤_, _<_}
-use mathlib.Core.Path.{_≡_, sym, ap, _∙_, subst}
-use mathlib.Core.Bool.{Bool}
+use mathlib.Core.Path.{_≡_, refl, sym, ap, _∙_, subst}
+use mathlib.Core.Bool.{Bool, true, false}
 use mathlib.Core.List.{List}
 use mathlib.Core.Logic.{_⊎_, inl, inr}
 use native.Mathlib.Nat.{le-trans}
@@ -30,8 +30,8 @@ use Rattle.delete_steps.specs.PageBytes.{keptPage}
 use Rattle.delete_steps.specs.Private.{LeavesLent, LeafWords, JoinWords}
 use Rattle.delete_steps.proofs.StepLaws.{top-le, keptPage-lt}
 use Rattle.intact.specs.Intact.{cellWord, RegionHolds, Folds}
-use Rattle.kept.specs.Tested.{joinedDepth, LeafTested, SiblingTested, JoinTested}
-use Rattle.kept.proofs.WordLaws.{kept-same}
+use Rattle.kept.specs.Tested.{joinedDepth, LeafTested, JoinTested}
+use Rattle.kept.proofs.WordLaws.{SiblingLeaf, kept-same}
 use Rattle.kept.proofs.RegionLaws.{filled-kept, divided-kept, joined-kept}
 
 module _ (before : Store) (values : List ℕ) where
@@ -51,8 +51,8 @@ module _ (before : Store) (values : List ℕ) where
   own = wordAt s (st .depth) words key
 
   -- the words outside the leaves that give way are kept in a state and words then
-  abbrev pub KeptIn : State → List ℕ → Type 0
-  KeptIn st′ words′ = WordsKept (wordAt s (st .depth) words) (wordAt (st′ .shape) (st′ .depth) words′) key
+  abbrev pub KeptIn : Bool → State → List ℕ → Type 0
+  KeptIn joins st′ words′ = WordsKept joins (wordAt s (st .depth) words) (wordAt (st′ .shape) (st′ .depth) words′) key
 
   -- a test of the word that is the key's
   tested : (x word : ℕ) → own ≡ word → LeafTested st words values x word
@@ -60,40 +60,40 @@ module _ (before : Store) (values : List ℕ) where
   tested x word e h = subst (λ w. RegionHolds (widthsOf s) (st .depth) x key w words) (sym e) h
 
   -- the shape is kept
-  with-shape : (st′ : State) (words′ : List ℕ)
+  with-shape : (joins : Bool) (st′ : State) (words′ : List ℕ)
       → st′ ≡ record { shape = s; limits = st .limits; depth = st′ .depth; tally = st′ .tally }
-      → WordsKept (cellWord (widthsOf s) (st .depth) words) (cellWord (widthsOf s) (st′ .depth) words′) key
-      → KeptIn st′ words′
-  with-shape st′ words′ e k =
-      subst (λ v. WordsKept (wordAt s (st .depth) words) (wordAt v (st′ .depth) words′) key)
+      → WordsKept joins (cellWord (widthsOf s) (st .depth) words) (cellWord (widthsOf s) (st′ .depth) words′) key
+      → KeptIn joins st′ words′
+  with-shape joins st′ words′ e k =
+      subst (λ v. WordsKept joins (wordAt s (st .depth) words) (wordAt v (st′ .depth) words′) key)
       (sym (ap (λ t. t .shape) e)) k
 
   -- ---- insert
 
   -- a page takes the record: no word changes. Delete: a record is removed from a page that has others
-  pub same-kept : (words′ : List ℕ) → words′ ≡ words → KeptIn st words′
-  same-kept words′ e =
-      kept-same (wordAt s (st .depth) words) (wordAt s (st .depth) words′) key
+  pub same-kept : (joins : Bool) (words′ : List ℕ) → words′ ≡ words → KeptIn joins st words′
+  same-kept joins words′ e =
+      kept-same (wordAt s (st .depth) words) (wordAt s (st .depth) words′) key joins
       (λ p. ap (λ w. wordAt s (st .depth) w p) e)
 
   -- an empty leaf gets a page
   pub get-kept : (g x word : ℕ) (words′ : List ℕ) → GetPlanned before values g x
       → LeafTested st words values x (wordOf (Empty x)) → Filled (widthsOf s) (st .depth) x key word words words′
-      → KeptIn st words′
+      → KeptIn false st words′
   get-kept g x word words′ planned h f =
       filled-kept (widthsOf s) (st .depth) key words x (ap depthNamed (planned .own) ∙ wordOf-depth-empty x)
-      (tested x _ (planned .own) h) word words′ f
+      (tested x _ (planned .own) h) false word words′ f
 
   -- a full leaf is divided
   pub divide-kept : (split : Split) (cut : Cut) (free : ℕ) (st′ : State) (words′ : List ℕ)
       → DividePlanned before values split cut free
       → LeafTested st words values (split .depth) (wordOf (Page (split .page) (split .depth)))
-      → WordsDivided st values split free words st′ words′ → KeptIn st′ words′
+      → WordsDivided st values split free words st′ words′ → KeptIn false st′ words′
   divide-kept split cut free st′ words′ planned h w =
       let met = planned .met .ends-met .met in
       let x = split .depth in
       let few : split .page < 2 ^ 16 - 1 = omega (arith, met .within, planned .asked .pages-lent .few) in
-      with-shape st′ words′ (w .state)
+      with-shape false st′ words′ (w .state)
       (divided-kept (widthsOf s) (st .depth) key words x
       (ap depthNamed (met .own) ∙ wordOf-depth (split .page) x few) (tested x _ (met .own) h)
       (st′ .depth) (split .step) (split .page) free (w .doubled) words′ (w .deepened) (w .leaves))
@@ -115,18 +115,38 @@ module _ (before : Store) (values : List ℕ) where
     -- the key's leaf stays: without a page, where its only record is removed
     pub keep-kept : (words′ : List ℕ)
         → (r .count ≡ 1 → LeafTested st words values (r .depth) (wordOf (Page (r .page) (r .depth))))
-        → LeafWords st values r words words′ → KeptIn st words′
+        → LeafWords st values r words words′ → KeptIn true st words′
     keep-kept words′ h w = by-count (eq-or-ne (r .count) 1)
       where
-        by-count : (r .count ≡ 1) ⊎ (r .count ≡ 1 → ⊥) → KeptIn st words′
+        by-count : (r .count ≡ 1) ⊎ (r .count ≡ 1 → ⊥) → KeptIn true st words′
         by-count (inl e) =
             filled-kept (widthsOf s) (st .depth) key words (r .depth) depth-is
-            (tested (r .depth) _ (found .leaf .own) (h e)) (wordOf (Empty (r .depth))) words′ (w .emptied e)
-        by-count (inr n) = same-kept words′ (w .same n)
+            (tested (r .depth) _ (found .leaf .own) (h e)) true (wordOf (Empty (r .depth))) words′ (w .emptied e)
+        by-count (inr n) = same-kept true words′ (w .same n)
+
+    -- the siblings that are joined with it: its own, and empty ones above
+    pub joined-siblings : (j : Join) → JoinPlanned before values r j → JoinTested st words values r j → (z : ℕ)
+        → j .top ≤ z → z ≤ j .step → SiblingLeaf (wordAt s (st .depth) words) key z
+    joined-siblings j planned h z l b = by-depth (eq-or-ne z (j .step))
+      where
+        by-depth : (z ≡ j .step) ⊎ (z ≡ j .step → ⊥) → SiblingLeaf (wordAt s (st .depth) words) key z
+        by-depth (inl e) =
+            subst (SiblingLeaf (wordAt s (st .depth) words) key) (sym e) (record {
+              word = wordOf (Page (j .other) (suc (j .step)));
+              depth = wordOf-depth (j .other) (suc (j .step)) (omega (arith, planned .met .other-within, few));
+              nearest-or-empty = inl (sym (depth-is ∙ planned .depth-step));
+              holds = h .other;
+            })
+        by-depth (inr n) = record {
+          word = wordOf (Empty (suc z));
+          depth = wordOf-depth-empty (suc z);
+          nearest-or-empty = inr refl;
+          holds = h .empty z l (omega arith);
+        }
 
     -- the key's leaf is joined
     pub join-kept : (j : Join) (st′ : State) (words′ : List ℕ) → JoinPlanned before values r j → LeavesLent st r j
-        → JoinTested st words values r j → JoinWords st values r j st′ words words′ → KeptIn st′ words′
+        → JoinTested st words values r j → JoinWords st values r j st′ words words′ → KeptIn true st′ words′
     join-kept j st′ words′ planned lent h w =
         let m = j .step in
         let y = j .top in
@@ -136,21 +156,8 @@ module _ (before : Store) (values : List ℕ) where
         let page = keptPage-lt (j .bit) (r .page) (j .other) (st .limits .pages) (met .own-within)
         (met .other-within) in
         let within : keptPage (j .bit) (r .page) (j .other) < 2 ^ 16 - 1 = omega (arith, page, few) in
-        with-shape st′ words′ (w .state)
+        with-shape true st′ words′ (w .state)
         (joined-kept (widthsOf s) (st .depth) key words m y (st′ .depth) (keptPage (j .bit) (r .page) (j .other))
-        (met .above) low (depth-is ∙ planned .depth-step) (tested (suc m) _ (met .own) (h .own)) siblings within
+        (met .above) low (depth-is ∙ planned .depth-step) (tested (suc m) _ (met .own) (h .own))
+        (joined-siblings j planned h) within
         (subst (λ n. Folds (widthsOf s) n (st .depth) key words) depth (h .halved)) words′ (w .new-leaf))
-      where
-        siblings : (z : ℕ) → j .top ≤ z → z ≤ j .step
-            → (word : ℕ) × (depthNamed word ≡ suc z) × SiblingTested st words values z word
-        siblings z l b = by-depth (eq-or-ne z (j .step))
-          where
-            by-depth : (z ≡ j .step) ⊎ (z ≡ j .step → ⊥)
-                → (word : ℕ) × (depthNamed word ≡ suc z) × SiblingTested st words values z word
-            by-depth (inl e) =
-                subst (λ n. (word : ℕ) × (depthNamed word ≡ suc n) × SiblingTested st words values n word) (sym e) (
-                  wordOf (Page (j .other) (suc (j .step))),
-                  wordOf-depth (j .other) (suc (j .step)) (omega (arith, planned .met .other-within, few)),
-                  h .other,
-                )
-            by-depth (inr n) = (wordOf (Empty (suc z)), wordOf-depth-empty (suc z), h .empty z l (omega arith))

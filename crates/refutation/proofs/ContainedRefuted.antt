@@ -1,5 +1,5 @@
 -- Wrong changes of spoiled stores: each contradicts `contained`, whatever else it does. Assumes nothing.
-use Prim.Native.Nat.{ℕ}
+use Prim.Native.Nat.{ℕ, zero, suc, _<_}
 use mathlib.Core.Path.{_≡_, refl, sym, ap, _∙_}
 use mathlib.Core.Bool.{Bool, true, false, true≢false}
 use mathlib.Core.List.{List, [], _∷_}
@@ -16,12 +16,13 @@ use Rattle.address.specs.Doubling.{sides}
 use Rattle.cell.specs.Cell.{sumBits, cell, cellAddress}
 use Rattle.region.specs.Strings.{emptyString, listBit}
 use Rattle.record.specs.declared.Content.{Content}
+use Rattle.record.specs.Bytes.{recordBytes}
 use Rattle.page.specs.Page.{countOf, pageAt}
 use Rattle.word.specs.Word.{wordOf}
 use Rattle.word.specs.declared.Leaf.the-variants.{Page}
 use Rattle.model.specs.Model.{Reply}
 use Rattle.store.specs.Store.{Store, wordAt}
-use Rattle.store.specs.Contained.{JoinedWith, GivesWay, Written}
+use Rattle.store.specs.Contained.{depthNamed, Names, JoinedWith, GivesWay, Written}
 use Rattle.store.specs.Promises.{InsertPromise, DeletePromise}
 use Rattle.table.specs.Table.{twoTwo, key}
 use Rattle.refutation.specs.Stores.{zeroedWord, lowTally}
@@ -51,11 +52,20 @@ pub record Computed (words : List ℕ) : Type 0 where
   pub at-0 : wordAt twoTwo 3 words emptyString ≡ getD words 0 0
   pub low-at-1 : wordAt twoTwo 2 words lower ≡ getD words 1 0
   pub high-at-1 : wordAt twoTwo 2 words upper ≡ getD words 1 0
+  -- the word of the leaf 0 before, and the third bit of (3,0)
+  pub first-low : wordAt twoTwo 3 (lowTally .memory .words) emptyString ≡ wordOf (Page 0 1)
+  pub third : keyString (key 3 0) 2 ≡ true
+  -- the word of (3,1) at T = 3, its first two bits, the cell of the string 100 and the records of its page
+  pub sibling-own : wordAt twoTwo 3 (lowTally .memory .words) (keyString (key 3 1)) ≡ wordOf (Page 2 3)
+  pub sibling-one : keyString (key 3 1) 0 ≡ true
+  pub sibling-zero : keyString (key 3 1) 1 ≡ false
+  pub low-at-3 : wordAt twoTwo 3 words lower ≡ getD words 1 0
+  pub low-count : countOf (pageAt 2 (lowTally .memory .bytes) 1) ≡ 2
 
 computed : (words : List ℕ) → Computed words
 unfolding
     widthsOf encodings stepsBelow steps step stepNumber stepsOf depth splitBit
-    highestBit createdBy latestStep formula addressFrom address sides sumBits cell cellAddress
+    highestBit createdBy latestStep formula addressFrom address sides sumBits cell cellAddress recordBytes
 computed words =
     record {
       own = refl;
@@ -67,14 +77,20 @@ computed words =
       at-0 = refl;
       low-at-1 = refl;
       high-at-1 = refl;
+      first-low = refl;
+      third = refl;
+      sibling-own = refl;
+      sibling-one = refl;
+      sibling-zero = refl;
+      low-at-3 = refl;
+      low-count = refl;
     }
 
 -- ---- inserts
 
--- no leaf is joined with the key's, whose word names depth 0
-none-joined : (new : (ℕ → Bool) → ℕ) (q : ℕ → Bool)
-    → JoinedWith (wordAt twoTwo 3 (zeroedWord .memory .words)) new (keyString (key 2 2)) q → ⊥
-none-joined new q j = omega (arith, j .above, computed [] .own)
+-- an insert joins no leaf
+none-joined : (old new : (ℕ → Bool) → ℕ) (k q : ℕ → Bool) → JoinedWith false old new k q → ⊥
+none-joined old new k q j = true≢false (sym (j .allowed))
 
 module _ (content : Content) (answer : Answer Reply) (after : Store) where
   -- the zeroed word of one cell is taken as a leaf of depth 0: the whole directory, the word of the leaf 0 among it, is
@@ -92,12 +108,12 @@ module _ (content : Content) (answer : Answer Reply) (after : Store) where
           sym filled ∙ sym (computed (after .memory .words) .at-0) ∙ now ∙ computed [] .first in
           omega (arith, word)
 
-      gives : GivesWay (wordAt twoTwo 3 (zeroedWord .memory .words))
+      gives : GivesWay false (wordAt twoTwo 3 (zeroedWord .memory .words))
           (wordAt (after .state .shape) (after .state .depth) (after .memory .words)) (keyString (key 2 2)) emptyString
           → ⊥
       gives way =
           ⊎-elim (λ a. true≢false (sym (computed [] .one) ∙ sym (a 0 (omega (arith, computed [] .first)))))
-          (none-joined _ emptyString) (way .1)
+          (none-joined _ _ _ emptyString) (way .1)
 
   -- the record is put into page 0, which the leaf 0 has
   pub writes-other-page : InsertPromise zeroedWord (key 2 2) content answer after
@@ -107,13 +123,33 @@ module _ (content : Content) (answer : Answer Reply) (after : Store) where
       same : pageAt 2 (after .memory .bytes) 0 ≡ pageAt 2 (zeroedWord .memory .bytes) 0 → ⊥
       same e = let one : _≡_ {A = ℕ} 2 1 = sym two ∙ ap countOf e in omega (arith, one)
 
-      written : Written zeroedWord after (keyString (key 2 2)) 0 → ⊥
+      written : Written false zeroedWord after (keyString (key 2 2)) 0 → ⊥
       written =
           ⊎-elim (λ own. omega (arith, own .1, computed [] .own))
-          (⊎-elim (λ j. none-joined _ (j .0) (j .1))
+          (⊎-elim (λ j. none-joined _ _ _ (j .0) (j .2))
           (λ free. let one : _≡_ {A = ℕ} 1 0 = free .0 in omega (arith, one)))
 
--- ---- a delete
+  -- the key's leaf 101 takes its sibling 100 in
+  pub takes-sibling : InsertPromise lowTally (key 3 0) content answer after → after .state .depth ≡ 3
+      → getD (after .memory .words) 1 0 ≡ wordOf (Page 2 2) → ⊥
+  takes-sibling p e taken = ⊎-elim same gives (p .contained .words-kept lower)
+    where
+      same : wordAt (after .state .shape) (after .state .depth) (after .memory .words) lower
+          ≡ wordAt twoTwo 3 (lowTally .memory .words) lower → ⊥
+      same w =
+          let now : wordAt twoTwo 3 (after .memory .words) lower ≡ wordAt twoTwo 3 (lowTally .memory .words) lower =
+          rw (p .shape-kept, e) at w in
+          let word : wordOf (Page 2 2) ≡ wordOf (Page 1 3) =
+          sym taken ∙ sym (computed (after .memory .words) .low-at-3) ∙ now ∙ computed [] .low in
+          omega (arith, word)
+
+      gives : GivesWay false (wordAt twoTwo 3 (lowTally .memory .words))
+          (wordAt (after .state .shape) (after .state .depth) (after .memory .words)) (keyString (key 3 0)) lower → ⊥
+      gives way =
+          ⊎-elim (λ a. true≢false (sym (computed [] .third) ∙ sym (a 2 (omega (arith, computed [] .low)))))
+          (none-joined _ _ _ lower) (way .1)
+
+-- ---- deletes
 
 -- T is set by a tally that has no leaf of depth 3: the leaves 100 and 101 would have one cell
 pub lowers-depth : (answer : Answer Reply) (after : Store) → DeletePromise lowTally (key 0 0) answer after
@@ -141,9 +177,79 @@ lowers-depth answer after p e =
             rw (p .shape-kept, e) at k in
             now ∙ w
 
-        gives : GivesWay (wordAt twoTwo 3 (lowTally .memory .words))
+        gives : GivesWay true (wordAt twoTwo 3 (lowTally .memory .words))
             (wordAt (after .state .shape) (after .state .depth) (after .memory .words)) (keyString (key 0 0)) q
             → wordAt twoTwo 2 (after .memory .words) q ≡ wordOf (Page h 3)
         gives way =
             absurd (⊎-elim (λ a. true≢false (sym first ∙ a 0 (omega (arith, w)) ∙ computed [] .zero))
             (λ j. true≢false (sym first ∙ sym (j .agree 0 (omega (arith, w, j .depth))) ∙ computed [] .zero)) (way .1))
+
+-- the page of the leaf 100, the sibling of the key's leaf 101, is cleared and its word left
+pub clears-sibling : (answer : Answer Reply) (after : Store) → DeletePromise lowTally (key 3 1) answer after
+    → after .state .depth ≡ 3 → getD (after .memory .words) 1 0 ≡ wordOf (Page 1 3)
+    → countOf (pageAt 2 (after .memory .bytes) 1) ≡ 0 → ⊥
+clears-sibling answer after p e left none = ⊎-elim same written (p .contained .bytes-kept 1 (omega arith))
+  where
+    k : ℕ → Bool
+    k = keyString (key 3 1)
+
+    old : (ℕ → Bool) → ℕ
+    old = wordAt twoTwo 3 (lowTally .memory .words)
+
+    new : (ℕ → Bool) → ℕ
+    new = wordAt (after .state .shape) (after .state .depth) (after .memory .words)
+
+    same : pageAt 2 (after .memory .bytes) 1 ≡ pageAt 2 (lowTally .memory .bytes) 1 → ⊥
+    same d = let two : _≡_ {A = ℕ} 0 2 = sym none ∙ ap countOf d ∙ computed [] .low-count in omega (arith, two)
+
+    -- 100 has the word that it had
+    low-now : new lower ≡ wordOf (Page 1 3)
+    low-now =
+        let low : wordAt twoTwo 3 (after .memory .words) lower ≡ wordOf (Page 1 3) =
+        computed (after .memory .words) .low-at-3 ∙ left in
+        rw (p .shape-kept, e) low
+
+    -- 100 agrees with the key in two bits
+    near : (i : ℕ) → i < 2 → k i ≡ lower i
+    near zero l = computed [] .sibling-one
+    near (suc zero) l = computed [] .sibling-zero
+    near (suc (suc i)) l = absurd (omega arith)
+
+    -- so that it has the key's word, of depth 2 or less, where a leaf that has page 1 is joined
+    joined : (q : ℕ → Bool) → JoinedWith true old new k q → Names 1 (old q) → ⊥
+    joined q j names =
+        ⊎-elim
+        (λ nearest.
+        let low : depthNamed (new k) < 3 = omega (arith, j .within, nearest, computed [] .sibling-own) in
+        let one : new lower ≡ new k = j .one-leaf lower (λ i l. near i (omega (arith, low))) in
+        let three : depthNamed (new k) ≡ 3 = ap depthNamed (sym one ∙ low-now) in
+        omega (arith, low, three))
+        (λ empty. omega (arith, empty, names .1)) (j .nearest-or-empty)
+
+    written : Written true lowTally after k 1 → ⊥
+    written =
+        ⊎-elim (λ own. omega (arith, own .1, computed [] .sibling-own))
+        (⊎-elim (λ j. joined (j .0) (j .2) (j .3))
+        (λ free. let two : _≡_ {A = ℕ} 2 0 = sym (computed [] .low-count) ∙ free .0 in omega (arith, two)))
+
+-- the leaf 0 above, which has a page, is joined with the key's leaf 101
+pub joins-leaf-above : (answer : Answer Reply) (after : Store) → DeletePromise lowTally (key 3 1) answer after
+    → after .state .depth ≡ 3 → getD (after .memory .words) 0 0 ≡ wordOf (Page 1 0) → ⊥
+joins-leaf-above answer after p e joined = ⊎-elim same gives (p .contained .words-kept emptyString)
+  where
+    same : wordAt (after .state .shape) (after .state .depth) (after .memory .words) emptyString
+        ≡ wordAt twoTwo 3 (lowTally .memory .words) emptyString → ⊥
+    same w =
+        let now : wordAt twoTwo 3 (after .memory .words) emptyString
+        ≡ wordAt twoTwo 3 (lowTally .memory .words) emptyString = rw (p .shape-kept, e) at w in
+        let word : wordOf (Page 1 0) ≡ wordOf (Page 0 1) =
+        sym joined ∙ sym (computed (after .memory .words) .at-0) ∙ now ∙ computed [] .first-low in
+        omega (arith, word)
+
+    gives : GivesWay true (wordAt twoTwo 3 (lowTally .memory .words))
+        (wordAt (after .state .shape) (after .state .depth) (after .memory .words)) (keyString (key 3 1)) emptyString
+        → ⊥
+    gives way =
+        ⊎-elim (λ a. true≢false (sym (computed [] .sibling-one) ∙ sym (a 0 (omega (arith, computed [] .first-low)))))
+        (λ j. ⊎-elim (λ nearest. omega (arith, nearest, j .depth, computed [] .first-low, computed [] .sibling-own))
+        (λ empty. omega (arith, empty, computed [] .first-low)) (j .nearest-or-empty)) (way .1)

@@ -67,6 +67,13 @@ module _ (before after : Store) (D D′ : Division Record) where
 
 -- ---- calls that change the store
 
+-- a delete joins leaves, and no other call
+abbrev pub joins : Call → Bool
+joins (insertCall values content) = false
+joins (deleteCall values) = true
+joins (lookupCall values) = false
+joins (queryCall q out) = false
+
 -- `values` are those of the call's key, `early` is the number of the refusals above, `numbers` are the others that the
 -- call may give. Left free on an accepted change of a store that is not sound: T and the tally; the words of the key's
 -- leaf and of the leaves joined with it, with those at the new 2^T and above; the bytes of their pages and of the page
@@ -90,9 +97,9 @@ pub record ChangePromise (c : Call) (values : List ℕ) (early : ℕ) (numbers :
       ≡ drop (pagesSize (before .state)) (before .memory .bytes)
   -- on any store: the word of every cell outside the key's leaf and the leaves joined with it is, at the new T, the
   -- word that stood there; and the bytes of every page other than the leaf's, the joined ones' and the one newly taken
-  -- are as they were. Shut out: an insert that sets a region after a look at one of its cells, a delete that lowers T by
-  -- a wrong tally
-  pub contained : Contained before after
+  -- are as they were. Shut out: an insert that sets a region after a look at one of its cells, a delete that lowers T
+  -- by a wrong tally
+  pub contained : Contained (joins c) before after
       (splitBit (widthsOf (before .state .shape)) (encodings (before .state .shape) values))
   -- on a sound store the model's answer, and a store that shows the model's set
   pub answered-as : (S : List Record) → Sound before S → answer ≡ outcome (fixedOf (before .state)) S c .answer
