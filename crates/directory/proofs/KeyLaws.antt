@@ -20,7 +20,7 @@ use Rattle.cell.specs.Cell.{sumBits, attributeBit, cell}
 use Rattle.cell.proofs.Strings.{sumBits-lt, sumBits-agree, bitValue-digit}
 use Rattle.directory.specs.Private.{reversedBits}
 use Rattle.directory.proofs.PlaceLaws.{depth-place}
-use Rattle.directory.proofs.ReverseLaws.{four-more}
+use Rattle.directory.proofs.ReverseLaws.{reversedBits-four, four-more}
 
 -- ---- an index from an encoding's bits
 
@@ -131,6 +131,46 @@ taken-four w encoding h rest index k inv hw hs l r e m =
     let q : rest / 2 / 2 / 2 / 2 ≡ rest / 16 = omega arith in
     let n : k + 1 + 1 + 1 + 1 ≡ k + 4 = omega arith in
     taken-same w encoding h q (sym i) n t4
+
+-- at most four bits in all: what is past them is shifted out
+pub sumBits-few : (w encoding h : ℕ) → h ≤ w → w ≤ 16 → h ≤ 4
+    → (r : ℕ) → r ≡ reversedBits (bitAnd (encoding / 2 ^ (w - h)) 15) → r / 2 ^ (4 - h) ≡ sumBits (bitOf w encoding) h
+sumBits-few w encoding zero hw hs l r e =
+    let low = reversedBits-four (encoding / 2 ^ (w - 0)) in
+    let n : r / 16 ≡ 0 = omega (arith, e, low) in
+    n ∙ taken-end w encoding 0 _ _ _ (taken-zero w encoding 0) (omega arith)
+sumBits-few w encoding (suc zero) hw hs l r e =
+    let rest = encoding / 2 ^ (w - 1) in
+    let low = reversedBits-four rest in
+    let t1 = taken-next w encoding 1 _ _ _ (taken-zero w encoding 1) hw hs (omega arith) in
+    let n : r / 8 ≡ 0 * 2 + rest % 2 = omega (arith, e, low) in
+    n ∙ taken-end w encoding 1 _ _ _ t1 (omega arith)
+sumBits-few w encoding (suc (suc zero)) hw hs l r e =
+    let rest = encoding / 2 ^ (w - 2) in
+    let low = reversedBits-four rest in
+    let t1 = taken-next w encoding 2 _ _ _ (taken-zero w encoding 2) hw hs (omega arith) in
+    let t2 = taken-next w encoding 2 _ _ _ t1 hw hs (omega arith) in
+    let n : r / 4 ≡ (0 * 2 + rest % 2) * 2 + rest / 2 % 2 = omega (arith, e, low) in
+    n ∙ taken-end w encoding 2 _ _ _ t2 (omega arith)
+sumBits-few w encoding (suc (suc (suc zero))) hw hs l r e =
+    let rest = encoding / 2 ^ (w - 3) in
+    let low = reversedBits-four rest in
+    let t1 = taken-next w encoding 3 _ _ _ (taken-zero w encoding 3) hw hs (omega arith) in
+    let t2 = taken-next w encoding 3 _ _ _ t1 hw hs (omega arith) in
+    let t3 = taken-next w encoding 3 _ _ _ t2 hw hs (omega arith) in
+    let n : r / 2 ≡ ((0 * 2 + rest % 2) * 2 + rest / 2 % 2) * 2 + rest / 2 / 2 % 2 = omega (arith, e, low) in
+    n ∙ taken-end w encoding 3 _ _ _ t3 (omega arith)
+sumBits-few w encoding (suc (suc (suc (suc zero)))) hw hs l r e =
+    let rest = encoding / 2 ^ (w - 4) in
+    let low = reversedBits-four rest in
+    let t1 = taken-next w encoding 4 _ _ _ (taken-zero w encoding 4) hw hs (omega arith) in
+    let t2 = taken-next w encoding 4 _ _ _ t1 hw hs (omega arith) in
+    let t3 = taken-next w encoding 4 _ _ _ t2 hw hs (omega arith) in
+    let t4 = taken-next w encoding 4 _ _ _ t3 hw hs (omega arith) in
+    let n : r / 1 ≡ (((0 * 2 + rest % 2) * 2 + rest / 2 % 2) * 2 + rest / 2 / 2 % 2) * 2 + rest / 2 / 2 / 2 % 2 =
+    omega (arith, e, low) in
+    n ∙ taken-end w encoding 4 _ _ _ t4 (omega arith)
+sumBits-few w encoding (suc (suc (suc (suc (suc h))))) hw hs l r e = absurd (omega arith)
 
 -- ---- the four indices
 

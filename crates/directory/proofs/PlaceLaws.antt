@@ -60,6 +60,10 @@ unfolding depthBefore
 stepsBefore-depths w0 w1 w2 w3 g h0 h1 h2 h3 l e0 e1 e2 e3 =
     record { low = l; before = length-stepsBelow (w0 ∷ w1 ∷ w2 ∷ w3 ∷ []) g ∙ rw (e0, e1, e2, e3) }
 
+-- a place among the first sixteen is before the fifth bit of each attribute
+pub depth-few : (w g j h : ℕ) → g ≤ 16 → h ≡ min w ((g + 3 - j) / 4) → h ≤ 4
+depth-few w g j h l e = omega arith
+
 -- ---- where the attributes in use take turns, no more than t steps are before the place
 
 module _ (w0 w1 w2 w3 g : ℕ) where

@@ -39,16 +39,11 @@ entry-reversed n l =
 pub four-lt : (rest : ℕ) → bitAnd rest 15 < 16
 four-lt rest = omega (arith, and-mask rest 4)
 
--- an index with four bits more
-pub four-more : (index rest r : ℕ) → index < 2 ^ 16 → r ≡ reversedBits (bitAnd rest 15) → r < 16
-    → bitOr (index * 16 % 2 ^ 64) r
-    ≡ (((index * 2 + rest % 2) * 2 + rest / 2 % 2) * 2 + rest / 2 / 2 % 2) * 2 + rest / 2 / 2 / 2 % 2
-four-more index rest r l e m =
-    let small : index * 16 < 2 ^ 64 = omega arith in
-    ap (λ x. bitOr x r) (mod-eq-of-lt small)
-    ∙ or-shifted index 4 r m
-    ∙ ap (λ x. index * 16 + x) (e ∙ ap reversedBits (and-mask rest 4) ∙ low)
-    ∙ sum index (rest % 2) (rest / 2 % 2) (rest / 2 / 2 % 2) (rest / 2 / 2 / 2 % 2)
+-- four bits of a number, halved again and again
+pub reversedBits-four : (rest : ℕ) → reversedBits (bitAnd rest 15)
+    ≡ rest % 2 * 8 + rest / 2 % 2 * 4 + rest / 2 / 2 % 2 * 2 + rest / 2 / 2 / 2 % 2
+reversedBits-four rest =
+    ap reversedBits (and-mask rest 4) ∙ (λ i. first i * 8 + second i * 4 + third i * 2 + fourth i)
   where
     first : rest % 16 % 2 ≡ rest % 2
     first = omega arith
@@ -62,8 +57,16 @@ four-more index rest r l e m =
     fourth : rest % 16 / 8 % 2 ≡ rest / 2 / 2 / 2 % 2
     fourth = omega arith
 
-    low : reversedBits (rest % 16) ≡ rest % 2 * 8 + rest / 2 % 2 * 4 + rest / 2 / 2 % 2 * 2 + rest / 2 / 2 / 2 % 2
-    low = λ i. first i * 8 + second i * 4 + third i * 2 + fourth i
-
+-- an index with four bits more
+pub four-more : (index rest r : ℕ) → index < 2 ^ 16 → r ≡ reversedBits (bitAnd rest 15) → r < 16
+    → bitOr (index * 16 % 2 ^ 64) r
+    ≡ (((index * 2 + rest % 2) * 2 + rest / 2 % 2) * 2 + rest / 2 / 2 % 2) * 2 + rest / 2 / 2 / 2 % 2
+four-more index rest r l e m =
+    let small : index * 16 < 2 ^ 64 = omega arith in
+    ap (λ x. bitOr x r) (mod-eq-of-lt small)
+    ∙ or-shifted index 4 r m
+    ∙ ap (λ x. index * 16 + x) (e ∙ reversedBits-four rest)
+    ∙ sum index (rest % 2) (rest / 2 % 2) (rest / 2 / 2 % 2) (rest / 2 / 2 / 2 % 2)
+  where
     sum : (n a b c d : ℕ) → n * 16 + (a * 8 + b * 4 + c * 2 + d) ≡ (((n * 2 + a) * 2 + b) * 2 + c) * 2 + d
     sum n a b c d = omega arith

@@ -1,6 +1,8 @@
 // The cell of a key: the index vector of its first t split bits, and its address. A key is given by
 // its four encodings.
+use super::places::early_place;
 use super::places::place_of;
+use super::places::steps_before;
 use address::Index;
 use address::locate;
 use address::pairs::depth_before;
@@ -20,9 +22,40 @@ pub fn find_cell(widths: Widths, key: [u32; 4], t: u64) -> u64
     requires { ⌜ Fit (widthList widths) × (t ≤ total (widthList widths)) ⌝ }
     ensures { λ r. ⌜ r ≡ cellAddress (widthList widths) t (splitBit (widthList widths) key) ⌝ }
 {
-    let g = place_of(widths, t);
-    let index = cell_before(widths, key, g);
+    let index = cell_of(widths, key, t);
     locate(widths, index)
+}
+
+// The index vector of a key's first t split bits. Most often the place tried first has t steps before
+// it and is among the first four bits' places.
+fn cell_of(widths: Widths, key: [u32; 4], t: u64) -> Index
+    requires { ⌜ Fit (widthList widths) × (t ≤ total (widthList widths)) ⌝ }
+    ensures { λ r. ⌜ indexList r ≡ cell (widthList widths) t (splitBit (widthList widths) key) ⌝ }
+{
+    let near = early_place(widths, t);
+    if steps_before(widths, near) == t {
+        if near <= 16 {
+            return near_cell(widths, key, near);
+        }
+    }
+    cell_before(widths, key, place_of(widths, t))
+}
+
+// The index vector of a key's split bits before the pair at place g, of at most four bits each.
+fn near_cell(widths: Widths, key: [u32; 4], g: u64) -> Index
+    requires { ⌜ Fit (widthList widths) × (g ≤ 16) ⌝ }
+    ensures { λ r. ⌜ indexList r
+        ≡ cell (widthList widths) (length (stepsBelow (widthList widths) g)) (splitBit (widthList widths) key) ⌝ }
+{
+    let d0 = depth_before(widths.w0, g, 0);
+    let d1 = depth_before(widths.w1, g, 1);
+    let d2 = depth_before(widths.w2, g, 2);
+    let d3 = depth_before(widths.w3, g, 3);
+    let i0 = index_of_few(widths.w0, key[0] as u64, d0);
+    let i1 = index_of_few(widths.w1, key[1] as u64, d1);
+    let i2 = index_of_few(widths.w2, key[2] as u64, d2);
+    let i3 = index_of_few(widths.w3, key[3] as u64, d3);
+    Index { i0, i1, i2, i3 }
 }
 
 // The index vector of a key's split bits before the pair at place g.
@@ -63,6 +96,17 @@ fn index_of_bits(w: u64, encoding: u64, h: u64) -> u64
         }
     }
     index
+}
+
+// The first h of an encoding's w bits as an index, of at most four: reversed at once, and what is
+// past them shifted out.
+fn index_of_few(w: u64, encoding: u64, h: u64) -> u64
+    requires { ⌜ (h ≤ w) × (w ≤ 16) × (h ≤ 4) ⌝ }
+    ensures { λ r. ⌜ r ≡ sumBits (bitOf w encoding) h ⌝ }
+{
+    let rest = encoding >> (w - h);
+    let four = reversed(rest & 0xf);
+    four >> (4 - h)
 }
 
 // Four bits in reverse order, from the table of all sixteen.
