@@ -12,8 +12,8 @@ use Rattle.region.specs.Division.{tally, leafDepth, leafRecords}
 use Rattle.record.specs.Record.{Record}
 use Rattle.page.specs.Page.{countOf, pageAt}
 use Rattle.page.proofs.FieldLaws.{length-recordsFrom}
-use Rattle.word.specs.Word.{wordOf}
-use Rattle.word.specs.declared.Leaf.the-variants.{Empty, Page}
+use Rattle.directory_word.specs.Word.{wordOf}
+use Rattle.directory_word.specs.declared.Leaf.the-variants.{Empty, Page}
 use Rattle.store.specs.Store.{Store}
 use Rattle.store.specs.Sound.{Sound}
 use Rattle.store.proofs.ShownLaws.{pageRecords, wordOn, divisionOn, LeafWord-page, LeafWord-empty, leafDepth-le-depth}

@@ -17,9 +17,9 @@ use Rattle.region.specs.Division.{Division, leafDepth, leafRecords}
 use Rattle.region.proofs.StringLaws.{withBit-other}
 use Rattle.region.proofs.InsertLaws.{SameLeaf}
 use Rattle.record.specs.Record.{Record, recordBit}
-use Rattle.word.specs.Word.{wordOf}
-use Rattle.word.specs.declared.Leaf.the-variants.{Page}
-use Rattle.word.proofs.WordLaws.{wordOf-one-to-one}
+use Rattle.directory_word.specs.Word.{wordOf}
+use Rattle.directory_word.specs.declared.Leaf.the-variants.{Page}
+use Rattle.directory_word.proofs.WordLaws.{wordOf-one-to-one}
 use Rattle.model.specs.Sets.{stored, withoutKey}
 use Rattle.store.specs.Store.{Store}
 use Rattle.store.specs.Sound.{Sound}

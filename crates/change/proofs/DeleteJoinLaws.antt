@@ -14,9 +14,9 @@ use Rattle.cell.specs.Cell.{Agree}
 use Rattle.region.specs.Division.{Division, greatestDepth, leafDepth}
 use Rattle.region.proofs.StringLeafLaws.{leafDepth-le}
 use Rattle.record.specs.Record.{Record, recordBit}
-use Rattle.word.specs.Word.{wordOf}
-use Rattle.word.specs.declared.Leaf.the-variants.{Page}
-use Rattle.word.proofs.WordLaws.{wordOf-one-to-one}
+use Rattle.directory_word.specs.Word.{wordOf}
+use Rattle.directory_word.specs.declared.Leaf.the-variants.{Page}
+use Rattle.directory_word.proofs.WordLaws.{wordOf-one-to-one}
 use Rattle.model.specs.Sets.{stored, withoutKey}
 use Rattle.store.specs.Store.{Store, Memory, wordAt}
 use Rattle.store.specs.Sound.{LeafWord, Sound}

@@ -17,9 +17,9 @@ use Rattle.region.specs.Division.{Division, tally, leafDepth, leafRecords}
 use Rattle.region.proofs.SiblingLaws.{lt-length-siblings}
 use Rattle.record.specs.Record.{Record, recordBit}
 use Rattle.page.specs.Page.{countOf, pageAt}
-use Rattle.word.specs.Word.{wordOf}
-use Rattle.word.specs.declared.Leaf.the-variants.{Empty, Page}
-use Rattle.word.proofs.WordLaws.{wordOf-one-to-one, wordOf-apart}
+use Rattle.directory_word.specs.Word.{wordOf}
+use Rattle.directory_word.specs.declared.Leaf.the-variants.{Empty, Page}
+use Rattle.directory_word.proofs.WordLaws.{wordOf-one-to-one, wordOf-apart}
 use Rattle.model.specs.Sets.{stored, withoutKey, divisionOf}
 use Rattle.model.proofs.SetLaws.{isSet-withoutKey}
 use Rattle.store.specs.Store.{Store, Memory, wordAt}

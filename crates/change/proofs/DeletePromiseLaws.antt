@@ -13,9 +13,9 @@ use Rattle.shape.specs.Refusal.{accepted, refused, firstNumber}
 use Rattle.shape.specs.Key.{keyFits, encodings}
 use Rattle.shape.specs.declared.Shape.{Shape}
 use Rattle.record.specs.Record.{Record}
-use Rattle.word.specs.Word.{wordOf}
-use Rattle.word.specs.declared.Leaf.the-variants.{Page}
-use Rattle.word.proofs.WordLaws.{wordOf-page}
+use Rattle.directory_word.specs.Word.{wordOf}
+use Rattle.directory_word.specs.declared.Leaf.the-variants.{Page}
+use Rattle.directory_word.proofs.WordLaws.{wordOf-page}
 use Rattle.model.specs.Sets.{stored, withoutKey}
 use Rattle.model.specs.Model.{Fixed, Call, deleteCall, numberFor, replyTo, setAfter, changed}
 use Rattle.model.proofs.SetLaws.{length-encodings, indexFits-encodings}

@@ -15,8 +15,8 @@ use Rattle.region.specs.Division.{Division, leafDepth, leafRecords}
 use Rattle.record.specs.Record.{Record}
 use Rattle.page.specs.Page.{countOf, pageAt}
 use Rattle.page.proofs.FieldLaws.{length-recordsFrom}
-use Rattle.word.specs.Word.{wordOf}
-use Rattle.word.specs.declared.Leaf.the-variants.{Empty, Page}
+use Rattle.directory_word.specs.Word.{wordOf}
+use Rattle.directory_word.specs.declared.Leaf.the-variants.{Empty, Page}
 use Rattle.store.specs.Store.{Store, wordAt}
 use Rattle.store.specs.Sound.{LeafWord, Sound}
 use Rattle.store.proofs.AgreeLaws.{Agree-sym, leafDepth-agree, leafRecords-agree, cells}

@@ -16,8 +16,8 @@ use Rattle.directory.specs.Directory.{Doubled, Filled}
 use Rattle.directory.proofs.CellLaws.{withBit, withBit-here, agree-withBit, agree-suc}
 use Rattle.region.specs.Division.{Division}
 use Rattle.record.specs.Record.{Record}
-use Rattle.word.specs.Word.{wordOf}
-use Rattle.word.specs.declared.Leaf.the-variants.{Empty, Page}
+use Rattle.directory_word.specs.Word.{wordOf}
+use Rattle.directory_word.specs.declared.Leaf.the-variants.{Empty, Page}
 use Rattle.store.specs.Store.{Memory, memory}
 use Rattle.store.specs.Sound.{Shows}
 use Rattle.change.specs.Private.{Deepened, Leaves, SiblingsSet, LeavesSet}

@@ -17,9 +17,9 @@ use Rattle.directory.proofs.CellLaws.{withBit, withBit-here, agree-withBit}
 use Rattle.region.specs.Strings.{sameBits}
 use Rattle.region.specs.Division.{Division, leafDepth, leafRecords}
 use Rattle.record.specs.Record.{Record, recordBit}
-use Rattle.word.specs.Word.{wordOf}
-use Rattle.word.specs.declared.Leaf.the-variants.{Page}
-use Rattle.word.proofs.WordLaws.{wordOf-one-to-one, wordOf-apart}
+use Rattle.directory_word.specs.Word.{wordOf}
+use Rattle.directory_word.specs.declared.Leaf.the-variants.{Page}
+use Rattle.directory_word.proofs.WordLaws.{wordOf-one-to-one, wordOf-apart}
 use Rattle.model.specs.Sets.{inShape, stored, withRecord}
 use Rattle.model.proofs.SetLaws.{isSet-withRecord}
 use Rattle.model.proofs.InsertRefusalLaws.{differing-bounds, greatestDepth-withRecord-full}

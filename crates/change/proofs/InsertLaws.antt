@@ -12,8 +12,8 @@ use Rattle.directory.specs.Directory.{Filled}
 use Rattle.region.specs.Strings.{sameBits}
 use Rattle.region.specs.Division.{leafDepth, leafRecords}
 use Rattle.record.specs.Record.{Record, recordBit}
-use Rattle.word.specs.Word.{wordOf}
-use Rattle.word.specs.declared.Leaf.the-variants.{Empty, Page}
+use Rattle.directory_word.specs.Word.{wordOf}
+use Rattle.directory_word.specs.declared.Leaf.the-variants.{Empty, Page}
 use Rattle.model.specs.Sets.{inShape, stored, withRecord}
 use Rattle.store.specs.Store.{Store, Memory, memory, store}
 use Rattle.store.specs.Sound.{Sound}

@@ -14,8 +14,8 @@ use Rattle.shape.specs.Key.{keyFits}
 use Rattle.shape.specs.declared.Shape.{Shape}
 use Rattle.record.specs.declared.Content.{Content}
 use Rattle.record.specs.Record.{Record, recordBit}
-use Rattle.word.specs.Word.{wordOf}
-use Rattle.word.specs.declared.Leaf.the-variants.{Empty}
+use Rattle.directory_word.specs.Word.{wordOf}
+use Rattle.directory_word.specs.declared.Leaf.the-variants.{Empty}
 use Rattle.model.specs.Sets.{inShape, stored, withRecord}
 use Rattle.model.specs.Model.{Call, insertCall, recordFor, replyTo, setAfter, changed}
 use Rattle.model.proofs.SetLaws.{inShape-recordFor}

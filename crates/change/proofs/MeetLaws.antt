@@ -18,9 +18,9 @@ use Rattle.region.proofs.StringLaws.{sameBits-suc}
 use Rattle.region.proofs.OrderLaws.{sorted-filter}
 use Rattle.region.proofs.StringLeafLaws.{all-sameBits-leafRecords}
 use Rattle.record.specs.Record.{Record, recordBit}
-use Rattle.word.specs.Word.{wordOf}
-use Rattle.word.specs.declared.Leaf.the-variants.{Empty, Page}
-use Rattle.word.proofs.WordLaws.{wordOf-page, wordOf-page-empty}
+use Rattle.directory_word.specs.Word.{wordOf}
+use Rattle.directory_word.specs.declared.Leaf.the-variants.{Empty, Page}
+use Rattle.directory_word.proofs.WordLaws.{wordOf-page, wordOf-page-empty}
 use Rattle.model.specs.Sets.{stored, divisionOf}
 use Rattle.model.proofs.SetLaws.{sorted-of-isSet}
 use Rattle.store.specs.Store.{Store}

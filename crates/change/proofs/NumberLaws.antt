@@ -14,8 +14,8 @@ use Rattle.region.specs.Strings.{sameBits}
 use Rattle.region.specs.Division.{Division, nonEmptyLeaves, leafDepth, leafRecords}
 use Rattle.record.specs.declared.Content.{Content}
 use Rattle.record.specs.Record.{Record, recordBit}
-use Rattle.word.specs.Word.{wordOf}
-use Rattle.word.specs.declared.Leaf.the-variants.{Empty}
+use Rattle.directory_word.specs.Word.{wordOf}
+use Rattle.directory_word.specs.declared.Leaf.the-variants.{Empty}
 use Rattle.model.specs.Sets.{stored}
 use Rattle.model.specs.Model.{insertCall, recordFor, numberFor}
 use Rattle.model.proofs.InsertRefusalLaws.{numberFor-insert-stored, numberFor-insert-room, numberFor-insert-alike}

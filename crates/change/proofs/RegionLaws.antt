@@ -16,8 +16,8 @@ use Rattle.region.proofs.InsertLaws.{SameLeaf}
 use Rattle.record.specs.Record.{Record}
 use Rattle.page.specs.Page.{countOf, pageAt}
 use Rattle.page.proofs.FieldLaws.{length-recordsFrom}
-use Rattle.word.specs.Word.{wordOf}
-use Rattle.word.specs.declared.Leaf.the-variants.{Page}
+use Rattle.directory_word.specs.Word.{wordOf}
+use Rattle.directory_word.specs.declared.Leaf.the-variants.{Page}
 use Rattle.model.specs.Sets.{isSet}
 use Rattle.store.specs.Store.{Store, Memory, wordAt}
 use Rattle.store.specs.Sound.{LeafWord, Shows, tallies, Sound}

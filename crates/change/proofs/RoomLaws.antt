@@ -15,9 +15,9 @@ use Rattle.cell.specs.Cell.{Agree}
 use Rattle.directory.specs.Directory.{Filled}
 use Rattle.region.specs.Division.{Division, leafDepth, leafRecords}
 use Rattle.record.specs.Record.{Record, recordBit}
-use Rattle.word.specs.Word.{wordOf}
-use Rattle.word.specs.declared.Leaf.the-variants.{Empty, Page}
-use Rattle.word.proofs.WordLaws.{wordOf-one-to-one, wordOf-apart}
+use Rattle.directory_word.specs.Word.{wordOf}
+use Rattle.directory_word.specs.declared.Leaf.the-variants.{Empty, Page}
+use Rattle.directory_word.proofs.WordLaws.{wordOf-one-to-one, wordOf-apart}
 use Rattle.model.specs.Sets.{inShape, stored, withRecord}
 use Rattle.model.proofs.SetLaws.{isSet-withRecord}
 use Rattle.model.proofs.InsertRefusalLaws.{greatestDepth-withRecord-room}

@@ -16,8 +16,8 @@ use Rattle.region.specs.Strings.{sibling}
 use Rattle.region.specs.Sets.{inOrder}
 use Rattle.record.specs.Record.{Record}
 use Rattle.page.specs.Page.{countOf, recordsOf, pageAt}
-use Rattle.word.specs.Word.{wordOf}
-use Rattle.word.specs.declared.Leaf.the-variants.{Empty, Page}
+use Rattle.directory_word.specs.Word.{wordOf}
+use Rattle.directory_word.specs.declared.Leaf.the-variants.{Empty, Page}
 use Rattle.model.specs.Sets.{withoutKey}
 use Rattle.store.specs.Store.{Store, Memory, wordAt}
 use Rattle.store.specs.declared.Tally.{Tally}

@@ -25,12 +25,12 @@ use Rattle.store.proofs.ShownLaws.{pageRecords}
 use Rattle.change.specs.Delete.{keyString}
 use Rattle.change.proofs.PromiseLaws.{drop-of-past, KeepsOthers}
 use Rattle.change.proofs.DeletePromiseLaws.{delete-early}
-use Rattle.lent.proofs.LimitsLaws.{limits-parts}
+use Rattle.refusals.proofs.LimitsLaws.{limits-parts}
 use Rattle.lookup.proofs.EarlyLaws.{passed}
-use Rattle.removal.specs.Plan.{RecordFound}
-use Rattle.removal.specs.declared.Stored.{Stored}
-use Rattle.removal.proofs.EarlyLaws.{encodings-values, indexFits-values}
-use Rattle.removal.proofs.MetLaws.{pageLent}
+use Rattle.delete_plan.specs.Plan.{RecordFound}
+use Rattle.delete_plan.specs.declared.Stored.{Stored}
+use Rattle.delete_plan.proofs.EarlyLaws.{encodings-values, indexFits-values}
+use Rattle.delete_plan.proofs.MetLaws.{pageLent}
 use Rattle.delete_steps.specs.Private.{RecordLent}
 use Rattle.delete.proofs.SoundPageLaws.{stored-here}
 

@@ -7,7 +7,7 @@ use native.Mathlib.Omega.{arith}
 use Rattle.lists.specs.Filter.{nonEmpty}
 use Rattle.shape.specs.Refusal.{refused}
 use Rattle.record.specs.Record.{Record}
-use Rattle.word.proofs.WordLaws.{wordOf-page}
+use Rattle.directory_word.proofs.WordLaws.{wordOf-page}
 use Rattle.model.specs.Sets.{stored}
 use Rattle.store.specs.Store.{Store}
 use Rattle.store.specs.Sound.{Sound}
@@ -17,9 +17,9 @@ use Rattle.store.proofs.ShownLaws.{shape-of-Sound}
 use Rattle.store.proofs.KeyLaws.{stored-page}
 use Rattle.change.proofs.DeletePromiseLaws.{delete-unsound}
 use Rattle.change.proofs.DeleteKeyLaws.{stored-record}
-use Rattle.removal.specs.Plan.{Planned}
-use Rattle.removal.specs.declared.Plan.{Plan}
-use Rattle.guard.specs.Guard.{DeleteTold, KeyStored}
+use Rattle.delete_plan.specs.Plan.{Planned}
+use Rattle.delete_plan.specs.declared.Plan.{Plan}
+use Rattle.change_guard.specs.Guard.{DeleteTold, KeyStored}
 use Rattle.delete.proofs.FoundLaws.{recordFacts}
 
 module _ (before : Store) (values : List ℕ) where

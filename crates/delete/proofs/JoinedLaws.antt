@@ -12,8 +12,8 @@ use Rattle.shape.specs.declared.Shape.{Shape}
 use Rattle.directory.specs.Directory.{Filled}
 use Rattle.record.specs.Record.{Record}
 use Rattle.page.specs.Page.{countOf, pageSize, pageAt}
-use Rattle.word.specs.Word.{wordOf}
-use Rattle.word.specs.declared.Leaf.the-variants.{Page}
+use Rattle.directory_word.specs.Word.{wordOf}
+use Rattle.directory_word.specs.declared.Leaf.the-variants.{Page}
 use Rattle.model.specs.Model.{changed}
 use Rattle.store.specs.Store.{Store, memory, store}
 use Rattle.store.specs.Sound.{Sound}
@@ -24,16 +24,16 @@ use Rattle.change.specs.Delete.{keyString, LeafJoined}
 use Rattle.change.proofs.PromiseLaws.{KeepsPast, KeepsOthers}
 use Rattle.change.proofs.DeletePromiseLaws.{delete-joined}
 use Rattle.change.proofs.DeleteTallyLaws.{tallyDepth-le}
-use Rattle.removal.specs.Plan.{RecordFound, JoinPlanned}
-use Rattle.removal.specs.declared.Stored.{Stored}
-use Rattle.removal.specs.declared.Join.{Join}
-use Rattle.removal.specs.declared.Plan.the-variants as plan
+use Rattle.delete_plan.specs.Plan.{RecordFound, JoinPlanned}
+use Rattle.delete_plan.specs.declared.Stored.{Stored}
+use Rattle.delete_plan.specs.declared.Join.{Join}
+use Rattle.delete_plan.specs.declared.Plan.the-variants as plan
 use Rattle.delete_steps.specs.PageBytes.{keptPage, freedPage, joinedBytes}
 use Rattle.delete_steps.specs.Private.{PairLent, LeavesLent, JoinWords}
 use Rattle.delete_steps.proofs.PageLaws.{kept-or-freed}
 use Rattle.delete_steps.proofs.PageLaws.{length-joinedBytes, drop-joinedBytes}
-use Rattle.kept.proofs.ContainedLaws.{contained-joined}
-use Rattle.guard.specs.Guard.{DeleteGuarded}
+use Rattle.change_kept.proofs.ContainedLaws.{contained-joined}
+use Rattle.change_guard.specs.Guard.{DeleteGuarded}
 use Rattle.delete.proofs.SoundPageLaws.{records-joined, count-freed, records-joined-other}
 use Rattle.delete.proofs.FoundLaws.{RecordFacts, recordFacts, recordLent}
 

@@ -14,8 +14,8 @@ use Rattle.shape.specs.declared.Shape.{Shape}
 use Rattle.directory.specs.Directory.{Filled}
 use Rattle.record.specs.Record.{Record}
 use Rattle.page.specs.Page.{pageSize}
-use Rattle.word.specs.Word.{wordOf}
-use Rattle.word.specs.declared.Leaf.the-variants.{Empty}
+use Rattle.directory_word.specs.Word.{wordOf}
+use Rattle.directory_word.specs.declared.Leaf.the-variants.{Empty}
 use Rattle.model.specs.Model.{changed}
 use Rattle.store.specs.Store.{Store, memory, store}
 use Rattle.store.specs.Sound.{Sound}
@@ -24,14 +24,14 @@ use Rattle.store.proofs.ShownLaws.{pageRecords}
 use Rattle.change.specs.Delete.{keyString, LeafDeleted}
 use Rattle.change.proofs.PromiseLaws.{KeepsPast}
 use Rattle.change.proofs.DeletePromiseLaws.{delete-kept}
-use Rattle.removal.specs.Plan.{RecordFound, StaysAlone}
-use Rattle.removal.specs.declared.Stored.{Stored}
-use Rattle.removal.specs.declared.Plan.the-variants.{Keep}
+use Rattle.delete_plan.specs.Plan.{RecordFound, StaysAlone}
+use Rattle.delete_plan.specs.declared.Stored.{Stored}
+use Rattle.delete_plan.specs.declared.Plan.the-variants.{Keep}
 use Rattle.delete_steps.specs.PageBytes.{removedBytes}
 use Rattle.delete_steps.specs.Private.{LeafWords}
 use Rattle.delete_steps.proofs.PageLaws.{length-removedBytes, drop-removedBytes, some-left, none-left}
-use Rattle.kept.proofs.ContainedLaws.{contained-removed}
-use Rattle.guard.specs.Guard.{DeleteGuarded}
+use Rattle.change_kept.proofs.ContainedLaws.{contained-removed}
+use Rattle.change_guard.specs.Guard.{DeleteGuarded}
 use Rattle.delete.proofs.SoundPageLaws.{records-removed, records-removed-other}
 use Rattle.delete.proofs.FoundLaws.{RecordFacts, recordFacts, recordLent}
 

@@ -25,10 +25,10 @@ use Rattle.page.specs.Changes.{removeAt}
 use Rattle.page.proofs.FieldLaws.{getD-recordsFrom}
 use Rattle.pages.specs.Pages.{PageLent}
 use Rattle.pages.proofs.PageLaws.{page-end-le}
-use Rattle.find.proofs.SortedLaws.{all-getD}
-use Rattle.word.specs.Word.{wordOf}
-use Rattle.word.specs.declared.Leaf.the-variants.{Page}
-use Rattle.word.proofs.WordLaws.{wordOf-page}
+use Rattle.page_place.proofs.SortedLaws.{all-getD}
+use Rattle.directory_word.specs.Word.{wordOf}
+use Rattle.directory_word.specs.declared.Leaf.the-variants.{Page}
+use Rattle.directory_word.proofs.WordLaws.{wordOf-page}
 use Rattle.model.specs.Sets.{inShape, stored, withoutKey, divisionOf}
 use Rattle.model.proofs.SetLaws.{length-of-inShape, fits-of-inShape, inShape-of-isSet}
 use Rattle.store.specs.Store.{Store}
@@ -40,7 +40,7 @@ use Rattle.change.proofs.BoundLaws.{count-bounds}
 use Rattle.change.proofs.DeleteWordLaws.{length-pageRecords, leaf-of-page-word}
 use Rattle.change.proofs.DeletePlaceLaws.{nonEmpty-filter, withoutKey-place}
 use Rattle.lookup.proofs.StoredLaws.{sameKey-packed}
-use Rattle.removal.proofs.PairLaws.{siblings-apart}
+use Rattle.delete_plan.proofs.PairLaws.{siblings-apart}
 use Rattle.delete_steps.specs.PageBytes.{removedBytes, keptPage, freedPage, joinedBytes}
 use Rattle.delete_steps.proofs.PageLaws.{recordsOf-removedBytes, pageAt-removedBytes-other}
 use Rattle.delete_steps.proofs.PageLaws.{countOf-joinedBytes-freed, recordsOf-joinedBytes-kept}

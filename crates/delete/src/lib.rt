@@ -1,12 +1,12 @@
 // The call Delete: a key's record leaves the store, and leaves are joined until the set's own stand
 // (document 01, "Calls").
+use change_guard::join_keeps;
+use change_guard::removal_keeps;
+use delete_plan::Plan;
+use delete_plan::plan_delete;
 use delete_steps::join_leaves;
 use delete_steps::keep_leaf;
-use guard::join_keeps;
-use guard::removal_keeps;
-use lent::key_number;
-use removal::Plan;
-use removal::plan_delete;
+use refusals::key_number;
 use shape::Key;
 use store::Change;
 use store::Changed;

@@ -15,9 +15,9 @@ use Rattle.directory.specs.Directory.{DirectoryFits, Filled}
 use Rattle.store.specs.declared.State.{State}
 use Rattle.change.specs.Delete.{joinedTally, tallyDepth}
 use Rattle.change.proofs.DeleteTallyLaws.{getD-joinedTally-at, le-tallyDepth}
-use Rattle.removal.specs.Private.{DirectoryLent}
-use Rattle.removal.specs.declared.Stored.{Stored}
-use Rattle.removal.specs.declared.Join.{Join}
+use Rattle.delete_plan.specs.Private.{DirectoryLent}
+use Rattle.delete_plan.specs.declared.Stored.{Stored}
+use Rattle.delete_plan.specs.declared.Join.{Join}
 use Rattle.delete_steps.specs.PageBytes.{keptPage}
 use Rattle.delete_steps.specs.Private.{LeavesLent}
 

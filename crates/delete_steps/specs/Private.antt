@@ -9,13 +9,13 @@ use Rattle.shape.specs.Shape.{widthsOf}
 use Rattle.split.specs.Bits.{splitBit}
 use Rattle.directory.specs.Directory.{Filled}
 use Rattle.pages.specs.Pages.{PageLent, carriedPages}
-use Rattle.word.specs.Word.{wordOf}
-use Rattle.word.specs.declared.Leaf.the-variants.{Empty, Page}
+use Rattle.directory_word.specs.Word.{wordOf}
+use Rattle.directory_word.specs.declared.Leaf.the-variants.{Empty, Page}
 use Rattle.store.specs.declared.State.{State}
 use Rattle.change.specs.Delete.{joinedTally, tallyDepth}
 use Rattle.tally.specs.Tally.{tallyHolds}
-use Rattle.removal.specs.declared.Stored.{Stored}
-use Rattle.removal.specs.declared.Join.{Join}
+use Rattle.delete_plan.specs.declared.Stored.{Stored}
+use Rattle.delete_plan.specs.declared.Join.{Join}
 use Rattle.delete_steps.specs.PageBytes.{keptPage}
 
 -- the n records of page g and the k of page h in one page, those with bit 1 behind the others; `bit` is that of the

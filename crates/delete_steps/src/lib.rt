@@ -1,22 +1,22 @@
 // The steps of a planned delete. None of them can fail.
+use delete_plan::Join;
+use delete_plan::Stored;
 use directory::regions::fill;
+use directory_word::pack_empty;
+use directory_word::pack_page;
 use pages::carry;
 use record::RECORD_SIZE;
-use removal::Join;
-use removal::Stored;
 use shape::widths_of;
 use store::State;
 use store::Tally;
 use tally::greatest_depth;
-use word::pack_empty;
-use word::pack_page;
 ghost use mathlib.Core.Path.{_≡_};
 ghost use mathlib.Core.Bool.{cond};
 ghost use Prim.Native.Nat.{suc, _+_, _-_, _≤_};
 ghost use lib.ListN.{length};
 ghost use Rattle.pages.specs.Pages.{PageLent};
 ghost use Rattle.change.specs.Delete.{joinedTally};
-ghost use Rattle.removal.specs.Private.{DirectoryLent};
+ghost use Rattle.delete_plan.specs.Private.{DirectoryLent};
 ghost use Rattle.delete_steps.specs.PageBytes.{removedBytes, keptPage, joinedBytes};
 ghost use Rattle.delete_steps.specs.Private.{joinedPages, RecordLent, PairLent, LeavesLent, LeafWords, JoinWords};
 
@@ -87,7 +87,7 @@ fn join_tally(state: State, found: Stored, join: Join) -> Tally
     requires { ⌜ (state .depth ≤ 12) × LeavesLent state found join ⌝ }
     ensures { λ r. ⌜ r .leaves ≡ joinedTally (join .top) (suc (join .step) - join .top) (state .tally .leaves) ⌝ }
 {
-    lent_tally::joined(
+    tally_lent::joined(
         state.tally,
         join.top as usize,
         (found.depth - join.top) as usize,

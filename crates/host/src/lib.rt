@@ -24,7 +24,7 @@ ghost use Prim.Native.Nat.{_≤_};
 ghost use Rattle.model.specs.Model.{found, listed};
 ghost use Rattle.store.specs.Store.{store, memory};
 ghost use Rattle.store.specs.Promises.{LookupPromise, QueryPromise, CheckPromise, InsertPromise, DeletePromise};
-ghost use Rattle.image.specs.Image.{stateIn};
+ghost use Rattle.host_state.specs.Image.{stateIn};
 ghost use Rattle.host_reads.specs.Result.{Keeps, isYes, wantedOf};
 ghost use Rattle.host_changes.specs.Changes.{LentChangePromise};
 ghost use Rattle.host_changes.specs.Fresh.{LentFreshPromise};

@@ -20,8 +20,8 @@ use Rattle.store.specs.declared.Change.{Change}
 use Rattle.store.specs.declared.Changed.{Changed}
 use Rattle.store.specs.declared.Changed.the-variants.{Done, Refused}
 use Rattle.store.specs.declared.State.{State}
-use Rattle.image.specs.Image.{stateSize, stateIn, statePut}
-use Rattle.image.proofs.ImageLaws.{stateIn-short, drop-statePut, stateIn-statePut}
+use Rattle.host_state.specs.Image.{stateSize, stateIn, statePut}
+use Rattle.host_state.proofs.ImageLaws.{stateIn-short, drop-statePut, stateIn-statePut}
 use Rattle.host_changes.specs.Changes.{LentChangePromise}
 use Rattle.host_changes.specs.Private.{Settled}
 

@@ -21,8 +21,8 @@ use Rattle.store.specs.declared.Changed.the-variants.{Done, Refused}
 use Rattle.store.specs.declared.State.{State}
 use Rattle.fresh.specs.Private.{lacksMemory}
 use Rattle.fresh.proofs.PromiseLaws.{freshNumber-shape-out, freshNumber-lacks, freshNumber-none}
-use Rattle.image.specs.Image.{stateSize, stateIn, statePut}
-use Rattle.image.proofs.ImageLaws.{stateIn-statePut}
+use Rattle.host_state.specs.Image.{stateSize, stateIn, statePut}
+use Rattle.host_state.proofs.ImageLaws.{stateIn-statePut}
 use Rattle.host_changes.specs.Fresh.{lentFreshNumber, LentFreshPromise}
 use Rattle.host_changes.specs.Private.{Settled}
 

@@ -7,7 +7,7 @@ use lib.ListN.{drop}
 use Rattle.shape.specs.Refusal.{Answer, answered}
 use Rattle.model.specs.Model.{Reply, changed}
 use Rattle.store.specs.declared.State.{State}
-use Rattle.image.specs.Image.{stateSize, stateIn}
+use Rattle.host_state.specs.Image.{stateSize, stateIn}
 
 -- a call gave a number, and took the state that the words showed to the one that they show then, as it promises. Shut
 -- out: a call that leaves the new state unwritten; a refused one that writes a state

@@ -10,7 +10,7 @@ use Rattle.shape.specs.declared.Shape.{Shape}
 use Rattle.model.specs.Model.{ifAccepted}
 use Rattle.store.specs.Fresh.{freshNumber, freshState, freshMemory}
 use Rattle.store.specs.Store.{Memory}
-use Rattle.image.specs.Image.{stateSize, statePut}
+use Rattle.host_state.specs.Image.{stateSize, statePut}
 
 -- Fresh's number: 1, then 2; and 2 for fewer than 22 state words
 unfoldable pub lentFreshNumber : Shape → List ℕ → Memory → ℕ

@@ -7,7 +7,7 @@ use Rattle.shape.specs.Refusal.{accepted, refused}
 use Rattle.model.specs.Model.{changed}
 use Rattle.store.specs.Answers.{changedAnswer}
 use Rattle.store.specs.declared.Change.{Change}
-use Rattle.image.specs.Image.{stateSize, stateIn, statePut}
+use Rattle.host_state.specs.Image.{stateSize, stateIn, statePut}
 
 -- number and words of a change: 0, and words that show its state; or the refusal's, and the words as they came
 pub record Settled (change : Change) (words : List ℕ) (number : ℕ) (words′ : List ℕ) : Type 0 where

@@ -1,11 +1,11 @@
-// Fresh and the calls that change a store, for hosts: the state lies in lent words (crate `image`), and
+// Fresh and the calls that change a store, for hosts: the state lies in lent words (crate `host_state`), and
 // the answer is a number, 0 for an accepted call. Fewer than 22 state words show no shape, so that
 // insert and delete are refused with 1.
 use delete::delete;
 use fresh::fresh;
-use image::STATE_SIZE;
-use image::put_state;
-use image::state_in;
+use host_state::STATE_SIZE;
+use host_state::put_state;
+use host_state::state_in;
 use insert::insert;
 use record::Content;
 use shape::Key;

@@ -10,7 +10,7 @@ use Rattle.shape.specs.Refusal.{Answer, accepted, refused}
 use Rattle.store.specs.Store.{Store}
 use Rattle.store.specs.Promises.{lentNumber, keyNumber, queryNumber, LookupPromise, QueryPromise, CheckPromise}
 use Rattle.store.specs.declared.State.{State}
-use Rattle.image.specs.Image.{stateIn}
+use Rattle.host_state.specs.Image.{stateIn}
 use Rattle.host_reads.specs.Result.{Keeps, wantedIf}
 
 -- ---- by the answer that an inner call gave on the state that the words show

@@ -1,9 +1,9 @@
-// The calls that read a store, for hosts: the state lies in lent words (crate `image`), and an answer is
+// The calls that read a store, for hosts: the state lies in lent words (crate `host_state`), and an answer is
 // a struct of numbers. A number of 0 stands for an accepted call; any other is the refusal's (document
 // 01, "Refused calls"), and the values beside it are 0. Fewer than 22 state words show no shape, so
 // that a call is refused with 1.
-use image::state_in;
-use inspect::check;
+use check_call::check;
+use host_state::state_in;
 use lookup::lookup;
 use query::query;
 use shape::Attribute;
@@ -20,7 +20,7 @@ ghost use Rattle.shape.specs.Key.{wantedValue, wantedValues};
 ghost use Rattle.model.specs.Model.{found, listed};
 ghost use Rattle.store.specs.Store.{store};
 ghost use Rattle.store.specs.Promises.{LookupPromise, QueryPromise, CheckPromise};
-ghost use Rattle.image.specs.Image.{stateIn};
+ghost use Rattle.host_state.specs.Image.{stateIn};
 ghost use Rattle.host_reads.specs.Result.{Keeps, isYes, wantedIf, wantedOf};
 
 // A partial-match query: attribute j is given `values[j]` where `given[j]` is not 0, otherwise free.

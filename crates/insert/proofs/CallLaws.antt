@@ -16,11 +16,11 @@ use Rattle.split.specs.Bits.{splitBit}
 use Rattle.directory.specs.Directory.{DirectoryFits, Filled}
 use Rattle.record.specs.declared.Content.{Content}
 use Rattle.record.specs.Packed.{packedKey, packedBytes}
-use Rattle.packed.specs.Order.{pairBit}
-use Rattle.packed.proofs.StepLaws.{splitBit-place}
+use Rattle.key_order.specs.Order.{pairBit}
+use Rattle.key_order.proofs.StepLaws.{splitBit-place}
 use Rattle.pages.specs.Pages.{PageLent}
-use Rattle.word.specs.Word.{wordOf}
-use Rattle.word.specs.declared.Leaf.the-variants.{Page}
+use Rattle.directory_word.specs.Word.{wordOf}
+use Rattle.directory_word.specs.declared.Leaf.the-variants.{Page}
 use Rattle.model.specs.Model.{changed}
 use Rattle.store.specs.Store.{Store, memory, store}
 use Rattle.store.specs.Contained.{Contained}
@@ -28,15 +28,15 @@ use Rattle.store.specs.Promises.{keyNumber, InsertPromise}
 use Rattle.store.specs.declared.State.{State}
 use Rattle.change.proofs.RegionLaws.{changedStore}
 use Rattle.change.proofs.InsertPromiseLaws.{insert-early, insert-unsound}
-use Rattle.plan.specs.Private.{Planned, TakePlanned, GetPlanned, DividePlanned}
-use Rattle.plan.specs.declared.Plan.{Plan}
-use Rattle.plan.specs.declared.Plan.the-variants.{Refused, Take, Get, Divide}
-use Rattle.plan.specs.declared.Split.{Split}
-use Rattle.plan.specs.declared.Cut.{Cut}
-use Rattle.plan.proofs.MetLaws.{key-recordFor, unpacked-recordFor}
+use Rattle.insert_plan.specs.Private.{Planned, TakePlanned, GetPlanned, DividePlanned}
+use Rattle.insert_plan.specs.declared.Plan.{Plan}
+use Rattle.insert_plan.specs.declared.Plan.the-variants.{Refused, Take, Get, Divide}
+use Rattle.insert_plan.specs.declared.Split.{Split}
+use Rattle.insert_plan.specs.declared.Cut.{Cut}
+use Rattle.insert_plan.proofs.MetLaws.{key-recordFor, unpacked-recordFor}
 use Rattle.insert_steps.specs.Private.{insertedPages, CutFits, dividedPages, WordsLent, WordsDivided}
-use Rattle.kept.proofs.ContainedLaws.{contained-taken, contained-got, contained-divided}
-use Rattle.guard.specs.Guard.{InsertGuarded, InsertTold}
+use Rattle.change_kept.proofs.ContainedLaws.{contained-taken, contained-got, contained-divided}
+use Rattle.change_guard.specs.Guard.{InsertGuarded, InsertTold}
 use Rattle.insert.proofs.TakeLaws.{page-lent, promise-taken, promise-got}
 use Rattle.insert.proofs.CarriedLaws.{lent-own, lent-free, start-le, place-le}
 use Rattle.insert.proofs.SplitLaws.{promise-divided}

@@ -18,10 +18,10 @@ use Rattle.model.specs.Model.{recordFor}
 use Rattle.store.specs.Store.{Store}
 use Rattle.store.proofs.ShownLaws.{pageRecords}
 use Rattle.change.proofs.MeetLaws.{recordsOn}
-use Rattle.plan.specs.Private.{Asked, EndsMet, DividePlanned}
-use Rattle.plan.specs.declared.Split.{Split}
-use Rattle.plan.specs.declared.Cut.{Cut}
-use Rattle.plan.proofs.HalfLaws.{cut-le}
+use Rattle.insert_plan.specs.Private.{Asked, EndsMet, DividePlanned}
+use Rattle.insert_plan.specs.declared.Split.{Split}
+use Rattle.insert_plan.specs.declared.Cut.{Cut}
+use Rattle.insert_plan.proofs.HalfLaws.{cut-le}
 use Rattle.insert_steps.specs.Private.{dividedPages}
 use Rattle.insert_steps.proofs.InsertedLaws.{length-insertedPages, drop-insertedPages, pageAt-insertedPages-other}
 use Rattle.insert.proofs.TakeLaws.{page-lent, new-length}

@@ -25,13 +25,13 @@ use Rattle.store.proofs.ShownLaws.{pageRecords}
 use Rattle.change.proofs.MeetLaws.{recordsOn}
 use Rattle.change.proofs.SharedLaws.{halfWith}
 use Rattle.change.proofs.PlaceLaws.{halves-of-carried}
-use Rattle.plan.specs.Private.{Asked, EndsMet, DividePlanned}
-use Rattle.plan.specs.declared.Split.{Split}
-use Rattle.plan.specs.declared.Cut.{Cut}
-use Rattle.plan.proofs.CutLaws.{insert-low, insert-high}
-use Rattle.plan.proofs.MetLaws.{recordOf-recordFor, records-met}
-use Rattle.plan.proofs.FullLaws.{order, between, step-lt}
-use Rattle.plan.proofs.HalfLaws.{take-cut, drop-cut, cut-within, bit-is}
+use Rattle.insert_plan.specs.Private.{Asked, EndsMet, DividePlanned}
+use Rattle.insert_plan.specs.declared.Split.{Split}
+use Rattle.insert_plan.specs.declared.Cut.{Cut}
+use Rattle.insert_plan.proofs.CutLaws.{insert-low, insert-high}
+use Rattle.insert_plan.proofs.MetLaws.{recordOf-recordFor, records-met}
+use Rattle.insert_plan.proofs.FullLaws.{order, between, step-lt}
+use Rattle.insert_plan.proofs.HalfLaws.{take-cut, drop-cut, cut-within, bit-is}
 use Rattle.insert_steps.specs.Private.{dividedPages}
 use Rattle.insert_steps.proofs.InsertedLaws.{recordsOf-insertedPages}
 use Rattle.insert.proofs.TakeLaws.{new-length}

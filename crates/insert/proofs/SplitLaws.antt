@@ -22,11 +22,11 @@ use Rattle.change.proofs.PromiseLaws.{drop-of-past}
 use Rattle.change.proofs.DirectoryLaws.{divided-past, divided-size}
 use Rattle.change.proofs.InsertLaws.{DividedLeaf}
 use Rattle.change.proofs.InsertPromiseLaws.{OnSound, insert-divided}
-use Rattle.plan.specs.Private.{Asked, DividePlanned}
-use Rattle.plan.specs.declared.Split.{Split}
-use Rattle.plan.specs.declared.Cut.{Cut}
-use Rattle.plan.proofs.MetLaws.{key-recordFor}
-use Rattle.plan.proofs.SplitLaws.{meets-full}
+use Rattle.insert_plan.specs.Private.{Asked, DividePlanned}
+use Rattle.insert_plan.specs.declared.Split.{Split}
+use Rattle.insert_plan.specs.declared.Cut.{Cut}
+use Rattle.insert_plan.proofs.MetLaws.{key-recordFor}
+use Rattle.insert_plan.proofs.SplitLaws.{meets-full}
 use Rattle.insert_steps.specs.Private.{dividedPages}
 use Rattle.insert.proofs.TakeLaws.{keeps-others}
 use Rattle.insert.proofs.CarriedLaws.{length-divided, drop-divided, others-divided}

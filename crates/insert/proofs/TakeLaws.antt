@@ -21,9 +21,9 @@ use Rattle.page.specs.Changes.{insertAt}
 use Rattle.page.proofs.FieldLaws.{length-recordsFrom}
 use Rattle.pages.specs.Pages.{PageLent}
 use Rattle.pages.proofs.PageLaws.{page-end-le}
-use Rattle.find.proofs.FoundLaws.{insertAt-placed}
-use Rattle.word.specs.Word.{wordOf}
-use Rattle.word.specs.declared.Leaf.the-variants.{Page}
+use Rattle.page_place.proofs.FoundLaws.{insertAt-placed}
+use Rattle.directory_word.specs.Word.{wordOf}
+use Rattle.directory_word.specs.declared.Leaf.the-variants.{Page}
 use Rattle.model.specs.Model.{recordFor, changed}
 use Rattle.model.specs.Sets.{withRecord}
 use Rattle.store.specs.Store.{Store, memory, store, wordAt}
@@ -32,9 +32,10 @@ use Rattle.store.specs.Promises.{InsertPromise}
 use Rattle.change.proofs.PromiseLaws.{drop-of-past, KeepsOthers}
 use Rattle.change.proofs.InsertLaws.{TookRecord, GotPage}
 use Rattle.change.proofs.InsertPromiseLaws.{OnSound, insert-taken, insert-got}
-use Rattle.plan.specs.Private.{Asked, TakePlanned, GetPlanned}
-use Rattle.plan.proofs.MetLaws.{key-recordFor, unpacked-recordFor, recordOf-recordFor, page-bytes, meets, records-met}
-use Rattle.plan.proofs.MetLaws.{sorted-met, absent-met}
+use Rattle.insert_plan.specs.Private.{Asked, TakePlanned, GetPlanned}
+use Rattle.insert_plan.proofs.MetLaws.{key-recordFor, unpacked-recordFor, recordOf-recordFor}
+use Rattle.insert_plan.proofs.MetLaws.{page-bytes, meets, records-met}
+use Rattle.insert_plan.proofs.MetLaws.{sorted-met, absent-met}
 use Rattle.insert_steps.specs.Private.{insertedPages}
 use Rattle.insert_steps.proofs.InsertedLaws.{length-insertedPages, drop-insertedPages, pageAt-insertedPages-other}
 use Rattle.insert_steps.proofs.InsertedLaws.{recordsOf-insertedPages}

@@ -1,21 +1,21 @@
 // The call Insert: a record joins the store (document 01, "Calls"). A plan is found without a write,
 // and tested; then it is carried out by steps that cannot fail.
+use change_guard::insert_keeps;
 use directory::regions::fill;
-use guard::insert_keeps;
+use directory_word::pack_page;
+use insert_plan::Plan;
+use insert_plan::plan_insert;
 use insert_steps::divide_pages;
 use insert_steps::divide_words;
 use insert_steps::insert_record;
-use lent::key_number;
-use plan::Plan;
-use plan::plan_insert;
 use record::Content;
 use record::pack_key;
+use refusals::key_number;
 use shape::Key;
 use shape::widths_of;
 use store::Change;
 use store::Changed;
 use store::State;
-use word::pack_page;
 ghost use Rattle.store.specs.Answers.{changedAnswer};
 ghost use Rattle.store.specs.Promises.{InsertPromise};
 ghost use Rattle.store.specs.Store.{store};

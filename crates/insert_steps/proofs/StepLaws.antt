@@ -14,8 +14,8 @@ use Rattle.directory.specs.Directory.{DirectoryFits}
 use Rattle.pages.specs.Pages.{PageLent, carriedPages}
 use Rattle.pages.proofs.CarryLaws.{length-carriedPages}
 use Rattle.store.specs.declared.State.{State}
-use Rattle.plan.specs.declared.Cut.{Cut}
-use Rattle.plan.specs.declared.Split.{Split}
+use Rattle.insert_plan.specs.declared.Cut.{Cut}
+use Rattle.insert_plan.specs.declared.Split.{Split}
 use Rattle.insert_steps.specs.Private.{CutFits, WordsLent}
 
 -- either page is lent, also once records were carried

@@ -12,8 +12,8 @@ use Rattle.pages.specs.Pages.{withPage, carriedPages}
 use Rattle.store.specs.declared.State.{State}
 use Rattle.change.specs.Private.{Deepened, LeavesSet, dividedTally}
 use Rattle.tally.specs.Tally.{tallyHolds}
-use Rattle.plan.specs.declared.Cut.{Cut}
-use Rattle.plan.specs.declared.Split.{Split}
+use Rattle.insert_plan.specs.declared.Cut.{Cut}
+use Rattle.insert_plan.specs.declared.Split.{Split}
 
 -- a record, given by its bytes, was put before record i of the n of page g
 unfoldable pub insertedPages : ℕ → ℕ → ℕ → ℕ → List ℕ → List ℕ → List ℕ

@@ -1,9 +1,9 @@
 // The steps of an accepted insert. None of them can fail.
-use divide::deepen;
-use divide::set_leaves;
+use directory_divide::deepen;
+use directory_divide::set_leaves;
+use insert_plan::Cut;
+use insert_plan::Split;
 use pages::carry;
-use plan::Cut;
-use plan::Split;
 use record::Content;
 use record::RECORD_SIZE;
 use shape::widths_of;
@@ -80,7 +80,7 @@ pub fn divide_words(
     deepen(widths, old, depth, dir);
     set_leaves(widths, values, x, m, depth, split.page, free, bit, dir);
     let levels = m + 1 - x;
-    let tally = lent_tally::divided(state.tally, x as usize, levels as usize);
+    let tally = tally_lent::divided(state.tally, x as usize, levels as usize);
     let top = depth as u32;
     State {
         shape,

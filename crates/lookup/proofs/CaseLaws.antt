@@ -11,14 +11,14 @@ use Rattle.split.specs.Bits.{splitBit}
 use Rattle.record.specs.Packed.{packedKey}
 use Rattle.page.specs.Page.{countOf, pageAt}
 use Rattle.page.specs.Fields.{contentAt}
-use Rattle.word.specs.Word.{leafOf}
-use Rattle.word.specs.declared.Leaf.the-variants.{Empty, Page}
+use Rattle.directory_word.specs.Word.{leafOf}
+use Rattle.directory_word.specs.declared.Leaf.the-variants.{Empty, Page}
 use Rattle.model.specs.Model.{found}
 use Rattle.store.specs.Store.{Store}
 use Rattle.store.specs.declared.State.{State}
 use Rattle.store.proofs.ShownLaws.{wordOn}
-use Rattle.lent.specs.Limits.{limitsHold}
-use Rattle.seek.specs.Hold.{wordHolds, ownPage}
+use Rattle.refusals.specs.Limits.{limitsHold}
+use Rattle.leaf_word.specs.Hold.{wordHolds, ownPage}
 use Rattle.lookup.specs.Private.{keyPlace, placeAnswer, pageAnswer, leafAnswer, wordAnswer, soughtAnswer}
 
 -- ---- a page with n records

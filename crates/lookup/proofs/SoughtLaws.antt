@@ -20,9 +20,9 @@ use Rattle.record.specs.Packed.{packedKey, unpackedKey, SixteenBits}
 use Rattle.record.proofs.KeyLaws.{key-below-bytes}
 use Rattle.page.specs.Page.{countOf, recordsOf, pageAt}
 use Rattle.page.proofs.FieldLaws.{length-recordsFrom}
-use Rattle.word.specs.Word.{leafOf, wordOf}
-use Rattle.word.specs.declared.Leaf.the-variants.{Page}
-use Rattle.word.proofs.LeafLaws.{leafOf-empty}
+use Rattle.directory_word.specs.Word.{leafOf, wordOf}
+use Rattle.directory_word.specs.declared.Leaf.the-variants.{Page}
+use Rattle.directory_word.proofs.LeafLaws.{leafOf-empty}
 use Rattle.model.specs.Sets.{inShape, isSet, stored, divisionOf}
 use Rattle.model.proofs.SetLaws.{length-encodings, indexFits-encodings, inShape-of-isSet}
 use Rattle.store.specs.Store.{Store}
@@ -33,11 +33,11 @@ use Rattle.store.proofs.ShownLaws.{wordOn, wordOn-depth, shape-of-Sound, depth-
 use Rattle.store.proofs.SetLaws.{length-leafRecords}
 use Rattle.store.proofs.DividedLaws.{leafDepth-le-total, leafRecords-divisionOf}
 use Rattle.store.proofs.KeyLaws.{keyWord, stored-no-page, stored-page}
-use Rattle.lent.proofs.LimitsLaws.{limits-of-sound}
-use Rattle.seek.specs.Hold.{ownPage}
-use Rattle.seek.proofs.HoldLaws.{word-of-sound}
-use Rattle.ends.specs.Ends.{endsBegin}
-use Rattle.ends.proofs.SoundLaws.{endsBegin-shown}
+use Rattle.refusals.proofs.LimitsLaws.{limits-of-sound}
+use Rattle.leaf_word.specs.Hold.{ownPage}
+use Rattle.leaf_word.proofs.HoldLaws.{word-of-sound}
+use Rattle.page_ends.specs.Ends.{endsBegin}
+use Rattle.page_ends.proofs.SoundLaws.{endsBegin-shown}
 use Rattle.lookup.specs.Private.{pageAnswer, wordAnswer, soughtAnswer}
 use Rattle.lookup.proofs.CaseLaws.{pageAnswer-place, wordAnswer-empty, wordAnswer-page, soughtAnswer-word}
 use Rattle.lookup.proofs.EarlyLaws.{keyNumber-lent}

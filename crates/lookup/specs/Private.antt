@@ -13,15 +13,15 @@ use Rattle.split.specs.Bits.{splitBit}
 use Rattle.record.specs.Packed.{packedKey, unpackedKey}
 use Rattle.page.specs.Page.{countOf, pageAt}
 use Rattle.page.specs.Fields.{keyAt, contentAt}
-use Rattle.word.specs.Word.{leafOf}
-use Rattle.word.specs.declared.Leaf.{Leaf}
-use Rattle.word.specs.declared.Leaf.the-variants.{Empty, Page}
+use Rattle.directory_word.specs.Word.{leafOf}
+use Rattle.directory_word.specs.declared.Leaf.{Leaf}
+use Rattle.directory_word.specs.declared.Leaf.the-variants.{Empty, Page}
 use Rattle.model.specs.Model.{Reply, found}
 use Rattle.store.specs.Store.{Store, wordAt, pagesSize}
 use Rattle.store.specs.declared.State.{State}
-use Rattle.lent.specs.Limits.{limitsHold}
-use Rattle.ends.specs.Ends.{endsAgree}
-use Rattle.seek.specs.Hold.{wordHolds, ownPage}
+use Rattle.refusals.specs.Limits.{limitsHold}
+use Rattle.page_ends.specs.Ends.{endsAgree}
+use Rattle.leaf_word.specs.Hold.{wordHolds, ownPage}
 
 -- ---- a page
 

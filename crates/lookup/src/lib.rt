@@ -1,22 +1,22 @@
 // The call Lookup: a key's record, by the word of its cell and the page of its leaf (document 01,
 // "Calls").
-use ends::ends_agree;
-use ends::fixed_bits;
-use lent::key_number;
-use lent::limits_hold;
+use directory_word::Leaf;
+use directory_word::unpack;
+use leaf_word::key_word;
+use leaf_word::word_holds;
 use page::content_at;
 use page::count;
 use page::key_at;
+use page_ends::ends_agree;
+use page_ends::fixed_bits;
 use record::RECORD_SIZE;
 use record::pack_key;
-use seek::key_word;
-use seek::word_holds;
+use refusals::key_number;
+use refusals::limits_hold;
 use shape::Key;
 use shape::widths_of;
 use store::Found;
 use store::State;
-use word::Leaf;
-use word::unpack;
 ghost use mathlib.Core.Path.{_≡_};
 ghost use Prim.Native.Nat.{_≤_};
 ghost use lib.ListN.{length};

@@ -6,12 +6,12 @@ use lib.ListN.{getD}
 use Rattle.shape.specs.Key.{perAttribute}
 use Rattle.store.specs.declared.Changed.{Changed}
 use Rattle.store.specs.declared.Changed.the-variants as change
-use Rattle.word.specs.declared.Leaf.{Leaf}
-use Rattle.word.specs.declared.Leaf.the-variants.{Empty, Page}
-use Rattle.packed.specs.declared.Order.{Order}
-use Rattle.packed.specs.declared.Order.the-variants as order
-use Rattle.find.specs.declared.Place.{Place}
-use Rattle.find.specs.declared.Place.the-variants.{Before, At}
+use Rattle.directory_word.specs.declared.Leaf.{Leaf}
+use Rattle.directory_word.specs.declared.Leaf.the-variants.{Empty, Page}
+use Rattle.key_order.specs.declared.Order.{Order}
+use Rattle.key_order.specs.declared.Order.the-variants as order
+use Rattle.page_place.specs.declared.Place.{Place}
+use Rattle.page_place.specs.declared.Place.the-variants.{Before, At}
 use Rattle.probe.specs.declared.words.LeafFields.{LeafFields}
 use Rattle.probe.specs.declared.keys.PlaceFields.{PlaceFields}
 use Rattle.probe.specs.declared.matching.Asked.{Asked}

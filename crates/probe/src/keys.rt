@@ -1,10 +1,10 @@
 // The steps on packed keys: their split order, and their places in a page.
-use find::Place;
-use find::find;
-use find::first_one;
-use packed::Order;
-use packed::compare;
-use packed::first_step;
+use key_order::Order;
+use key_order::compare;
+use key_order::first_step;
+use page_place::Place;
+use page_place::find;
+use page_place::first_one;
 use shape::Widths;
 ghost use mathlib.Core.Path.{_≡_};
 ghost use Prim.Native.Nat.{_/_, _%_, _<_, _≤_};
@@ -12,8 +12,8 @@ ghost use lib.ListN.{getD, length};
 ghost use Rattle.shape.specs.Shape.{Fit, widthList};
 ghost use Rattle.record.specs.Packed.{unpackedKey};
 ghost use Rattle.page.specs.Fields.{recordOffset};
-ghost use Rattle.packed.specs.Order.{firstStep, compared};
-ghost use Rattle.find.specs.Find.{Placed, firstOne};
+ghost use Rattle.key_order.specs.Order.{firstStep, compared};
+ghost use Rattle.page_place.specs.Find.{Placed, firstOne};
 ghost use Rattle.probe.specs.Fields.{orderNumber, placeOf};
 
 // A place as numbers: 1 for the record i that has the key, 0 for the place before record i.

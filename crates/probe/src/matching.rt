@@ -1,7 +1,7 @@
 // The steps that match the records of a page against a query.
-use select::Pattern;
-use select::pattern_of;
-use select::put_matches;
+use page_matches::Pattern;
+use page_matches::pattern_of;
+use page_matches::put_matches;
 use shape::Attribute;
 use shape::Query;
 use shape::Wanted;
@@ -10,8 +10,8 @@ ghost use Prim.Native.Nat.{_+_, _^_, _<_, _≤_};
 ghost use lib.ListN.{getD, length};
 ghost use Rattle.shape.specs.Key.{wantedValue, wantedValues};
 ghost use Rattle.page.specs.Fields.{recordOffset};
-ghost use Rattle.select.specs.Pattern.{GivenSixteenBits, patternOf};
-ghost use Rattle.select.specs.Output.{hits, emit};
+ghost use Rattle.page_matches.specs.Pattern.{GivenSixteenBits, patternOf};
+ghost use Rattle.page_matches.specs.Output.{hits, emit};
 ghost use Rattle.probe.specs.Fields.{askedValue, askedValues};
 
 // A query as numbers: attribute j is free where given[j] is 0, else it has the value values[j].

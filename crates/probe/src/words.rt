@@ -1,12 +1,12 @@
 // The steps on directory words.
-use word::Leaf;
-use word::pack_empty;
-use word::pack_page;
-use word::unpack;
+use directory_word::Leaf;
+use directory_word::pack_empty;
+use directory_word::pack_page;
+use directory_word::unpack;
 ghost use mathlib.Core.Path.{_≡_};
 ghost use Prim.Native.Nat.{_<_};
-ghost use Rattle.word.specs.Word.{wordOf, leafOf};
-ghost use Rattle.word.specs.declared.Leaf.the-variants.{Empty, Page};
+ghost use Rattle.directory_word.specs.Word.{wordOf, leafOf};
+ghost use Rattle.directory_word.specs.declared.Leaf.the-variants.{Empty, Page};
 ghost use Rattle.probe.specs.Fields.{leafFields};
 
 // A leaf as numbers: 1 and the page, or 0 and 0 without one; and the depth.

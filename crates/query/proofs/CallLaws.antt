@@ -21,22 +21,22 @@ use Rattle.model.specs.Model.{listed}
 use Rattle.model.specs.Sets.{queryBits, readsOf}
 use Rattle.model.proofs.MatchLaws.{matches-agrees}
 use Rattle.page.specs.Page.{pageAt, recordsOf}
-use Rattle.select.specs.Pattern.{GivenSixteenBits, bitsOf, patternOf}
-use Rattle.select.specs.Output.{emit}
+use Rattle.page_matches.specs.Pattern.{GivenSixteenBits, bitsOf, patternOf}
+use Rattle.page_matches.specs.Output.{emit}
 use Rattle.store.specs.declared.State.{State}
 use Rattle.store.specs.Store.{store, pagesSize}
 use Rattle.store.specs.Promises.{QueryPromise, SoundWhereRead, withBytes}
-use Rattle.lent.specs.Limits.{limitsHold}
-use Rattle.lent.specs.Private.{lentNumberBy}
-use Rattle.lent.proofs.LentLaws.{shape-of-lentNumberBy}
-use Rattle.lent.proofs.LimitsLaws.{limits-parts, limits-of-sound}
-use Rattle.walk.specs.declared.Noted.{Noted}
-use Rattle.walk.specs.declared.Noted.the-variants.{Pages, Damaged}
-use Rattle.walk.specs.Rows.{Table, mostPages}
-use Rattle.walk.specs.Seen.{walkSeen, Put, Walkable}
-use Rattle.walk.proofs.BoundLaws.{mostPages-le}
-use Rattle.walk.proofs.StartLaws.{length-walkSeen-le}
-use Rattle.walk.proofs.NotedLaws.{length-noted, noted-le, noted-readable, noted-reads, noted-records}
+use Rattle.refusals.specs.Limits.{limitsHold}
+use Rattle.refusals.specs.Private.{lentNumberBy}
+use Rattle.refusals.proofs.LentLaws.{shape-of-lentNumberBy}
+use Rattle.refusals.proofs.LimitsLaws.{limits-parts, limits-of-sound}
+use Rattle.query_walk.specs.declared.Noted.{Noted}
+use Rattle.query_walk.specs.declared.Noted.the-variants.{Pages, Damaged}
+use Rattle.query_walk.specs.Rows.{Table, mostPages}
+use Rattle.query_walk.specs.Seen.{walkSeen, Put, Walkable}
+use Rattle.query_walk.proofs.BoundLaws.{mostPages-le}
+use Rattle.query_walk.proofs.StartLaws.{length-walkSeen-le}
+use Rattle.query_walk.proofs.NotedLaws.{length-noted, noted-le, noted-readable, noted-reads, noted-records}
 use Rattle.query.specs.Private.{queryNumberBy, PagesListed, listHits}
 use Rattle.query.proofs.EarlyLaws.{parts-of-queryNumberBy, lent-of-lentNumberBy, indexFits-query}
 use Rattle.query.proofs.NotedLaws.{Lent, Lent-readable, All-take-of, IsField-listHits, map-listHits}

@@ -22,13 +22,13 @@ use Rattle.model.specs.Model.{Reply, changed, found, listed, queryCall, numberF
 use Rattle.model.specs.Model.{replyTo, outputOf, outputAfter, ifAccepted, outcome}
 use Rattle.model.specs.Sets.{queryBits, readsOf, givenDepths, readsBound}
 use Rattle.model.proofs.ReadsLaws.{readsOf-le}
-use Rattle.select.specs.Output.{emit}
-use Rattle.select.proofs.EmitLaws.{IsField, length-emit, emit-records}
+use Rattle.page_matches.specs.Output.{emit}
+use Rattle.page_matches.proofs.EmitLaws.{IsField, length-emit, emit-records}
 use Rattle.store.specs.declared.State.{State}
 use Rattle.store.specs.Store.{Store, store, fixedOf, pagesSize}
 use Rattle.store.specs.Promises.{QueryPromise, SoundWhereRead, queryNumber}
-use Rattle.lent.specs.Private.{lentNumberBy}
-use Rattle.lent.proofs.LentLaws.{lentNumberBy-none}
+use Rattle.refusals.specs.Private.{lentNumberBy}
+use Rattle.refusals.proofs.LentLaws.{lentNumberBy-none}
 use Rattle.query.specs.Private.{queryNumberBy}
 use Rattle.query.proofs.EarlyLaws.{queryNumberBy-query, queryNumber-by}
 

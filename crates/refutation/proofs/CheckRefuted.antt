@@ -12,8 +12,8 @@ use Rattle.region.specs.Strings.{emptyString}
 use Rattle.region.specs.Division.{Division, leaf, divided, greatestDepth}
 use Rattle.record.specs.Record.{Record}
 use Rattle.record.specs.Bytes.{recordBytes}
-use Rattle.word.specs.Word.{wordOf}
-use Rattle.word.specs.declared.Leaf.the-variants.{Page}
+use Rattle.directory_word.specs.Word.{wordOf}
+use Rattle.directory_word.specs.declared.Leaf.the-variants.{Page}
 use Rattle.model.specs.Sets.{divisionOf}
 use Rattle.store.specs.Store.{Store, wordAt, lentConditions}
 use Rattle.store.specs.Sound.{Sound, LeafWord}

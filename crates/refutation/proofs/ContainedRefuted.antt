@@ -18,8 +18,8 @@ use Rattle.region.specs.Strings.{emptyString, listBit}
 use Rattle.record.specs.declared.Content.{Content}
 use Rattle.record.specs.Bytes.{recordBytes}
 use Rattle.page.specs.Page.{countOf, pageAt}
-use Rattle.word.specs.Word.{wordOf}
-use Rattle.word.specs.declared.Leaf.the-variants.{Page}
+use Rattle.directory_word.specs.Word.{wordOf}
+use Rattle.directory_word.specs.declared.Leaf.the-variants.{Page}
 use Rattle.model.specs.Model.{Reply}
 use Rattle.store.specs.Store.{Store, wordAt}
 use Rattle.store.specs.Contained.{depthNamed, Names, JoinedWith, GivesWay, Written}

@@ -8,8 +8,8 @@ use lib.ListN.{length, getD}
 use Rattle.shape.specs.Refusal.{Answer, accepted, refused}
 use Rattle.region.specs.Strings.{emptyString}
 use Rattle.page.specs.Page.{countOf, recordsOf, pageAt}
-use Rattle.word.specs.Word.{wordOf}
-use Rattle.word.specs.declared.Leaf.the-variants.{Empty, Page}
+use Rattle.directory_word.specs.Word.{wordOf}
+use Rattle.directory_word.specs.declared.Leaf.the-variants.{Empty, Page}
 use Rattle.model.specs.Model.{Reply, changed, contentOf}
 use Rattle.store.specs.Store.{Store}
 use Rattle.store.specs.Promises.{DeletePromise}

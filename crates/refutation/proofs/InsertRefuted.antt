@@ -12,8 +12,8 @@ use Rattle.shape.specs.Refusal.{Answer, refused}
 use Rattle.region.specs.Strings.{emptyString, listBit}
 use Rattle.record.specs.declared.Content.{Content}
 use Rattle.page.specs.Page.{countOf, recordsOf, pageAt}
-use Rattle.word.specs.Word.{wordOf}
-use Rattle.word.specs.declared.Leaf.the-variants.{Page}
+use Rattle.directory_word.specs.Word.{wordOf}
+use Rattle.directory_word.specs.declared.Leaf.the-variants.{Page}
 use Rattle.model.specs.Model.{Reply, changed}
 use Rattle.store.specs.Store.{Store, wordAt}
 use Rattle.store.specs.Promises.{InsertPromise}

@@ -19,8 +19,8 @@ use Rattle.store.specs.Sound.{Sound, Shows, LeafWord, tallies}
 use Rattle.region.specs.Division.{leaf, greatestDepth, leafDepth, leafRecords}
 use Rattle.region.specs.Strings.{emptyString, listBit}
 use Rattle.page.specs.Page.{countOf, pageAt}
-use Rattle.word.specs.Word.{wordOf}
-use Rattle.word.specs.declared.Leaf.the-variants.{Empty, Page}
+use Rattle.directory_word.specs.Word.{wordOf}
+use Rattle.directory_word.specs.declared.Leaf.the-variants.{Empty, Page}
 use Rattle.table.specs.Table.{twoTwo}
 use Rattle.refutation.specs.Stores.{stateWith, noRecord, oneRecord, setOfOne, twoRecords, setOfTwo, threeRecords}
 use Rattle.refutation.specs.Stores.{setOfThree, fourRecords, setOfFour}

@@ -8,8 +8,8 @@ use Rattle.region.specs.Division.{Division}
 use Rattle.record.specs.Record.{Record}
 use Rattle.record.specs.Bytes.{recordSize, littleEndian, recordsBytes}
 use Rattle.page.specs.Page.{pageSize}
-use Rattle.word.specs.Word.{wordOf}
-use Rattle.word.specs.declared.Leaf.the-variants.{Empty, Page}
+use Rattle.directory_word.specs.Word.{wordOf}
+use Rattle.directory_word.specs.declared.Leaf.the-variants.{Empty, Page}
 use Rattle.model.specs.Model.{Call, Outcome, outcome, next}
 use Rattle.model.specs.Sets.{divisionOf}
 use Rattle.store.specs.Store.{Store, Memory, fixedOf}

@@ -6,8 +6,8 @@ use mathlib.Core.List.{List}
 use native.Mathlib.Omega.{arith}
 use lib.ListN.{length}
 use borrow.Rule.Slice.PartMut.{midOf, mid-len}
-use Rattle.encoding.specs.declared.Request.{Request}
-use Rattle.encoding.specs.Encoding.{callSize, answerSize, sizeOfKind, requestSize, callCount}
+use Rattle.replay_encoding.specs.declared.Request.{Request}
+use Rattle.replay_encoding.specs.Encoding.{callSize, answerSize, sizeOfKind, requestSize, callCount}
 
 -- ---- calls and answers
 

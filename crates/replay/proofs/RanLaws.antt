@@ -10,12 +10,13 @@ use Rattle.model.specs.Model.{Call, Outcome}
 use Rattle.store.specs.Store.{Store}
 use Rattle.history.specs.History.{Promised, no-call}
 use Rattle.history.proofs.HistoryLaws.{run-more}
-use Rattle.encoding.specs.declared.Request.{Request}
-use Rattle.encoding.specs.Encoding.{requestAt, callOf, callAt, requestSize, outputSize, outputStart, outputAt, callsIn}
-use Rattle.encoding.specs.Encoding.{answerSize, answerWords, answersOf, outputsOf}
-use Rattle.encoding.specs.Private.{fourAt}
-use Rattle.encoding.proofs.EncodingLaws.{fourAt-answer, answersOf-more, outputsOf-more}
-use Rattle.call.specs.Private.{Kept}
+use Rattle.replay_encoding.specs.declared.Request.{Request}
+use Rattle.replay_encoding.specs.Encoding.{requestAt, callOf, callAt, requestSize}
+use Rattle.replay_encoding.specs.Encoding.{outputSize, outputStart, outputAt, callsIn}
+use Rattle.replay_encoding.specs.Encoding.{answerSize, answerWords, answersOf, outputsOf}
+use Rattle.replay_encoding.specs.Private.{fourAt}
+use Rattle.replay_encoding.proofs.EncodingLaws.{fourAt-answer, answersOf-more, outputsOf-more}
+use Rattle.replay_call.specs.Private.{Kept}
 use Rattle.replay.specs.Private.{Ran}
 use Rattle.replay.proofs.PartLaws.{part-came, putMid-done, put-done}
 

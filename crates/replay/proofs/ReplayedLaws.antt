@@ -11,7 +11,7 @@ use Rattle.store.specs.Store.{Store, Memory}
 use Rattle.store.specs.Fresh.{FreshPromise, freshNumber}
 use Rattle.history.specs.History.{WithinBounds}
 use Rattle.history.proofs.HistoryLaws.{history}
-use Rattle.encoding.specs.Encoding.{callCount, answerSize, answersOf, outputsOf, outputStart}
+use Rattle.replay_encoding.specs.Encoding.{callCount, answerSize, answersOf, outputsOf, outputStart}
 use Rattle.replay.specs.Private.{Ran}
 use Rattle.replay.specs.Replayed.{modelFixed, modelCalls, Replayed}
 

@@ -6,7 +6,7 @@ use lib.ListN.{length, drop}
 use Rattle.model.specs.Model.{Outcome}
 use Rattle.store.specs.Store.{Store}
 use Rattle.history.specs.History.{Run}
-use Rattle.encoding.specs.Encoding.{callsIn, answerSize, answersOf, outputsOf, outputStart}
+use Rattle.replay_encoding.specs.Encoding.{callsIn, answerSize, answersOf, outputsOf, outputStart}
 
 -- the first k calls kept their promises, each on the store that the one before left; their answers and outputs stand
 -- first

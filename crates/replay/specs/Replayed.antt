@@ -11,7 +11,7 @@ use Rattle.store.specs.Store.{Store, Memory}
 use Rattle.store.specs.Sound.{Sound}
 use Rattle.store.specs.Fresh.{freshNumber}
 use Rattle.history.specs.History.{WithinBounds, lastSet}
-use Rattle.encoding.specs.Encoding.{callsIn, callCount, answerSize, answersOf, outputsOf, outputStart}
+use Rattle.replay_encoding.specs.Encoding.{callsIn, callCount, answerSize, answersOf, outputsOf, outputStart}
 
 -- "The plain model is given that Fresh's shape and slice lengths, which set P and L"
 abbrev pub modelFixed : Shape → Memory → Fixed

@@ -1,21 +1,21 @@
 // Demand 3 on the running code: a list of calls, encoded in a lent slice, is run on a fresh store in
 // lent memory, and the answers and outputs are those of the plain model (document 01, "The plain
 // model of demand 3").
-use call::run_call;
-use encoding::ANSWER_SIZE;
-use encoding::CALL_SIZE;
-use encoding::put_answer;
-use encoding::read_request;
-use encoding::request_size;
-use encoding::smaller;
 use fresh::fresh;
+use replay_call::run_call;
+use replay_encoding::ANSWER_SIZE;
+use replay_encoding::CALL_SIZE;
+use replay_encoding::put_answer;
+use replay_encoding::read_request;
+use replay_encoding::request_size;
+use replay_encoding::smaller;
 use shape::Shape;
 use store::Change;
 use store::Changed;
 use store::State;
 ghost use Rattle.store.specs.Store.{memory, store};
 ghost use Rattle.store.specs.Answers.{changedAnswer};
-ghost use Rattle.encoding.specs.Encoding.{callCount};
+ghost use Rattle.replay_encoding.specs.Encoding.{callCount};
 ghost use Rattle.replay.specs.Private.{Ran};
 ghost use Rattle.replay.specs.Replayed.{Replayed};
 

@@ -1,16 +1,16 @@
 // The program `stock` (document 01, "Proof table and the printed run"): reads lines from standard
 // input, and prints the reply to each.
-use input::Progress;
-use input::is_empty;
-use input::printed;
-use input::run;
-use input::start;
-use input::step;
 use libc::STDIN_FILENO;
 use libc::STDOUT_FILENO;
+use stock_input::Progress;
+use stock_input::is_empty;
+use stock_input::printed;
+use stock_input::run;
+use stock_input::start;
+use stock_input::step;
 ghost use Prim.Native.Nat.{_≤_};
 ghost use lib.ListN.{length};
-ghost use Rattle.replies.specs.Replies.{replySize};
+ghost use Rattle.stock_replies.specs.Replies.{replySize};
 ghost use Rattle.stock.specs.Lends.{Lends};
 
 // Lends 4,096 words, 32,768 page bytes, 256 output records of 12 bytes, and a text.

@@ -20,8 +20,8 @@ use Rattle.record.specs.declared.Content.{Content}
 use Rattle.record.specs.Record.{Record}
 use Rattle.record.specs.Bytes.{recordSize}
 use Rattle.page.specs.Page.{countOf, pageAt}
-use Rattle.word.specs.Word.{wordOf}
-use Rattle.word.specs.declared.Leaf.the-variants.{Page}
+use Rattle.directory_word.specs.Word.{wordOf}
+use Rattle.directory_word.specs.declared.Leaf.the-variants.{Page}
 use Rattle.model.specs.Model.{Call, insertCall, deleteCall, lookupCall, queryCall, Reply, changed, found, listed}
 use Rattle.model.specs.Model.{outcome, next, keyConditions, queryConditions}
 use Rattle.model.specs.Sets.{divisionOf, queryBits, givenDepths}

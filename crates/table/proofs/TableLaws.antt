@@ -11,7 +11,7 @@ use Rattle.address.specs.Doubling.{layers, box, sides, appended, doublingArray}
 use Rattle.cell.specs.Cell.{sumBits, cell, cellAddress}
 use Rattle.record.specs.Record.{matches}
 use Rattle.record.specs.Bytes.{recordBytes}
-use Rattle.word.specs.Word.{leafOf}
+use Rattle.directory_word.specs.Word.{leafOf}
 use Rattle.model.specs.Limits.{logarithm, pageLimitOf, depthLimitOf, freshShape, fixedBy}
 use Rattle.model.specs.Model.{numberFor, replyTo, setAfter, outputOf, outputAfter, outcome, next, run}
 use Rattle.model.specs.Sets.{divisionOf, queryBits, readsOf, givenDepths, readsBound}

@@ -21,9 +21,9 @@ use Rattle.region.specs.Division.{Division, leaf, divided, greatestDepth, nonEm
 use Rattle.record.specs.Record.{Record}
 use Rattle.record.specs.Bytes.{recordSize}
 use Rattle.page.specs.Page.{pageSize}
-use Rattle.word.specs.Word.{wordOf, leafOf}
-use Rattle.word.specs.declared.Leaf.{Leaf}
-use Rattle.word.specs.declared.Leaf.the-variants.{Empty, Page}
+use Rattle.directory_word.specs.Word.{wordOf, leafOf}
+use Rattle.directory_word.specs.declared.Leaf.{Leaf}
+use Rattle.directory_word.specs.declared.Leaf.the-variants.{Empty, Page}
 use Rattle.model.specs.Sets.{divisionOf, readsBound}
 use Rattle.model.specs.Limits.{fixedBy}
 use Rattle.model.specs.Model.{Fixed, Call, insertCall, deleteCall, queryCall, Reply, changed, found, listed, next}

@@ -6,10 +6,10 @@ use lib.ListN.{length, length-map}
 use Rattle.store.specs.Answers.{changedAnswer}
 use Rattle.store.specs.Promises.{keyNumber}
 use Rattle.store.specs.Store.{Store, store}
-use Rattle.lent.proofs.LentLaws.{keyNumber-by}
-use Rattle.lent.proofs.LimitsLaws.{limits-parts}
-use Rattle.removal.specs.Plan.{RecordFound, StaysAlone, JoinPlanned, Planned}
-use Rattle.removal.proofs.MetLaws.{directoryLent}
+use Rattle.refusals.proofs.LentLaws.{keyNumber-by}
+use Rattle.refusals.proofs.LimitsLaws.{limits-parts}
+use Rattle.delete_plan.specs.Plan.{RecordFound, StaysAlone, JoinPlanned, Planned}
+use Rattle.delete_plan.proofs.MetLaws.{directoryLent}
 use Rattle.delete.proofs.FoundLaws.{promise-early, recordLent}
 use Rattle.delete.proofs.GuardLaws.{promise-not-whole}
 use Rattle.delete.proofs.KeptLaws.{promise-kept}

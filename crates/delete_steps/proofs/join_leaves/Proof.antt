@@ -3,8 +3,8 @@
 use mathlib.Core.Path.{refl, ap, _∙_}
 use native.Mathlib.Omega.{arith}
 use Rattle.shape.specs.Shape.{widthList}
-use Rattle.word.specs.Word.{wordOf}
-use Rattle.word.specs.declared.Leaf.the-variants.{Page}
+use Rattle.directory_word.specs.Word.{wordOf}
+use Rattle.directory_word.specs.declared.Leaf.the-variants.{Page}
 use Rattle.change.proofs.DeleteTallyLaws.{tallyDepth-le}
 use Rattle.delete_steps.proofs.StepLaws.{directoryFits, filled-shape, top-le, keptPage-lt}
 use borrow.Author.Needs.{needs}

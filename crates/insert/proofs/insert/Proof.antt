@@ -7,10 +7,10 @@ use borrow.Author.Tests.{not-true, not-false}
 use Rattle.store.specs.Answers.{changedAnswer}
 use Rattle.store.specs.Promises.{keyNumber}
 use Rattle.store.specs.Store.{Store, store}
-use Rattle.lent.proofs.LentLaws.{keyNumber-by}
-use Rattle.lent.proofs.PassedLaws.{passed}
-use Rattle.plan.specs.Private.{Planned}
-use Rattle.plan.proofs.MetLaws.{sixteen}
+use Rattle.refusals.proofs.LentLaws.{keyNumber-by}
+use Rattle.refusals.proofs.PassedLaws.{passed}
+use Rattle.insert_plan.specs.Private.{Planned}
+use Rattle.insert_plan.proofs.MetLaws.{sixteen}
 use Rattle.insert.proofs.CallLaws.{by-early, by-guard, by-refused, lent-taken, by-taken, lent-got, word-fits}
 use Rattle.insert.proofs.CallLaws.{fill-fits, by-got, words-lent, pages-lent, cut-fits, by-divided}
 use Rattle.insert.proofs.insert.Statement.{statement}

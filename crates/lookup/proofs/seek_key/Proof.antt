@@ -11,10 +11,10 @@ use Rattle.split.specs.Bits.{splitBit}
 use Rattle.record.specs.Packed.{unpackedKey}
 use Rattle.store.specs.Answers.{foundAnswer}
 use Rattle.store.specs.Store.{store, wordAt}
-use Rattle.lent.specs.Limits.{limitsHold}
-use Rattle.lent.proofs.LimitsLaws.{limits-parts}
-use Rattle.seek.proofs.PageLaws.{indexFits-packed}
-use Rattle.seek.proofs.WordLaws.{key-word-asks, key-word-is}
+use Rattle.refusals.specs.Limits.{limitsHold}
+use Rattle.refusals.proofs.LimitsLaws.{limits-parts}
+use Rattle.leaf_word.proofs.PageLaws.{indexFits-packed}
+use Rattle.leaf_word.proofs.WordLaws.{key-word-asks, key-word-is}
 use Rattle.lookup.proofs.CaseLaws.{soughtAnswer-limits, soughtAnswer-word}
 use Rattle.lookup.proofs.EarlyLaws.{Passed, passed, SixteenBits-of-keyFits}
 use Rattle.lookup.proofs.seek_key.Statement.{statement}

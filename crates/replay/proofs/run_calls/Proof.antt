@@ -7,7 +7,7 @@ use lib.ListN.{length}
 use borrow.Rule.Slice.PartMut.{same-len-mid, mid-len}
 use borrow.Author.Needs.{needs}
 use Rattle.store.specs.Store.{store}
-use Rattle.encoding.specs.Encoding.{requestSize, outputStart, answerSize}
+use Rattle.replay_encoding.specs.Encoding.{requestSize, outputStart, answerSize}
 use Rattle.replay.specs.Private.{Ran}
 use Rattle.replay.proofs.CountLaws.{call-fits, answer-fits, callCount-as, part-lent}
 use Rattle.replay.proofs.RanLaws.{ran-none, ran-more}

@@ -6,7 +6,7 @@ use native.Mathlib.Omega.{arith}
 use lib.ListN.{length}
 use lib.Seq.{length-take-le}
 use borrow.Author.Needs.{needs}
-use Rattle.replies.specs.Replies.{replySize}
+use Rattle.stock_replies.specs.Replies.{replySize}
 use Rattle.stock.specs.Lends.{Lends}
 use Rattle.stock.proofs.answer.Statement.{statement}
 use Rattle.stock.proofs.answer.Tie as tie

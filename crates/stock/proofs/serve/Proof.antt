@@ -4,8 +4,8 @@ use mathlib.Core.Path.{_≡_, refl, _∙_}
 use native.Mathlib.Omega.{arith}
 use lib.ListN.{length}
 use borrow.Author.Needs.{needs}
-use Rattle.line.specs.Private.{start}
-use Rattle.replies.specs.Replies.{replySize}
+use Rattle.stock_line.specs.Private.{start}
+use Rattle.stock_replies.specs.Replies.{replySize}
 use Rattle.stock.specs.Lends.{Lends}
 use Rattle.stock.proofs.LendsLaws.{lends-same}
 use Rattle.stock.proofs.serve.Statement.{statement}

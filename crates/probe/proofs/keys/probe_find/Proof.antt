@@ -2,7 +2,7 @@
 use mathlib.Core.Path.{subst}
 use Rattle.shape.specs.Shape.{widthList}
 use Rattle.record.specs.Packed.{unpackedKey}
-use Rattle.find.specs.Find.{Placed}
+use Rattle.page_place.specs.Find.{Placed}
 use borrow.Author.Needs.{needs}
 use Rattle.probe.proofs.keys.probe_find.Statement.{statement}
 use Rattle.probe.proofs.keys.probe_find.Tie as tie

@@ -1,7 +1,7 @@
 -- `probe::matching::probe_pattern_of` meets its contract: the pattern of the query that the numbers say. Assumes
 -- nothing.
 use mathlib.Core.Path.{sym, ap, subst, _∙_}
-use Rattle.select.specs.Pattern.{GivenSixteenBits, patternOf}
+use Rattle.page_matches.specs.Pattern.{GivenSixteenBits, patternOf}
 use borrow.Author.Needs.{needs}
 use Rattle.probe.proofs.matching.probe_pattern_of.Statement.{statement}
 use Rattle.probe.proofs.matching.probe_pattern_of.Tie as tie

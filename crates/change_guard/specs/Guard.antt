@@ -1,0 +1,95 @@
+-- What the tests between the plan of a change and its steps ask and tell. Page bytes are not looked at: what is told
+-- holds whatever they are. Assumes nothing.
+use Prim.Native.Nat.{ℕ, suc, _≤_, _<_}
+use Prim.{Unit}
+use mathlib.Core.Path.{_≡_}
+use mathlib.Core.Bool.{Bool, true, false}
+use mathlib.Core.List.{List, [], _∷_}
+use Rattle.shape.specs.Shape.{widthsOf}
+use Rattle.split.specs.Bits.{splitBit}
+use Rattle.cell.specs.Cell.{Agree}
+use Rattle.record.specs.Record.{Record}
+use Rattle.directory_word.specs.Word.{wordOf}
+use Rattle.directory_word.specs.declared.Leaf.the-variants.{Empty, Page}
+use Rattle.model.specs.Sets.{stored}
+use Rattle.store.specs.Store.{store}
+use Rattle.store.specs.Sound.{Sound}
+use Rattle.store.specs.declared.State.{State}
+use Rattle.insert_plan.specs.Private as insert
+use Rattle.insert_plan.specs.declared.Plan as insert-plan
+use Rattle.insert_plan.specs.declared.Plan.the-variants as insert-plans
+use Rattle.delete_plan.specs.Plan as delete
+use Rattle.delete_plan.specs.declared.Plan as delete-plan
+use Rattle.delete_plan.specs.declared.Plan.the-variants as delete-plans
+use Rattle.delete_plan.specs.declared.Stored.{Stored}
+use Rattle.delete_plan.specs.declared.Join.{Join}
+use Rattle.directory_tests.specs.Intact.{cellWord}
+use Rattle.change_kept.specs.Tested.{joinedDepth, LeafTested, SiblingTested, JoinTested}
+
+module _ (st : State) (words values : List ℕ) where
+  -- ---- insert
+
+  -- the plan was made on a store with these words
+  pub record InsertMet (plan : insert-plan.Plan) : Type 0 where
+    pub bytes : List ℕ
+    pub planned : insert.Planned (store st words bytes) values plan
+
+  -- what the steps of a plan need
+  abbrev pub InsertGuarded : insert-plan.Plan → Type 0
+  InsertGuarded (insert-plans.Refused n) = Unit
+  InsertGuarded (insert-plans.Take g i n) = Unit
+  InsertGuarded (insert-plans.Get g x) = LeafTested st words values x (wordOf (Empty x))
+  InsertGuarded (insert-plans.Divide split cut free) =
+      LeafTested st words values (split .depth) (wordOf (Page (split .page) (split .depth)))
+
+  -- where a test fails, no sound store has these words and this plan
+  pub record InsertTold (plan : insert-plan.Plan) (held : Bool) : Type 0 where
+    pub yes : held ≡ true → InsertGuarded plan
+    pub no : held ≡ false → (bytes : List ℕ) → insert.Planned (store st words bytes) values plan
+        → (S : List Record) → Sound (store st words bytes) S → ⊥
+
+  -- ---- delete
+
+  abbrev pub DeleteGuarded : delete-plan.Plan → Type 0
+  DeleteGuarded (delete-plans.Refused n) = Unit
+  DeleteGuarded (delete-plans.Keep r) =
+      r .count ≡ 1 → LeafTested st words values (r .depth) (wordOf (Page (r .page) (r .depth)))
+  DeleteGuarded (delete-plans.Join r j) = JoinTested st words values r j
+
+  -- a key whose record was found is stored
+  abbrev pub KeyStored : List ℕ → List Record → Type 0
+  KeyStored bytes S = (r : Stored) → delete.RecordFound (store st words bytes) values r
+      → (q : Record) × (stored (q .key) S ≡ q ∷ []) × (q .key ≡ values)
+
+  -- where a test fails, no sound store has these words and this plan
+  pub record DeleteTold (plan : delete-plan.Plan) (held : Bool) : Type 0 where
+    pub yes : held ≡ true → DeleteGuarded plan
+    pub no : held ≡ false → (bytes : List ℕ) → delete.Planned (store st words bytes) values plan
+        → (S : List Record) → Sound (store st words bytes) S → KeyStored bytes S → ⊥
+
+  -- of the two plans that an accepted delete has
+  abbrev pub RemovalTold : Stored → Bool → Type 0
+  RemovalTold r = DeleteTold (delete-plans.Keep r)
+
+  abbrev pub JoiningTold : Stored → Join → Bool → Type 0
+  JoiningTold r j = DeleteTold (delete-plans.Join r j)
+
+  -- ---- a join
+
+  pub record EmptiesTold (m y : ℕ) (held : Bool) : Type 0 where
+    pub yes : held ≡ true → (z : ℕ) → y ≤ z → z < m → SiblingTested st words values z (wordOf (Empty (suc z)))
+    pub no : held ≡ false
+        → ((z : ℕ) → y ≤ z → z < m → SiblingTested st words values z (wordOf (Empty (suc z)))) → ⊥
+
+  -- what a sound store passes: the leaves are whole, and no step from the new T on changes a word outside
+  pub record JoinPasses (r : Stored) (j : Join) : Type 0 where
+    pub own : LeafTested st words values (suc (j .step)) (wordOf (Page (r .page) (suc (j .step))))
+    pub other : SiblingTested st words values (j .step) (wordOf (Page (j .other) (suc (j .step))))
+    pub empty : (z : ℕ) → j .top ≤ z → z < j .step → SiblingTested st words values z (wordOf (Empty (suc z)))
+    pub folds : (n : ℕ) → joinedDepth st j ≤ n → n < st .depth → (q : ℕ → Bool)
+        → (Agree n (splitBit (widthsOf (st .shape)) values) q → ⊥)
+        → cellWord (widthsOf (st .shape)) (suc n) words q ≡ cellWord (widthsOf (st .shape)) n words q
+
+  pub record JoinTold (r : Stored) (j : Join) (held : Bool) : Type 0 where
+    pub yes : held ≡ true → JoinTested st words values r j
+    pub no : held ≡ false → JoinPasses r j → ⊥

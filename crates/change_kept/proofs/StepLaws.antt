@@ -1,0 +1,163 @@
+-- The words that each form of an accepted insert and delete keeps, from its plan, the tests and what its steps leave of
+-- the words. Assumes nothing.
+use Prim.Native.Nat.{ℕ, suc, _-_, _^_, _≤_, _<_}
+use mathlib.Core.Path.{_≡_, refl, sym, ap, _∙_, subst}
+use mathlib.Core.Bool.{Bool, true, false}
+use mathlib.Core.List.{List}
+use mathlib.Core.Logic.{_⊎_, inl, inr}
+use native.Mathlib.Nat.{le-trans}
+use native.Mathlib.Omega.{arith}
+use Rattle.lists.proofs.Numbers.{eq-or-ne}
+use Rattle.shape.specs.Shape.{widthsOf}
+use Rattle.shape.specs.declared.Shape.{Shape}
+use Rattle.directory.specs.Directory.{Filled}
+use Rattle.directory_word.specs.Word.{wordOf}
+use Rattle.directory_word.specs.declared.Leaf.the-variants.{Empty, Page}
+use Rattle.directory_word.proofs.WordLaws.{wordOf-depth, wordOf-depth-empty}
+use Rattle.store.specs.Store.{Store, wordAt}
+use Rattle.store.specs.Contained.{depthNamed, WordsKept}
+use Rattle.store.specs.declared.State.{State}
+use Rattle.change.specs.Delete.{keyString, tallyDepth}
+use Rattle.refusals.proofs.LimitsLaws.{limits-parts}
+use Rattle.insert_plan.specs.declared.Split.{Split}
+use Rattle.insert_plan.specs.declared.Cut.{Cut}
+use Rattle.insert_plan.specs.Private.{GetPlanned, DividePlanned}
+use Rattle.insert_steps.specs.Private.{WordsDivided}
+use Rattle.delete_plan.specs.declared.Stored.{Stored}
+use Rattle.delete_plan.specs.declared.Join.{Join}
+use Rattle.delete_plan.specs.Plan.{RecordFound, JoinPlanned}
+use Rattle.delete_steps.specs.PageBytes.{keptPage}
+use Rattle.delete_steps.specs.Private.{LeavesLent, LeafWords, JoinWords}
+use Rattle.delete_steps.proofs.StepLaws.{top-le, keptPage-lt}
+use Rattle.directory_tests.specs.Intact.{cellWord, RegionHolds, Folds}
+use Rattle.change_kept.specs.Tested.{joinedDepth, LeafTested, JoinTested}
+use Rattle.change_kept.proofs.WordLaws.{SiblingLeaf, kept-same}
+use Rattle.change_kept.proofs.RegionLaws.{filled-kept, divided-kept, joined-kept}
+
+module _ (before : Store) (values : List ℕ) where
+  abbrev st : State
+  st = before .state
+
+  abbrev s : Shape
+  s = st .shape
+
+  abbrev words : List ℕ
+  words = before .memory .words
+
+  abbrev key : ℕ → Bool
+  key = keyString before values
+
+  abbrev own : ℕ
+  own = wordAt s (st .depth) words key
+
+  -- the words outside the leaves that give way are kept in a state and words then
+  abbrev pub KeptIn : Bool → State → List ℕ → Type 0
+  KeptIn joins st′ words′ = WordsKept joins (wordAt s (st .depth) words) (wordAt (st′ .shape) (st′ .depth) words′) key
+
+  -- a test of the word that is the key's
+  tested : (x word : ℕ) → own ≡ word → LeafTested st words values x word
+      → RegionHolds (widthsOf s) (st .depth) x key own words
+  tested x word e h = subst (λ w. RegionHolds (widthsOf s) (st .depth) x key w words) (sym e) h
+
+  -- the shape is kept
+  with-shape : (joins : Bool) (st′ : State) (words′ : List ℕ)
+      → st′ ≡ record { shape = s; limits = st .limits; depth = st′ .depth; tally = st′ .tally }
+      → WordsKept joins (cellWord (widthsOf s) (st .depth) words) (cellWord (widthsOf s) (st′ .depth) words′) key
+      → KeptIn joins st′ words′
+  with-shape joins st′ words′ e k =
+      subst (λ v. WordsKept joins (wordAt s (st .depth) words) (wordAt v (st′ .depth) words′) key)
+      (sym (ap (λ t. t .shape) e)) k
+
+  -- ---- insert
+
+  -- a page takes the record: no word changes. Delete: a record is removed from a page that has others
+  pub same-kept : (joins : Bool) (words′ : List ℕ) → words′ ≡ words → KeptIn joins st words′
+  same-kept joins words′ e =
+      kept-same (wordAt s (st .depth) words) (wordAt s (st .depth) words′) key joins
+      (λ p. ap (λ w. wordAt s (st .depth) w p) e)
+
+  -- an empty leaf gets a page
+  pub get-kept : (g x word : ℕ) (words′ : List ℕ) → GetPlanned before values g x
+      → LeafTested st words values x (wordOf (Empty x)) → Filled (widthsOf s) (st .depth) x key word words words′
+      → KeptIn false st words′
+  get-kept g x word words′ planned h f =
+      filled-kept (widthsOf s) (st .depth) key words x (ap depthNamed (planned .own) ∙ wordOf-depth-empty x)
+      (tested x _ (planned .own) h) false word words′ f
+
+  -- a full leaf is divided
+  pub divide-kept : (split : Split) (cut : Cut) (free : ℕ) (st′ : State) (words′ : List ℕ)
+      → DividePlanned before values split cut free
+      → LeafTested st words values (split .depth) (wordOf (Page (split .page) (split .depth)))
+      → WordsDivided st values split free words st′ words′ → KeptIn false st′ words′
+  divide-kept split cut free st′ words′ planned h w =
+      let met = planned .met .ends-met .met in
+      let x = split .depth in
+      let few : split .page < 2 ^ 16 - 1 = omega (arith, met .within, planned .asked .pages-lent .few) in
+      with-shape false st′ words′ (w .state)
+      (divided-kept (widthsOf s) (st .depth) key words x
+      (ap depthNamed (met .own) ∙ wordOf-depth (split .page) x few) (tested x _ (met .own) h)
+      (st′ .depth) (split .step) (split .page) free (w .doubled) words′ (w .deepened) (w .leaves))
+
+  -- ---- delete
+
+  module _ (r : Stored) (found : RecordFound before values r) where
+    few : st .limits .pages ≤ 4096
+    few = limits-parts st (found .leaf .limits) .1
+
+    short : st .depth ≤ 12
+    short = let l = limits-parts st (found .leaf .limits) in le-trans (l .4) (l .2)
+
+    pub depth-is : depthNamed own ≡ r .depth
+    depth-is =
+        ap depthNamed (found .leaf .own)
+        ∙ wordOf-depth (r .page) (r .depth) (omega (arith, found .leaf .own-within, few))
+
+    -- the key's leaf stays: without a page, where its only record is removed
+    pub keep-kept : (words′ : List ℕ)
+        → (r .count ≡ 1 → LeafTested st words values (r .depth) (wordOf (Page (r .page) (r .depth))))
+        → LeafWords st values r words words′ → KeptIn true st words′
+    keep-kept words′ h w = by-count (eq-or-ne (r .count) 1)
+      where
+        by-count : (r .count ≡ 1) ⊎ (r .count ≡ 1 → ⊥) → KeptIn true st words′
+        by-count (inl e) =
+            filled-kept (widthsOf s) (st .depth) key words (r .depth) depth-is
+            (tested (r .depth) _ (found .leaf .own) (h e)) true (wordOf (Empty (r .depth))) words′ (w .emptied e)
+        by-count (inr n) = same-kept true words′ (w .same n)
+
+    -- the siblings that are joined with it: its own, and empty ones above
+    pub joined-siblings : (j : Join) → JoinPlanned before values r j → JoinTested st words values r j → (z : ℕ)
+        → j .top ≤ z → z ≤ j .step → SiblingLeaf (wordAt s (st .depth) words) key z
+    joined-siblings j planned h z l b = by-depth (eq-or-ne z (j .step))
+      where
+        by-depth : (z ≡ j .step) ⊎ (z ≡ j .step → ⊥) → SiblingLeaf (wordAt s (st .depth) words) key z
+        by-depth (inl e) =
+            subst (SiblingLeaf (wordAt s (st .depth) words) key) (sym e) (record {
+              word = wordOf (Page (j .other) (suc (j .step)));
+              depth = wordOf-depth (j .other) (suc (j .step)) (omega (arith, planned .met .other-within, few));
+              nearest-or-empty = inl (sym (depth-is ∙ planned .depth-step));
+              holds = h .other;
+            })
+        by-depth (inr n) = record {
+          word = wordOf (Empty (suc z));
+          depth = wordOf-depth-empty (suc z);
+          nearest-or-empty = inr refl;
+          holds = h .empty z l (omega arith);
+        }
+
+    -- the key's leaf is joined
+    pub join-kept : (j : Join) (st′ : State) (words′ : List ℕ) → JoinPlanned before values r j → LeavesLent st r j
+        → JoinTested st words values r j → JoinWords st values r j st′ words words′ → KeptIn true st′ words′
+    join-kept j st′ words′ planned lent h w =
+        let m = j .step in
+        let y = j .top in
+        let met = planned .met in
+        let depth : joinedDepth st j ≡ st′ .depth = sym (w .depth ∙ ap (tallyDepth (st .depth)) (w .tally)) in
+        let low : y ≤ st′ .depth = subst (λ n. y ≤ n) (sym (w .depth)) (top-le st r j lent short _ (w .tally)) in
+        let page = keptPage-lt (j .bit) (r .page) (j .other) (st .limits .pages) (met .own-within)
+        (met .other-within) in
+        let within : keptPage (j .bit) (r .page) (j .other) < 2 ^ 16 - 1 = omega (arith, page, few) in
+        with-shape true st′ words′ (w .state)
+        (joined-kept (widthsOf s) (st .depth) key words m y (st′ .depth) (keptPage (j .bit) (r .page) (j .other))
+        (met .above) low (depth-is ∙ planned .depth-step) (tested (suc m) _ (met .own) (h .own))
+        (joined-siblings j planned h) within
+        (subst (λ n. Folds (widthsOf s) n (st .depth) key words) depth (h .halved)) words′ (w .new-leaf))

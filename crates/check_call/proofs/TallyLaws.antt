@@ -1,0 +1,114 @@
+-- Laws of the tally and of the memory that is lent, as the call check compares them. Assumes nothing.
+use Prim.Native.Nat.{ℕ, zero, suc, _+_, _*_, _%_, _^_, _≤_, _<_}
+use mathlib.Core.Path.{_≡_, refl, sym, ap, _∙_, subst}
+use mathlib.Core.Bool.{true, cond}
+use mathlib.Core.List.{List}
+use native.Mathlib.Omega.{arith}
+use native.Mathlib.Nat.{zero-add, add-zero, add-suc, suc-add, lt-of-lt-of-le, mul-le-mul}
+use lib.Dec.{ltb, eqb}
+use lib.ListN.{length, getD, replicate, getD-replicate}
+use lib.Pow.{pow-mono}
+use lib.Seq.{ext-getD}
+use borrow.Author.Tests.{eqb-true, eq-eqb, ne-eqb, lt-ltb, le-ltb}
+use Rattle.lists.proofs.Bools.{eq-of-iff}
+use Rattle.lists.proofs.Shifts.{one-shifted}
+use Rattle.shape.proofs.BoundsLaws.{test-of-allBelow}
+use Rattle.region.specs.Division.{Division, leaf, divided, tally}
+use Rattle.record.specs.Record.{Record}
+use Rattle.record.proofs.KeyLaws.{allBelow-of-tests}
+use Rattle.store.specs.Sound.{tallies}
+use Rattle.store.specs.Store.{pagesSize}
+use Rattle.store.specs.declared.State.{State}
+use Rattle.check_test.specs.Test.{sameNumbers}
+use Rattle.check_test.proofs.SoundLaws.{eq-of-sameNumbers, sameNumbers-refl}
+use Rattle.check_counts.specs.Counts.{sameTally}
+use Rattle.check_walk.specs.Sums.{leavesAt, Tallied}
+use Rattle.check_call.specs.Private.{lacksMemory}
+
+-- ---- the tally
+
+-- no leaf of a region is above it
+leavesAt-above : (D : Division Record) (x y : ℕ) → y < x → leavesAt D x y ≡ 0
+leavesAt-above (leaf rs) x y h = rw (ne-eqb y x (λ e. omega arith))
+leavesAt-above (divided l u) x y h =
+    omega (arith, leavesAt-above l (suc x) y (omega arith), leavesAt-above u (suc x) y (omega arith))
+
+leavesAt-tally : (D : Division Record) (x y : ℕ) → leavesAt D x (x + y) ≡ tally D y
+leavesAt-tally (leaf rs) x y =
+    ap (λ β. cond β 1 0)
+    (eq-of-iff (eqb (x + y) x) (eqb y 0) (λ e. eq-eqb y 0 (omega (arith, eqb-true (x + y) x e)))
+    (λ e. eq-eqb (x + y) x (omega (arith, eqb-true y 0 e))))
+leavesAt-tally (divided l u) x zero =
+    omega (arith, leavesAt-above l (suc x) (x + 0) (omega arith), leavesAt-above u (suc x) (x + 0) (omega arith))
+leavesAt-tally (divided l u) x (suc y) =
+    let e : x + suc y ≡ suc x + y = omega arith in
+    rw e (cc (leavesAt-tally l (suc x) y, leavesAt-tally u (suc x) y))
+
+length-tallies : (D : Division Record) (x n : ℕ) → length (tallies D x n) ≡ n
+length-tallies D x zero = refl
+length-tallies D x (suc n) = ap suc (length-tallies D (suc x) n)
+
+getD-tallies : (D : Division Record) (x n i : ℕ) → i < n → getD (tallies D x n) i 0 ≡ tally D (x + i)
+getD-tallies D x zero i h = absurd (omega arith)
+getD-tallies D x (suc n) zero h = ap (tally D) (sym (add-zero x))
+getD-tallies D x (suc n) (suc i) h =
+    getD-tallies D (suc x) n i (omega arith) ∙ ap (tally D) (suc-add x i ∙ sym (add-suc x i))
+
+-- the counts of the whole walk are the tally
+pub sameNumbers-sameTally : (D : Division Record) (leaves counts : List ℕ) → length leaves ≡ 13
+    → Tallied D 0 (replicate 13 0) counts → sameNumbers leaves (tallies D 0 13) ≡ sameTally leaves counts
+sameNumbers-sameTally D leaves counts len told =
+    eq-of-iff (sameNumbers leaves (tallies D 0 13)) (sameTally leaves counts) to from
+  where
+    count : (x : ℕ) → x < 13 → getD counts x 0 ≡ getD (tallies D 0 13) x 0
+    count x h =
+        let zero-there = getD-replicate {A = ℕ} 13 x 0 0 h in
+        let e : 0 + x ≡ x = zero-add x in
+        told x h ∙ ap (λ k. k + leavesAt D 0 x) zero-there ∙ zero-add (leavesAt D 0 x)
+        ∙ ap (leavesAt D 0) (sym e) ∙ leavesAt-tally D 0 x ∙ ap (tally D) (sym e) ∙ sym (getD-tallies D 0 13 x h)
+
+    to : sameNumbers leaves (tallies D 0 13) ≡ true → sameTally leaves counts ≡ true
+    to e =
+        allBelow-of-tests 13 (λ x. eqb (getD leaves x 0) (getD counts x 0))
+        (λ x h. eq-eqb (getD leaves x 0) (getD counts x 0)
+        (ap (λ (l : List ℕ). getD l x 0) (eq-of-sameNumbers leaves (tallies D 0 13) e) ∙ sym (count x h)))
+
+    from : sameTally leaves counts ≡ true → sameNumbers leaves (tallies D 0 13) ≡ true
+    from e =
+        let same : leaves ≡ tallies D 0 13 =
+        ext-getD 0 leaves (tallies D 0 13) (len ∙ sym (length-tallies D 0 13))
+        (λ x h.
+        let below : x < 13 = omega (arith, len) in
+        eqb-true (getD leaves x 0) (getD counts x 0)
+        (test-of-allBelow (λ x. eqb (getD leaves x 0) (getD counts x 0)) 13 x e below) ∙ count x below) in
+        ap (λ l. sameNumbers l (tallies D 0 13)) same ∙ sameNumbers-refl (tallies D 0 13)
+
+-- ---- the memory that is lent
+
+module _ (st : State) (words bytes : ℕ) where
+  -- no slice has 2^64 words
+  pub lacksMemory-deep : 63 < st .limits .depth → words < 2 ^ 64 → true ≡ lacksMemory st words bytes
+  lacksMemory-deep h w =
+      let m : 2 ^ 64 ≤ 2 ^ st .limits .depth = pow-mono {i = 64} h in
+      sym (rw (lt-ltb words (2 ^ st .limits .depth) (lt-of-lt-of-le w m)))
+
+  module _ (l : st .limits .depth ≤ 63) where
+    abbrev shifted : ℕ
+    shifted = (1 * 2 ^ st .limits .depth) % 2 ^ 64
+
+    power : shifted ≡ 2 ^ st .limits .depth
+    power = one-shifted (st .limits .depth) (omega arith)
+
+    pub lacksMemory-words : words < shifted → true ≡ lacksMemory st words bytes
+    lacksMemory-words h = sym (rw (lt-ltb words (2 ^ st .limits .depth) (subst (λ y. words < y) power h)))
+
+    pub lacksMemory-bytes : shifted ≤ words → ltb bytes (pagesSize st) ≡ lacksMemory st words bytes
+    lacksMemory-bytes h = sym (rw (le-ltb words (2 ^ st .limits .depth) (subst (λ y. y ≤ words) power h)))
+
+-- P pages of up to 16 records
+pub pagesSize-lt : (pages b : ℕ) → pages < 2 ^ 32 → b ≤ 16 → pages * (2 + 12 * b) < 2 ^ 64
+pagesSize-lt pages b h k =
+    let small : 2 + 12 * b ≤ 194 = omega arith in
+    let low : pages ≤ 2 ^ 32 = omega arith in
+    let most : pages * (2 + 12 * b) ≤ 2 ^ 32 * 194 = mul-le-mul low small in
+    omega arith

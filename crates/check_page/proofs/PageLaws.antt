@@ -1,0 +1,143 @@
+-- Laws of a page and its test: where the page ends; by case, as the code ends or goes on; it is the test over the
+-- page's records. Assumes nothing.
+use Prim.Native.Nat.{ℕ, zero, suc, _+_, _-_, _*_, _/_, _^_, _≤_, _<_}
+use mathlib.Core.Path.{_≡_, refl, sym, ap, _∙_, subst}
+use mathlib.Core.Bool.{Bool, true, false, _&&_, and-false}
+use mathlib.Core.List.{List}
+use native.Mathlib.Omega.{arith}
+use native.Mathlib.Nat.{mul-le-mul-right, suc-mul}
+use lib.Dec.{leb, eqb}
+use lib.ListN.{length}
+use borrow.Author.Tests.{le-leb, lt-leb, eq-eqb}
+use Rattle.lists.proofs.Bools.{and-split}
+use Rattle.shape.specs.Shape.{total, indexFits}
+use Rattle.shape.specs.declared.Shape.{Shape}
+use Rattle.split.specs.Bits.{splitBit}
+use Rattle.record.specs.Record.{Record}
+use Rattle.record.specs.Bytes.{recordSize, field, recordOf}
+use Rattle.page.specs.Page.{countOf, recordsFrom, recordsOf}
+use Rattle.page.proofs.FieldLaws.{length-recordsFrom}
+use Rattle.check_test.specs.Codes.{code, recordHere, chainAfter, chain, pageChain}
+use Rattle.check_page.specs.Private.{keyAt, keyCode, recordPasses, recordsAfter, recordsPass, pagePasses}
+use Rattle.check_page.specs.Private.{ascendAfter, allFit, ascending}
+use Rattle.check_page.proofs.AscendLaws.{lastCode, lastCode-at, both, last-begins, recordsAfter-ascend}
+use Rattle.check_page.proofs.ByteLaws.{key-recordOf}
+
+-- ---- where it lies
+
+-- page g ends within the first n
+pub page-end : (g n size : ℕ) → g < n → g * size + size ≤ n * size
+page-end g n size h = rw suc-mul at (mul-le-mul-right size h)
+
+-- ---- by case
+
+module _ (ws : List ℕ) (b x s : ℕ) (page : List ℕ) (n : ℕ) (count : n ≡ countOf page) where
+  pub pagePasses-none : n ≡ 0 → false ≡ pagePasses ws b x s page
+  unfolding pagePasses
+  pagePasses-none e = sym (rw (sym count ∙ e) (and-false (leb 0 b)))
+
+  pub pagePasses-over : b < n → false ≡ pagePasses ws b x s page
+  unfolding pagePasses
+  pagePasses-over h = sym (rw (← count, lt-leb n b h))
+
+  module _ (some : n ≡ 0 → ⊥) (most : n ≤ b) where
+    first : pagePasses ws b x s page
+        ≡ (recordPasses ws x s (keyAt page 2)
+        && recordsAfter ws x s page (keyCode ws (keyAt page 2)) (n - 1) (2 + recordSize))
+    unfolding pagePasses
+    first =
+        let e : n ≡ suc (n - 1) = omega arith in
+        rw (← count, le-leb n b most) (ap (recordsPass ws x s page) e)
+
+    abbrev begun : List ℕ → Type 0
+    begun key = keyCode ws key / 2 ^ (total ws - x) ≡ s
+
+    module _ (key : List ℕ) (at : key ≡ keyAt page 2) where
+      gone : (φ γ ρ : Bool) → γ ≡ false → ((φ && γ) && ρ) ≡ false
+      gone true γ ρ e = rw e
+      gone false γ ρ e = refl
+
+      pub pagePasses-first : eqb (keyCode ws key / 2 ^ (total ws - x)) s ≡ false → false ≡ pagePasses ws b x s page
+      pagePasses-first e =
+          let here = ap (λ q. eqb (keyCode ws q / 2 ^ (total ws - x)) s) (sym at) ∙ e in
+          sym (first ∙ gone (indexFits ws (keyAt page 2)) _ _ here)
+
+      module _ (begins : begun key) (last : List ℕ) (end : last ≡ keyAt page (2 + recordSize * (n - 1))) where
+        abbrev c : ℕ
+        c = keyCode ws (keyAt page 2)
+
+        begins-first : begun (keyAt page 2)
+        begins-first = subst begun at begins
+
+        lastCode-last : lastCode ws x s page c (n - 1) (2 + recordSize) ≡ keyCode ws last
+        lastCode-last = lastCode-at ws x s page (n - 1) 2 ∙ ap (keyCode ws) (sym end)
+
+        pub pagePasses-last : (begun last → ⊥) → false ≡ pagePasses ws b x s page
+        pagePasses-last other = go (pagePasses ws b x s page) refl
+          where
+            go : (β : Bool) → pagePasses ws b x s page ≡ β → false ≡ β
+            go true e =
+                let k = and-split (recordPasses ws x s (keyAt page 2)) _ (sym first ∙ e) in
+                let l = last-begins ws x s page (n - 1) c (2 + recordSize) begins-first (k .1) in
+                absurd (other (ap (λ y. y / 2 ^ (total ws - x)) (sym lastCode-last) ∙ l))
+            go false e = refl
+
+        pub pagePasses-ascends : begun last → ascending ws page n ≡ pagePasses ws b x s page
+        unfolding ascending
+        pagePasses-ascends ends =
+            let e : suc (n - 1) ≡ n = omega arith in
+            let l = ap (λ y. y / 2 ^ (total ws - x)) lastCode-last ∙ ends in
+            let rest = recordsAfter ws x s page c (n - 1) (2 + recordSize) in
+            let rise = ascendAfter ws page c (n - 1) (2 + recordSize) in
+            let fits = indexFits ws (keyAt page 2) in
+            let fit = allFit ws page (n - 1) (2 + recordSize) in
+            sym
+            (first
+            ∙ ap (λ β. (fits && β) && rest) (eq-eqb (c / 2 ^ (total ws - x)) s begins-first)
+            ∙ both ws x s page fits rise fit rest
+            (recordsAfter-ascend ws x s page (n - 1) c (2 + recordSize) begins-first l)
+            ∙ ap (λ k. rise && allFit ws page k 2) e)
+
+-- ---- over the page's records
+
+module _ (sh : Shape) (ws : List ℕ) (b x s : ℕ) (page : List ℕ) where
+  abbrev codeOf : Record → ℕ
+  codeOf r = code (total ws) 0 (splitBit ws (r .key))
+
+  abbrev fits : Record → Bool
+  fits r = eqb (length (r .key)) 4 && indexFits ws (r .key)
+
+  abbrev at : ℕ → Record
+  at offset = recordOf sh (field page offset recordSize)
+
+  codeOf-at : (offset : ℕ) → codeOf (at offset) ≡ keyCode ws (keyAt page offset)
+  unfolding keyCode
+  codeOf-at offset = ap (keyCode ws) (key-recordOf sh page offset)
+
+  recordHere-at : (offset : ℕ)
+      → recordHere codeOf fits (total ws) b x s (at offset) ≡ recordPasses ws x s (keyAt page offset)
+  unfolding keyCode
+  recordHere-at offset =
+      ap (λ key. (eqb (length key) 4 && indexFits ws key) && eqb (keyCode ws key / 2 ^ (total ws - x)) s)
+      (key-recordOf sh page offset)
+
+  chainAfter-recordsAfter : (n offset c : ℕ)
+      → chainAfter codeOf fits (total ws) b x s c (recordsFrom sh n offset page) ≡ recordsAfter ws x s page c n offset
+  chainAfter-recordsAfter zero offset c = refl
+  chainAfter-recordsAfter (suc n) offset c =
+      rw (
+        recordHere-at offset,
+        codeOf-at offset,
+        chainAfter-recordsAfter n (offset + recordSize) (keyCode ws (keyAt page offset)),
+      )
+
+  chain-recordsPass : (n : ℕ)
+      → chain codeOf fits (total ws) b x s (recordsFrom sh n 2 page) ≡ recordsPass ws x s page n
+  chain-recordsPass zero = refl
+  chain-recordsPass (suc n) =
+      rw (recordHere-at 2, codeOf-at 2, chainAfter-recordsAfter n (2 + recordSize) (keyCode ws (keyAt page 2)))
+
+  pub pageChain-pagePasses :
+      pageChain codeOf fits (total ws) b x s (recordsOf sh page) ≡ pagePasses ws b x s page
+  unfolding pagePasses
+  pageChain-pagePasses = rw (length-recordsFrom sh (countOf page) 2 page, chain-recordsPass (countOf page))

@@ -1,0 +1,108 @@
+-- `check_walk::leaf_page` meets its contract: no page, none of the P pages, or one of them. Assumes nothing.
+use Prim.Native.Nat.{_+_, _-_, _*_, _≤_}
+use mathlib.Core.Path.{ap, _∙_}
+use native.Mathlib.Omega.{arith}
+use borrow.Author.Needs.{needs}
+use lib.ListN.{length}
+use Rattle.shape.specs.Shape.{widthList}
+use Rattle.page.specs.Page.{pageSize}
+use Rattle.check_seen.specs.Seen.{pageSeen}
+use Rattle.check_walk.proofs.LeafLaws.{part-pageAt, page-within, pageLent-part}
+use Rattle.check_walk.proofs.LeafLaws.{page-none, page-past, page-told}
+use Rattle.check_walk.proofs.leaf_page.Statement.{statement}
+use Rattle.check_walk.proofs.leaf_page.Tie as tie
+
+-- the page lies in the lent bytes
+within : (c : tie.Else2) → let a = c .before .before .before .before .args in
+    let size = pageSize (a .state .shape .capacity) in
+    (a .field - 1) * size + size ≤ length (a .pages .now)
+within c =
+    let s = c .before .before .before .before in
+    let a = s .args in
+    page-within (a .state) _ (a .region) (length (a .pages .now)) (a .field - 1) (s .pre) (c .if2 .left)
+
+returns : tie.Need-returns
+returns c =
+    let a = c .before .before .args in
+    λ words p n.
+    page-none (a .state) (widthList (a .widths)) words (a .pages .now) (a .region) p n (a .field) (c .if1 .taken)
+
+sub-page : tie.Need-sub-page
+sub-page c = search needs
+
+fails-requires : tie.Need-fails-requires
+fails-requires c κs = search needs
+
+returns-2 : tie.Need-returns-2
+returns-2 c =
+    let a = c .before .before .before .before .before .args in
+    λ words p n.
+    rw (c .fails .ensures)
+    (page-past (a .state) (widthList (a .widths)) words (a .pages .now) (a .region) p n (a .field)
+    (c .before .before .before .if1 .left) (c .before .if2 .taken))
+
+cast-size : tie.Need-cast-size
+cast-size c = search needs
+
+mul-size : tie.Need-mul-size
+mul-size c = search needs
+
+add-size : tie.Need-add-size
+add-size c = search needs
+
+cast-start : tie.Need-cast-start
+cast-start c = search needs
+
+mul-start : tie.Need-mul-start
+mul-start c = record { fits = omega (arith, within c) }
+
+add-end : tie.Need-add-end
+add-end c = record { fits = omega (arith, within c) }
+
+sub-page-seen : tie.Need-sub-page-seen
+sub-page-seen c = search needs
+
+part-page-seen-start : tie.Need-part-page-seen-start
+part-page-seen-start c = search needs
+
+part-page-seen-end : tie.Need-part-page-seen-end
+part-page-seen-end c = within c
+
+page-seen-requires : tie.Need-page-seen-requires
+page-seen-requires c κs =
+    let s = c .before .before .before .before .before in
+    let a = s .args in
+    pageLent-part (a .state) _ (a .region) (a .pages .now) (a .field - 1) (s .pre) (c .before .if2 .left)
+
+returns-3 : tie.Need-returns-3
+returns-3 c =
+    let s = c .before .before .before .before .before .before in
+    let a = s .args in
+    let b = a .state .shape .capacity in
+    λ words p n.
+    page-told (a .state) (widthList (a .widths)) words (a .pages .now) (a .region) p n (a .field)
+    (c .before .before .before .before .if1 .left)
+    (c .before .before .if2 .left) (s .pre .bits) _
+    (c .page-seen .ensures
+    ∙ ap (pageSeen (widthList (a .widths)) b (a .region .depth) (a .region .string))
+    (part-pageAt b (a .field - 1) (a .pages .now)))
+
+pub leaf-page-spec : {M : Type 1} → statement M
+leaf-page-spec =
+    tie.close
+    (tie.spec
+    returns
+    sub-page
+    fails-requires
+    returns-2
+    cast-size
+    mul-size
+    add-size
+    cast-start
+    mul-start
+    add-end
+    sub-page-seen
+    part-page-seen-start
+    part-page-seen-end
+    page-seen-requires
+    returns-3)

@@ -1,0 +1,44 @@
+// Directory words: the page and the depth of one leaf in 32 bits (document 01, "Lent memory").
+//
+//     bits 0-15    page number plus one, or 0 for a leaf without a page
+//     bits 16-19   depth of the leaf
+//     bits 20-31   0
+ghost use mathlib.Core.Path.{_≡_};
+ghost use Prim.Native.Nat.{_<_};
+ghost use Rattle.directory_word.specs.Word.{wordOf, leafOf};
+ghost use Rattle.directory_word.specs.declared.Leaf.the-variants.{Empty, Page};
+
+// What a word says of its leaf: the depth of a leaf without a page, or page number and depth.
+pub enum Leaf {
+    Empty(u32),
+    Page(u32, u32),
+}
+
+// The word of a leaf without a page.
+pub fn pack_empty(depth: u32) -> u32
+    requires { ⌜ depth < 16 ⌝ }
+    ensures { λ r. ⌜ r ≡ wordOf (Empty depth) ⌝ }
+{
+    depth << 16
+}
+
+// The word of a leaf with a page.
+pub fn pack_page(page: u32, depth: u32) -> u32
+    requires { ⌜ (page < 65535) × (depth < 16) ⌝ }
+    ensures { λ r. ⌜ r ≡ wordOf (Page page depth) ⌝ }
+{
+    (depth << 16) | (page + 1)
+}
+
+// The leaf that a word names. Its depth is all of bits 16-31, so that no two words name one leaf:
+// where a bit of 20-31 is set the depth is 16 or more, which no leaf has.
+pub fn unpack(word: u32) -> Leaf
+    ensures { λ r. ⌜ r ≡ leafOf word ⌝ }
+{
+    let field = word & 0xffff;
+    let depth = word >> 16;
+    if field == 0 {
+        return Leaf::Empty(depth);
+    }
+    Leaf::Page(field - 1, depth)
+}

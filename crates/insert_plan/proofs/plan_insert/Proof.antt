@@ -1,0 +1,128 @@
+-- `insert_plan::plan_insert` meets its contract: the early refusals and the limits leave what each step asks. Assumes nothing.
+use mathlib.Core.Path.{_≡_, sym, ap, _∙_}
+use native.Mathlib.Nat.{le-trans}
+use lib.ListN.{length, length-map}
+use lib.Pow.{pow-mono}
+use borrow.Author.Needs.{needs}
+use borrow.Author.Tests.{not-true, not-false}
+use Rattle.shape.specs.Shape.{widthsOf, indexFits}
+use Rattle.split.specs.Bits.{splitBit}
+use Rattle.record.specs.Packed.{unpackedKey}
+use Rattle.store.specs.Store.{store, wordAt}
+use Rattle.refusals.proofs.PassedLaws.{passed}
+use Rattle.leaf_word.proofs.PageLaws.{indexFits-packed}
+use Rattle.leaf_word.proofs.WordLaws.{key-word-asks, key-word-is}
+use Rattle.insert_plan.specs.Private.{Asked}
+use Rattle.insert_plan.proofs.MetLaws.{sixteen}
+use Rattle.insert_plan.proofs.RefusalLaws.{nine-limits, nine-word, asked}
+use Rattle.insert_plan.proofs.plan_insert.Statement.{statement}
+use Rattle.insert_plan.proofs.plan_insert.Tie as tie
+
+-- the array of a key's values has four: what owning the key tells
+four : (c : tie.Start) → length (c .args .key .values) ≡ 4
+four c = sym (length-map (c .args .key .values) (λ v. v)) ∙ c .good .1 .1 .1 .0 .1 .1 .0 .1 .0 .1
+
+-- what the early refusals and the limits leave
+told : (c : tie.Else1)
+    → let a = c .before .before .before .before .args in
+    Asked (store (a .state) (a .dir .now) (a .pages .now)) (a .key .values)
+told c =
+    let s = c .before .before .before .before in
+    let a = s .args in
+    let limits = c .before .limits-hold in
+    asked (store (a .state) (a .dir .now) (a .pages .now)) (a .key .values) (s .pre) (four s)
+    (sym (limits .ensures) ∙ not-false (limits .result) (c .if1 .left))
+
+limits-hold-requires : tie.Need-limits-hold-requires
+limits-hold-requires c κs =
+    let s = c .before .before in
+    passed (store (s .args .state) (s .args .dir .now) (s .args .pages .now)) (s .args .key .values) (s .pre) .shape
+
+returns : tie.Need-returns
+returns c =
+    let s = c .before .before .before .before in
+    let a = s .args in
+    let limits = c .before .limits-hold in
+    nine-limits (store (a .state) (a .dir .now) (a .pages .now)) (a .key .values) (s .pre)
+    (sym (limits .ensures) ∙ not-true (limits .result) (c .if1 .taken))
+
+-- the word that was found, of the state's own shape
+found : (c : tie.After-key-word)
+    → let a = c .before .before .before .before .before .before .before .before .args in
+    c .key-word .result
+    ≡ wordAt (a .state .shape) (a .state .depth) (a .dir .now) (splitBit (widthsOf (a .state .shape)) (a .key .values))
+found c =
+    let a = c .before .before .before .before .before .before .before .before .args in
+    key-word-is (a .state .shape) _ (c .before .before .widths-of .ensures) (a .state .depth) (a .dir .now)
+    (a .key .values) _ (c .key-word .ensures)
+
+widths-of-requires : tie.Need-widths-of-requires
+widths-of-requires c κs = search needs
+
+cast-key-word : tie.Need-cast-key-word
+cast-key-word c = search needs
+
+key-word-requires : tie.Need-key-word-requires
+key-word-requires c κs =
+    let st = c .before .before .before .before .before .before .before .args .state in
+    let t = told (c .before .before .before) in
+    key-word-asks (st .shape) _ (c .before .widths-of .ensures) (st .depth) (t .shape)
+    (le-trans (t .within-limit) (t .bits)) _ (le-trans (pow-mono (t .within-limit)) (t .words-lent))
+
+word-holds-requires : tie.Need-word-holds-requires
+word-holds-requires c κs =
+    let t = told (c .before .before .before .before) in
+    le-trans (t .within-limit) (t .short)
+
+returns-2 : tie.Need-returns-2
+returns-2 c =
+    let s = c .before .before .before .before .before .before .before .before .before .before in
+    let a = s .args in
+    let holds = c .before .word-holds in
+    nine-word (store (a .state) (a .dir .now) (a .pages .now)) (a .key .values) (s .pre) _ (found (c .before .before))
+    (sym (holds .ensures) ∙ not-true (holds .result) (c .if2 .taken))
+
+pack-key-requires : tie.Need-pack-key-requires
+pack-key-requires c κs =
+    let t = told (c .before .before .before .before .before .before) in
+    let a = c .before .before .before .before .before .before .before .before .before .before .args in
+    sixteen (a .state .shape) (a .key .values) (record { payload = 0 }) (t .shape) (t .fits) (t .four)
+
+plan-leaf-requires : tie.Need-plan-leaf-requires
+plan-leaf-requires c κs =
+    let t = told (c .before .before .before .before .before .before .before) in
+    let a = c .before .before .before .before .before .before .before .before .before .before .before .args in
+    let holds = c .before .before .word-holds in (
+      t .pages-lent,
+      sym (holds .ensures) ∙ not-false (holds .result) (c .before .if2 .left),
+      record {
+        bits = le-trans (t .within-limit) (t .bits);
+        fits = ap (λ k. indexFits (widthsOf (a .state .shape)) (unpackedKey k)) (c .pack-key .ensures)
+            ∙ indexFits-packed (a .state .shape) (a .key .values) (t .shape) (t .fits) (t .four);
+      },
+    )
+
+returns-3 : tie.Need-returns-3
+returns-3 c =
+    let a = c .before .before .before .before .before .before .before .before .before .before .before .before .args in
+    c .plan-leaf .ensures (a .dir .now) (a .key .values)
+    (record {
+      asked = told (c .before .before .before .before .before .before .before .before);
+      key-is = c .before .pack-key .ensures;
+      found-is = sym (found (c .before .before .before .before));
+    })
+
+pub plan-insert-spec : {M : Type 1} → statement M
+plan-insert-spec =
+    tie.close
+    (tie.spec
+    limits-hold-requires
+    returns
+    widths-of-requires
+    cast-key-word
+    key-word-requires
+    word-holds-requires
+    returns-2
+    pack-key-requires
+    plan-leaf-requires
+    returns-3)

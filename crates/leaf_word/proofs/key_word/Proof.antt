@@ -1,0 +1,37 @@
+-- `leaf_word::key_word` meets its contract: a cell lies below 2^t, so within the words. Assumes nothing.
+use Prim.Native.Nat.{_^_, _<_}
+use mathlib.Core.Path.{ap}
+use native.Mathlib.Omega.{arith}
+use lib.ListN.{getD}
+use Rattle.shape.specs.Shape.{widthList}
+use Rattle.split.specs.Bits.{splitBit}
+use Rattle.cell.proofs.CellLaws.{cell-laws}
+use borrow.Author.Needs.{needs}
+use Rattle.leaf_word.proofs.key_word.Statement.{statement}
+use Rattle.leaf_word.proofs.key_word.Tie as tie
+
+below : (c : tie.After-find-cell) → c .find-cell .result < 2 ^ c .before .before .args .t
+below c =
+    let s = c .before .before in
+    let w = s .args .widths in
+    rw (c .find-cell .ensures)
+    (cell-laws (w .w0) (w .w1) (w .w2) (w .w3) (s .pre .0) .address-lt (s .args .t) (s .pre .1)
+    (splitBit (widthList w) (s .args .values)))
+
+find-cell-requires : tie.Need-find-cell-requires
+find-cell-requires c κs = search needs
+
+mul-result : tie.Need-mul-result
+mul-result c = record { fits = omega (arith, below c) }
+
+shared-slice-read-result : tie.Need-shared-slice-read-result
+shared-slice-read-result c = omega (arith, below (c .before))
+
+returns : tie.Need-returns
+returns c =
+    let a = c .before .before .before .args in
+    ap (λ i. getD (a .dir .now) i 0) (c .before .find-cell .ensures)
+
+pub key-word-spec : {M : Type 1} → statement M
+key-word-spec =
+    tie.close (tie.spec find-cell-requires mul-result shared-slice-read-result returns)

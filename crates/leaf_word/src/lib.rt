@@ -1,0 +1,60 @@
+// The word at a key's cell and the page of its leaf, and whether a sound store can have them: how
+// lookup, insert and delete begin (document 01, "Lent memory").
+use directory::cells::find_cell;
+use page_ends::ends_agree;
+use page_ends::fixed_bits;
+use record::RECORD_SIZE;
+use shape::Shape;
+use shape::Widths;
+use shape::widths_of;
+use store::State;
+ghost use mathlib.Core.Path.{_≡_};
+ghost use Prim.Native.Nat.{_^_, _≤_};
+ghost use lib.ListN.{getD, length};
+ghost use Rattle.shape.specs.Shape.{Fit, widthList, total};
+ghost use Rattle.split.specs.Bits.{splitBit};
+ghost use Rattle.cell.specs.Cell.{cellAddress};
+ghost use Rattle.page.specs.Page.{pageAt};
+ghost use Rattle.leaf_word.specs.Hold.{wordHolds, ownPage, OwnAsked};
+
+// The word at the cell of a key, in a directory of depth t.
+pub fn key_word(widths: Widths, t: u64, dir: &[u32], values: [u32; 4]) -> u32
+    requires { ⌜ Fit (widthList widths) × (t ≤ total (widthList widths)) × (2 ^ t ≤ length (now dir)) ⌝ }
+    ensures { λ r. ⌜ r ≡ getD (now (dir .entry))
+        (cellAddress (widthList widths) t (splitBit (widthList widths) values)) 0 ⌝ }
+{
+    let cell = find_cell(widths, values, t);
+    dir[cell as usize]
+}
+
+// Whether a sound store can have a word: its depth is at most T and one that the tally has a leaf of,
+// its page one of the P. Where a bit of 20-31 is set the depth is 16 or more, so that it is above T.
+pub fn word_holds(state: State, word: u32) -> bool
+    requires { ⌜ state .depth ≤ 12 ⌝ }
+    ensures { λ r. ⌜ r ≡ wordHolds state word ⌝ }
+{
+    let depth = word >> 16;
+    if state.depth < depth {
+        return false;
+    }
+    let tally = state.tally;
+    let leaves = tally.leaves;
+    if leaves[depth as usize] == 0 {
+        return false;
+    }
+    let limits = state.limits;
+    (word & 0xffff) <= limits.pages
+}
+
+// Whether page g, of n records, can be that of the leaf of a depth in which a packed key falls: its
+// first and its last record have values in bounds and begin with the leaf's string.
+pub fn page_holds(shape: Shape, pages: &[u8], g: usize, n: usize, depth: u32, key: u64) -> bool
+    requires { ⌜ OwnAsked shape (now pages) g n depth key ⌝ }
+    ensures { λ r. ⌜ r ≡ ownPage shape depth key (pageAt (shape .capacity) (now (pages .entry)) g) n ⌝ }
+{
+    let mask = fixed_bits(widths_of(shape), depth as u64);
+    let size = 2 + RECORD_SIZE * (shape.capacity as usize);
+    let start = g * size;
+    let end = start + size;
+    ends_agree(&pages[start..end], n, key, mask)
+}

@@ -1,0 +1,30 @@
+-- `replay_encoding::request_size` meets its contract. Assumes nothing.
+use Prim.Native.Nat.{_<_}
+use mathlib.Core.Path.{sym, _∙_}
+use native.Mathlib.Omega.{arith}
+use Rattle.replay_encoding.proofs.EncodingLaws.{requestSize-none, requestSize-query}
+use borrow.Author.Needs.{needs}
+use Rattle.replay_encoding.proofs.request_size.Statement.{statement}
+use Rattle.replay_encoding.proofs.request_size.Tie as tie
+
+returns : tie.Need-returns
+returns c =
+    let a = c .before .before .args in
+    (sym (requestSize-none (a .request) (a .room) (c .if1 .taken)), omega arith)
+
+cast-smaller : tie.Need-cast-smaller
+cast-smaller c = search needs
+
+smaller-requires : tie.Need-smaller-requires
+smaller-requires c κs = search needs
+
+returns-2 : tie.Need-returns-2
+returns-2 c =
+    let a = c .before .before .before .before .args in
+    let query : a .request .kind < 3 → ⊥ = λ h. omega (arith, h, c .before .before .if1 .left) in (
+      c .smaller .ensures ∙ sym (requestSize-query (a .request) (a .room) query),
+      omega (arith, c .smaller .ensures),
+    )
+
+pub request-size-spec : {M : Type 1} → statement M
+request-size-spec = tie.close (tie.spec returns cast-smaller smaller-requires returns-2)

@@ -1,0 +1,123 @@
+-- Calls and answers as numbers (document 01, "The plain model of demand 3").
+--
+--     a call is 11 words                                       an answer is 4 words
+--     0      kind: 0 insert, 1 delete, 2 lookup, else query    0    number of the refusal, 0 for an accepted call
+--     1-4    values of attributes 0 to 3                       1-3  lookup: payload, reads, 0
+--     5-8    query: not 0 where the attribute is given              query: written, total, reads
+--     9      insert: payload                                        other calls, and a refused one: 0, 0, 0
+--     10     query: bytes of its output
+--
+-- The outputs of the queries follow each other in the lent bytes: each begins where the one before ended, and has the
+-- size that its call says, at most what is left. As many calls are run as there are whole ones, and as many as the lent
+-- answers have room for.
+--
+-- Assumes nothing.
+use Prim.Native.Nat.{ℕ, zero, suc, _+_, _-_, _*_, _/_, min}
+use mathlib.Core.List.{List, [], _∷_, _++_}
+use mathlib.Core.Option.{Option, none, some}
+use lib.ListN.{length, take, drop, getD}
+use Rattle.shape.specs.Refusal.{Answer, accepted, refused}
+use Rattle.shape.specs.Key.{perAttribute}
+use Rattle.model.specs.Model.{Call, insertCall, deleteCall, lookupCall, queryCall, Reply, changed, found, listed}
+use Rattle.model.specs.Model.{Outcome}
+use Rattle.replay_encoding.specs.declared.Request.{Request}
+
+-- ---- calls
+
+abbrev pub callSize : ℕ
+callSize = 11
+
+-- word j of call i
+abbrev pub callWord : List ℕ → ℕ → ℕ → ℕ
+callWord words i j = getD words (callSize * i + j) 0
+
+-- what the words of call i say
+unfoldable pub requestAt : List ℕ → ℕ → Request
+requestAt words i =
+    record {
+      kind = callWord words i 0;
+      values = callWord words i 1 ∷ callWord words i 2 ∷ callWord words i 3 ∷ callWord words i 4 ∷ [];
+      given = callWord words i 5 ∷ callWord words i 6 ∷ callWord words i 7 ∷ callWord words i 8 ∷ [];
+      payload = callWord words i 9;
+      size = callWord words i 10;
+    }
+
+-- a value, where it is given
+abbrev pub valueIf : ℕ → ℕ → Option ℕ
+valueIf zero v = none
+valueIf (suc g) v = some v
+
+-- what a query of these words asks
+unfoldable pub wantedIn : Request → List (Option ℕ)
+wantedIn r = perAttribute (λ j. valueIf (getD (r .given) j 0) (getD (r .values) j 0))
+
+abbrev pub callOfKind : ℕ → Request → List ℕ → Call
+callOfKind zero r out = insertCall (r .values) (record { payload = r .payload })
+callOfKind (suc zero) r out = deleteCall (r .values)
+callOfKind (suc (suc zero)) r out = lookupCall (r .values)
+callOfKind (suc (suc (suc n))) r out = queryCall (wantedIn r) out
+
+-- the call of these words; a query with its output as it came
+unfoldable pub callOf : Request → List ℕ → Call
+callOf r out = callOfKind (r .kind) r out
+
+abbrev pub callAt : List ℕ → ℕ → List ℕ → Call
+callAt words i out = callOf (requestAt words i) out
+
+-- ---- outputs
+
+-- the bytes of the output of a call of some kind, where so many are left: none but for a query
+abbrev pub sizeOfKind : ℕ → ℕ → ℕ → ℕ
+sizeOfKind zero size room = 0
+sizeOfKind (suc zero) size room = 0
+sizeOfKind (suc (suc zero)) size room = 0
+sizeOfKind (suc (suc (suc n))) size room = min size room
+
+unfoldable pub requestSize : Request → ℕ → ℕ
+requestSize r room = sizeOfKind (r .kind) (r .size) room
+
+abbrev pub outputSize : List ℕ → ℕ → ℕ → ℕ
+outputSize words i room = requestSize (requestAt words i) room
+
+-- where the output of call i begins in n bytes
+unfoldable pub outputStart : List ℕ → ℕ → ℕ → ℕ
+outputStart words n zero = 0
+outputStart words n (suc i) = outputStart words n i + outputSize words i (n - outputStart words n i)
+
+-- the output of call i as it came
+abbrev pub outputAt : List ℕ → List ℕ → ℕ → List ℕ
+outputAt words out i =
+    let start = outputStart words (length out) i in
+    take (outputSize words i (length out - start)) (drop start out)
+
+-- the first k calls
+unfoldable pub callsIn : List ℕ → List ℕ → ℕ → List Call
+callsIn words out zero = []
+callsIn words out (suc k) = callsIn words out k ++ callAt words k (outputAt words out k) ∷ []
+
+-- ---- answers
+
+abbrev pub answerSize : ℕ
+answerSize = 4
+
+abbrev pub replyWords : Reply → List ℕ
+replyWords changed = 0 ∷ 0 ∷ 0 ∷ 0 ∷ []
+replyWords (found content reads) = 0 ∷ content .payload ∷ reads ∷ 0 ∷ []
+replyWords (listed written total reads) = 0 ∷ written ∷ total ∷ reads ∷ []
+
+unfoldable pub answerWords : Answer Reply → List ℕ
+answerWords (accepted reply) = replyWords reply
+answerWords (refused n) = n ∷ 0 ∷ 0 ∷ 0 ∷ []
+
+-- the answers of some calls, one after the other, and their outputs
+unfoldable pub answersOf : List Outcome → List ℕ
+answersOf [] = []
+answersOf (o ∷ os) = answerWords (o .answer) ++ answersOf os
+
+unfoldable pub outputsOf : List Outcome → List ℕ
+outputsOf [] = []
+outputsOf (o ∷ os) = o .output ++ outputsOf os
+
+-- how many calls are run
+unfoldable pub callCount : List ℕ → List ℕ → ℕ
+callCount words answers = min (length words / callSize) (length answers / answerSize)

@@ -1,0 +1,126 @@
+-- Laws of replies: a call's promise with the text of its answer is the promise of the reply; what a query's answer
+-- needs to be printed. Assumes nothing.
+use Prim.Native.Nat.{ℕ, zero, suc, _*_, _≤_}
+use mathlib.Core.Path.{_≡_, refl, ap}
+use mathlib.Core.Bool.{Bool, true, false, not, cond, false≢true}
+use mathlib.Core.List.{List}
+use mathlib.Core.Logic.{⊎-elim}
+use mathlib.Core.Option.{Option}
+use native.Mathlib.Omega.{arith}
+use lib.ListN.{length}
+use Rattle.lists.proofs.Bools.{and-split}
+use Rattle.shape.specs.Refusal.{Answer, accepted, refused, firstNumber}
+use Rattle.shape.specs.Shape.{within, inBounds, shapeConditions}
+use Rattle.shape.specs.declared.Shape.{Shape}
+use Rattle.shape.proofs.BoundsLaws.{within-le}
+use Rattle.record.specs.Bytes.{recordSize}
+use Rattle.record.specs.declared.Content.{Content}
+use Rattle.model.specs.Model.{Reply, changed, found, listed}
+use Rattle.store.specs.Store.{store, lentConditions}
+use Rattle.store.specs.Promises.{queryNumber, InsertPromise, DeletePromise, QueryPromise}
+use Rattle.store.specs.declared.State.{State}
+use Rattle.stock_line.specs.declared.Line.{Line}
+use Rattle.stock_text.specs.Text.{Grown}
+use Rattle.stock_command.specs.Asked.{Asked, put, cut, list, valuesFrom, itemsOf, contentIn, asked}
+use Rattle.stock_command.specs.declared.session.Session.{Session}
+use Rattle.stock_replies.specs.Replies.{changedText, listedText}
+use Rattle.stock_replies.specs.Private.{Printable}
+use Rattle.stock_console.specs.Console.{Lent, lent, ReplyPromise}
+use Rattle.stock_console.specs.declared.Next.{Next}
+
+-- ---- the promise of a reply
+
+module _ (session : Session) (line : Line) (words bytes text : List ℕ) (at : ℕ) (text′ : List ℕ) (end : ℕ) where
+  abbrev state : State
+  state = session .state
+
+  abbrev d : ℕ
+  d = session .state .shape .attributes
+
+  -- where the reply to a change ends
+  abbrev changedNext : State → Next
+  changedNext after = record { session = record { begun = true; state = after }; end = end }
+
+  module _ (answer : Answer Reply) (after : State) (words′ bytes′ : List ℕ) (values : List ℕ)
+      (e : values ≡ valuesFrom line d 0) (grown : Grown text at (changedText answer) text′ end) where
+    pub reply-put : (content : Content) → content ≡ contentIn line d
+        → InsertPromise (store state words bytes) values content answer (store after words′ bytes′) → (out : List ℕ)
+        → ReplyPromise (put (valuesFrom line d 0) (contentIn line d)) session (lent words bytes out) text at
+        (changedNext after) (lent words′ bytes′ out) text′
+    reply-put content f promise out =
+        record {
+          bytes = changedText answer;
+          grown = grown;
+          replied = (answer, rw (← e, ← f) promise, refl, refl, refl);
+        }
+
+    pub reply-cut : DeletePromise (store state words bytes) values answer (store after words′ bytes′) → (out : List ℕ)
+        → ReplyPromise (cut (valuesFrom line d 0)) session (lent words bytes out) text at (changedNext after)
+        (lent words′ bytes′ out) text′
+    reply-cut promise out =
+        record { bytes = changedText answer; grown = grown; replied = (answer, rw (← e) promise, refl, refl, refl) }
+
+  pub reply-list : (answer : Answer Reply) (q : List (Option ℕ)) (out out′ : List ℕ) → q ≡ itemsOf line d
+      → QueryPromise (store state words bytes) q out answer out′ → Grown text at (listedText d answer out′) text′ end
+      → ReplyPromise (list (itemsOf line d)) session (lent words bytes out) text at
+      (record { session = session; end = end }) (lent words bytes out′) text′
+  reply-list answer q out out′ e promise grown =
+      record {
+        bytes = listedText d answer out′;
+        grown = grown;
+        replied = (answer, rw (← e) promise, refl, refl, refl, refl);
+      }
+
+-- the line asks what the reply answers
+pub reply-asked : (session : Session) (line : Line) (m m′ : Lent) (text text′ : List ℕ) (at : ℕ) (next : Next)
+    (asks : Asked) → asks ≡ asked session line → ReplyPromise asks session m text at next m′ text′
+    → ReplyPromise (asked session line) session m text at next m′ text′
+reply-asked session line m m′ text text′ at next asks e promise = rw (← e) promise
+
+-- ---- a query's answer
+
+d-of-inBounds : (s : Shape) → inBounds s ≡ true → s .attributes ≤ 4
+unfolding inBounds
+d-of-inBounds s h = within-le 1 4 (s .attributes) (and-split (within 1 4 (s .attributes)) _ h .0)
+
+module _ (state : State) (words bytes : List ℕ) (q : List (Option ℕ)) where
+  -- no refusal 1 among the early ones: d is at most 4
+  d-of-queryNumber : queryNumber (store state words bytes) q ≡ 0 → state .shape .attributes ≤ 4
+  unfolding queryNumber lentConditions shapeConditions firstNumber
+  d-of-queryNumber e = d-of-inBounds (state .shape) (go (inBounds (state .shape)) _ e)
+    where
+      go : (β : Bool) (n : ℕ) → _≡_ {A = ℕ} (cond (not β) 1 n) 0 → β ≡ true
+      go true n h = refl
+      go false n h = absurd (omega arith)
+
+  module _ (out out′ : List ℕ) (short : length out ≤ 3072) where
+    -- how many records an answer wrote
+    abbrev writtenIn : Answer Reply → ℕ
+    writtenIn (refused n) = 0
+    writtenIn (accepted changed) = 0
+    writtenIn (accepted (found content reads)) = 0
+    writtenIn (accepted (listed written total reads)) = written
+
+    abbrev isRefused : Answer Reply → Bool
+    isRefused (refused n) = true
+    isRefused (accepted reply) = false
+
+    pub printable : (answer : Answer Reply) → QueryPromise (store state words bytes) q out answer out′
+        → Printable (state .shape .attributes) answer out′
+    printable (refused n) promise = tt
+    printable (accepted changed) promise = tt
+    printable (accepted (found content reads)) promise = tt
+    printable (accepted (listed written total reads)) promise = by-number (queryNumber (store state words bytes) q) refl
+      where
+        by-number : (n : ℕ) → queryNumber (store state words bytes) q ≡ n
+            → (state .shape .attributes ≤ 4) × (written ≤ 256) × (recordSize * written ≤ length out′)
+        by-number (suc n) e =
+            let z : false ≡ true = ap isRefused (promise .early-refused n e) in absurd (false≢true z)
+        by-number zero e =
+            ⊎-elim
+            (λ w.
+            let same : written ≡ w .0 = ap writtenIn (w .3) in
+            let fits : recordSize * written ≤ length out = rw same (w .5) in
+            (d-of-queryNumber e, omega (arith, fits), omega (arith, fits, promise .output-length)))
+            (λ h. let z : false ≡ true = ap isRefused h in absurd (false≢true z))
+            (promise .ordinary e)

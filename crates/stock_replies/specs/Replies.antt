@@ -1,0 +1,22 @@
+-- The replies to the store's answers (document 01, "Proof table and the printed run"). Assumes nothing.
+use Prim.Native.Nat.{ℕ}
+use mathlib.Core.List.{List, _++_}
+use Rattle.shape.specs.Refusal.{Answer, accepted, refused}
+use Rattle.model.specs.Model.{Reply, changed, found, listed}
+use Rattle.stock_text.specs.Text.{okText, refusedText, recordsText, sumText}
+
+-- the bytes that the longest reply needs: 256 records of at most 48, and the sum
+abbrev pub replySize : ℕ
+replySize = 12352
+
+-- "It prints `ok`, `no` and the number"
+abbrev pub changedText : Answer Reply → List ℕ
+changedText (accepted reply) = okText
+changedText (refused n) = refusedText n
+
+-- "for `list`, the records (values, payload), then `=`, total, reads"
+abbrev pub listedText : ℕ → Answer Reply → List ℕ → List ℕ
+listedText d (refused n) out = refusedText n
+listedText d (accepted (listed written total reads)) out = recordsText d written out ++ sumText total reads
+listedText d (accepted changed) out = okText
+listedText d (accepted (found content reads)) out = okText

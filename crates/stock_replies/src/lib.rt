@@ -1,0 +1,54 @@
+// The replies to the store's answers (document 01, "Proof table and the printed run").
+use stock_text::put_ok;
+use stock_text::put_records;
+use stock_text::put_refused;
+use stock_text::put_sum;
+use store::Changed;
+use store::Counts;
+use store::Listed;
+ghost use mathlib.Core.List.{_++_};
+ghost use Prim.Native.Nat.{_+_, _*_, _≤_};
+ghost use lib.ListN.{length};
+ghost use Rattle.record.specs.Bytes.{recordSize};
+ghost use Rattle.store.specs.Answers.{changedAnswer, listedAnswer};
+ghost use Rattle.stock_text.specs.Text.{Grown, recordsText, sumText};
+ghost use Rattle.stock_replies.specs.Replies.{replySize, changedText, listedText};
+ghost use Rattle.stock_replies.specs.Private.{Printable};
+
+// The bytes that the longest reply needs: 256 records and the sum.
+pub const REPLY_SIZE: usize = 12352;
+
+// Writes `ok`, or `no` and the number.
+pub fn put_changed(text: &mut [u8], at: usize, answer: Changed) -> usize
+    requires { ⌜ at + replySize ≤ length (now text) ⌝ }
+    ensures { λ r. ⌜ Grown (now (text .entry)) at (changedText (changedAnswer answer)) (now (text .exit)) r ⌝ }
+{
+    match answer {
+        Changed::Done => put_ok(text, at),
+        Changed::Refused(number) => put_refused(text, at, number),
+    }
+}
+
+// Writes the records and the sum, or `no` and the number.
+pub fn put_listed(text: &mut [u8], at: usize, out: &[u8], listed: Listed, d: usize) -> usize
+    requires { ⌜ (at + replySize ≤ length (now text)) × Printable d (listedAnswer listed) (now out) ⌝ }
+    ensures { λ r. ⌜ Grown (now (text .entry)) at (listedText d (listedAnswer listed) (now (out .entry)))
+        (now (text .exit)) r ⌝ }
+{
+    match listed {
+        Listed::Records(counts) => put_found(text, at, out, counts, d),
+        Listed::Refused(number) => put_refused(text, at, number),
+    }
+}
+
+// Writes the records and the sum.
+fn put_found(text: &mut [u8], at: usize, out: &[u8], counts: Counts, d: usize) -> usize
+    requires { ⌜ (at + replySize ≤ length (now text)) × (d ≤ 4) × (counts .written ≤ 256)
+        × (recordSize * counts .written ≤ length (now out)) ⌝ }
+    ensures { λ r. ⌜ Grown (now (text .entry)) at
+        (recordsText d (counts .written) (now (out .entry)) ++ sumText (counts .total) (counts .reads))
+        (now (text .exit)) r ⌝ }
+{
+    let end = put_records(text, at, out, counts.written as usize, d);
+    put_sum(text, end, counts.total, counts.reads)
+}
