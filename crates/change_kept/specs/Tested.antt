@@ -1,5 +1,5 @@
--- What the tests of crate `directory_tests` tell a change before it sets words, on any store: of the words and the state alone,
--- whatever the page bytes. `values` are those of the key. Assumes nothing.
+-- What the tests of crate `directory_tests` tell a change before it sets words, on any store: of the words and the
+-- state alone, whatever the page bytes. `values` are those of the key. Assumes nothing.
 use Prim.Native.Nat.{ℕ, suc, _-_, _≤_, _<_}
 use mathlib.Core.Bool.{Bool}
 use mathlib.Core.List.{List}

@@ -1,5 +1,5 @@
--- `change_guard::empties_whole` meets its contract: the siblings of depths y + 1 to z are empty leaves; m − z falls. Assumes
--- nothing.
+-- `change_guard::empties_whole` meets its contract: the siblings of depths y + 1 to z are empty leaves; m − z falls.
+-- Assumes nothing.
 use Prim.Native.Nat.{_-_}
 use native.Mathlib.Omega.{arith}
 use borrow.Author.Tests.{not-true, not-false}

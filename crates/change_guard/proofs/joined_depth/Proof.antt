@@ -1,4 +1,5 @@
--- `change_guard::joined_depth` meets its contract: T is the greatest depth of the tally after the join. Assumes nothing.
+-- `change_guard::joined_depth` meets its contract: T is the greatest depth of the tally after the join. Assumes
+-- nothing.
 use Prim.Native.Nat.{_-_, _≤_}
 use mathlib.Core.Path.{_≡_, ap, _∙_}
 use native.Mathlib.Omega.{arith}

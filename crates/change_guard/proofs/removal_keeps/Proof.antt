@@ -1,5 +1,5 @@
--- `change_guard::removal_keeps` meets its contract: a law for each number of records; the widths are the shape's. Assumes
--- nothing.
+-- `change_guard::removal_keeps` meets its contract: a law for each number of records; the widths are the shape's.
+-- Assumes nothing.
 use mathlib.Core.Path.{subst}
 use native.Mathlib.Omega.{arith}
 use borrow.Author.Needs.{needs}

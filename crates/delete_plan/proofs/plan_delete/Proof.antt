@@ -1,5 +1,5 @@
--- `delete_plan::plan_delete` meets its contract: the early refusals and the limits leave what each step asks, and each way
--- that it ends is a law of the key's word. Assumes nothing.
+-- `delete_plan::plan_delete` meets its contract: the early refusals and the limits leave what each step asks, and each
+-- way that it ends is a law of the key's word. Assumes nothing.
 use mathlib.Core.Path.{_≡_, sym, ap, _∙_}
 use mathlib.Core.Bool.{true}
 use native.Mathlib.Nat.{le-trans}

@@ -1,4 +1,5 @@
--- `delete_plan::plan_pair` meets its contract: each way that it ends is a law of a leaf and its sibling. Assumes nothing.
+-- `delete_plan::plan_pair` meets its contract: each way that it ends is a law of a leaf and its sibling. Assumes
+-- nothing.
 use mathlib.Core.Path.{_≡_, sym, ap, _∙_}
 use native.Mathlib.Omega.{arith}
 use borrow.Author.Tests.{not-true, not-false}

@@ -1,5 +1,5 @@
--- `delete_plan::plan_sibling` meets its contract: each way that it ends is a law of the word of the sibling's cell. Assumes
--- nothing.
+-- `delete_plan::plan_sibling` meets its contract: each way that it ends is a law of the word of the sibling's cell.
+-- Assumes nothing.
 use mathlib.Core.Path.{_≡_, sym, _∙_}
 use mathlib.Core.Bool.{true}
 use native.Mathlib.Omega.{arith}

@@ -1,5 +1,5 @@
--- `directory_divide::deepen` meets its contract: the directory has been doubled from depth t to `depth`; u − depth falls.
--- Assumes nothing.
+-- `directory_divide::deepen` meets its contract: the directory has been doubled from depth t to `depth`; u − depth
+-- falls. Assumes nothing.
 use Prim.Native.Nat.{_-_, _≤_}
 use native.Mathlib.Omega.{arith}
 use Rattle.shape.specs.Shape.{widthList}

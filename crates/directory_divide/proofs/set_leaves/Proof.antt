@@ -1,5 +1,5 @@
--- `directory_divide::set_leaves` meets its contract: the region of m bits gets the page of the other half, then that of m + 1
--- bits its own. Assumes nothing.
+-- `directory_divide::set_leaves` meets its contract: the region of m bits gets the page of the other half, then that of
+-- m + 1 bits its own. Assumes nothing.
 use Prim.Native.Nat.{_<_}
 use mathlib.Core.Path.{refl, _∙_}
 use native.Mathlib.Omega.{arith}

@@ -1,4 +1,5 @@
--- `directory_sibling::bit_at` meets its contract: bit k of w bits is reached by a shift of w - (k + 1). Assumes nothing.
+-- `directory_sibling::bit_at` meets its contract: bit k of w bits is reached by a shift of w - (k + 1). Assumes
+-- nothing.
 use Prim.Native.Nat.{_%_, _≤_}
 use mathlib.Core.Path.{subst, sym}
 use native.Mathlib.Omega.{arith}

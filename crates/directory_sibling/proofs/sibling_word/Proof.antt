@@ -1,5 +1,5 @@
--- `directory_sibling::sibling_word` meets its contract: the cell is that of the sibling's bits and zeros, below 2^t, so within
--- the words. Assumes nothing.
+-- `directory_sibling::sibling_word` meets its contract: the cell is that of the sibling's bits and zeros, below 2^t, so
+-- within the words. Assumes nothing.
 use Prim.Native.Nat.{ℕ, suc, _≤_, _<_, _^_}
 use mathlib.Core.Path.{sym, ap, _∙_, subst}
 use mathlib.Core.Bool.{Bool}

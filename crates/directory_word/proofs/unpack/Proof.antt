@@ -1,5 +1,5 @@
--- `directory_word::unpack` meets its contract: a mask of 16 ones is `% 2 ^ 16`, and the test says which law of `leafOf` applies.
--- Assumes nothing.
+-- `directory_word::unpack` meets its contract: a mask of 16 ones is `% 2 ^ 16`, and the test says which law of `leafOf`
+-- applies. Assumes nothing.
 use mathlib.Core.Path.{sym, _∙_}
 use lib.Bits.{and-mask}
 use borrow.Author.Needs.{needs}

@@ -1,5 +1,5 @@
--- `insert_plan::plan_cut` meets its contract: the part that is lent is the leaf's page, and each way that it ends is a law of
--- the cut or of a free page. Assumes nothing.
+-- `insert_plan::plan_cut` meets its contract: the part that is lent is the leaf's page, and each way that it ends is a
+-- law of the cut or of a free page. Assumes nothing.
 use Prim.Native.Nat.{_/_, _%_, _<_}
 use mathlib.Core.Path.{sym, ap, _∙_, subst}
 use native.Mathlib.Omega.{arith}

@@ -1,4 +1,5 @@
--- `insert_plan::plan_insert` meets its contract: the early refusals and the limits leave what each step asks. Assumes nothing.
+-- `insert_plan::plan_insert` meets its contract: the early refusals and the limits leave what each step asks. Assumes
+-- nothing.
 use mathlib.Core.Path.{_≡_, sym, ap, _∙_}
 use native.Mathlib.Nat.{le-trans}
 use lib.ListN.{length, length-map}

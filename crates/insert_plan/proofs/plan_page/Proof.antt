@@ -1,5 +1,5 @@
--- `insert_plan::plan_page` meets its contract: the part that is lent is the leaf's page, and each way that it ends is a law of
--- the page or of the key's place on it. Assumes nothing.
+-- `insert_plan::plan_page` meets its contract: the part that is lent is the leaf's page, and each way that it ends is a
+-- law of the page or of the key's place on it. Assumes nothing.
 use Prim.Native.Nat.{_+_, _-_, _*_}
 use mathlib.Core.Path.{_≡_, sym, ap, _∙_, subst}
 use mathlib.Core.Bool.{true}

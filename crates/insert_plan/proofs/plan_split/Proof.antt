@@ -1,5 +1,5 @@
--- `insert_plan::plan_split` meets its contract: the part that is lent is the leaf's page, and each way that it ends is a law
--- of the first and the last of its keys and the new one. Assumes nothing.
+-- `insert_plan::plan_split` meets its contract: the part that is lent is the leaf's page, and each way that it ends is
+-- a law of the first and the last of its keys and the new one. Assumes nothing.
 use Prim.Native.Nat.{ℕ, _/_, _%_, _<_}
 use mathlib.Core.Path.{refl, sym, ap, _∙_, subst}
 use mathlib.Core.List.{List}

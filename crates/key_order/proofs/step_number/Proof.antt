@@ -1,4 +1,5 @@
--- `key_order::step_number` meets its contract: the depths before a place add up to the steps before it. Assumes nothing.
+-- `key_order::step_number` meets its contract: the depths before a place add up to the steps before it. Assumes
+-- nothing.
 use native.Mathlib.Omega.{arith}
 use Rattle.key_order.proofs.StepLaws.{depth-le, length-stepsBelow-depths}
 use borrow.Author.Needs.{needs}

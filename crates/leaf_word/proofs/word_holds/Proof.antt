@@ -1,4 +1,5 @@
--- `leaf_word::word_holds` meets its contract: a shift by 16 is the depth, a mask of 16 ones the page field. Assumes nothing.
+-- `leaf_word::word_holds` meets its contract: a shift by 16 is the depth, a mask of 16 ones the page field. Assumes
+-- nothing.
 use mathlib.Core.Path.{ap, _∙_}
 use native.Mathlib.Omega.{arith}
 use lib.Bits.{and-mask}

@@ -1,5 +1,5 @@
--- `page_matches::put_matches` meets its contract: what is found and written so far, and the records left. Falling number:
--- the records left. Assumes nothing.
+-- `page_matches::put_matches` meets its contract: what is found and written so far, and the records left. Falling
+-- number: the records left. Assumes nothing.
 use Prim.Native.Nat.{_+_, _-_, _≤_}
 use mathlib.Core.Path.{_≡_, refl, sym, ap, _∙_}
 use native.Mathlib.Omega.{arith}

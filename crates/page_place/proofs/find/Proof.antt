@@ -1,5 +1,5 @@
--- `page_place::find` meets its contract: the key stands behind the record just below `low` and before the record at `high`.
--- Falling number: the records between. Assumes nothing.
+-- `page_place::find` meets its contract: the key stands behind the record just below `low` and before the record at
+-- `high`. Falling number: the records between. Assumes nothing.
 use Prim.Native.Nat.{ℕ, suc, _+_, _-_, _/_, _≤_, _<_}
 use mathlib.Core.Path.{_≡_, sym, ap, _∙_, subst}
 use native.Mathlib.Omega.{arith}

@@ -1,5 +1,5 @@
--- `page_place::first_one` meets its contract: the search so far is the search from record i on. Falling number: the records
--- left. Assumes nothing.
+-- `page_place::first_one` meets its contract: the search so far is the search from record i on. Falling number: the
+-- records left. Assumes nothing.
 use Prim.Native.Nat.{_-_, _≤_}
 use mathlib.Core.Path.{_≡_, sym, _∙_}
 use native.Mathlib.Omega.{arith}

@@ -1,4 +1,5 @@
--- `query_walk::address_by` meets its contract: each index and its shift, and no sum passes the address. Assumes nothing.
+-- `query_walk::address_by` meets its contract: each index and its shift, and no sum passes the address. Assumes
+-- nothing.
 use Prim.Native.Nat.{_+_, _/_}
 use lib.ListN.{getD}
 use Rattle.query_walk.proofs.LaneLaws.{Terms, terms-of, shiftedLane}

@@ -1,4 +1,5 @@
--- `refusals::limits_hold` meets its contract: each test that fails decides, and the last one otherwise. Assumes nothing.
+-- `refusals::limits_hold` meets its contract: each test that fails decides, and the last one otherwise. Assumes
+-- nothing.
 use mathlib.Core.Path.{_≡_, ap, _∙_}
 use native.Mathlib.Omega.{arith}
 use Rattle.shape.specs.Shape.{widthsOf, widthList, total}

@@ -1,4 +1,5 @@
--- `stock_console::reply_list` meets its contract: what the query promises of its answer makes it printable. Assumes nothing.
+-- `stock_console::reply_list` meets its contract: what the query promises of its answer makes it printable. Assumes
+-- nothing.
 use native.Mathlib.Omega.{arith}
 use Rattle.stock_console.proofs.ReplyLaws.{reply-list, printable}
 use borrow.Author.Needs.{needs}

@@ -1,5 +1,5 @@
--- `delete_plan::siblings::climb` meets its contract: the siblings from depth m up to y are empty leaves. Falling number: y.
--- Assumes nothing.
+-- `delete_plan::siblings::climb` meets its contract: the siblings from depth m up to y are empty leaves. Falling
+-- number: y. Assumes nothing.
 use Prim.Native.Nat.{_-_}
 use mathlib.Core.Path.{sym, _∙_}
 use native.Mathlib.Omega.{arith}

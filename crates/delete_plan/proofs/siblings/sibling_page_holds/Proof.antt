@@ -1,5 +1,5 @@
--- `delete_plan::siblings::sibling_page_holds` meets its contract: each way that it ends is a law of the sibling's string.
--- Assumes nothing.
+-- `delete_plan::siblings::sibling_page_holds` meets its contract: each way that it ends is a law of the sibling's
+-- string. Assumes nothing.
 use mathlib.Core.Path.{_≡_, sym, ap, _∙_}
 use mathlib.Core.Bool.{not, Bool·beq}
 use native.Mathlib.Omega.{arith}

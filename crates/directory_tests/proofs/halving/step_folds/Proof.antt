@@ -1,5 +1,5 @@
--- `directory_tests::halving::step_folds` meets its contract: the new addresses below 2^s + r fold; those left fall. Assumes
--- nothing.
+-- `directory_tests::halving::step_folds` meets its contract: the new addresses below 2^s + r fold; those left fall.
+-- Assumes nothing.
 use Prim.Native.Nat.{ℕ, suc, _+_, _-_, _*_, _%_, _≤_, _<_, _^_}
 use mathlib.Core.Path.{_≡_, sym, subst}
 use mathlib.Core.List.{List}

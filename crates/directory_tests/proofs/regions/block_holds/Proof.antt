@@ -1,4 +1,5 @@
--- `directory_tests::regions::block_holds` meets its contract: the mask is what lies between the two addresses. Assumes nothing.
+-- `directory_tests::regions::block_holds` meets its contract: the mask is what lies between the two addresses. Assumes
+-- nothing.
 use mathlib.Core.Path.{sym}
 use borrow.Author.Needs.{needs}
 use Rattle.directory_tests.proofs.regions.block_holds.Statement.{statement}

@@ -1,5 +1,5 @@
--- `directory_tests::regions::blocks_hold` meets its contract: the region's cells of y bits hold the word; t − y falls. Assumes
--- nothing.
+-- `directory_tests::regions::blocks_hold` meets its contract: the region's cells of y bits hold the word; t − y falls.
+-- Assumes nothing.
 use Prim.Native.Nat.{_-_, _≤_}
 use native.Mathlib.Omega.{arith}
 use lib.ListN.{length}

@@ -1,5 +1,5 @@
--- `directory_tests::regions::region_holds` meets its contract: the vector is the cell of the key's first x split bits. Assumes
--- nothing.
+-- `directory_tests::regions::region_holds` meets its contract: the vector is the cell of the key's first x split bits.
+-- Assumes nothing.
 use Prim.Native.Nat.{ℕ}
 use mathlib.Core.Path.{_≡_, sym, ap, _∙_}
 use mathlib.Core.Bool.{Bool}

@@ -1,5 +1,5 @@
--- `insert_plan::spare::leaf_count` meets its contract: the leaves above depth x are counted, fewer than 2^32 at each; 13 - x
--- falls. Assumes nothing.
+-- `insert_plan::spare::leaf_count` meets its contract: the leaves above depth x are counted, fewer than 2^32 at each;
+-- 13 - x falls. Assumes nothing.
 use Prim.Native.Nat.{_-_, _*_, _^_, _≤_}
 use mathlib.Core.Path.{_≡_, refl, ap, _∙_}
 use native.Mathlib.Omega.{arith}

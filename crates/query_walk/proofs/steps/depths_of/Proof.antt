@@ -1,5 +1,5 @@
--- `query_walk::steps::depths_of` meets its contract: what is put together so far, with the rest from depth x on, is all.
--- Falling number: the depths left. Assumes nothing.
+-- `query_walk::steps::depths_of` meets its contract: what is put together so far, with the rest from depth x on, is
+-- all. Falling number: the depths left. Assumes nothing.
 use Prim.Native.Nat.{_+_, _-_, _*_, _^_, _≤_, _<_}
 use mathlib.Core.Path.{_≡_, sym, ap, _∙_}
 use mathlib.Core.List.{[]}

@@ -1,5 +1,5 @@
--- `query_walk::steps::fill_bit` meets its contract: the steps before the pair of attribute z have their rows. Falling number:
--- the attributes left. Assumes nothing.
+-- `query_walk::steps::fill_bit` meets its contract: the steps before the pair of attribute z have their rows. Falling
+-- number: the attributes left. Assumes nothing.
 use Prim.Native.Nat.{ℕ, _+_, _-_, _*_, _/_, _%_, _≤_, _<_}
 use mathlib.Core.Path.{_≡_, refl, ap, _∙_, subst}
 use mathlib.Core.List.{List}

@@ -1,5 +1,5 @@
--- `query_walk::steps::fill_rows` meets its contract: the steps of the bits so far have their rows. Falling number: the bits
--- left. Assumes nothing.
+-- `query_walk::steps::fill_rows` meets its contract: the steps of the bits so far have their rows. Falling number: the
+-- bits left. Assumes nothing.
 use Prim.Native.Nat.{_+_, _-_, _*_, _≤_, _<_}
 use mathlib.Core.Path.{_≡_, refl, _∙_, subst}
 use native.Mathlib.Omega.{arith}

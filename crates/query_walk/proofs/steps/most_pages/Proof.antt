@@ -1,5 +1,5 @@
--- `query_walk::steps::most_pages` meets its contract: what is counted so far is that of the steps from x on. Falling number:
--- the steps left. Assumes nothing.
+-- `query_walk::steps::most_pages` meets its contract: what is counted so far is that of the steps from x on. Falling
+-- number: the steps left. Assumes nothing.
 use Prim.Native.Nat.{_+_, _-_, _*_, _^_, _≤_}
 use mathlib.Core.Path.{_≡_, sym, ap, _∙_}
 use native.Mathlib.Omega.{arith}

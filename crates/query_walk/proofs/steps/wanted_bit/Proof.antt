@@ -1,4 +1,5 @@
--- `query_walk::steps::wanted_bit` meets its contract: a free bit is 2, a given one the bit of the value. Assumes nothing.
+-- `query_walk::steps::wanted_bit` meets its contract: a free bit is 2, a given one the bit of the value. Assumes
+-- nothing.
 use Prim.Native.Nat.{_+_, _-_, _/_, _^_}
 use mathlib.Core.Path.{_∙_}
 use mathlib.Core.Option.{none}
