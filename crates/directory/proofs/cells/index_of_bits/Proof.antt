@@ -39,7 +39,8 @@ loop-again c =
     let l = c .before .before .before .loop in
     let s = c .before .before .before .before in
     let r = c .reversed in
-    taken-four (s .args .w) (s .args .encoding) (s .args .h) (l .rest) (l .index) (l .k) (l .inv) (s .pre .0) (s .pre .1)
+    taken-four (s .args .w) (s .args .encoding) (s .args .h) (l .rest) (l .index) (l .k) (l .inv) (s .pre .0)
+    (s .pre .1)
     (c .before .if1 .taken) (r .result) (r .ensures .0) (r .ensures .1)
 
 add-k-2 : tie.Need-add-k-2 Inv-loop μ-loop

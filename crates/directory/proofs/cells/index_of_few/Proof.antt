@@ -24,7 +24,8 @@ shr-result c = search needs
 returns : tie.Need-returns
 returns c =
     let s = c .before in
-    sumBits-few (s .args .w) (s .args .encoding) (s .args .h) (s .pre .0) (s .pre .1) (s .pre .2) _ (c .reversed .ensures .0)
+    sumBits-few (s .args .w) (s .args .encoding) (s .args .h) (s .pre .0) (s .pre .1) (s .pre .2) _
+    (c .reversed .ensures .0)
 
 pub index-of-few-spec : {M : Type 1} → statement M
 index-of-few-spec =

@@ -29,8 +29,11 @@ cast-index-of-few c = search needs
 
 index-of-few-requires : tie.Need-index-of-few-requires
 index-of-few-requires c κs =
-    let s = c .before .before .before .before in
-    (omega (arith, c .before .before .before .depth-before .ensures), s .pre .0 0, depth-few _ _ 0 _ (s .pre .1) (c .before .before .before .depth-before .ensures))
+    let s = c .before .before .before .before in (
+      omega (arith, c .before .before .before .depth-before .ensures),
+      s .pre .0 0,
+      depth-few _ _ 0 _ (s .pre .1) (c .before .before .before .depth-before .ensures),
+    )
 
 array-read-index-of-few-2 : tie.Need-array-read-index-of-few-2
 array-read-index-of-few-2 c = search needs
@@ -40,8 +43,11 @@ cast-index-of-few-2 c = search needs
 
 index-of-few-requires-2 : tie.Need-index-of-few-requires-2
 index-of-few-requires-2 c κs =
-    let s = c .before .before .before .before .before in
-    (omega (arith, c .before .before .before .depth-before2 .ensures), s .pre .0 1, depth-few _ _ 1 _ (s .pre .1) (c .before .before .before .depth-before2 .ensures))
+    let s = c .before .before .before .before .before in (
+      omega (arith, c .before .before .before .depth-before2 .ensures),
+      s .pre .0 1,
+      depth-few _ _ 1 _ (s .pre .1) (c .before .before .before .depth-before2 .ensures),
+    )
 
 array-read-index-of-few-3 : tie.Need-array-read-index-of-few-3
 array-read-index-of-few-3 c = search needs
@@ -51,8 +57,11 @@ cast-index-of-few-3 c = search needs
 
 index-of-few-requires-3 : tie.Need-index-of-few-requires-3
 index-of-few-requires-3 c κs =
-    let s = c .before .before .before .before .before .before in
-    (omega (arith, c .before .before .before .depth-before3 .ensures), s .pre .0 2, depth-few _ _ 2 _ (s .pre .1) (c .before .before .before .depth-before3 .ensures))
+    let s = c .before .before .before .before .before .before in (
+      omega (arith, c .before .before .before .depth-before3 .ensures),
+      s .pre .0 2,
+      depth-few _ _ 2 _ (s .pre .1) (c .before .before .before .depth-before3 .ensures),
+    )
 
 array-read-index-of-few-4 : tie.Need-array-read-index-of-few-4
 array-read-index-of-few-4 c = search needs
@@ -62,8 +71,11 @@ cast-index-of-few-4 c = search needs
 
 index-of-few-requires-4 : tie.Need-index-of-few-requires-4
 index-of-few-requires-4 c κs =
-    let s = c .before .before .before .before .before .before .before in
-    (omega (arith, c .before .before .before .depth-before4 .ensures), s .pre .0 3, depth-few _ _ 3 _ (s .pre .1) (c .before .before .before .depth-before4 .ensures))
+    let s = c .before .before .before .before .before .before .before in (
+      omega (arith, c .before .before .before .depth-before4 .ensures),
+      s .pre .0 3,
+      depth-few _ _ 3 _ (s .pre .1) (c .before .before .before .depth-before4 .ensures),
+    )
 
 returns : tie.Need-returns
 unfolding depthBefore
