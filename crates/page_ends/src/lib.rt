@@ -1,9 +1,9 @@
 // Whether a page is its leaf's, by the first and the last of its records (document 01, "Regions of
 // a set"): under a mask of the bits that the leaf fixes both agree with a key of the leaf.
 use address::pairs::depth_before;
+use address::total_of;
 use directory::places::early_place;
 use directory::places::place_of;
-use directory::places::steps_before;
 use page::key_at;
 use shape::Widths;
 ghost use mathlib.Core.Path.{_≡_};
@@ -21,7 +21,7 @@ pub fn fixed_bits(widths: Widths, x: u64) -> u64
     ensures { λ r. ⌜ r ≡ fixedBits (widthList widths) x ⌝ }
 {
     let near = early_place(widths, x);
-    if steps_before(widths, near) == x {
+    if free_before(widths, near) + x == total_of(widths) {
         return fixed_bits_before(widths, near);
     }
     fixed_bits_before(widths, place_of(widths, x))
@@ -50,11 +50,31 @@ pub fn ends_agree(page: &[u8], n: usize, key: u64, mask: u64) -> bool
     (first | last) & mask == 0
 }
 
+// How many bits of a key the steps before place g leave free.
+fn free_before(widths: Widths, g: u64) -> u64
+    requires { ⌜ Fit (widthList widths) × (g ≤ 64) ⌝ }
+    ensures { λ r. ⌜ (r + length (stepsBelow (widthList widths) g) ≡ total (widthList widths)) × (r ≤ 64) ⌝ }
+{
+    let f0 = free_bits(widths.w0, g, 0);
+    let f1 = free_bits(widths.w1, g, 1);
+    let f2 = free_bits(widths.w2, g, 2);
+    let f3 = free_bits(widths.w3, g, 3);
+    f0 + f1 + f2 + f3
+}
+
 // The bits of a value of attribute j, of w bits, that the steps before place g fix, and those past
 // its width: all of 16 but the lowest.
 fn fixed_before(w: u64, g: u64, j: u64) -> u64
     requires { ⌜ (w ≤ 16) × (g ≤ 64) × (j < 4) ⌝ }
     ensures { λ r. ⌜ (r ≡ 2 ^ 16 - 2 ^ (w - min w ((g + 3 - j) / 4))) × (r < 2 ^ 16) ⌝ }
 {
-    0x10000 - (1u64 << (w - depth_before(w, g, j)))
+    0x10000 - (1u64 << free_bits(w, g, j))
+}
+
+// How many of the w bits of attribute j the steps before place g leave free.
+fn free_bits(w: u64, g: u64, j: u64) -> u64
+    requires { ⌜ (w ≤ 16) × (g ≤ 64) × (j < 4) ⌝ }
+    ensures { λ r. ⌜ (r + min w ((g + 3 - j) / 4) ≡ w) × (r ≤ 16) ⌝ }
+{
+    w - depth_before(w, g, j)
 }
