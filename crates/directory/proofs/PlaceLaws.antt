@@ -1,21 +1,25 @@
 -- Laws of places: how many steps stand before a place, the search for a step, the depths there. Assumes nothing.
 use Prim.Native.Nat.{ℕ, _+_, _*_, _-_, _/_, _%_, _≤_, _<_, min}
 use mathlib.Core.Path.{_≡_, refl, ap, _∙_, subst}
+use mathlib.Core.Bool.{true}
 use mathlib.Core.List.{List, [], _∷_}
 use mathlib.Core.Logic.{_⊎_, inl, inr}
 use native.Mathlib.Omega.{arith}
 use native.Mathlib.Nat.{le-trans, le-of-eq, add-le-add}
 use native.Mathlib.Numerals.{add-one}
+use lib.Dec.{eqb}
 use lib.ListN.{getD, take, length}
 use lib.Seq.{take-append-seam}
+use borrow.Author.Tests.{eqb-true}
 use Rattle.lists.proofs.Numbers.{lt-or-le}
-use Rattle.shape.specs.Shape.{Fit, total}
+use Rattle.shape.specs.Shape.{Fit, total, allBelow}
 use Rattle.split.specs.Steps.{stepsBelow, steps, stepNumber, stepsOf, depth}
 use Rattle.split.proofs.StepLaws.{depthBefore, stepsOf-stepsBelow, length-stepsBelow, length-steps}
 use Rattle.split.proofs.StepLaws.{length-stepsBelow-step, length-stepsBelow-skip, stepsBelow-prefix}
 use Rattle.split.proofs.DepthLaws.{stepNumber-below}
 use Rattle.address.specs.Private.{StepPair}
 use Rattle.directory.specs.Private.{StepsBefore}
+use Rattle.directory.proofs.ReverseLaws.{allBelow-at}
 
 -- ---- the search
 
@@ -81,11 +85,25 @@ steps-four w0 w1 w2 w3 t =
     steps-le w0 w1 w2 w3 t t ((t + 3) / 4) ((t + 2) / 4) ((t + 1) / 4) (t / 4) (omega arith) (omega arith) (omega arith)
     (omega arith) (omega arith)
 
-pub steps-three : (w0 w1 w2 w3 t : ℕ) → w3 ≡ 0 → length (stepsBelow (w0 ∷ w1 ∷ w2 ∷ w3 ∷ []) (t + t / 3)) ≤ t
-steps-three w0 w1 w2 w3 t e =
+-- 4t/3 by a product, up to 48
+all-thirds : allBelow 49 (λ t. eqb (t + t / 3) (t * 171 / 128)) ≡ true
+all-thirds = refl
+
+thirds : (t : ℕ) → t ≤ 48 → t + t / 3 ≡ t * 171 / 128
+thirds t l =
+    eqb-true (t + t / 3) (t * 171 / 128)
+    (allBelow-at (λ t. eqb (t + t / 3) (t * 171 / 128)) 49 t all-thirds (omega arith))
+
+steps-turns : (w0 w1 w2 w3 t : ℕ) → w3 ≡ 0 → length (stepsBelow (w0 ∷ w1 ∷ w2 ∷ w3 ∷ []) (t + t / 3)) ≤ t
+steps-turns w0 w1 w2 w3 t e =
     let g = t + t / 3 in
     steps-le w0 w1 w2 w3 g t ((g + 3) / 4) ((g + 2) / 4) ((g + 1) / 4) 0 (omega arith) (omega arith) (omega arith)
     (omega arith) (omega arith)
+
+pub steps-three : (w0 w1 w2 w3 t : ℕ) → w3 ≡ 0 → t ≤ 48
+    → length (stepsBelow (w0 ∷ w1 ∷ w2 ∷ w3 ∷ []) (t * 171 / 128)) ≤ t
+steps-three w0 w1 w2 w3 t e l =
+    subst (λ n. length (stepsBelow (w0 ∷ w1 ∷ w2 ∷ w3 ∷ []) n) ≤ t) (thirds t l) (steps-turns w0 w1 w2 w3 t e)
 
 pub steps-two : (w0 w1 w2 w3 t : ℕ) → w2 ≡ 0 → w3 ≡ 0
     → length (stepsBelow (w0 ∷ w1 ∷ w2 ∷ w3 ∷ []) (t + t / 2 * 2)) ≤ t

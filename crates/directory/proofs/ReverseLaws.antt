@@ -20,7 +20,7 @@ entry n = bitAnd (0xf7b3d591e6a2c480 / 2 ^ (4 * n)) 15
 all-entries : allBelow 16 (λ n. eqb (entry n) (reversedBits n)) ≡ true
 all-entries = refl
 
-allBelow-at : (test : ℕ → Bool) (n i : ℕ) → allBelow n test ≡ true → i < n → test i ≡ true
+pub allBelow-at : (test : ℕ → Bool) (n i : ℕ) → allBelow n test ≡ true → i < n → test i ≡ true
 allBelow-at test zero i e l = absurd (omega arith)
 allBelow-at test (suc n) i e l =
     let parts = and-split (allBelow n test) (test n) e in

@@ -26,8 +26,8 @@ pub fn find_cell(widths: Widths, key: [u32; 4], t: u64) -> u64
     locate(widths, index)
 }
 
-// The index vector of a key's first t split bits. Most often the place tried first has t steps before
-// it and is among the first four bits' places.
+// The index vector of a key's first t split bits. Most often the place tried first has t steps
+// before it and is among the first four bits' places.
 fn cell_of(widths: Widths, key: [u32; 4], t: u64) -> Index
     requires { ⌜ Fit (widthList widths) × (t ≤ total (widthList widths)) ⌝ }
     ensures { λ r. ⌜ indexList r ≡ cell (widthList widths) t (splitBit (widthList widths) key) ⌝ }
@@ -75,9 +75,20 @@ pub fn cell_before(widths: Widths, key: [u32; 4], g: u64) -> Index
     Index { i0, i1, i2, i3 }
 }
 
-// The first h of an encoding's w bits as an index: the first of them with weight 1. They are taken
-// from the last on, four at once while there are so many.
+// The first h of an encoding's w bits as an index: the first of them with weight 1.
 fn index_of_bits(w: u64, encoding: u64, h: u64) -> u64
+    requires { ⌜ (h ≤ w) × (w ≤ 16) ⌝ }
+    ensures { λ r. ⌜ r ≡ sumBits (bitOf w encoding) h ⌝ }
+{
+    if h <= 4 {
+        return index_of_few(w, encoding, h);
+    }
+    index_of_many(w, encoding, h)
+}
+
+// The same for any number of bits. They are taken from the last on, four at once while there are so
+// many.
+fn index_of_many(w: u64, encoding: u64, h: u64) -> u64
     requires { ⌜ (h ≤ w) × (w ≤ 16) ⌝ }
     ensures { λ r. ⌜ r ≡ sumBits (bitOf w encoding) h ⌝ }
 {

@@ -44,7 +44,7 @@ pub fn step_from(widths: Widths, t: u64, start: u64) -> u64
 }
 
 // A place with at most t steps before it: with t as long as no attribute in use is used up, since
-// these take turns.
+// these take turns. For three of them 4t/3, by a product that gives it up to t = 48.
 pub fn early_place(widths: Widths, t: u64) -> u64
     requires { ⌜ Fit (widthList widths) × (t ≤ total (widthList widths)) ⌝ }
     ensures { λ r. ⌜ (r ≤ 64) × (length (stepsBelow (widthList widths) r) ≤ t) ⌝ }
@@ -53,7 +53,7 @@ pub fn early_place(widths: Widths, t: u64) -> u64
         return t;
     }
     if widths.w2 != 0 {
-        return t + t / 3;
+        return t * 171 / 128;
     }
     if widths.w1 != 0 {
         return t + t / 2 * 2;

@@ -15,8 +15,8 @@ returns c =
       steps-four (w .w0) (w .w1) (w .w2) (w .w3) (s .args .t),
     )
 
-add-result : tie.Need-add-result
-add-result c =
+mul-result : tie.Need-mul-result
+mul-result c =
     let p = c .before .before .before .before .pre in
     record { fits = omega (arith, p .1, p .0 0, p .0 1, p .0 2) }
 
@@ -26,14 +26,15 @@ returns-2 c =
     let p = s .pre in
     let w = s .args .widths in (
       omega (arith, p .1, p .0 0, p .0 1, p .0 2),
-      steps-three (w .w0) (w .w1) (w .w2) (w .w3) (s .args .t) (omega arith),
+      steps-three (w .w0) (w .w1) (w .w2) (w .w3) (s .args .t) (omega arith)
+          (omega (arith, p .1, p .0 0, p .0 1, p .0 2)),
     )
 
-mul-result : tie.Need-mul-result
-mul-result c = search needs
+mul-result-2 : tie.Need-mul-result-2
+mul-result-2 c = search needs
 
-add-result-2 : tie.Need-add-result-2
-add-result-2 c =
+add-result : tie.Need-add-result
+add-result c =
     let p = c .before .before .before .before .before .before .pre in
     record { fits = omega (arith, p .1, p .0 0, p .0 1) }
 
@@ -46,8 +47,8 @@ returns-3 c =
       steps-two (w .w0) (w .w1) (w .w2) (w .w3) (s .args .t) (omega arith) (omega arith),
     )
 
-mul-result-2 : tie.Need-mul-result-2
-mul-result-2 c =
+mul-result-3 : tie.Need-mul-result-3
+mul-result-3 c =
     let p = c .before .before .before .before .before .before .pre in
     record { fits = omega (arith, p .1, p .0 0) }
 
@@ -65,10 +66,10 @@ early-place-spec =
     tie.close
     (tie.spec
     returns
-    add-result
-    returns-2
     mul-result
-    add-result-2
-    returns-3
+    returns-2
     mul-result-2
+    add-result
+    returns-3
+    mul-result-3
     returns-4)

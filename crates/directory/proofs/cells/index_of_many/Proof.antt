@@ -1,11 +1,11 @@
--- `directory::cells::index_of_bits` meets its contract: the bits are taken from the last to the first, one or four in a
+-- `directory::cells::index_of_many` meets its contract: the bits are taken from the last to the first, one or four in a
 -- turn. Falling number: the bits left. Assumes nothing.
 use Prim.Native.Nat.{_-_}
 use native.Mathlib.Omega.{arith}
 use Rattle.directory.proofs.KeyLaws.{Taken, taken-zero, taken-suc, taken-four, taken-end}
 use Rattle.directory.proofs.ReverseLaws.{four-lt}
-use Rattle.directory.proofs.cells.index_of_bits.Statement.{statement}
-use Rattle.directory.proofs.cells.index_of_bits.Tie as tie
+use Rattle.directory.proofs.cells.index_of_many.Statement.{statement}
+use Rattle.directory.proofs.cells.index_of_many.Tie as tie
 
 abbrev Inv-loop : tie.InvT-loop
 Inv-loop w encoding h rest₀ index₀ k₀ rest index k = Taken w encoding h rest index k
@@ -53,7 +53,8 @@ loop-again-2 : tie.Need-loop-again-2 Inv-loop μ-loop
 loop-again-2 c =
     let l = c .before .before .loop in
     let s = c .before .before .before in
-    taken-suc (s .args .w) (s .args .encoding) (s .args .h) (l .rest) (l .index) (l .k) (l .inv) (s .pre .0) (s .pre .1)
+    taken-suc (s .args .w) (s .args .encoding) (s .args .h) (l .rest) (l .index) (l .k) (l .inv) (s .pre .0)
+    (s .pre .1)
     (c .before .loop-test .taken)
 
 returns : tie.Need-returns Inv-loop μ-loop
@@ -62,8 +63,8 @@ returns c =
     let l = c .before .loop in
     taken-end (s .args .w) (s .args .encoding) (s .args .h) (l .rest) (l .index) (l .k) (l .inv) (c .loop-test .left)
 
-pub index-of-bits-spec : {M : Type 1} → statement M
-index-of-bits-spec =
+pub index-of-many-spec : {M : Type 1} → statement M
+index-of-many-spec =
     tie.close
     (tie.spec
     Inv-loop
