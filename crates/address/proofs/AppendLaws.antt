@@ -14,14 +14,14 @@ use borrow.Author.Tests.{eq-eqb, ne-eqb}
 use Rattle.lists.proofs.Numbers.{lt-or-le, eq-or-ne, digit-lt}
 use Rattle.lists.proofs.Sequences.{getD-map}
 use Rattle.shape.specs.Shape.{Fit}
-use Rattle.split.specs.Steps.{step, stepNumber, depth}
+use Rattle.split.specs.Steps.{step, stepNumber, attributeDepth}
 use Rattle.split.proofs.StepLaws.{depthBefore, stepNumber-lt}
-use Rattle.split.proofs.DepthLaws.{depth-width, step-here, depth-here, depth-z}
-use Rattle.split.proofs.DepthLaws.{depth-next, depth-next-other}
-use Rattle.address.specs.Doubling.{In, layers, box, without, insertAt, moveFirst, sides, appended}
+use Rattle.split.proofs.DepthLaws.{attributeDepth-width, step-here, attributeDepth-here, attributeDepth-z}
+use Rattle.split.proofs.DepthLaws.{attributeDepth-next, attributeDepth-next-other}
+use Rattle.address.specs.Doubling.{In, layers, box, without, putAmong, moveFirst, sides, appended}
 use Rattle.address.specs.Address.{product, rank, highestBit, createdBy, latestStep, formula, addressFrom, address}
 use Rattle.address.proofs.BoxLaws.{length-layers, getD-layers, layer-of, length-box, getD-box, box-onto, rank-lt}
-use Rattle.address.proofs.BoxLaws.{In-without, In-insertAt, In-others, insertAt-without}
+use Rattle.address.proofs.BoxLaws.{In-without, In-putAmong, In-others, putAmong-without}
 use Rattle.address.proofs.LatestLaws.{highestBit-is, highestBit-below, createdBy-is, latestStep-is}
 use Rattle.address.proofs.SideLaws.{getD-sides, length-sides, In-sides-get, In-sides-length, In-sides-of}
 use Rattle.address.proofs.SideLaws.{pow-stepNumber, without-sides-next}
@@ -36,16 +36,16 @@ module _ (ws : List ℕ) (fit : Fit ws) (k z : ℕ) (hz : z < 4) (hk : k < getD 
   -- ---- the step that creates an index
 
   -- the highest bit of an index below its side is an earlier pair's
-  highestBit-earlier : (r i : ℕ) → r < 4 → 0 < i → i < 2 ^ depth ws t r
+  highestBit-earlier : (r i : ℕ) → r < 4 → 0 < i → i < 2 ^ attributeDepth ws t r
       → (highestBit 64 i < getD ws r 0) × (4 * highestBit 64 i + r < 4 * k + z)
   unfolding depthBefore
   highestBit-earlier r i hr hi h =
-      let d = depth-here ws fit k z hz hk number r hr in
-      let b = highestBit-below (depth ws t r) i hi h (omega (arith, depth-width ws r t hr, fit r)) in
+      let d = attributeDepth-here ws fit k z hz hk number r hr in
+      let b = highestBit-below (attributeDepth ws t r) i hi h (omega (arith, attributeDepth-width ws r t hr, fit r)) in
       (omega (arith, b, d), omega (arith, b, d))
 
   -- an index below its side is not new ..
-  pub createdBy-old : (r i : ℕ) → r < 4 → i < 2 ^ depth ws t r → createdBy ws r i ≤ t
+  pub createdBy-old : (r i : ℕ) → r < 4 → i < 2 ^ attributeDepth ws t r → createdBy ws r i ≤ t
   unfolding createdBy
   createdBy-old r i hr h = go (eq-or-ne i 0)
     where
@@ -77,11 +77,11 @@ module _ (ws : List ℕ) (fit : Fit ws) (k z : ℕ) (hz : z < 4) (hk : k < getD 
 
   module _ (is : List ℕ) (b : In (sides ws (suc t)) is) (new : 2 ^ k ≤ getD is z 0) where
     below-z : getD is z 0 < 2 ^ suc k
-    below-z = subst (λ h. getD is z 0 < 2 ^ h) (depth-next ws fit k z hz hk number) (In-sides-get ws (suc t) b z hz)
+    below-z = subst (λ h. getD is z 0 < 2 ^ h) (attributeDepth-next ws fit k z hz hk number) (In-sides-get ws (suc t) b z hz)
 
-    below-other : (r : ℕ) → r < 4 → (r ≡ z → ⊥) → getD is r 0 < 2 ^ depth ws t r
+    below-other : (r : ℕ) → r < 4 → (r ≡ z → ⊥) → getD is r 0 < 2 ^ attributeDepth ws t r
     below-other r hr ne =
-        subst (λ h. getD is r 0 < 2 ^ h) (depth-next-other ws fit k z hz hk number r hr ne)
+        subst (λ h. getD is r 0 < 2 ^ h) (attributeDepth-next-other ws fit k z hz hk number r hr ne)
         (In-sides-get ws (suc t) b r hr)
 
     others-in : In (without z (sides ws t)) (without z is)
@@ -142,18 +142,18 @@ module _ (ws : List ℕ) (fit : Fit ws) (k z : ℕ) (hz : z < 4) (hk : k < getD 
         (getD-layers (2 ^ k) (2 ^ k) B x q digit-z rank-others
         ∙ ap (λ v. (2 ^ k + x) ∷ v) (getD-box others-in)
         ∙ ap (λ i. i ∷ without z is) e)
-        ∙ insertAt-without is z (subst (λ n. z < n) (sym (In-sides-length ws (suc t) b)) hz)
+        ∙ putAmong-without is z (subst (λ n. z < n) (sym (In-sides-length ws (suc t) b)) hz)
 
   -- a vector of the box after the step has its new bit set, or is of the box before
   pub old-or-new : (is : List ℕ) → In (sides ws (suc t)) is → (2 ^ k ≤ getD is z 0) ⊎ (In (sides ws t) is)
   old-or-new is b = go (lt-or-le (getD is z 0) (2 ^ k))
     where
-      each : getD is z 0 < 2 ^ k → (r : ℕ) → r < 4 → (r ≡ z) ⊎ (r ≡ z → ⊥) → getD is r 0 < 2 ^ depth ws t r
+      each : getD is z 0 < 2 ^ k → (r : ℕ) → r < 4 → (r ≡ z) ⊎ (r ≡ z → ⊥) → getD is r 0 < 2 ^ attributeDepth ws t r
       each l r hr (inl e) =
-          subst (λ x. getD is x 0 < 2 ^ depth ws t x) (sym e)
-          (subst (λ h. getD is z 0 < 2 ^ h) (sym (depth-z ws fit k z hz hk number)) l)
+          subst (λ x. getD is x 0 < 2 ^ attributeDepth ws t x) (sym e)
+          (subst (λ h. getD is z 0 < 2 ^ h) (sym (attributeDepth-z ws fit k z hz hk number)) l)
       each l r hr (inr ne) =
-          subst (λ h. getD is r 0 < 2 ^ h) (depth-next-other ws fit k z hz hk number r hr ne)
+          subst (λ h. getD is r 0 < 2 ^ h) (attributeDepth-next-other ws fit k z hz hk number r hr ne)
           (In-sides-get ws (suc t) b r hr)
 
       go : (getD is z 0 < 2 ^ k) ⊎ (2 ^ k ≤ getD is z 0) → (2 ^ k ≤ getD is z 0) ⊎ (In (sides ws t) is)
@@ -172,10 +172,10 @@ module _ (ws : List ℕ) (fit : Fit ws) (k z : ℕ) (hz : z < 4) (hk : k < getD 
       let l = layer-of (2 ^ k) (product Js) p (subst (λ n. p < n) size h) in
       let v = box-onto Js (l .1) (l .3) in
       let i = 2 ^ k + l .0 in
-      let is = insertAt z i (v .0) in
-      let side = getD-sides ws (suc t) z hz ∙ ap (λ x. 2 ^ x) (depth-next ws fit k z hz hk number) in
+      let is = putAmong z i (v .0) in
+      let side = getD-sides ws (suc t) z hz ∙ ap (λ x. 2 ^ x) (attributeDepth-next ws fit k z hz hk number) in
       let low : i < 2 ^ suc k = omega (arith, l .2) in
-      let put = In-insertAt (sides ws (suc t)) (v .0) z i (subst (λ n. z < n) (sym (length-sides ws (suc t))) hz)
+      let put = In-putAmong (sides ws (suc t)) (v .0) z i (subst (λ n. z < n) (sym (length-sides ws (suc t))) hz)
       (subst (λ n. i < n) (sym side) low)
       (subst (λ Ks. In Ks (v .0)) (sym (without-sides-next ws fit k z hz hk number)) (v .1)) in
       let new : 2 ^ k ≤ getD is z 0 = omega (arith, put .1) in (
@@ -189,7 +189,7 @@ module _ (ws : List ℕ) (fit : Fit ws) (k z : ℕ) (hz : z < 4) (hk : k < getD 
 
   -- a vector for which the formula at this step gives such an address is of the whole box, and has that address
   pub address-of-formula : (is : List ℕ) (a : ℕ) → length is ≡ 4
-      → ((r : ℕ) → r < 4 → (r ≡ z → ⊥) → getD is r 0 < 2 ^ depth ws t r)
+      → ((r : ℕ) → r < 4 → (r ≡ z → ⊥) → getD is r 0 < 2 ^ attributeDepth ws t r)
       → formula z (sides ws t) is ≡ a → 2 ^ t ≤ a → a < 2 ^ suc t
       → ((r : ℕ) → r < 4 → getD is r 0 < 2 ^ getD ws r 0) × (address ws is ≡ a)
   unfolding formula sides
@@ -202,14 +202,14 @@ module _ (ws : List ℕ) (fit : Fit ws) (k z : ℕ) (hz : z < 4) (hk : k < getD 
       let past : getD is z 0 < 2 ^ k + 2 ^ k = lt-of-mul-lt-mul-right P (omega (arith, f, hi, size)) in
       let low : getD is z 0 < 2 ^ suc k = omega arith in
       let b = In-sides-of ws (suc t) is e (λ r l. each low r l (eq-or-ne r z)) in (
-        λ r l. le-trans (In-sides-get ws (suc t) b r l) (pow-mono (depth-width ws r (suc t) l)),
+        λ r l. le-trans (In-sides-get ws (suc t) b r l) (pow-mono (attributeDepth-width ws r (suc t) l)),
         address-new is b (omega arith) ∙ f,
       )
     where
       each : getD is z 0 < 2 ^ suc k → (r : ℕ) → r < 4 → (r ≡ z) ⊎ (r ≡ z → ⊥)
-          → getD is r 0 < 2 ^ depth ws (suc t) r
+          → getD is r 0 < 2 ^ attributeDepth ws (suc t) r
       each low r l (inl q) =
-          subst (λ x. getD is x 0 < 2 ^ depth ws (suc t) x) (sym q)
-          (subst (λ h. getD is z 0 < 2 ^ h) (sym (depth-next ws fit k z hz hk number)) low)
+          subst (λ x. getD is x 0 < 2 ^ attributeDepth ws (suc t) x) (sym q)
+          (subst (λ h. getD is z 0 < 2 ^ h) (sym (attributeDepth-next ws fit k z hz hk number)) low)
       each low r l (inr ne) =
-          subst (λ h. getD is r 0 < 2 ^ h) (sym (depth-next-other ws fit k z hz hk number r l ne)) (o r l ne)
+          subst (λ h. getD is r 0 < 2 ^ h) (sym (attributeDepth-next-other ws fit k z hz hk number r l ne)) (o r l ne)

@@ -10,7 +10,7 @@ use lib.ListN.{getD, length, length-append, length-map, List·getD-append}
 use lib.Seq.{getD-append-add}
 use Rattle.lists.proofs.Numbers.{lt-or-le, digit-lt}
 use Rattle.lists.proofs.Sequences.{getD-map}
-use Rattle.address.specs.Doubling.{In, done, also, layers, box, without, insertAt}
+use Rattle.address.specs.Doubling.{In, done, also, layers, box, without, putAmong}
 use Rattle.address.specs.Address.{product, rank}
 
 -- ---- layers
@@ -127,15 +127,15 @@ product-without [] z h = absurd (omega arith)
 product-without (J ∷ Js) zero h = refl
 product-without (J ∷ Js) (suc z) h = ap (λ x. J * x) (product-without Js z (omega arith)) ∙ omega arith
 
-pub insertAt-without : (is : List ℕ) (z : ℕ) → z < length is → insertAt z (getD is z 0) (without z is) ≡ is
-insertAt-without [] z h = absurd (omega arith)
-insertAt-without (i ∷ is) zero h = refl
-insertAt-without (i ∷ is) (suc z) h = ap (λ x. i ∷ x) (insertAt-without is z (omega arith))
+pub putAmong-without : (is : List ℕ) (z : ℕ) → z < length is → putAmong z (getD is z 0) (without z is) ≡ is
+putAmong-without [] z h = absurd (omega arith)
+putAmong-without (i ∷ is) zero h = refl
+putAmong-without (i ∷ is) (suc z) h = ap (λ x. i ∷ x) (putAmong-without is z (omega arith))
 
-pub In-insertAt : (Js v : List ℕ) (z x : ℕ) → z < length Js → x < getD Js z 0 → In (without z Js) v
-    → (In Js (insertAt z x v)) × (getD (insertAt z x v) z 0 ≡ x) × (without z (insertAt z x v) ≡ v)
-In-insertAt [] v z x h l n = absurd (omega arith)
-In-insertAt (J ∷ Js) v zero x h l n = (also l n, refl, refl)
-In-insertAt (J ∷ Js) (y ∷ v) (suc z) x h l (also m n) =
-    let r = In-insertAt Js v z x (omega arith) l n in
+pub In-putAmong : (Js v : List ℕ) (z x : ℕ) → z < length Js → x < getD Js z 0 → In (without z Js) v
+    → (In Js (putAmong z x v)) × (getD (putAmong z x v) z 0 ≡ x) × (without z (putAmong z x v) ≡ v)
+In-putAmong [] v z x h l n = absurd (omega arith)
+In-putAmong (J ∷ Js) v zero x h l n = (also l n, refl, refl)
+In-putAmong (J ∷ Js) (y ∷ v) (suc z) x h l (also m n) =
+    let r = In-putAmong Js v z x (omega arith) l n in
     (also m (r .0), r .1, ap (λ u. y ∷ u) (r .2))

@@ -12,12 +12,14 @@ use lib.ListN.{getD, length}
 use lib.Pow.{pow-mono, pow-pos}
 use borrow.Author.Tests.{eq-eqb, ne-eqb}
 use Rattle.lists.proofs.Shifts.{one-shifted}
-use Rattle.split.specs.Steps.{stepsBelow, steps, stepNumber, depth}
+use Rattle.split.specs.Steps.{stepsBelow, steps, stepNumber, attributeDepth}
 use Rattle.split.proofs.StepLaws.{depthBefore}
-use Rattle.split.proofs.DepthLaws.{depthBefore-le, length-steps-le, depth-here}
+use Rattle.split.proofs.DepthLaws.{depthBefore-le, length-steps-le, attributeDepth-here}
 use Rattle.address.specs.Doubling.{sides}
 use Rattle.address.specs.Address.{formula, address}
-use Rattle.address.specs.Private.{latestPair, InBox, IndexAt, AppendedBy, appendDigit, dropDigit, digitOf}
+use Rattle.address.specs.Pairs.{latestPair}
+use Rattle.address.specs.Vectors.{InBox, IndexAt, AppendedBy}
+use Rattle.address.specs.Private.{appendDigit, dropDigit, digitOf}
 use Rattle.address.proofs.SideLaws.{In-sides-all, sidesBefore, sides-stepNumber}
 use Rattle.address.proofs.AppendLaws.{address-of-formula}
 use Rattle.address.proofs.DoublingLaws.{address-place}
@@ -213,14 +215,14 @@ module _ (ws : List ℕ) (a t g h0 h1 h2 h3 : ℕ) (by : AppendedBy ws a t g)
           ∙ put a3 a h3 i3 3 e3 f3
 
       low : (r y h i : ℕ) → r < 4 → (r ≡ g % 4 → ⊥) → h ≡ depthBefore ws g r → i ≡ digitOf a0 y (2 ^ h) r (g % 4)
-          → i < 2 ^ depth ws t r
+          → i < 2 ^ attributeDepth ws t r
       low r y h i l ne d q =
-          let deep = depth-here ws (by .fit) (g / 4) (g % 4) hz live number r l in
-          let e : h ≡ depth ws t r = d ∙ ap (λ u. depthBefore ws u r) (sym place) ∙ sym deep in
+          let deep = attributeDepth-here ws (by .fit) (g / 4) (g % 4) hz live number r l in
+          let e : h ≡ attributeDepth ws t r = d ∙ ap (λ u. depthBefore ws u r) (sym place) ∙ sym deep in
           subst (λ u. i < 2 ^ u) e
           (subst (λ u. u < 2 ^ h) (sym q) (digitOf-lt a0 y (2 ^ h) r (g % 4) ne (pow-pos h)))
 
-      others : (r : ℕ) → r < 4 → (r ≡ g % 4 → ⊥) → getD (four i0 i1 i2 i3) r 0 < 2 ^ depth ws t r
+      others : (r : ℕ) → r < 4 → (r ≡ g % 4 → ⊥) → getD (four i0 i1 i2 i3) r 0 < 2 ^ attributeDepth ws t r
       others zero l ne = low 0 a1 h0 i0 l ne d0 f0
       others (suc zero) l ne = low 1 a2 h1 i1 l ne d1 f1
       others (suc (suc zero)) l ne = low 2 a3 h2 i2 l ne d2 f2

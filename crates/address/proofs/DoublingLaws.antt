@@ -9,7 +9,7 @@ use lib.ListN.{getD, length, length-append, List·getD-append}
 use lib.Seq.{getD-append-add}
 use Rattle.lists.proofs.Numbers.{lt-or-le}
 use Rattle.shape.specs.Shape.{Fit}
-use Rattle.split.specs.Steps.{steps, step, stepsOf, depth}
+use Rattle.split.specs.Steps.{steps, step, stepsOf, attributeDepth}
 use Rattle.split.proofs.StepLaws.{StepBelow}
 use Rattle.split.proofs.DepthLaws.{step-of}
 use Rattle.address.specs.Doubling.{In, done, also, without, sides, appended, doublingArray}
@@ -41,7 +41,7 @@ zeros-of-In is (also {i = a} p (also {i = b} q (also {i = c} r (also {i = d} s d
     cc
 
 pub zeros-of-In-sides : (ws is : List ℕ) → In (sides ws 0) is → is ≡ 0 ∷ 0 ∷ 0 ∷ 0 ∷ []
-unfolding sides depth stepsOf
+unfolding sides attributeDepth stepsOf
 zeros-of-In-sides ws is b = zeros-of-In is b
 
 placed-zero : (ws is : List ℕ) → In (sides ws 0) is → Placed ws 0 is
@@ -52,7 +52,7 @@ placed-zero ws is b =
     (omega arith, ap (λ x. getD (doublingArray ws 0) x []) a ∙ sym e)
 
 hasAddress-zero : (ws : List ℕ) (a : ℕ) → a < 1 → HasAddress ws 0 a
-unfolding sides depth stepsOf
+unfolding sides attributeDepth stepsOf
 hasAddress-zero ws a l =
     let p : 0 < 1 = omega arith in
     (0 ∷ 0 ∷ 0 ∷ 0 ∷ [], also p (also p (also p (also p done))), address-zero ws ∙ omega arith)

@@ -15,7 +15,8 @@ use Rattle.split.specs.Steps.{stepNumber}
 use Rattle.split.proofs.StepLaws.{step-stepNumber, stepNumber-lt}
 use Rattle.address.specs.Doubling.{sides}
 use Rattle.address.specs.Address.{highestBit, createdBy, latestStep, formula, addressFrom, address}
-use Rattle.address.specs.Private.{creatingPair, latestPair, InBox}
+use Rattle.address.specs.Pairs.{creatingPair, latestPair}
+use Rattle.address.specs.Vectors.{InBox}
 use Rattle.address.proofs.LatestLaws.{highestBit-is, highestBit-lt, highestBit-below}
 use Rattle.address.proofs.LatestLaws.{createdBy-is, latestStep-is}
 use Rattle.address.proofs.SideLaws.{sidesBefore, sides-stepNumber}

@@ -15,9 +15,9 @@ use Rattle.shape.specs.Shape.{shapeConditions, shapeNumber, widthsOf, total, Fi
 use Rattle.shape.specs.declared.Shape.{Shape}
 use Rattle.shape.proofs.RefusalLaws.{firstNumber-shape}
 use Rattle.shape.proofs.ShapeLaws.{widthsOf-fit}
-use Rattle.split.specs.Steps.{depth}
+use Rattle.split.specs.Steps.{attributeDepth}
 use Rattle.split.proofs.StepLaws.{length-steps}
-use Rattle.split.proofs.DepthLaws.{depth-all}
+use Rattle.split.proofs.DepthLaws.{attributeDepth-all}
 use Rattle.address.specs.Address.{address}
 use Rattle.address.specs.Answers.{addressNumber, addressAnswer, indexNumber, indexAnswer}
 use Rattle.address.specs.Doubling.{In, done, also, sides, doublingArray}
@@ -51,8 +51,8 @@ sides-total w0 w1 w2 w3 fit =
     ws : List ℕ
     ws = w0 ∷ w1 ∷ w2 ∷ w3 ∷ []
 
-    whole : (j : ℕ) → j < 4 → depth (w0 ∷ w1 ∷ w2 ∷ w3 ∷ []) (total (w0 ∷ w1 ∷ w2 ∷ w3 ∷ [])) j ≡ getD ws j 0
-    whole j h = ap (λ t. depth ws t j) (sym (length-steps w0 w1 w2 w3 fit)) ∙ depth-all ws fit j h
+    whole : (j : ℕ) → j < 4 → attributeDepth (w0 ∷ w1 ∷ w2 ∷ w3 ∷ []) (total (w0 ∷ w1 ∷ w2 ∷ w3 ∷ [])) j ≡ getD ws j 0
+    whole j h = ap (λ t. attributeDepth ws t j) (sym (length-steps w0 w1 w2 w3 fit)) ∙ attributeDepth-all ws fit j h
 
 -- ---- answers by their numbers
 

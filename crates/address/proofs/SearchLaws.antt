@@ -10,7 +10,7 @@ use Rattle.shape.specs.Shape.{Fit, total}
 use Rattle.split.specs.Steps.{stepsBelow, steps}
 use Rattle.split.proofs.StepLaws.{length-steps, length-stepsBelow-step, length-stepsBelow-skip}
 use Rattle.address.specs.Doubling.{doublingArray}
-use Rattle.address.specs.Private.{IndexAt}
+use Rattle.address.specs.Vectors.{IndexAt}
 use Rattle.address.proofs.DoublingLaws.{address-zero, address-place}
 use Rattle.address.proofs.SideLaws.{In-sides-all}
 

@@ -2,7 +2,7 @@
 -- Assumes nothing.
 use Prim.Native.Nat.{ℕ, zero, suc, _^_, _<_}
 use mathlib.Core.List.{List, [], _∷_, _++_, map}
-use Rattle.split.specs.Steps.{Step, step, depth}
+use Rattle.split.specs.Steps.{Step, step, attributeDepth}
 
 -- ---- boxes
 
@@ -28,21 +28,21 @@ without zero (x ∷ xs) = xs
 without (suc z) (x ∷ xs) = x ∷ without z xs
 
 -- x put among them as that of attribute z
-abbrev pub insertAt : ℕ → ℕ → List ℕ → List ℕ
-insertAt zero x xs = x ∷ xs
-insertAt (suc z) x [] = x ∷ []
-insertAt (suc z) x (y ∷ ys) = y ∷ insertAt z x ys
+abbrev pub putAmong : ℕ → ℕ → List ℕ → List ℕ
+putAmong zero x xs = x ∷ xs
+putAmong (suc z) x [] = x ∷ []
+putAmong (suc z) x (y ∷ ys) = y ∷ putAmong z x ys
 
 -- a vector whose first number is that of attribute z
 abbrev pub moveFirst : ℕ → List ℕ → List ℕ
 moveFirst z [] = []
-moveFirst z (x ∷ xs) = insertAt z x xs
+moveFirst z (x ∷ xs) = putAmong z x xs
 
 -- ---- the array
 
 -- the numbers 2^h_j after t steps
 unfoldable pub sides : List ℕ → ℕ → List ℕ
-sides ws t = 2 ^ depth ws t 0 ∷ 2 ^ depth ws t 1 ∷ 2 ^ depth ws t 2 ∷ 2 ^ depth ws t 3 ∷ []
+sides ws t = 2 ^ attributeDepth ws t 0 ∷ 2 ^ attributeDepth ws t 1 ∷ 2 ^ attributeDepth ws t 2 ∷ 2 ^ attributeDepth ws t 3 ∷ []
 
 -- "step t appends 2^t addresses, holding the vectors whose new bit is set, ordered by i_z, then by the other indices
 -- from attribute 0, the last fastest": with s = (k, z), i_z runs from 2^k to 2^(k+1) − 1

@@ -10,7 +10,9 @@ ghost use lib.ListN.{getD};
 ghost use Rattle.shape.specs.Shape.{widthList};
 ghost use Rattle.address.specs.Address.{address};
 ghost use Rattle.address.specs.Answers.{indexList};
-ghost use Rattle.address.specs.Private.{latestPair, InBox, IndexAt, AppendedBy, appendDigit, dropDigit, digitOf};
+ghost use Rattle.address.specs.Pairs.{latestPair};
+ghost use Rattle.address.specs.Vectors.{InBox, IndexAt, AppendedBy};
+ghost use Rattle.address.specs.Private.{appendDigit, dropDigit, digitOf};
 
 // The address of an index vector of the box whose latest pair is at place g.
 pub fn address_before(widths: Widths, index: Index, g: u64) -> u64

@@ -16,7 +16,7 @@ ghost use lib.Dec.{ltb};
 ghost use Rattle.shape.specs.Shape.{Fit, widthList, total, indexFits};
 ghost use Rattle.address.specs.Address.{address};
 ghost use Rattle.address.specs.Answers.{indexList, addressAnswer, addressAnswerOf, indexAnswer, indexAnswerOf};
-ghost use Rattle.address.specs.Private.{InBox, IndexAt};
+ghost use Rattle.address.specs.Vectors.{InBox, IndexAt};
 
 // An index vector; unused indices are 0.
 #[repr(C)]

@@ -7,7 +7,7 @@ ghost use Prim.Native.Nat.{_+_, _-_, _/_, _<_, _≤_, min};
 ghost use lib.ListN.{getD};
 ghost use Rattle.shape.specs.Shape.{Fit, widthList, total};
 ghost use Rattle.address.specs.Answers.{indexList};
-ghost use Rattle.address.specs.Private.{creatingPair, latestPair, StepPair};
+ghost use Rattle.address.specs.Pairs.{creatingPair, latestPair, StepPair};
 
 // One more than the place of the latest pair of the indices' highest bits; 0 where all are 0.
 pub fn latest_pair(index: Index) -> u64

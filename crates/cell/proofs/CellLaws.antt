@@ -11,10 +11,10 @@ use lib.ListN.{getD, length, set, length-set}
 use lib.Seq.{getD-set-same, getD-set-other, ext-getD, set-getD}
 use Rattle.lists.proofs.Numbers.{lt-or-le, eq-or-ne}
 use Rattle.shape.specs.Shape.{Fit, total}
-use Rattle.split.specs.Steps.{steps, step, stepNumber, bitValue, stepsOf, depth}
+use Rattle.split.specs.Steps.{steps, step, stepNumber, bitValue, stepsOf, attributeDepth}
 use Rattle.split.proofs.StepLaws.{length-steps}
-use Rattle.split.proofs.DepthLaws.{step-of, step-here, depth-z, depth-next, depth-next-other}
-use Rattle.split.proofs.DepthLaws.{lt-depth, stepNumber-lt-depth}
+use Rattle.split.proofs.DepthLaws.{step-of, step-here, attributeDepth-z, attributeDepth-next, attributeDepth-next-other}
+use Rattle.split.proofs.DepthLaws.{lt-attributeDepth, stepNumber-lt-attributeDepth}
 use Rattle.split.proofs.BitLaws.{splitBit-stepNumber}
 use Rattle.address.specs.Doubling.{In, done, also, sides}
 use Rattle.address.specs.Address.{address}
@@ -26,7 +26,7 @@ use Rattle.cell.proofs.Strings.{sumBits-lt, sumBits-agree, agree-of-sum
 -- ---- the four indices
 
 pub getD-cell : (ws : List ℕ) (t : ℕ) (p : ℕ → Bool) (j : ℕ) → j < 4
-    → getD (cell ws t p) j 0 ≡ sumBits (attributeBit ws p j) (depth ws t j)
+    → getD (cell ws t p) j 0 ≡ sumBits (attributeBit ws p j) (attributeDepth ws t j)
 unfolding cell
 getD-cell ws t p zero h = refl
 getD-cell ws t p (suc zero) h = refl
@@ -40,15 +40,15 @@ length-cell ws t p = refl
 
 -- no bits: the zero vector
 pub cell-zero : (ws : List ℕ) (p : ℕ → Bool) → cell ws 0 p ≡ 0 ∷ 0 ∷ 0 ∷ 0 ∷ []
-unfolding cell sumBits depth stepsOf
+unfolding cell sumBits attributeDepth stepsOf
 cell-zero ws p = refl
 
 pub In-cell : (ws : List ℕ) (t : ℕ) (p : ℕ → Bool) → In (sides ws t) (cell ws t p)
 unfolding cell sides
 In-cell ws t p = also (below 0) (also (below 1) (also (below 2) (also (below 3) done)))
   where
-    below : (j : ℕ) → sumBits (attributeBit ws p j) (depth ws t j) < 2 ^ depth ws t j
-    below j = sumBits-lt (attributeBit ws p j) (depth ws t j)
+    below : (j : ℕ) → sumBits (attributeBit ws p j) (attributeDepth ws t j) < 2 ^ attributeDepth ws t j
+    below j = sumBits-lt (attributeBit ws p j) (attributeDepth ws t j)
 
 -- ---- one step more
 
@@ -80,9 +80,9 @@ module _ (ws : List ℕ) (fit : Fit ws) where
       at-z : getD new z 0 ≡ getD old z 0 + x
       at-z =
           getD-cell ws (suc t) p z hz
-          ∙ ap (sumBits (attributeBit ws p z)) (depth-next ws fit k z hz hk number)
+          ∙ ap (sumBits (attributeBit ws p z)) (attributeDepth-next ws fit k z hz hk number)
           ∙ ap (λ u. sumBits (attributeBit ws p z) k + bitValue (p u) * 2 ^ k) number
-          ∙ ap (λ h. sumBits (attributeBit ws p z) h + x) (sym (depth-z ws fit k z hz hk number))
+          ∙ ap (λ h. sumBits (attributeBit ws p z) h + x) (sym (attributeDepth-z ws fit k z hz hk number))
           ∙ ap (λ i. i + x) (sym (getD-cell ws t p z hz))
 
       each : (r : ℕ) → r < 4 → (r ≡ z) ⊎ (r ≡ z → ⊥) → getD new r 0 ≡ getD (plus z x old) r 0
@@ -91,7 +91,7 @@ module _ (ws : List ℕ) (fit : Fit ws) where
           (at-z ∙ sym (getD-set-same old z (getD old z 0 + x) 0 (subst (λ n. z < n) (sym (length-cell ws t p)) hz)))
       each r l (inr ne) =
           getD-cell ws (suc t) p r l
-          ∙ ap (sumBits (attributeBit ws p r)) (depth-next-other ws fit k z hz hk number r l ne)
+          ∙ ap (sumBits (attributeBit ws p r)) (attributeDepth-next-other ws fit k z hz hk number r l ne)
           ∙ sym (getD-set-other old z r (getD old z 0 + x) 0 ne ∙ getD-cell ws t p r l)
 
   pub cell-suc : (t : ℕ) → t < length (steps ws) → (p : ℕ → Bool)
@@ -138,9 +138,9 @@ module _ (ws : List ℕ) (fit : Fit ws) where
   cell-agree t p q a = cc (each 0 (omega arith), each 1 (omega arith), each 2 (omega arith), each 3 (omega arith))
     where
       each : (j : ℕ) → j < 4
-          → sumBits (attributeBit ws p j) (depth ws t j) ≡ sumBits (attributeBit ws q j) (depth ws t j)
-      each j hj = sumBits-agree (depth ws t j) (attributeBit ws p j) (attributeBit ws q j)
-          (λ k l. a (stepNumber ws k j) (stepNumber-lt-depth ws fit t k j hj l))
+          → sumBits (attributeBit ws p j) (attributeDepth ws t j) ≡ sumBits (attributeBit ws q j) (attributeDepth ws t j)
+      each j hj = sumBits-agree (attributeDepth ws t j) (attributeBit ws p j) (attributeBit ws q j)
+          (λ k l. a (stepNumber ws k j) (stepNumber-lt-attributeDepth ws fit t k j hj l))
 
   -- and has each of them
   pub agree-of-cell : (t : ℕ) → t ≤ length (steps ws) → (p q : ℕ → Bool) → cell ws t p ≡ cell ws t q → Agree t p q
@@ -149,9 +149,9 @@ module _ (ws : List ℕ) (fit : Fit ws) where
       subst (λ u. p u ≡ q u) (d .4) (at (d .0) (d .1) (d .2) (d .3) (subst (λ u. u < t) (sym (d .4)) l))
     where
       at : (k j : ℕ) → j < 4 → k < getD ws j 0 → stepNumber ws k j < t → p (stepNumber ws k j) ≡ q (stepNumber ws k j)
-      at k j hj hk b = agree-of-sumBits (depth ws t j) (attributeBit ws p j) (attributeBit ws q j)
+      at k j hj hk b = agree-of-sumBits (attributeDepth ws t j) (attributeBit ws p j) (attributeBit ws q j)
           (sym (getD-cell ws t p j hj) ∙ ap (λ v. getD v j 0) e ∙ getD-cell ws t q j hj)
-          k (lt-depth ws fit t k j hj hk b)
+          k (lt-attributeDepth ws fit t k j hj hk b)
 
   pub cell-same : (t : ℕ) → t ≤ length (steps ws) → (p q : ℕ → Bool) → (cell ws t p ≡ cell ws t q) ↔ Agree t p q
   cell-same t h p q = (agree-of-cell t h p q, cell-agree t p q)

@@ -11,9 +11,9 @@ use lib.Pow.{mod-pow-add}
 use lib.ListN.{getD}
 use Rattle.lists.proofs.Numbers.{lt-or-le}
 use Rattle.shape.specs.Shape.{Fit}
-use Rattle.split.specs.Steps.{step, bitValue, depth}
+use Rattle.split.specs.Steps.{step, bitValue, attributeDepth}
 use Rattle.split.proofs.StepLaws.{step-stepNumber}
-use Rattle.split.proofs.DepthLaws.{depth-width}
+use Rattle.split.proofs.DepthLaws.{attributeDepth-width}
 use Rattle.cell.specs.Cell.{sumBits, attributeBit, Agree}
 
 -- ---- sums of bits
@@ -74,14 +74,14 @@ sumBits-binaryBit x (suc h) =
 abbrev pub stringOf : List ℕ → List ℕ → ℕ → Bool
 stringOf ws v t = binaryBit (getD v (step ws t .attribute) 0) (step ws t .bit)
 
-pub sumBits-stringOf : (ws : List ℕ) → Fit ws → (v : List ℕ) (t j : ℕ) → j < 4 → getD v j 0 < 2 ^ depth ws t j
-    → sumBits (attributeBit ws (stringOf ws v) j) (depth ws t j) ≡ getD v j 0
+pub sumBits-stringOf : (ws : List ℕ) → Fit ws → (v : List ℕ) (t j : ℕ) → j < 4 → getD v j 0 < 2 ^ attributeDepth ws t j
+    → sumBits (attributeBit ws (stringOf ws v) j) (attributeDepth ws t j) ≡ getD v j 0
 sumBits-stringOf ws fit v t j hj h =
-    sumBits-agree (depth ws t j) (attributeBit ws (stringOf ws v) j) (binaryBit (getD v j 0)) bits
-    ∙ sumBits-binaryBit (getD v j 0) (depth ws t j)
+    sumBits-agree (attributeDepth ws t j) (attributeBit ws (stringOf ws v) j) (binaryBit (getD v j 0)) bits
+    ∙ sumBits-binaryBit (getD v j 0) (attributeDepth ws t j)
     ∙ mod-eq-of-lt h
   where
-    bits : Agree (depth ws t j) (attributeBit ws (stringOf ws v) j) (binaryBit (getD v j 0))
+    bits : Agree (attributeDepth ws t j) (attributeBit ws (stringOf ws v) j) (binaryBit (getD v j 0))
     bits k l =
         ap (λ s. binaryBit (getD v (s .attribute) 0) (s .bit))
-        (step-stepNumber ws k j hj (le-trans l (depth-width ws j t hj)) (fit j))
+        (step-stepNumber ws k j hj (le-trans l (attributeDepth-width ws j t hj)) (fit j))

@@ -4,7 +4,7 @@ use Prim.Native.Nat.{ℕ, zero, suc, _+_, _*_, _^_, _<_}
 use mathlib.Core.Path.{_≡_}
 use mathlib.Core.Bool.{Bool}
 use mathlib.Core.List.{List, [], _∷_}
-use Rattle.split.specs.Steps.{bitValue, stepNumber, depth}
+use Rattle.split.specs.Steps.{bitValue, stepNumber, attributeDepth}
 use Rattle.address.specs.Address.{address}
 
 -- "sums β_k × 2^k over k < h": β = 1, 0, 1 gives 5
@@ -19,10 +19,10 @@ attributeBit ws p j k = p (stepNumber ws k j)
 -- "A cell's index i_j sums β_k × 2^k over k < h_j": the cell of the first t bits of a string
 unfoldable pub cell : List ℕ → ℕ → (ℕ → Bool) → List ℕ
 cell ws t p =
-    sumBits (attributeBit ws p 0) (depth ws t 0)
-    ∷ sumBits (attributeBit ws p 1) (depth ws t 1)
-    ∷ sumBits (attributeBit ws p 2) (depth ws t 2)
-    ∷ sumBits (attributeBit ws p 3) (depth ws t 3)
+    sumBits (attributeBit ws p 0) (attributeDepth ws t 0)
+    ∷ sumBits (attributeBit ws p 1) (attributeDepth ws t 1)
+    ∷ sumBits (attributeBit ws p 2) (attributeDepth ws t 2)
+    ∷ sumBits (attributeBit ws p 3) (attributeDepth ws t 3)
     ∷ []
 
 -- where the cell stands in the directory

@@ -12,7 +12,7 @@ use Rattle.cell.specs.Cell.{Agree}
 use Rattle.directory.proofs.CellLaws.{agree-suc}
 use Rattle.region.specs.Division.{Division, leaf, leafDepth, leafRecords}
 use Rattle.region.proofs.DivideLaws.{dividedAt, dividedAlong}
-use Rattle.change.specs.Private.{Leaves}
+use Rattle.change.specs.Divided.{Leaves}
 
 -- ---- strings
 

@@ -119,7 +119,7 @@ module _ (before : Store) (S : List Record) (sound : Sound before S) (r : Record
       (sym e ∙ k .filled .inside q a) .0 in
       rw same (inr (o .0, suc m, o .2, divided-before (o .0) (o .1)))
 
-  pub join-changed : T′ ≤ before .state .depth → T′ ≡ greatestDepth D′ → RegionChanged before S S′ T′ m′ p y
+  pub join-changed : T′ ≤ before .state .deepest → T′ ≡ greatestDepth D′ → RegionChanged before S S′ T′ m′ p y
   join-changed shallower deepest = record {
     leaves-before = λ q i. omega (arith, region .deeper q i);
     leaves-after = λ q i. omega (arith, region .depth-after q i);

@@ -134,20 +134,20 @@ module _ (before : Store) (S : List Record) (sound : Sound before S) (r : Record
     word = cond (nonEmpty records′) (wordOf (Page g x)) (wordOf (Empty x))
 
     abbrev wordAfter : (ℕ → Bool) → ℕ
-    wordAfter q = wordAt s (before .state .depth) (m′ .words) q
+    wordAfter q = wordAt s (before .state .deepest) (m′ .words) q
 
     inside : (q : ℕ → Bool) → Agree x p q → wordAfter q ≡ word
     inside q a = by-left (nonEmpty records′) refl
       where
         by-left : (β : Bool) → nonEmpty records′ ≡ β → wordAfter q ≡ cond β (wordOf (Page g x)) (wordOf (Empty x))
-        by-left true e = ap (λ ws. wordAt s (before .state .depth) ws q) (k .some-left e) ∙ old-word q a
+        by-left true e = ap (λ ws. wordAt s (before .state .deepest) ws q) (k .some-left e) ∙ old-word q a
         by-left false e = k .none-left e .inside q a
 
     outside : (q : ℕ → Bool) → (Agree x p q → ⊥) → wordAfter q ≡ wordOn before q
     outside q o = by-left (nonEmpty records′) refl
       where
         by-left : (β : Bool) → nonEmpty records′ ≡ β → wordAfter q ≡ wordOn before q
-        by-left true e = ap (λ ws. wordAt s (before .state .depth) ws q) (k .some-left e)
+        by-left true e = ap (λ ws. wordAt s (before .state .deepest) ws q) (k .some-left e)
         by-left false e = k .none-left e .outside q o
 
     word-some : nonEmpty records′ ≡ true → word ≡ wordOf (Page g x)
@@ -160,10 +160,10 @@ module _ (before : Store) (S : List Record) (sound : Sound before S) (r : Record
     leaf-word [] e = word-none (rw e refl)
     leaf-word (q ∷ rs) e = (g, k .within, word-some (rw e refl), e)
 
-    page-after : (h : ℕ) → h < P → (h ≡ g) ⊎ (h ≡ g → ⊥) → PageAfter before S S′ (before .state .depth) m′ p x h
+    page-after : (h : ℕ) → h < P → (h ≡ g) ⊎ (h ≡ g → ⊥) → PageAfter before S S′ (before .state .deepest) m′ p x h
     page-after h l (inl e) = rw e (by-left (nonEmpty records′) refl)
       where
-        by-left : (β : Bool) → nonEmpty records′ ≡ β → PageAfter before S S′ (before .state .depth) m′ p x g
+        by-left : (β : Bool) → nonEmpty records′ ≡ β → PageAfter before S S′ (before .state .deepest) m′ p x g
         by-left true d = inl (p, x, (λ i a. refl), inside p (λ i a. refl) ∙ word-some d)
         by-left false d = inr (inl (count records′ d refl, (p, x, (λ i a. refl), k .own)))
           where
@@ -178,7 +178,7 @@ module _ (before : Store) (S : List Record) (sound : Sound before S) (r : Record
             n (wordOf-one-to-one h g (o .1) x (omega (arith, sound .most-pages))
             (omega (arith, k .within, sound .most-pages)) (sym (o .3) ∙ old-word (o .0) (o .2)) .0)
 
-    pub leaf-changed : RegionChanged before S S′ (before .state .depth) m′ p x
+    pub leaf-changed : RegionChanged before S S′ (before .state .deepest) m′ p x
     leaf-changed = record {
       leaves-before = λ q i. omega (arith, leafDepth-agree p q D (rw (own-leaf .0) i), own-leaf .0);
       leaves-after = λ q i. omega (arith, after-depth q i);
@@ -196,7 +196,7 @@ module _ (before : Store) (S : List Record) (sound : Sound before S) (r : Record
     }
       where
         takes : (q : ℕ → Bool) → Agree x p q → (h y : ℕ) → h < P
-            → wordAt s (before .state .depth) (m′ .words) q ≡ wordOf (Page h y)
+            → wordAt s (before .state .deepest) (m′ .words) q ≡ wordOf (Page h y)
             → (β : Bool) → nonEmpty records′ ≡ β → wordOn before q ≡ wordOf (Page h y)
         takes q i h y l d true e = old-word q i ∙ sym (word-some e) ∙ sym (inside q i) ∙ d
         takes q i h y l d false e =
@@ -205,10 +205,10 @@ module _ (before : Store) (S : List Record) (sound : Sound before S) (r : Record
     -- T and the tally stay
     pub showsNext-deleted : length (m′ .words) ≡ length (before .memory .words)
         → length (m′ .bytes) ≡ length (before .memory .bytes)
-        → ShowsNext before (changedStore before (before .state .depth) (before .state .tally) m′) S S′
+        → ShowsNext before (changedStore before (before .state .deepest) (before .state .tally) m′) S S′
     showsNext-deleted words bytes =
-        showsNext-of-region before S S′ (before .state .depth) (before .state .tally) m′ p x sound leaf-changed
-        (sound-of-region before S S′ (before .state .depth) m′ p x sound leaf-changed (before .state .tally)
+        showsNext-of-region before S S′ (before .state .deepest) (before .state .tally) m′ p x sound leaf-changed
+        (sound-of-region before S S′ (before .state .deepest) m′ p x sound leaf-changed (before .state .tally)
         (isSet-withoutKey s S (sound .set) (r .key))
         (sound .deepest ∙ sym (greatestDepth-alone s good S (sound .set) r held key-alone)) (sound .depth-within)
         (sound .tallied ∙ sym (tallies-same D D′ (tally-alone s good S (sound .set) r held key-alone) 0 13)) words

@@ -150,7 +150,7 @@ module _ (before : Store) (values : List ℕ) where
         → KeepsOthers true before values (store (before .state) words′ bytes′)
         → DeletePromise before values (accepted changed) (store (before .state) words′ bytes′)
     delete-kept g x words′ bytes′ deleted found past others =
-        accept (before .state .depth) (before .state .tally) (memory words′ bytes′) past others
+        accept (before .state .deepest) (before .state .tally) (memory words′ bytes′) past others
         (λ S sound. let k = deleted S sound in (g, x, k .within, k .own, found S sound))
         (λ S sound r e held.
         showsNext-deleted before S sound r held g x (memory words′ bytes′)

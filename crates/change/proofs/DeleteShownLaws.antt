@@ -33,7 +33,7 @@ use Rattle.change.proofs.DeleteJoinLaws.{join-changed}
 
 -- the numbers of a sound store's tally
 module _ (before : Store) (S : List Record) (sound : Sound before S) where
-  pub depth-le : before .state .depth ≤ 12
+  pub depth-le : before .state .deepest ≤ 12
   depth-le = omega (arith, sound .depth-within, sound .depth-limit)
 
   pub length-tally : length (before .state .tally .leaves) ≡ 13
@@ -45,7 +45,7 @@ module _ (before : Store) (S : List Record) (sound : Sound before S) (r : Record
   s = before .state .shape
 
   abbrev T : ℕ
-  T = before .state .depth
+  T = before .state .deepest
 
   abbrev leaves : List ℕ
   leaves = before .state .tally .leaves

@@ -65,11 +65,11 @@ module _ (before : Store) (S : List Record) (sound : Sound before S) where
       by-list (r ∷ rs) d h = absurd (nil≢cons (sym d))
 
   -- halving needs no write: a directory of depth T′ has the words of the leaves that do not lie deeper
-  pub wordAt-halved : (T′ : ℕ) → T′ ≤ before .state .depth → (q : ℕ → Bool) → leafDepth q 0 D ≤ T′
+  pub wordAt-halved : (T′ : ℕ) → T′ ≤ before .state .deepest → (q : ℕ → Bool) → leafDepth q 0 D ≤ T′
       → wordAt s T′ (before .memory .words) q ≡ wordOn before q
   wordAt-halved T′ h q l =
       let c = cells s (shape-of-Sound before S sound) in
-      let T = before .state .depth in
+      let T = before .state .deepest in
       let ws = widthsOf s in
       ap (λ a. getD (before .memory .words) a 0)
       (sym (c .zero-bits T′ T h (depth-of-Sound before S sound) (cut T′ q) (λ i u v. cut-past T′ q i u)

@@ -20,7 +20,7 @@ use Rattle.directory_word.specs.Word.{wordOf}
 use Rattle.directory_word.specs.declared.Leaf.the-variants.{Empty, Page}
 use Rattle.store.specs.Store.{Memory, memory}
 use Rattle.store.specs.Sound.{Shows}
-use Rattle.change.specs.Private.{Deepened, Leaves, SiblingsSet, LeavesSet}
+use Rattle.change.specs.Divided.{Deepened, Leaves, SiblingsSet, LeavesSet}
 use Rattle.change.proofs.ChainLaws.{agree-of-leaves}
 
 -- ---- doubling

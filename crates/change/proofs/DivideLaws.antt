@@ -28,7 +28,7 @@ use Rattle.store.specs.Sound.{LeafWord, Sound}
 use Rattle.store.specs.declared.Tally.{Tally}
 use Rattle.store.proofs.ShownLaws.{pageRecords, wordOn, divisionOn, LeafWord-page, shape-of-Sound}
 use Rattle.store.proofs.RoomLaws.{FreePage}
-use Rattle.change.specs.Private.{Deepened, Leaves, LeavesSet, dividedTally}
+use Rattle.change.specs.Divided.{Deepened, Leaves, LeavesSet, dividedTally}
 use Rattle.change.proofs.SharedLaws.{halfWith}
 use Rattle.change.proofs.ChainLaws.{agree-or-leaves}
 use Rattle.change.proofs.LeafLaws.{leaf-other, nonEmpty-half, leaf-sibling, leaf-half, tallies-full}
@@ -67,14 +67,14 @@ module _ (before : Store) (S : List Record) (sound : Sound before S) (r : Record
     -- ---- depth, tally and set afterwards, whatever the memory
 
     pub sound-of-full : (m′ : Memory) (tally′ : Tally)
-        → RegionChanged before S (withRecord s r S) (max (before .state .depth) (suc m)) m′ p₀ x
+        → RegionChanged before S (withRecord s r S) (max (before .state .deepest) (suc m)) m′ p₀ x
         → m < before .state .limits .depth
         → tally′ .leaves ≡ dividedTally x (suc (m - x)) (before .state .tally .leaves)
         → length (m′ .words) ≡ length (before .memory .words) → length (m′ .bytes) ≡ length (before .memory .bytes)
-        → Sound (changedStore before (max (before .state .depth) (suc m)) tally′ m′) (withRecord s r S)
+        → Sound (changedStore before (max (before .state .deepest) (suc m)) tally′ m′) (withRecord s r S)
     sound-of-full m′ tally′ change deep tally words bytes =
         let good = shape-of-Sound before S sound in
-        sound-of-region before S (withRecord s r S) (max (before .state .depth) (suc m)) m′ p₀ x sound change tally′
+        sound-of-region before S (withRecord s r S) (max (before .state .deepest) (suc m)) m′ p₀ x sound change tally′
         (isSet-withRecord s S (sound .set) r f)
         (ap (λ T. max T (suc m)) (sound .deepest)
         ∙ sym (greatestDepth-withRecord-full s good S (sound .set) r f new full m alike differ))
@@ -95,7 +95,7 @@ module _ (before : Store) (S : List Record) (sound : Sound before S) (r : Record
         → pageRecords s bytes′ (cond β h g)
         ≡ halfWith (recordBit s) (total (widthsOf s)) m r β (pageRecords s (before .memory .bytes) g))
         (T′ : ℕ) (words₁ words′ : List ℕ)
-        (deepened : Deepened (widthsOf s) (before .state .depth) T′ (before .memory .words) words₁)
+        (deepened : Deepened (widthsOf s) (before .state .deepest) T′ (before .memory .words) words₁)
         (set : LeavesSet (widthsOf s) T′ x m p₀ g h words₁ words′) where
       abbrev wordAfter : (ℕ → Bool) → ℕ
       wordAfter q = wordAt s T′ words′ q

@@ -20,7 +20,7 @@ use Rattle.store.specs.Sound.{Sound}
 use Rattle.store.specs.declared.Tally.{Tally}
 use Rattle.store.proofs.ShownLaws.{pageRecords, wordOn, divisionOn}
 use Rattle.store.proofs.RoomLaws.{FreePage}
-use Rattle.change.specs.Private.{Deepened, LeavesSet, dividedTally}
+use Rattle.change.specs.Divided.{Deepened, LeavesSet, dividedTally}
 use Rattle.change.proofs.SharedLaws.{halfWith}
 use Rattle.change.proofs.RegionLaws.{changedStore}
 use Rattle.change.proofs.RoomLaws.{sound-of-room, changed-page, changed-empty}
@@ -51,7 +51,7 @@ module _ (before : Store) (r : Record) where
     pub within : g < P
     pub word : wordOn before (recordBit s r) ≡ wordOf (Empty x)
     pub free : FreePage before g
-    pub filled : Filled (widthsOf s) (before .state .depth) x (recordBit s r) (wordOf (Page g x))
+    pub filled : Filled (widthsOf s) (before .state .deepest) x (recordBit s r) (wordOf (Page g x))
         (before .memory .words) words′
     pub shows : pageRecords s bytes′ g ≡ r ∷ []
     pub others : (k : ℕ) → k < P → (k ≡ g → ⊥) → pageRecords s bytes′ k ≡ recordsOn before k
@@ -71,9 +71,9 @@ module _ (before : Store) (r : Record) where
     pub met : MeetsFull g x m
     pub within : h < P
     pub free : FreePage before h
-    pub depth : T′ ≡ max (before .state .depth) (suc m)
+    pub depth : T′ ≡ max (before .state .deepest) (suc m)
     pub tally : tally′ .leaves ≡ dividedTally x (suc (m - x)) (before .state .tally .leaves)
-    pub deepened : Deepened (widthsOf s) (before .state .depth) T′ (before .memory .words) words₁
+    pub deepened : Deepened (widthsOf s) (before .state .deepest) T′ (before .memory .words) words₁
     pub leaves : LeavesSet (widthsOf s) T′ x m (recordBit s r) g h words₁ words′
     pub shows : (β : Bool)
         → pageRecords s bytes′ (cond β h g)
@@ -103,7 +103,7 @@ module _ (before : Store) (r : Record) where
         let room = rw (sym (records-of-page before r S sound g x (took .meets))) at (took .room) in
         let change = changed-page before S sound r f new room g (took .meets .within) bytes′ (took .others)
         (rw depth (took .meets .word)) (took .shows) in
-        showsNext-of-region before S S′ (before .state .depth) (before .state .tally) m′ p₀ y sound change
+        showsNext-of-region before S S′ (before .state .deepest) (before .state .tally) m′ p₀ y sound change
         (sound-of-room before S sound r f new room m′ change (past .words-length) (past .bytes-length))
 
     pub showsNext-got : (g x : ℕ) (words′ bytes′ : List ℕ) → GotPage g x words′ bytes′
@@ -114,7 +114,7 @@ module _ (before : Store) (r : Record) where
         let depth = depth-of-empty before r S sound x (got .word) in
         let change = changed-empty before S sound r f new room g (got .within) bytes′ (got .others)
         (rw depth (got .word)) (got .free) (got .shows) words′ (rw depth (got .filled)) in
-        showsNext-of-region before S S′ (before .state .depth) (before .state .tally) m′ p₀ y sound change
+        showsNext-of-region before S S′ (before .state .deepest) (before .state .tally) m′ p₀ y sound change
         (sound-of-room before S sound r f new room m′ change (past .words-length) (past .bytes-length))
 
     pub showsNext-divided : (g h x m T′ : ℕ) (tally′ : Tally) (words₁ words′ bytes′ : List ℕ)

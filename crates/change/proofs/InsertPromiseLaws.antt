@@ -139,7 +139,7 @@ module _ (before : Store) (values : List ℕ) (content : Content) where
         → KeepsOthers false before values (store (before .state) (before .memory .words) bytes′)
         → InsertPromise before values content (accepted changed) (store (before .state) (before .memory .words) bytes′)
     insert-taken g x bytes′ took past others =
-        accept (before .state .depth) (before .state .tally) (memory (before .memory .words) bytes′) past others
+        accept (before .state .deepest) (before .state .tally) (memory (before .memory .words) bytes′) past others
         (λ S sound. let k = took S sound in
         number-page before values content fits S sound g x (k .meets) (k .absent) (k .room))
         (λ S sound. let k = took S sound in
@@ -152,7 +152,7 @@ module _ (before : Store) (values : List ℕ) (content : Content) where
         → KeepsOthers false before values (store (before .state) words′ bytes′)
         → InsertPromise before values content (accepted changed) (store (before .state) words′ bytes′)
     insert-got g x words′ bytes′ got past others =
-        accept (before .state .depth) (before .state .tally) (memory words′ bytes′) past others
+        accept (before .state .deepest) (before .state .tally) (memory words′ bytes′) past others
         (λ S sound. let k = got S sound in
         number-empty-free before values content fits S sound x (k .word) g (k .within) (k .free))
         (λ S sound. let k = got S sound in

@@ -27,7 +27,7 @@ use Rattle.shape.proofs.ShapeLaws.{capacity-bounds}
 use Rattle.model.proofs.InsertRefusalLaws.{absent-of-new, differing-bounds}
 use Rattle.store.specs.Sound.{tallies}
 use Rattle.store.proofs.AgreeLaws.{sameBits-of-Agree, Agree-of-sameBits}
-use Rattle.change.specs.Private.{Leaves, dividedTally}
+use Rattle.change.specs.Divided.{Leaves, dividedTally}
 use Rattle.change.proofs.SharedLaws.{insert-shared, halfWith, side-insert}
 use Rattle.change.proofs.ChainLaws.{dividedAlong-sibling, dividedAlong-end}
 use Rattle.change.proofs.TallyLaws.{TalliedBelow, tally-leafDepth, tallies-same, tallies-divided}

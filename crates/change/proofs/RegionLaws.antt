@@ -32,7 +32,7 @@ abbrev pub changedStore : Store → ℕ → Tally → Memory → Store
 changedStore before T′ tally′ m′ =
     record {
       state =
-          record { shape = before .state .shape; limits = before .state .limits; depth = T′; tally = tally′ };
+          record { shape = before .state .shape; limits = before .state .limits; deepest = T′; tally = tally′ };
       memory = m′;
     }
 
@@ -124,7 +124,7 @@ module _ (before : Store) (S S′ : List Record) (T′ : ℕ) (m′ : Memory) (p
     apart : (p q : ℕ → Bool) → Inside p → (Inside q → ⊥) → (g y z : ℕ) → g < P → wordOn before p ≡ wordOf (Page g y)
         → wordOn before q ≡ wordOf (Page g z) → ⊥
     apart p q i o g y z l e d =
-        let a = agree-of-page s P (before .state .depth) (before .memory) S (sound .most-pages) (sound .shown .word)
+        let a = agree-of-page s P (before .state .deepest) (before .memory) S (sound .most-pages) (sound .shown .word)
         p q g y z (omega (arith, sound .most-pages)) e d in
         o (λ j k. i j k ∙ Agree-le p q x (leafDepth p 0 D) (change .leaves-before p i) a j k)
 

@@ -55,7 +55,7 @@ module _ (before : Store) (S : List Record) (sound : Sound before S) (r : Record
   P = before .state .limits .pages
 
   abbrev T : ℕ
-  T = before .state .depth
+  T = before .state .deepest
 
   abbrev D : Division Record
   D = divisionOn before S

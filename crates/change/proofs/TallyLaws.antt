@@ -19,7 +19,7 @@ use Rattle.region.proofs.DivideLaws.{dividedAt, dividedAlong}
 use Rattle.region.proofs.CountLaws.{tallyBelow}
 use Rattle.record.specs.Record.{Record}
 use Rattle.store.specs.Sound.{tallies}
-use Rattle.change.specs.Private.{dividedOnce, dividedTally}
+use Rattle.change.specs.Divided.{dividedOnce, dividedTally}
 
 -- one at i if it is x
 abbrev at : ℕ → ℕ → ℕ

@@ -50,7 +50,7 @@ module _ (before : Store) (key : List ℕ) where
 
   -- the word of a string; count and records of page g, and its records in other bytes
   abbrev wordBefore : (ℕ → Bool) → ℕ
-  wordBefore q = wordAt (before .state .shape) (before .state .depth) (before .memory .words) q
+  wordBefore q = wordAt (before .state .shape) (before .state .deepest) (before .memory .words) q
 
   abbrev countBefore : ℕ → ℕ
   countBefore g = countOf (pageAt (before .state .shape .capacity) (before .memory .bytes) g)
@@ -76,7 +76,7 @@ module _ (before : Store) (key : List ℕ) where
     -- "A leaf is empty or has one page"
     pub some-left : nonEmpty (recordsIn (after .bytes) g) ≡ true → after .words ≡ before .memory .words
     pub none-left : nonEmpty (recordsIn (after .bytes) g) ≡ false
-        → Filled (widthsOf (before .state .shape)) (before .state .depth) x keyString (wordOf (Empty x))
+        → Filled (widthsOf (before .state .shape)) (before .state .deepest) x keyString (wordOf (Empty x))
         (before .memory .words) (after .words)
 
   -- the key's leaf and its sibling have the pages g and h and depth m + 1, and both fit one page without the record;
@@ -102,6 +102,6 @@ module _ (before : Store) (key : List ℕ) where
     pub others : (i : ℕ) → i < before .state .limits .pages → (i ≡ g → ⊥) → (i ≡ h → ⊥)
         → recordsIn (after .bytes) i ≡ recordsIn (before .memory .bytes) i
     pub tally : tally′ .leaves ≡ joinedTally y (suc m - y) (before .state .tally .leaves)
-    pub depth : T′ ≡ tallyDepth (before .state .depth) (tally′ .leaves)
+    pub depth : T′ ≡ tallyDepth (before .state .deepest) (tally′ .leaves)
     pub filled : Filled (widthsOf (before .state .shape)) T′ y keyString (wordOf (Page kept y)) (before .memory .words)
         (after .words)

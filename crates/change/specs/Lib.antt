@@ -1,2 +1,2 @@
 pub mod Delete
-pub mod Private
+pub mod Divided

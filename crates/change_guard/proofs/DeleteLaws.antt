@@ -53,12 +53,12 @@ module _ (st : State) (words values : List ℕ) where
     deleteTold-many n = record { yes = λ e one. absurd (n one); no = λ e. absurd (false≢true (sym e)) }
 
     pub deleteTold-one : (word : ℕ) (held : Bool) → word ≡ wordOf (Page (r .page) (r .depth))
-        → RegionTold (widthsOf (st .shape)) (st .depth) (r .depth) (splitBit (widthsOf (st .shape)) values) word words
+        → RegionTold (widthsOf (st .shape)) (st .deepest) (r .depth) (splitBit (widthsOf (st .shape)) values) word words
         held
         → DeleteTold st words values (plan.Keep r) held
     deleteTold-one word held named told =
         let x = r .depth in
-        let by = subst (λ w. RegionTold (widthsOf (st .shape)) (st .depth) x (splitBit (widthsOf (st .shape)) values) w
+        let by = subst (λ w. RegionTold (widthsOf (st .shape)) (st .deepest) x (splitBit (widthsOf (st .shape)) values) w
         words held) named told in
         record {
           yes = λ e one. by .yes e;

@@ -18,11 +18,11 @@ use Rattle.store.specs.Store.{store}
 use Rattle.store.specs.Sound.{Sound}
 use Rattle.store.specs.declared.State.{State}
 use Rattle.store.proofs.ShownLaws.{wordOn}
-use Rattle.insert_plan.specs.Private.{Asked}
+use Rattle.insert_plan.specs.Plan.{InsertAsked}
 use Rattle.insert_plan.specs.declared.Split.{Split}
 use Rattle.insert_plan.specs.declared.Cut.{Cut}
 use Rattle.insert_plan.specs.declared.Plan.the-variants.{Refused, Take, Get, Divide}
-use Rattle.delete_plan.specs.Private.{DirectoryLent}
+use Rattle.delete_plan.specs.Siblings.{DirectoryLent}
 use Rattle.directory_tests.specs.Intact.{RegionTold}
 use Rattle.store.specs.Contained.{depthNamed}
 use Rattle.change_kept.proofs.SoundLaws.{region-passes, sound-leaf}
@@ -30,17 +30,17 @@ use Rattle.change_guard.specs.Guard.{InsertTold}
 
 -- a test of the key's region of x bits by the word that it has fails on no sound store
 pub leaf-told : (st : State) (words values : List ℕ) (x word : ℕ) (held : Bool)
-    → RegionTold (widthsOf (st .shape)) (st .depth) x (splitBit (widthsOf (st .shape)) values) word words held
+    → RegionTold (widthsOf (st .shape)) (st .deepest) x (splitBit (widthsOf (st .shape)) values) word words held
     → held ≡ false → (bytes : List ℕ) → wordOn (store st words bytes) (splitBit (widthsOf (st .shape)) values) ≡ word
     → depthNamed word ≡ x → (S : List Record) → Sound (store st words bytes) S → ⊥
 leaf-told st words values x word held told e bytes own depth S sound =
     false≢true
     (sym e
-    ∙ region-passes (widthsOf (st .shape)) (st .depth) x _ word words held
+    ∙ region-passes (widthsOf (st .shape)) (st .deepest) x _ word words held
     (sound-leaf (store st words bytes) S sound values x word own depth) told)
 
 module _ (st : State) (words values : List ℕ) where
-  pub lent-of-asked : (bytes : List ℕ) → Asked (store st words bytes) values → DirectoryLent st (length words)
+  pub lent-of-asked : (bytes : List ℕ) → InsertAsked (store st words bytes) values → DirectoryLent st (length words)
   lent-of-asked bytes a =
       record {
         shape = a .shape;
@@ -57,10 +57,10 @@ module _ (st : State) (words values : List ℕ) where
 
   module _ (word : ℕ) (held : Bool) where
     pub insertTold-get : (g x : ℕ) → word ≡ wordOf (Empty x)
-        → RegionTold (widthsOf (st .shape)) (st .depth) x (splitBit (widthsOf (st .shape)) values) word words held
+        → RegionTold (widthsOf (st .shape)) (st .deepest) x (splitBit (widthsOf (st .shape)) values) word words held
         → InsertTold st words values (Get g x) held
     insertTold-get g x named told =
-        let by = subst (λ w. RegionTold (widthsOf (st .shape)) (st .depth) x (splitBit (widthsOf (st .shape)) values) w
+        let by = subst (λ w. RegionTold (widthsOf (st .shape)) (st .deepest) x (splitBit (widthsOf (st .shape)) values) w
         words held) named told in
         record {
           yes = by .yes;
@@ -70,12 +70,12 @@ module _ (st : State) (words values : List ℕ) where
         }
 
     pub insertTold-divide : (split : Split) (cut : Cut) (free : ℕ) → word ≡ wordOf (Page (split .page) (split .depth))
-        → RegionTold (widthsOf (st .shape)) (st .depth) (split .depth) (splitBit (widthsOf (st .shape)) values) word
+        → RegionTold (widthsOf (st .shape)) (st .deepest) (split .depth) (splitBit (widthsOf (st .shape)) values) word
         words held
         → InsertTold st words values (Divide split cut free) held
     insertTold-divide split cut free named told =
         let x = split .depth in
-        let by = subst (λ w. RegionTold (widthsOf (st .shape)) (st .depth) x (splitBit (widthsOf (st .shape)) values) w
+        let by = subst (λ w. RegionTold (widthsOf (st .shape)) (st .deepest) x (splitBit (widthsOf (st .shape)) values) w
         words held) named told in
         record {
           yes = by .yes;

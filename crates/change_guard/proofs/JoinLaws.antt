@@ -47,9 +47,9 @@ module _ (st : State) (words values : List ℕ) where
       }
 
       module _ (l : z < m) (word : ℕ) (named : word ≡ wordOf (Empty (z + 1))) (held : Bool)
-          (told : RegionTold ws (st .depth) (suc z) (sibling key z) word words held) where
-        by : RegionTold ws (st .depth) (suc z) (sibling key z) (wordOf (Empty (suc z))) words held
-        by = subst (λ w. RegionTold ws (st .depth) (suc z) (sibling key z) w words held)
+          (told : RegionTold ws (st .deepest) (suc z) (sibling key z) word words held) where
+        by : RegionTold ws (st .deepest) (suc z) (sibling key z) (wordOf (Empty (suc z))) words held
+        by = subst (λ w. RegionTold ws (st .deepest) (suc z) (sibling key z) w words held)
             (named ∙ ap (λ n. wordOf (Empty n)) (add-one z)) told
 
         pub emptyTo-suc : held ≡ true → EmptyTo m y (z + 1)
@@ -68,7 +68,7 @@ module _ (st : State) (words values : List ℕ) where
         pub emptiesTold-no : held ≡ false → EmptiesTold st words values m y false
         emptiesTold-no e = record {
           yes = λ f. absurd (false≢true f);
-          no = λ f all. false≢true (sym e ∙ region-passes ws (st .depth) (suc z) (sibling key z) _ words held
+          no = λ f all. false≢true (sym e ∙ region-passes ws (st .deepest) (suc z) (sibling key z) _ words held
               (all z (inv .from) l) by);
         }
 
@@ -79,28 +79,28 @@ module _ (st : State) (words values : List ℕ) where
     joinTold-fails n = record { yes = λ e. absurd (false≢true e); no = λ e. n }
 
     module _ (depth : r .depth ≡ suc (j .step)) (own : ℕ) (own-is : own ≡ wordOf (Page (r .page) (r .depth)))
-        (β : Bool) (own-told : RegionTold ws (st .depth) (r .depth) key own words β) where
-      own-by : RegionTold ws (st .depth) (suc (j .step)) key (wordOf (Page (r .page) (suc (j .step)))) words β
+        (β : Bool) (own-told : RegionTold ws (st .deepest) (r .depth) key own words β) where
+      own-by : RegionTold ws (st .deepest) (suc (j .step)) key (wordOf (Page (r .page) (suc (j .step)))) words β
       own-by =
-          subst (λ x. RegionTold ws (st .depth) x key (wordOf (Page (r .page) x)) words β) depth
-          (subst (λ w. RegionTold ws (st .depth) (r .depth) key w words β) own-is own-told)
+          subst (λ x. RegionTold ws (st .deepest) x key (wordOf (Page (r .page) x)) words β) depth
+          (subst (λ w. RegionTold ws (st .deepest) (r .depth) key w words β) own-is own-told)
 
       pub joinTold-own : β ≡ false → JoinTold st words values r j false
       joinTold-own e =
-          joinTold-fails (λ p. false≢true (sym e ∙ region-passes ws (st .depth) _ key _ words β (p .own) own-by))
+          joinTold-fails (λ p. false≢true (sym e ∙ region-passes ws (st .deepest) _ key _ words β (p .own) own-by))
 
       module _ (yes-own : β ≡ true) (other : ℕ) (other-is : other ≡ wordOf (Page (j .other) (r .depth))) (γ : Bool)
-          (other-told : RegionTold ws (st .depth) (suc (j .step)) (sibling key (j .step)) other words γ) where
-        other-by : RegionTold ws (st .depth) (suc (j .step)) (sibling key (j .step))
+          (other-told : RegionTold ws (st .deepest) (suc (j .step)) (sibling key (j .step)) other words γ) where
+        other-by : RegionTold ws (st .deepest) (suc (j .step)) (sibling key (j .step))
             (wordOf (Page (j .other) (suc (j .step)))) words γ
         other-by =
-            subst (λ w. RegionTold ws (st .depth) (suc (j .step)) (sibling key (j .step)) w words γ)
+            subst (λ w. RegionTold ws (st .deepest) (suc (j .step)) (sibling key (j .step)) w words γ)
             (other-is ∙ ap (λ x. wordOf (Page (j .other) x)) depth) other-told
 
         pub joinTold-other : γ ≡ false → JoinTold st words values r j false
         joinTold-other e =
             joinTold-fails
-            (λ p. false≢true (sym e ∙ region-passes ws (st .depth) _ (sibling key (j .step)) _ words γ (p .other)
+            (λ p. false≢true (sym e ∙ region-passes ws (st .deepest) _ (sibling key (j .step)) _ words γ (p .other)
             other-by))
 
         module _ (yes-other : γ ≡ true) (δ : Bool)
@@ -109,9 +109,9 @@ module _ (st : State) (words values : List ℕ) where
           joinTold-empties e = joinTold-fails (λ p. empties .no e (p .empty))
 
           pub joinTold-folds : δ ≡ true → (T′ : ℕ) → T′ ≡ joinedDepth st j → (ε : Bool)
-              → FoldTold ws T′ (st .depth) key words ε → JoinTold st words values r j ε
+              → FoldTold ws T′ (st .deepest) key words ε → JoinTold st words values r j ε
           joinTold-folds e T′ d ε folds =
-              let by = subst (λ n. FoldTold ws n (st .depth) key words ε) d folds in
+              let by = subst (λ n. FoldTold ws n (st .deepest) key words ε) d folds in
               record {
                 yes = λ f.
                     record {

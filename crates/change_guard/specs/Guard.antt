@@ -15,7 +15,7 @@ use Rattle.model.specs.Sets.{stored}
 use Rattle.store.specs.Store.{store}
 use Rattle.store.specs.Sound.{Sound}
 use Rattle.store.specs.declared.State.{State}
-use Rattle.insert_plan.specs.Private as insert
+use Rattle.insert_plan.specs.Plan as insert
 use Rattle.insert_plan.specs.declared.Plan as insert-plan
 use Rattle.insert_plan.specs.declared.Plan.the-variants as insert-plans
 use Rattle.delete_plan.specs.Plan as delete
@@ -32,7 +32,7 @@ module _ (st : State) (words values : List ℕ) where
   -- the plan was made on a store with these words
   pub record InsertMet (plan : insert-plan.Plan) : Type 0 where
     pub bytes : List ℕ
-    pub planned : insert.Planned (store st words bytes) values plan
+    pub planned : insert.InsertPlanned (store st words bytes) values plan
 
   -- what the steps of a plan need
   abbrev pub InsertGuarded : insert-plan.Plan → Type 0
@@ -45,7 +45,7 @@ module _ (st : State) (words values : List ℕ) where
   -- where a test fails, no sound store has these words and this plan
   pub record InsertTold (plan : insert-plan.Plan) (held : Bool) : Type 0 where
     pub yes : held ≡ true → InsertGuarded plan
-    pub no : held ≡ false → (bytes : List ℕ) → insert.Planned (store st words bytes) values plan
+    pub no : held ≡ false → (bytes : List ℕ) → insert.InsertPlanned (store st words bytes) values plan
         → (S : List Record) → Sound (store st words bytes) S → ⊥
 
   -- ---- delete
@@ -64,7 +64,7 @@ module _ (st : State) (words values : List ℕ) where
   -- where a test fails, no sound store has these words and this plan
   pub record DeleteTold (plan : delete-plan.Plan) (held : Bool) : Type 0 where
     pub yes : held ≡ true → DeleteGuarded plan
-    pub no : held ≡ false → (bytes : List ℕ) → delete.Planned (store st words bytes) values plan
+    pub no : held ≡ false → (bytes : List ℕ) → delete.DeletePlanned (store st words bytes) values plan
         → (S : List Record) → Sound (store st words bytes) S → KeyStored bytes S → ⊥
 
   -- of the two plans that an accepted delete has
@@ -86,7 +86,7 @@ module _ (st : State) (words values : List ℕ) where
     pub own : LeafTested st words values (suc (j .step)) (wordOf (Page (r .page) (suc (j .step))))
     pub other : SiblingTested st words values (j .step) (wordOf (Page (j .other) (suc (j .step))))
     pub empty : (z : ℕ) → j .top ≤ z → z < j .step → SiblingTested st words values z (wordOf (Empty (suc z)))
-    pub folds : (n : ℕ) → joinedDepth st j ≤ n → n < st .depth → (q : ℕ → Bool)
+    pub folds : (n : ℕ) → joinedDepth st j ≤ n → n < st .deepest → (q : ℕ → Bool)
         → (Agree n (splitBit (widthsOf (st .shape)) values) q → ⊥)
         → cellWord (widthsOf (st .shape)) (suc n) words q ≡ cellWord (widthsOf (st .shape)) n words q
 

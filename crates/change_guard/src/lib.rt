@@ -17,8 +17,8 @@ ghost use lib.ListN.{length};
 ghost use Rattle.shape.specs.Shape.{widthsOf};
 ghost use Rattle.split.specs.Bits.{splitBit};
 ghost use Rattle.region.specs.Strings.{sibling};
-ghost use Rattle.delete_plan.specs.Private.{DirectoryLent};
-ghost use Rattle.delete_steps.specs.Private.{LeavesLent};
+ghost use Rattle.delete_plan.specs.Siblings.{DirectoryLent};
+ghost use Rattle.delete_steps.specs.Steps.{LeavesLent};
 ghost use Rattle.directory_tests.specs.Intact.{RegionTold, FoldTold};
 ghost use Rattle.change_kept.specs.Tested.{joinedDepth};
 ghost use Rattle.change_guard.specs.Guard.{InsertMet, InsertTold, RemovalTold, JoiningTold, EmptiesTold};
@@ -48,7 +48,7 @@ pub fn insert_keeps(state: State, dir: &[u32], values: [u32; 4], plan: insert_pl
 // Whether the leaf of a delete's key is whole, where it stays and its only record is removed. It
 // hands on the widths alone: a call that takes the state would cost a leaf with more records a copy.
 pub fn removal_keeps(state: State, dir: &[u32], values: [u32; 4], found: Stored) -> bool
-    requires { ⌜ DirectoryLent state (length (now dir)) × (found .depth ≤ state .depth) × (found .page < 65535) ⌝ }
+    requires { ⌜ DirectoryLent state (length (now dir)) × (found .depth ≤ state .deepest) × (found .page < 65535) ⌝ }
     ensures { λ r. ⌜ RemovalTold state (now (dir .entry)) values found r ⌝ }
 {
     if found.count != 1 {
@@ -60,7 +60,7 @@ pub fn removal_keeps(state: State, dir: &[u32], values: [u32; 4], found: Stored)
         widths,
         values,
         found.depth as u64,
-        state.depth as u64,
+        state.deepest as u64,
         word,
         dir,
     )
@@ -88,37 +88,37 @@ pub fn join_keeps(state: State, dir: &[u32], values: [u32; 4], found: Stored, jo
 
 // T after a join.
 fn joined_depth(state: State, found: Stored, join: Join) -> u32
-    requires { ⌜ (state .depth ≤ 12) × LeavesLent state found join ⌝ }
-    ensures { λ r. ⌜ (r ≡ joinedDepth state join) × (r ≤ state .depth) ⌝ }
+    requires { ⌜ (state .deepest ≤ 12) × LeavesLent state found join ⌝ }
+    ensures { λ r. ⌜ (r ≡ joinedDepth state join) × (r ≤ state .deepest) ⌝ }
 {
     let levels = found.depth - join.top;
     let tally = tally::join(state.tally, join.top as usize, levels as usize);
-    greatest_depth(tally, state.depth as usize) as u32
+    greatest_depth(tally, state.deepest as usize) as u32
 }
 
 // Whether every cell of a key's region of x bits holds a word.
 fn leaf_whole(state: State, dir: &[u32], values: [u32; 4], x: u32, word: u32) -> bool
-    requires { ⌜ DirectoryLent state (length (now dir)) × (x ≤ state .depth) ⌝ }
-    ensures { λ r. ⌜ RegionTold (widthsOf (state .shape)) (state .depth) x
+    requires { ⌜ DirectoryLent state (length (now dir)) × (x ≤ state .deepest) ⌝ }
+    ensures { λ r. ⌜ RegionTold (widthsOf (state .shape)) (state .deepest) x
         (splitBit (widthsOf (state .shape)) values) word (now (dir .entry)) r ⌝ }
 {
     let widths = widths_of(state.shape);
-    region_holds(widths, values, x as u64, state.depth as u64, word, dir)
+    region_holds(widths, values, x as u64, state.deepest as u64, word, dir)
 }
 
 // The same for the sibling of its region of z + 1 bits.
 fn sibling_whole(state: State, dir: &[u32], values: [u32; 4], z: u32, word: u32) -> bool
-    requires { ⌜ DirectoryLent state (length (now dir)) × (z < state .depth) ⌝ }
-    ensures { λ r. ⌜ RegionTold (widthsOf (state .shape)) (state .depth) (suc z)
+    requires { ⌜ DirectoryLent state (length (now dir)) × (z < state .deepest) ⌝ }
+    ensures { λ r. ⌜ RegionTold (widthsOf (state .shape)) (state .deepest) (suc z)
         (sibling (splitBit (widthsOf (state .shape)) values) z) word (now (dir .entry)) r ⌝ }
 {
     let widths = widths_of(state.shape);
-    sibling_holds(widths, values, z as u64, state.depth as u64, word, dir)
+    sibling_holds(widths, values, z as u64, state.deepest as u64, word, dir)
 }
 
 // Whether the siblings of its regions of depths y + 1 to m are empty leaves.
 fn empties_whole(state: State, dir: &[u32], values: [u32; 4], m: u32, y: u32) -> bool
-    requires { ⌜ DirectoryLent state (length (now dir)) × (m < state .depth) × (y ≤ m) ⌝ }
+    requires { ⌜ DirectoryLent state (length (now dir)) × (m < state .deepest) × (y ≤ m) ⌝ }
     ensures { λ r. ⌜ EmptiesTold state (now (dir .entry)) values m y r ⌝ }
 {
     let mut z = y;
@@ -134,10 +134,10 @@ fn empties_whole(state: State, dir: &[u32], values: [u32; 4], m: u32, y: u32) ->
 
 // Whether a directory of depth u has the words of all strings outside its region of u bits.
 fn halving_whole(state: State, dir: &[u32], values: [u32; 4], u: u32) -> bool
-    requires { ⌜ DirectoryLent state (length (now dir)) × (u ≤ state .depth) ⌝ }
-    ensures { λ r. ⌜ FoldTold (widthsOf (state .shape)) u (state .depth)
+    requires { ⌜ DirectoryLent state (length (now dir)) × (u ≤ state .deepest) ⌝ }
+    ensures { λ r. ⌜ FoldTold (widthsOf (state .shape)) u (state .deepest)
         (splitBit (widthsOf (state .shape)) values) (now (dir .entry)) r ⌝ }
 {
     let widths = widths_of(state.shape);
-    folds(widths, values, u as u64, state.depth as u64, dir)
+    folds(widths, values, u as u64, state.deepest as u64, dir)
 }

@@ -27,14 +27,14 @@ use Rattle.change.specs.Delete.{keyString}
 use Rattle.refusals.proofs.LimitsLaws.{limits-parts}
 use Rattle.insert_plan.specs.declared.Split.{Split}
 use Rattle.insert_plan.specs.declared.Cut.{Cut}
-use Rattle.insert_plan.specs.Private.{TakePlanned, GetPlanned, DividePlanned}
-use Rattle.insert_steps.specs.Private.{insertedPages, CutFits, dividedPages, WordsDivided}
+use Rattle.insert_plan.specs.Plan.{TakePlanned, GetPlanned, DividePlanned}
+use Rattle.insert_steps.specs.Steps.{insertedPages, CutFits, dividedPages, WordsDivided}
 use Rattle.insert_steps.proofs.InsertedLaws.{pageAt-insertedPages-other}
 use Rattle.delete_plan.specs.declared.Stored.{Stored}
 use Rattle.delete_plan.specs.declared.Join.{Join}
 use Rattle.delete_plan.specs.Plan.{RecordFound, JoinPlanned}
 use Rattle.delete_steps.specs.PageBytes.{removedBytes, keptPage, joinedBytes}
-use Rattle.delete_steps.specs.Private.{RecordLent, PairLent, LeavesLent, LeafWords, JoinWords}
+use Rattle.delete_steps.specs.Steps.{RecordLent, PairLent, LeavesLent, LeafWords, JoinWords}
 use Rattle.delete_steps.proofs.PageLaws.{pageAt-removedBytes-other, pageAt-joinedBytes-other}
 use Rattle.delete_steps.proofs.StepLaws.{keptPage-lt}
 use Rattle.change_kept.specs.Tested.{LeafTested, JoinTested}
@@ -88,7 +88,7 @@ module _ (before : Store) (values : List ℕ) where
     -- an empty leaf gets a page
     pub contained-got : (g x : ℕ) → GetPlanned before values g x → PageLent b g bytes × (0 ≤ 0) × (0 < b)
         → LeafTested st words values x (wordOf (Empty x)) → (words′ : List ℕ)
-        → Filled (widthsOf s) (st .depth) x key (wordOf (Page g x)) words words′ → (bytes′ : List ℕ)
+        → Filled (widthsOf s) (st .deepest) x key (wordOf (Page g x)) words words′ → (bytes′ : List ℕ)
         → bytes′ ≡ insertedPages b g 0 0 (packedBytes code content) bytes
         → Contained false before (store st words′ bytes′) key
     contained-got g x planned lent tested words′ f bytes′ e = record {
@@ -122,13 +122,13 @@ module _ (before : Store) (values : List ℕ) where
         m : ℕ
         m = split .step
 
-        met-own : wordAt s (st .depth) words key ≡ wordOf (Page (split .page) (split .depth))
+        met-own : wordAt s (st .deepest) words key ≡ wordOf (Page (split .page) (split .depth))
         met-own = planned .met .ends-met .met .own
 
         few : split .page < 2 ^ 16 - 1
         few = omega (arith, planned .met .ends-met .met .within, planned .asked .pages-lent .few)
 
-        depth : depthNamed (wordAt s (st .depth) words key) ≡ split .depth
+        depth : depthNamed (wordAt s (st .deepest) words key) ≡ split .depth
         depth = ap depthNamed met-own ∙ wordOf-depth (split .page) (split .depth) few
 
         upper : ℕ → Bool
@@ -137,12 +137,12 @@ module _ (before : Store) (values : List ℕ) where
         near-step : (i : ℕ) → i < m → key i ≡ upper i
         near-step i l = sym (agree-withBit key m true i l)
 
-        near : (i : ℕ) → i < depthNamed (wordAt s (st .depth) words key) → key i ≡ upper i
+        near : (i : ℕ) → i < depthNamed (wordAt s (st .deepest) words key) → key i ≡ upper i
         near i l = near-step i (omega (arith, depth, planned .met .below))
 
-        named : wordAt (st′ .shape) (st′ .depth) words′ upper ≡ wordOf (Page free (suc m))
+        named : wordAt (st′ .shape) (st′ .deepest) words′ upper ≡ wordOf (Page free (suc m))
         named =
-            ap (λ t. wordAt (t .shape) (st′ .depth) words′ upper) (w .state)
+            ap (λ t. wordAt (t .shape) (st′ .deepest) words′ upper) (w .state)
             ∙ w .leaves .half upper near-step
             ∙ ap (λ β. wordOf (Page (cond β free (split .page)) (suc m))) (withBit-here key m true)
 
@@ -191,7 +191,7 @@ module _ (before : Store) (values : List ℕ) where
         beside : ℕ → Bool
         beside = sibling key m
 
-        beside-word : wordAt s (st .depth) words beside ≡ wordOf (Page (j .other) (suc m))
+        beside-word : wordAt s (st .deepest) words beside ≡ wordOf (Page (j .other) (suc m))
         beside-word = tested .other beside (λ i l. refl)
 
         kept : ℕ
@@ -203,21 +203,21 @@ module _ (before : Store) (values : List ℕ) where
             (planned .met .other-within) in
             omega (arith, l, few)
 
-        top : depthNamed (wordAt (st′ .shape) (st′ .depth) words′ key) ≡ j .top
+        top : depthNamed (wordAt (st′ .shape) (st′ .deepest) words′ key) ≡ j .top
         top =
-            ap (λ t. depthNamed (wordAt (t .shape) (st′ .depth) words′ key)) (w .state)
+            ap (λ t. depthNamed (wordAt (t .shape) (st′ .deepest) words′ key)) (w .state)
             ∙ ap depthNamed (w .new-leaf .inside key (λ i l. refl))
             ∙ wordOf-depth kept (j .top) kept-lt
 
-        one-leaf : Whole (wordAt (st′ .shape) (st′ .depth) words′) key
+        one-leaf : Whole (wordAt (st′ .shape) (st′ .deepest) words′) key
         one-leaf =
-            subst (λ v. Whole (wordAt v (st′ .depth) words′) key) (sym (ap (λ t. t .shape) (w .state)))
-            (filled-whole (widthsOf s) (st .depth) key words (st′ .depth) (j .top) kept kept-lt words′ (w .new-leaf))
+            subst (λ v. Whole (wordAt v (st′ .deepest) words′) key) (sym (ap (λ t. t .shape) (w .state)))
+            (filled-whole (widthsOf s) (st .deepest) key words (st′ .deepest) (j .top) kept kept-lt words′ (w .new-leaf))
 
-        joined : Whole (wordAt s (st .depth) words) beside
-            × JoinedWith true (wordAt s (st .depth) words) (wordAt (st′ .shape) (st′ .depth) words′) key beside
+        joined : Whole (wordAt s (st .deepest) words) beside
+            × JoinedWith true (wordAt s (st .deepest) words) (wordAt (st′ .shape) (st′ .deepest) words′) key beside
         joined =
-            sibling-joined (wordAt s (st .depth) words) (wordAt (st′ .shape) (st′ .depth) words′) key m
+            sibling-joined (wordAt s (st .deepest) words) (wordAt (st′ .shape) (st′ .deepest) words′) key m
             (joined-siblings before values r found j planned tested m (planned .met .above) (le-refl m))
             (omega (arith, depth-is before values r found, planned .depth-step))
             (omega (arith, top, planned .met .above)) one-leaf beside (leaves-sibling key m)

@@ -10,7 +10,7 @@ use Rattle.page.specs.Page.{countOf, pageAt}
 use Rattle.store.specs.Store.{Store}
 use Rattle.store.specs.Contained.{depthNamed, Names, Whole, JoinedWith, GivesWay, Written, Contained}
 use Rattle.store.proofs.ShownLaws.{wordOn}
-use Rattle.change.specs.Private.{Leaves}
+use Rattle.change.specs.Divided.{Leaves}
 use Rattle.change.proofs.ChainLaws.{agree-of-leaves}
 use Rattle.change_kept.proofs.WordLaws.{leaves-sibling}
 

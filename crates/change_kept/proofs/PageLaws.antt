@@ -14,7 +14,7 @@ use Rattle.pages.proofs.CarryLaws.{pageAt-carriedPages-other}
 use Rattle.store.specs.Store.{Store}
 use Rattle.store.specs.Contained.{Written, BytesKept}
 use Rattle.insert_plan.specs.declared.Cut.{Cut}
-use Rattle.insert_steps.specs.Private.{CutFits, dividedPages}
+use Rattle.insert_steps.specs.Steps.{CutFits, dividedPages}
 use Rattle.insert_steps.proofs.InsertedLaws.{pageAt-insertedPages-other}
 use Rattle.insert_steps.proofs.StepLaws.{lent-carried}
 

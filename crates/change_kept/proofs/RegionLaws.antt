@@ -10,7 +10,7 @@ use Rattle.directory_word.specs.Word.{wordOf}
 use Rattle.directory_word.specs.declared.Leaf.the-variants.{Page}
 use Rattle.directory_word.proofs.WordLaws.{wordOf-depth}
 use Rattle.store.specs.Contained.{depthNamed, Whole, WordsKept}
-use Rattle.change.specs.Private.{Deepened, LeavesSet}
+use Rattle.change.specs.Divided.{Deepened, LeavesSet}
 use Rattle.directory_tests.specs.Intact.{cellWord, RegionHolds, Folds}
 use Rattle.change_kept.proofs.WordLaws.{whole-of-holds, SiblingLeaf, kept-leaf, kept-joined}
 

@@ -19,7 +19,7 @@ use Rattle.store.specs.Contained.{depthNamed}
 use Rattle.store.specs.Sound.{Sound}
 use Rattle.store.proofs.AgreeLaws.{agree-or-not, leafDepth-agree}
 use Rattle.store.proofs.ShownLaws.{wordOn, divisionOn, wordOn-depth, shape-of-Sound}
-use Rattle.change.specs.Private.{Leaves}
+use Rattle.change.specs.Divided.{Leaves}
 use Rattle.change.specs.Delete.{keyString, AtSibling, JoinFound, joinedTally, tallyDepth}
 use Rattle.change.proofs.ChainLaws.{agree-or-leaves, agree-of-leaves}
 use Rattle.change.proofs.DeleteWordLaws.{wordAt-halved}
@@ -42,7 +42,7 @@ module _ (before : Store) (S : List Record) (sound : Sound before S) where
   s = before .state .shape
 
   abbrev T : ℕ
-  T = before .state .depth
+  T = before .state .deepest
 
   abbrev D : Division Record
   D = divisionOn before S

@@ -21,13 +21,13 @@ use Rattle.change.specs.Delete.{keyString, tallyDepth}
 use Rattle.refusals.proofs.LimitsLaws.{limits-parts}
 use Rattle.insert_plan.specs.declared.Split.{Split}
 use Rattle.insert_plan.specs.declared.Cut.{Cut}
-use Rattle.insert_plan.specs.Private.{GetPlanned, DividePlanned}
-use Rattle.insert_steps.specs.Private.{WordsDivided}
+use Rattle.insert_plan.specs.Plan.{GetPlanned, DividePlanned}
+use Rattle.insert_steps.specs.Steps.{WordsDivided}
 use Rattle.delete_plan.specs.declared.Stored.{Stored}
 use Rattle.delete_plan.specs.declared.Join.{Join}
 use Rattle.delete_plan.specs.Plan.{RecordFound, JoinPlanned}
 use Rattle.delete_steps.specs.PageBytes.{keptPage}
-use Rattle.delete_steps.specs.Private.{LeavesLent, LeafWords, JoinWords}
+use Rattle.delete_steps.specs.Steps.{LeavesLent, LeafWords, JoinWords}
 use Rattle.delete_steps.proofs.StepLaws.{top-le, keptPage-lt}
 use Rattle.directory_tests.specs.Intact.{cellWord, RegionHolds, Folds}
 use Rattle.change_kept.specs.Tested.{joinedDepth, LeafTested, JoinTested}
@@ -48,24 +48,24 @@ module _ (before : Store) (values : List ℕ) where
   key = keyString before values
 
   abbrev own : ℕ
-  own = wordAt s (st .depth) words key
+  own = wordAt s (st .deepest) words key
 
   -- the words outside the leaves that give way are kept in a state and words then
   abbrev pub KeptIn : Bool → State → List ℕ → Type 0
-  KeptIn joins st′ words′ = WordsKept joins (wordAt s (st .depth) words) (wordAt (st′ .shape) (st′ .depth) words′) key
+  KeptIn joins st′ words′ = WordsKept joins (wordAt s (st .deepest) words) (wordAt (st′ .shape) (st′ .deepest) words′) key
 
   -- a test of the word that is the key's
   tested : (x word : ℕ) → own ≡ word → LeafTested st words values x word
-      → RegionHolds (widthsOf s) (st .depth) x key own words
-  tested x word e h = subst (λ w. RegionHolds (widthsOf s) (st .depth) x key w words) (sym e) h
+      → RegionHolds (widthsOf s) (st .deepest) x key own words
+  tested x word e h = subst (λ w. RegionHolds (widthsOf s) (st .deepest) x key w words) (sym e) h
 
   -- the shape is kept
   with-shape : (joins : Bool) (st′ : State) (words′ : List ℕ)
-      → st′ ≡ record { shape = s; limits = st .limits; depth = st′ .depth; tally = st′ .tally }
-      → WordsKept joins (cellWord (widthsOf s) (st .depth) words) (cellWord (widthsOf s) (st′ .depth) words′) key
+      → st′ ≡ record { shape = s; limits = st .limits; deepest = st′ .deepest; tally = st′ .tally }
+      → WordsKept joins (cellWord (widthsOf s) (st .deepest) words) (cellWord (widthsOf s) (st′ .deepest) words′) key
       → KeptIn joins st′ words′
   with-shape joins st′ words′ e k =
-      subst (λ v. WordsKept joins (wordAt s (st .depth) words) (wordAt v (st′ .depth) words′) key)
+      subst (λ v. WordsKept joins (wordAt s (st .deepest) words) (wordAt v (st′ .deepest) words′) key)
       (sym (ap (λ t. t .shape) e)) k
 
   -- ---- insert
@@ -73,15 +73,15 @@ module _ (before : Store) (values : List ℕ) where
   -- a page takes the record: no word changes. Delete: a record is removed from a page that has others
   pub same-kept : (joins : Bool) (words′ : List ℕ) → words′ ≡ words → KeptIn joins st words′
   same-kept joins words′ e =
-      kept-same (wordAt s (st .depth) words) (wordAt s (st .depth) words′) key joins
-      (λ p. ap (λ w. wordAt s (st .depth) w p) e)
+      kept-same (wordAt s (st .deepest) words) (wordAt s (st .deepest) words′) key joins
+      (λ p. ap (λ w. wordAt s (st .deepest) w p) e)
 
   -- an empty leaf gets a page
   pub get-kept : (g x word : ℕ) (words′ : List ℕ) → GetPlanned before values g x
-      → LeafTested st words values x (wordOf (Empty x)) → Filled (widthsOf s) (st .depth) x key word words words′
+      → LeafTested st words values x (wordOf (Empty x)) → Filled (widthsOf s) (st .deepest) x key word words words′
       → KeptIn false st words′
   get-kept g x word words′ planned h f =
-      filled-kept (widthsOf s) (st .depth) key words x (ap depthNamed (planned .own) ∙ wordOf-depth-empty x)
+      filled-kept (widthsOf s) (st .deepest) key words x (ap depthNamed (planned .own) ∙ wordOf-depth-empty x)
       (tested x _ (planned .own) h) false word words′ f
 
   -- a full leaf is divided
@@ -94,9 +94,9 @@ module _ (before : Store) (values : List ℕ) where
       let x = split .depth in
       let few : split .page < 2 ^ 16 - 1 = omega (arith, met .within, planned .asked .pages-lent .few) in
       with-shape false st′ words′ (w .state)
-      (divided-kept (widthsOf s) (st .depth) key words x
+      (divided-kept (widthsOf s) (st .deepest) key words x
       (ap depthNamed (met .own) ∙ wordOf-depth (split .page) x few) (tested x _ (met .own) h)
-      (st′ .depth) (split .step) (split .page) free (w .doubled) words′ (w .deepened) (w .leaves))
+      (st′ .deepest) (split .step) (split .page) free (w .doubled) words′ (w .deepened) (w .leaves))
 
   -- ---- delete
 
@@ -104,7 +104,7 @@ module _ (before : Store) (values : List ℕ) where
     few : st .limits .pages ≤ 4096
     few = limits-parts st (found .leaf .limits) .1
 
-    short : st .depth ≤ 12
+    short : st .deepest ≤ 12
     short = let l = limits-parts st (found .leaf .limits) in le-trans (l .4) (l .2)
 
     pub depth-is : depthNamed own ≡ r .depth
@@ -120,18 +120,18 @@ module _ (before : Store) (values : List ℕ) where
       where
         by-count : (r .count ≡ 1) ⊎ (r .count ≡ 1 → ⊥) → KeptIn true st words′
         by-count (inl e) =
-            filled-kept (widthsOf s) (st .depth) key words (r .depth) depth-is
+            filled-kept (widthsOf s) (st .deepest) key words (r .depth) depth-is
             (tested (r .depth) _ (found .leaf .own) (h e)) true (wordOf (Empty (r .depth))) words′ (w .emptied e)
         by-count (inr n) = same-kept true words′ (w .same n)
 
     -- the siblings that are joined with it: its own, and empty ones above
     pub joined-siblings : (j : Join) → JoinPlanned before values r j → JoinTested st words values r j → (z : ℕ)
-        → j .top ≤ z → z ≤ j .step → SiblingLeaf (wordAt s (st .depth) words) key z
+        → j .top ≤ z → z ≤ j .step → SiblingLeaf (wordAt s (st .deepest) words) key z
     joined-siblings j planned h z l b = by-depth (eq-or-ne z (j .step))
       where
-        by-depth : (z ≡ j .step) ⊎ (z ≡ j .step → ⊥) → SiblingLeaf (wordAt s (st .depth) words) key z
+        by-depth : (z ≡ j .step) ⊎ (z ≡ j .step → ⊥) → SiblingLeaf (wordAt s (st .deepest) words) key z
         by-depth (inl e) =
-            subst (SiblingLeaf (wordAt s (st .depth) words) key) (sym e) (record {
+            subst (SiblingLeaf (wordAt s (st .deepest) words) key) (sym e) (record {
               word = wordOf (Page (j .other) (suc (j .step)));
               depth = wordOf-depth (j .other) (suc (j .step)) (omega (arith, planned .met .other-within, few));
               nearest-or-empty = inl (sym (depth-is ∙ planned .depth-step));
@@ -151,13 +151,13 @@ module _ (before : Store) (values : List ℕ) where
         let m = j .step in
         let y = j .top in
         let met = planned .met in
-        let depth : joinedDepth st j ≡ st′ .depth = sym (w .depth ∙ ap (tallyDepth (st .depth)) (w .tally)) in
-        let low : y ≤ st′ .depth = subst (λ n. y ≤ n) (sym (w .depth)) (top-le st r j lent short _ (w .tally)) in
+        let depth : joinedDepth st j ≡ st′ .deepest = sym (w .depth ∙ ap (tallyDepth (st .deepest)) (w .tally)) in
+        let low : y ≤ st′ .deepest = subst (λ n. y ≤ n) (sym (w .depth)) (top-le st r j lent short _ (w .tally)) in
         let page = keptPage-lt (j .bit) (r .page) (j .other) (st .limits .pages) (met .own-within)
         (met .other-within) in
         let within : keptPage (j .bit) (r .page) (j .other) < 2 ^ 16 - 1 = omega (arith, page, few) in
         with-shape true st′ words′ (w .state)
-        (joined-kept (widthsOf s) (st .depth) key words m y (st′ .depth) (keptPage (j .bit) (r .page) (j .other))
+        (joined-kept (widthsOf s) (st .deepest) key words m y (st′ .deepest) (keptPage (j .bit) (r .page) (j .other))
         (met .above) low (depth-is ∙ planned .depth-step) (tested (suc m) _ (met .own) (h .own))
         (joined-siblings j planned h) within
-        (subst (λ n. Folds (widthsOf s) n (st .depth) key words) depth (h .halved)) words′ (w .new-leaf))
+        (subst (λ n. Folds (widthsOf s) n (st .deepest) key words) depth (h .halved)) words′ (w .new-leaf))

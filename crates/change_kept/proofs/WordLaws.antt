@@ -12,7 +12,7 @@ use Rattle.directory_word.specs.Word.{wordOf}
 use Rattle.directory_word.specs.declared.Leaf.the-variants.{Empty}
 use Rattle.store.specs.Contained.{depthNamed, Whole, JoinedWith, GivesWay, WordsKept}
 use Rattle.store.proofs.AgreeLaws.{agree-or-not}
-use Rattle.change.specs.Private.{Leaves}
+use Rattle.change.specs.Divided.{Leaves}
 use Rattle.change.proofs.ChainLaws.{agree-or-leaves, agree-of-leaves}
 
 -- ---- strings

@@ -16,7 +16,7 @@ use Rattle.directory_tests.specs.Intact.{RegionHolds, Folds}
 
 -- T after a join
 abbrev pub joinedDepth : State → Join → ℕ
-joinedDepth st j = tallyDepth (st .depth) (joinedTally (j .top) (suc (j .step) - j .top) (st .tally .leaves))
+joinedDepth st j = tallyDepth (st .deepest) (joinedTally (j .top) (suc (j .step) - j .top) (st .tally .leaves))
 
 module _ (st : State) (words values : List ℕ) where
   abbrev ws : List ℕ
@@ -27,11 +27,11 @@ module _ (st : State) (words values : List ℕ) where
 
   -- every cell of the key's region of x bits holds the word
   abbrev pub LeafTested : ℕ → ℕ → Type 0
-  LeafTested x word = RegionHolds ws (st .depth) x key word words
+  LeafTested x word = RegionHolds ws (st .deepest) x key word words
 
   -- every cell of the other half of its region of z bits
   abbrev pub SiblingTested : ℕ → ℕ → Type 0
-  SiblingTested z word = RegionHolds ws (st .depth) (suc z) (sibling key z) word words
+  SiblingTested z word = RegionHolds ws (st .deepest) (suc z) (sibling key z) word words
 
   -- the key's leaf, its sibling and the empty siblings above are whole, and a directory of the new depth has every word
   -- outside the key's region
@@ -39,4 +39,4 @@ module _ (st : State) (words values : List ℕ) where
     pub own : LeafTested (suc (j .step)) (wordOf (Page (r .page) (suc (j .step))))
     pub other : SiblingTested (j .step) (wordOf (Page (j .other) (suc (j .step))))
     pub empty : (z : ℕ) → j .top ≤ z → z < j .step → SiblingTested z (wordOf (Empty (suc z)))
-    pub halved : Folds ws (joinedDepth st j) (st .depth) key words
+    pub halved : Folds ws (joinedDepth st j) (st .deepest) key words

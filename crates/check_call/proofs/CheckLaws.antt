@@ -43,14 +43,14 @@ use Rattle.check_call.proofs.TallyLaws.{sameNumbers-sameTally}
 -- a walk from the empty string may start
 pub walks-whole : (st : State) (words bytes : ℕ) → StoreLent st words bytes → (ws : List ℕ) → ws ≡ widthsOf (st .shape)
     → (r : Region) → r ≡ wholeRegion
-    → Walks st ws words bytes r × TallyRoom (st .depth - r .depth) (replicate 13 0)
+    → Walks st ws words bytes r × TallyRoom (st .deepest - r .depth) (replicate 13 0)
 unfolding wholeRegion
 walks-whole st words bytes k ws same r whole =
-    subst (λ r. Walks st ws words bytes r × TallyRoom (st .depth - r .depth) (replicate 13 0)) (sym whole) (
+    subst (λ r. Walks st ws words bytes r × TallyRoom (st .deepest - r .depth) (replicate 13 0)) (sym whole) (
       record {
         directory = record {
           fit = subst Fit (sym same) (widthsOf-fit (st .shape) (k .shape));
-          deep = subst (λ v. st .depth ≤ total v) (sym same) (le-trans (k .within) (k .bits));
+          deep = subst (λ v. st .deepest ≤ total v) (sym same) (le-trans (k .within) (k .bits));
           short = le-trans (k .within) (k .short);
           room = le-trans (pow-mono (k .within)) (k .words-lent);
         };
@@ -65,9 +65,9 @@ walks-whole st words bytes k ws same r whole =
       },
     )
   where
-    room : (y : ℕ) → y < 13 → getD (replicate 13 0) y 0 + 2 ^ (st .depth - 0) ≤ 8192
+    room : (y : ℕ) → y < 13 → getD (replicate 13 0) y 0 + 2 ^ (st .deepest - 0) ≤ 8192
     room y h =
-        let m : 2 ^ (st .depth - 0) ≤ 2 ^ 12 = pow-mono {j = 12} (omega (arith, k .within, k .short)) in
+        let m : 2 ^ (st .deepest - 0) ≤ 2 ^ 12 = pow-mono {j = 12} (omega (arith, k .within, k .short)) in
         omega (arith, getD-replicate {A = ℕ} 13 y 0 0 h)
 
 -- what it tells
@@ -78,11 +78,11 @@ pub tells-whole : (st : State) (words bytes ws : List ℕ) → ws ≡ widthsOf (
 unfolding wholeRegion
 tells-whole st words bytes ws same r whole seen counts told =
     subst
-    (λ v. Tells 0 (replicate 13 0) seen counts (regionTest (viewBy v st words bytes) (st .depth) emptyString 0)
-    (readDivision (viewBy v st words bytes) (st .depth) emptyString 0)) same
+    (λ v. Tells 0 (replicate 13 0) seen counts (regionTest (viewBy v st words bytes) (st .deepest) emptyString 0)
+    (readDivision (viewBy v st words bytes) (st .deepest) emptyString 0)) same
     (subst
     (λ n. Tells 0 (replicate 13 0) seen counts (regionTest (viewBy ws st words bytes) n emptyString 0)
-    (readDivision (viewBy ws st words bytes) n emptyString 0)) (sub-zero (st .depth))
+    (readDivision (viewBy ws st words bytes) n emptyString 0)) (sub-zero (st .deepest))
     (subst (λ r. Walked st ws words bytes r (replicate 13 0) seen counts) whole told emptyString (names-whole ws)))
 
 module _ (st : State) (words bytes : List ℕ) (seen : Seen) (counts : List ℕ)
@@ -111,19 +111,19 @@ module _ (st : State) (words bytes : List ℕ) (seen : Seen) (counts : List ℕ)
       abbrev pagesTest : Bool
       pagesTest = eqb (pagesInUse (viewOf lent) (st .limits .pages)) (nonEmptyLeaves D)
 
-      walked : shows ≡ (eqb (st .depth) (seen .depth) && (tallyTest && pagesTest))
+      walked : shows ≡ (eqb (st .deepest) (seen .depth) && (tallyTest && pagesTest))
       walked =
           ap (λ β. β && sumsTest lent) passes
-          ∙ ap (λ d. eqb (st .depth) d && (tallyTest && pagesTest)) (sym (tells .sees .depth passes))
+          ∙ ap (λ d. eqb (st .deepest) d && (tallyTest && pagesTest)) (sym (tells .sees .depth passes))
 
-      pub shows-depth-fails : (seen .depth ≡ st .depth → ⊥) → false ≡ shows
-      shows-depth-fails ne = sym (walked ∙ rw (ne-eqb (st .depth) (seen .depth) (λ e. ne (sym e))))
+      pub shows-depth-fails : (seen .depth ≡ st .deepest → ⊥) → false ≡ shows
+      shows-depth-fails ne = sym (walked ∙ rw (ne-eqb (st .deepest) (seen .depth) (λ e. ne (sym e))))
 
-      module _ (depth : seen .depth ≡ st .depth) (depths : length (st .tally .leaves) ≡ 13) where
+      module _ (depth : seen .depth ≡ st .deepest) (depths : length (st .tally .leaves) ≡ 13) where
         tallied : shows ≡ (sameTally (st .tally .leaves) counts && pagesTest)
         tallied =
             walked
-            ∙ ap (λ β. β && (tallyTest && pagesTest)) (eq-eqb (st .depth) (seen .depth) (sym depth))
+            ∙ ap (λ β. β && (tallyTest && pagesTest)) (eq-eqb (st .deepest) (seen .depth) (sym depth))
             ∙ ap (λ β. β && pagesTest)
             (sameNumbers-sameTally D (st .tally .leaves) counts depths (tells .tallied passes))
 

@@ -18,4 +18,4 @@ pub record StoreLent (st : State) (words bytes : ℕ) : Type 0 where
   pub pages-lent : pagesSize st ≤ bytes
   pub short : st .limits .depth ≤ 12
   pub bits : st .limits .depth ≤ total (widthsOf (st .shape))
-  pub within : st .depth ≤ st .limits .depth
+  pub within : st .deepest ≤ st .limits .depth

@@ -70,7 +70,7 @@ fn shows_leaves(state: State, dir: &[u32], pages: &[u8]) -> bool
     if !seen.ok {
         return false;
     }
-    if seen.depth != state.depth {
+    if seen.depth != state.deepest {
         return false;
     }
     if !same_tally(state.tally, &tally) {

@@ -14,7 +14,7 @@ use Rattle.lists.proofs.Bools.{and-split}
 use Rattle.shape.specs.Shape.{total, indexFits}
 use Rattle.record.specs.Bytes.{recordSize}
 use Rattle.record.specs.Packed.{unpackedKey}
-use Rattle.check_page.specs.Private.{keyAt, keyCode, recordsAfter, ascendAfter, allFit, ascending}
+use Rattle.check_page.specs.PageTest.{valuesAt, keyCode, recordsAfter, ascendAfter, allFit, ascending}
 use Rattle.check_page.proofs.KeyLaws.{indexFits-or}
 
 -- ---- beginnings
@@ -24,7 +24,7 @@ module _ (ws : List ℕ) (x s : ℕ) (page : List ℕ) where
   m = total ws - x
 
   abbrev codeAt : ℕ → ℕ
-  codeAt at = keyCode ws (keyAt page at)
+  codeAt at = keyCode ws (valuesAt page at)
 
   -- the code of the last of n records from an offset on; c for none
   abbrev pub lastCode : ℕ → ℕ → ℕ → ℕ
@@ -60,7 +60,7 @@ module _ (ws : List ℕ) (x s : ℕ) (page : List ℕ) where
   last-begins zero c at h e = h
   last-begins (suc n) c at h e =
       let d = codeAt at in
-      let fits = indexFits ws (keyAt page at) in
+      let fits = indexFits ws (valuesAt page at) in
       let here = eqb (d / 2 ^ m) s in
       let rest = recordsAfter ws x s page d n (at + recordSize) in
       let k₁ = and-split (ltb c d) ((fits && here) && rest) e in
@@ -78,7 +78,7 @@ module _ (ws : List ℕ) (x s : ℕ) (page : List ℕ) where
       d = codeAt at
 
       fits : Bool
-      fits = indexFits ws (keyAt page at)
+      fits = indexFits ws (valuesAt page at)
 
       rest : Bool
       rest = recordsAfter ws x s page d n (at + recordSize)
@@ -114,7 +114,7 @@ pub record Risen (ws page : List ℕ) (n last bits k : ℕ) : Type 0 where
       ≡ (indexFits ws (unpackedKey bits) && allFit ws page (n - k) (2 + recordSize * k))
 
 module _ (ws page : List ℕ) (n : ℕ) where
-  pub risen-first : 0 < n → (key : ℕ) → unpackedKey key ≡ keyAt page 2 → Risen ws page n key key 1
+  pub risen-first : 0 < n → (key : ℕ) → unpackedKey key ≡ valuesAt page 2 → Risen ws page n key key 1
   unfolding ascending
   risen-first h key at =
       let e : n ≡ suc (n - 1) = omega arith in
@@ -145,7 +145,7 @@ module _ (w0 w1 w2 w3 : ℕ) (page : List ℕ) (n last bits k : ℕ) where
   ws = w0 ∷ w1 ∷ w2 ∷ w3 ∷ []
 
   module _ (risen : Risen ws page n last bits k) (left : k < n) (key : ℕ)
-      (at : unpackedKey key ≡ keyAt page (2 + recordSize * k)) where
+      (at : unpackedKey key ≡ valuesAt page (2 + recordSize * k)) where
     abbrev offset : ℕ
     offset = 2 + recordSize * (k + 1)
 

@@ -13,7 +13,7 @@ use Rattle.record.specs.Packed.{unpackedKey}
 use Rattle.record.proofs.CodecLaws.{AreBytes, AreBytes-field, unpackedKey-keyIn}
 use Rattle.page.specs.Fields as fields
 use Rattle.page.specs.Fields.{recordOffset, recordField}
-use Rattle.check_page.specs.Private.{keyAt}
+use Rattle.check_page.specs.PageTest.{valuesAt}
 
 -- ---- two bytes
 
@@ -53,7 +53,7 @@ field-field page at o h =
     ∙ ap (λ x. getD page (at + o) 0 + x * 256) (one 1 h)
     ∙ sym (numberOf-field-two page (at + o))
 
-pub key-recordOf : (s : Shape) (page : List ℕ) (at : ℕ) → recordOf s (field page at recordSize) .key ≡ keyAt page at
+pub key-recordOf : (s : Shape) (page : List ℕ) (at : ℕ) → recordOf s (field page at recordSize) .key ≡ valuesAt page at
 unfolding recordOf
 key-recordOf s page at = cc (
   field-field page at 0 (omega arith),
@@ -64,7 +64,7 @@ key-recordOf s page at = cc (
 
 -- and from its packed key, whatever the shape
 pub unpackedKey-keyAt : (page : List ℕ) (i : ℕ) → AreBytes page
-    → unpackedKey (fields.keyAt page i) ≡ keyAt page (recordOffset i)
+    → unpackedKey (fields.keyAt page i) ≡ valuesAt page (recordOffset i)
 unpackedKey-keyAt page i bytes =
     let s : Shape = record { attributes = 0; widths = []; capacity = 0 } in
     unpackedKey-keyIn s (recordField page i) (AreBytes-field page (recordOffset i) recordSize bytes)

@@ -15,9 +15,9 @@ use Rattle.shape.specs.Shape.{Fit, total}
 use Rattle.split.specs.Steps.{bitValue}
 use Rattle.split.specs.Bits.{bitOf, splitBit}
 use Rattle.split.proofs.BitLaws.{splitBit-stepNumber}
-use Rattle.address.specs.Private.{StepPair}
+use Rattle.address.specs.Pairs.{StepPair}
 use Rattle.cell.proofs.Strings.{bitValue-digit}
-use Rattle.directory.specs.Private.{StepsBefore}
+use Rattle.directory.specs.Places.{StepsBefore}
 use Rattle.directory.proofs.PlaceLaws.{stepsBefore-zero, stepsBefore-step, stepsBefore-skip, stepNumber-pair}
 use Rattle.region.specs.Strings.{sameBits}
 use Rattle.region.specs.Sets.{before}
@@ -27,7 +27,7 @@ use Rattle.key_order.specs.declared.Order.the-variants.{Same, Before, After}
 use Rattle.key_order.proofs.FirstLaws.{sameBits-firstStep}
 use Rattle.check_test.specs.Codes.{code}
 use Rattle.check_test.proofs.CodeLaws.{code-lt, code-add, code-div, sameBits-code, before-code}
-use Rattle.check_page.specs.Private.{keyCode}
+use Rattle.check_page.specs.PageTest.{keyCode}
 
 bitValue-lt : (β : Bool) → bitValue β < 2 ^ 1
 bitValue-lt true = omega arith

@@ -18,8 +18,8 @@ use Rattle.record.specs.Bytes.{recordSize, field, recordOf}
 use Rattle.page.specs.Page.{countOf, recordsFrom, recordsOf}
 use Rattle.page.proofs.FieldLaws.{length-recordsFrom}
 use Rattle.check_test.specs.Codes.{code, recordHere, chainAfter, chain, pageChain}
-use Rattle.check_page.specs.Private.{keyAt, keyCode, recordPasses, recordsAfter, recordsPass, pagePasses}
-use Rattle.check_page.specs.Private.{ascendAfter, allFit, ascending}
+use Rattle.check_page.specs.PageTest.{valuesAt, keyCode, recordPasses, recordsAfter, recordsPass, pagePasses}
+use Rattle.check_page.specs.PageTest.{ascendAfter, allFit, ascending}
 use Rattle.check_page.proofs.AscendLaws.{lastCode, lastCode-at, both, last-begins, recordsAfter-ascend}
 use Rattle.check_page.proofs.ByteLaws.{key-recordOf}
 
@@ -42,8 +42,8 @@ module _ (ws : List ℕ) (b x s : ℕ) (page : List ℕ) (n : ℕ) (count : n �
 
   module _ (some : n ≡ 0 → ⊥) (most : n ≤ b) where
     first : pagePasses ws b x s page
-        ≡ (recordPasses ws x s (keyAt page 2)
-        && recordsAfter ws x s page (keyCode ws (keyAt page 2)) (n - 1) (2 + recordSize))
+        ≡ (recordPasses ws x s (valuesAt page 2)
+        && recordsAfter ws x s page (keyCode ws (valuesAt page 2)) (n - 1) (2 + recordSize))
     unfolding pagePasses
     first =
         let e : n ≡ suc (n - 1) = omega arith in
@@ -52,7 +52,7 @@ module _ (ws : List ℕ) (b x s : ℕ) (page : List ℕ) (n : ℕ) (count : n �
     abbrev begun : List ℕ → Type 0
     begun key = keyCode ws key / 2 ^ (total ws - x) ≡ s
 
-    module _ (key : List ℕ) (at : key ≡ keyAt page 2) where
+    module _ (key : List ℕ) (at : key ≡ valuesAt page 2) where
       gone : (φ γ ρ : Bool) → γ ≡ false → ((φ && γ) && ρ) ≡ false
       gone true γ ρ e = rw e
       gone false γ ρ e = refl
@@ -60,13 +60,13 @@ module _ (ws : List ℕ) (b x s : ℕ) (page : List ℕ) (n : ℕ) (count : n �
       pub pagePasses-first : eqb (keyCode ws key / 2 ^ (total ws - x)) s ≡ false → false ≡ pagePasses ws b x s page
       pagePasses-first e =
           let here = ap (λ q. eqb (keyCode ws q / 2 ^ (total ws - x)) s) (sym at) ∙ e in
-          sym (first ∙ gone (indexFits ws (keyAt page 2)) _ _ here)
+          sym (first ∙ gone (indexFits ws (valuesAt page 2)) _ _ here)
 
-      module _ (begins : begun key) (last : List ℕ) (end : last ≡ keyAt page (2 + recordSize * (n - 1))) where
+      module _ (begins : begun key) (last : List ℕ) (end : last ≡ valuesAt page (2 + recordSize * (n - 1))) where
         abbrev c : ℕ
-        c = keyCode ws (keyAt page 2)
+        c = keyCode ws (valuesAt page 2)
 
-        begins-first : begun (keyAt page 2)
+        begins-first : begun (valuesAt page 2)
         begins-first = subst begun at begins
 
         lastCode-last : lastCode ws x s page c (n - 1) (2 + recordSize) ≡ keyCode ws last
@@ -77,7 +77,7 @@ module _ (ws : List ℕ) (b x s : ℕ) (page : List ℕ) (n : ℕ) (count : n �
           where
             go : (β : Bool) → pagePasses ws b x s page ≡ β → false ≡ β
             go true e =
-                let k = and-split (recordPasses ws x s (keyAt page 2)) _ (sym first ∙ e) in
+                let k = and-split (recordPasses ws x s (valuesAt page 2)) _ (sym first ∙ e) in
                 let l = last-begins ws x s page (n - 1) c (2 + recordSize) begins-first (k .1) in
                 absurd (other (ap (λ y. y / 2 ^ (total ws - x)) (sym lastCode-last) ∙ l))
             go false e = refl
@@ -89,7 +89,7 @@ module _ (ws : List ℕ) (b x s : ℕ) (page : List ℕ) (n : ℕ) (count : n �
             let l = ap (λ y. y / 2 ^ (total ws - x)) lastCode-last ∙ ends in
             let rest = recordsAfter ws x s page c (n - 1) (2 + recordSize) in
             let rise = ascendAfter ws page c (n - 1) (2 + recordSize) in
-            let fits = indexFits ws (keyAt page 2) in
+            let fits = indexFits ws (valuesAt page 2) in
             let fit = allFit ws page (n - 1) (2 + recordSize) in
             sym
             (first
@@ -110,12 +110,12 @@ module _ (sh : Shape) (ws : List ℕ) (b x s : ℕ) (page : List ℕ) where
   abbrev at : ℕ → Record
   at offset = recordOf sh (field page offset recordSize)
 
-  codeOf-at : (offset : ℕ) → codeOf (at offset) ≡ keyCode ws (keyAt page offset)
+  codeOf-at : (offset : ℕ) → codeOf (at offset) ≡ keyCode ws (valuesAt page offset)
   unfolding keyCode
   codeOf-at offset = ap (keyCode ws) (key-recordOf sh page offset)
 
   recordHere-at : (offset : ℕ)
-      → recordHere codeOf fits (total ws) b x s (at offset) ≡ recordPasses ws x s (keyAt page offset)
+      → recordHere codeOf fits (total ws) b x s (at offset) ≡ recordPasses ws x s (valuesAt page offset)
   unfolding keyCode
   recordHere-at offset =
       ap (λ key. (eqb (length key) 4 && indexFits ws key) && eqb (keyCode ws key / 2 ^ (total ws - x)) s)
@@ -128,14 +128,14 @@ module _ (sh : Shape) (ws : List ℕ) (b x s : ℕ) (page : List ℕ) where
       rw (
         recordHere-at offset,
         codeOf-at offset,
-        chainAfter-recordsAfter n (offset + recordSize) (keyCode ws (keyAt page offset)),
+        chainAfter-recordsAfter n (offset + recordSize) (keyCode ws (valuesAt page offset)),
       )
 
   chain-recordsPass : (n : ℕ)
       → chain codeOf fits (total ws) b x s (recordsFrom sh n 2 page) ≡ recordsPass ws x s page n
   chain-recordsPass zero = refl
   chain-recordsPass (suc n) =
-      rw (recordHere-at 2, codeOf-at 2, chainAfter-recordsAfter n (2 + recordSize) (keyCode ws (keyAt page 2)))
+      rw (recordHere-at 2, codeOf-at 2, chainAfter-recordsAfter n (2 + recordSize) (keyCode ws (valuesAt page 2)))
 
   pub pageChain-pagePasses :
       pageChain codeOf fits (total ws) b x s (recordsOf sh page) ≡ pagePasses ws b x s page

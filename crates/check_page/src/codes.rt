@@ -9,7 +9,7 @@ ghost use Rattle.split.specs.Steps.{bitValue};
 ghost use Rattle.split.specs.Bits.{bitOf, splitBit};
 ghost use Rattle.record.specs.Packed.{packedValue, unpackedKey};
 ghost use Rattle.check_test.specs.Codes.{code};
-ghost use Rattle.check_page.specs.Private.{keyCode};
+ghost use Rattle.check_page.specs.PageTest.{keyCode};
 
 // Whether the first x split bits of a packed key are the number `string`.
 pub fn begins(widths: Widths, key: u64, x: u64, string: u64) -> bool

@@ -18,12 +18,12 @@ ghost use lib.ListN.{length};
 ghost use Rattle.shape.specs.Shape.{Fit, widthList, indexFits};
 ghost use Rattle.record.specs.Packed.{unpackedKey};
 ghost use Rattle.page.specs.Fields.{recordOffset};
-ghost use Rattle.check_page.specs.Private.{keyCode, ascending, pagePasses, PageLent};
+ghost use Rattle.check_page.specs.PageTest.{keyCode, ascending, pagePasses, TestedPage};
 
 // Whether a page holds 1 to b records in split order, each within the widths and beginning with the
 // x bits of the number `string`. Records in split order all begin as the first and the last one do.
 pub fn page_passes(widths: Widths, capacity: u32, page: &[u8], x: u64, string: u64) -> bool
-    requires { ⌜ PageLent (widthList widths) capacity x (length (now page)) ⌝ }
+    requires { ⌜ TestedPage (widthList widths) capacity x (length (now page)) ⌝ }
     ensures { λ r. ⌜ r ≡ pagePasses (widthList widths) capacity x string (now (page .entry)) ⌝ }
 {
     let n = number_at(page, 0);

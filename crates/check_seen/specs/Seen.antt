@@ -4,7 +4,7 @@ use mathlib.Core.Bool.{true, false, cond}
 use mathlib.Core.List.{List}
 use lib.Dec.{ltb}
 use Rattle.page.specs.Page.{countOf}
-use Rattle.check_page.specs.Private.{pagePasses}
+use Rattle.check_page.specs.PageTest.{pagePasses}
 use Rattle.check_seen.specs.declared.Seen.{Seen}
 
 unfoldable pub failed : Seen

@@ -8,7 +8,7 @@ ghost use Prim.Native.Nat.{max};
 ghost use lib.ListN.{length};
 ghost use Rattle.shape.specs.Shape.{widthList};
 ghost use Rattle.check_test.specs.Walk.{depthField};
-ghost use Rattle.check_page.specs.Private.{PageLent};
+ghost use Rattle.check_page.specs.PageTest.{TestedPage};
 ghost use Rattle.check_seen.specs.Seen.{failed, pageSeen, joinedSeen, JoinFits};
 
 // What a region has: whether it passes, and if so its records, its leaves with a page, and how far
@@ -41,7 +41,7 @@ pub fn fails() -> Seen
 
 // What a leaf with a page has.
 pub fn page_seen(widths: Widths, capacity: u32, page: &[u8], x: u64, string: u64) -> Seen
-    requires { ⌜ PageLent (widthList widths) capacity x (length (now page)) ⌝ }
+    requires { ⌜ TestedPage (widthList widths) capacity x (length (now page)) ⌝ }
     ensures { λ r. ⌜ r ≡ pageSeen (widthList widths) capacity x string (now (page .entry)) ⌝ }
 {
     if !page_passes(widths, capacity, page, x, string) {

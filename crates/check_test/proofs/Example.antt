@@ -9,7 +9,7 @@ use Rattle.lists.specs.Filter.{all}
 use Rattle.shape.specs.Refusal.{firstNumber}
 use Rattle.shape.specs.Shape.{inBounds, shapeConditions, widthsOf}
 use Rattle.shape.specs.declared.Shape.{Shape}
-use Rattle.split.specs.Steps.{stepsBelow, steps, step, stepNumber, stepsOf, depth}
+use Rattle.split.specs.Steps.{stepsBelow, steps, step, stepNumber, stepsOf, attributeDepth}
 use Rattle.split.specs.Bits.{splitBit}
 use Rattle.address.specs.Address.{highestBit, createdBy, latestStep, formula, addressFrom, address}
 use Rattle.address.specs.Doubling.{sides}
@@ -44,7 +44,7 @@ store P T tally words bytes =
           record {
             shape = shape;
             limits = record { pages = P; depth = 3 };
-            depth = T;
+            deepest = T;
             tally = record { leaves = tally ++ replicate 9 0 };
           };
       memory = record { words = words; bytes = bytes };
@@ -141,7 +141,7 @@ damaged =
 pub examples : (all soundTest sound ≡ true) × (all (λ x. not (soundTest x)) damaged ≡ true)
 unfolding
     soundTest limitsHold lentNumber lentConditions firstNumber shapeConditions inBounds widthsOf
-    stepsBelow steps step stepNumber stepsOf depth splitBit
+    stepsBelow steps step stepNumber stepsOf attributeDepth splitBit
     highestBit createdBy latestStep formula addressFrom address sides sumBits cell cellAddress recordBytes recordOf
 examples = (refl, refl)
 
@@ -152,6 +152,6 @@ two-readings = refl
 -- the set of the proof table, read off the pages
 pub read-off : shownSet four ≡ key 0 0 10 ∷ key 2 0 11 ∷ key 2 1 13 ∷ key 3 1 12 ∷ []
 unfolding
-    widthsOf stepsBelow steps step stepNumber stepsOf depth
+    widthsOf stepsBelow steps step stepNumber stepsOf attributeDepth
     highestBit createdBy latestStep formula addressFrom address sides sumBits cell cellAddress recordBytes recordOf
 read-off = refl

@@ -113,16 +113,16 @@ module _ (store : Store) where
   P = store .state .limits .pages
 
   abbrev word : (ℕ → Bool) → ℕ
-  word p = wordAt s (store .state .depth) (store .memory .words) p
+  word p = wordAt s (store .state .deepest) (store .memory .words) p
 
   -- a cell's word depends on the first T bits of its string
-  pub wordAt-local : inBounds s ≡ true → (p q : ℕ → Bool) → sameBits p q (store .state .depth) 0 ≡ true
+  pub wordAt-local : inBounds s ≡ true → (p q : ℕ → Bool) → sameBits p q (store .state .deepest) 0 ≡ true
       → word p ≡ word q
   unfolding cellAddress
   wordAt-local b p q e =
       ap (λ c. getD (store .memory .words) (address (widthsOf s) c) 0)
-      (cell-agree (widthsOf s) (widthsOf-fit s (shapeNumber-true s b)) (store .state .depth) p q
-      (agree-of-sameBits p q (store .state .depth) e))
+      (cell-agree (widthsOf s) (widthsOf-fit s (shapeNumber-true s b)) (store .state .deepest) p q
+      (agree-of-sameBits p q (store .state .deepest) e))
 
   LeafWord-fields : (rs : List Record) (x w : ℕ) → P ≤ 4096 → LeafWord s P (store .memory .bytes) rs x w
       → (depthField w ≡ x) × Holds (viewOf store) rs (pageField w)
@@ -142,7 +142,7 @@ module _ (store : Store) where
       by-field zero e k = absurd k
       by-field (suc g) e k = (g, k .0, wordOf-page w g e ∙ ap (λ y. wordOf (Page g y)) d, k .1)
 
-  pub shown-of-Shows : (D : Division Record) → P ≤ 4096 → Shows s P (store .state .depth) (store .memory) D
+  pub shown-of-Shows : (D : Division Record) → P ≤ 4096 → Shows s P (store .state .deepest) (store .memory) D
       → Shown (viewOf store) emptyString 0 D
   shown-of-Shows D h k =
       record {
@@ -155,7 +155,7 @@ module _ (store : Store) where
 
   -- a page without a leaf is free, so that there are as many pages in use as leaves with a page
   pub pagesInUse-Shows : (S : List Record) → P ≤ 4096
-      → Shows s P (store .state .depth) (store .memory) (divisionOf s S)
+      → Shows s P (store .state .deepest) (store .memory) (divisionOf s S)
       → pagesInUse (viewOf store) P ≡ nonEmptyLeaves (divisionOf s S)
   unfolding divisionOf
   pagesInUse-Shows S h k =
@@ -172,7 +172,7 @@ module _ (store : Store) where
 
   pub Shows-of-shown : (S : List Record) → P ≤ 4096 → Shown (viewOf store) emptyString 0 (divisionOf s S)
       → pagesInUse (viewOf store) P ≡ nonEmptyLeaves (divisionOf s S)
-      → Shows s P (store .state .depth) (store .memory) (divisionOf s S)
+      → Shows s P (store .state .deepest) (store .memory) (divisionOf s S)
   unfolding divisionOf
   Shows-of-shown S h k count =
       record {

@@ -65,7 +65,7 @@ module _ (store : Store) where
   P = store .state .limits .pages
 
   abbrev T : ℕ
-  T = store .state .depth
+  T = store .state .deepest
 
   abbrev W : ℕ
   W = total (widthsOf s)

@@ -36,13 +36,13 @@ module _ (store : Store) where
         bits = total (widthsOf s);
         capacity = s .capacity;
         pages = st .limits .pages;
-        word = wordAt s (st .depth) (store .memory .words);
+        word = wordAt s (st .deepest) (store .memory .words);
         shown = λ g. recordsOf s (pageAt (s .capacity) (store .memory .bytes) g);
       }
 
   -- the division that words and pages show, from the empty string, and its records
   abbrev pub shownDivision : Division Record
-  shownDivision = readDivision viewOf (store .state .depth) emptyString 0
+  shownDivision = readDivision viewOf (store .state .deepest) emptyString 0
 
   abbrev pub shownSet : List Record
   shownSet = allRecords shownDivision
@@ -53,14 +53,14 @@ module _ (store : Store) where
 
   -- "words and pages show the leaves of some set"
   abbrev pub walkTest : Bool
-  walkTest = regionTest viewOf (store .state .depth) emptyString 0
+  walkTest = regionTest viewOf (store .state .deepest) emptyString 0
 
   -- T and the tally are those of the leaves; "every page without a leaf is free": as many pages are in use as there are
   -- leaves with a page
   abbrev pub sumsTest : Bool
   sumsTest =
       let st = store .state in
-      eqb (st .depth) (greatestDepth shownDivision)
+      eqb (st .deepest) (greatestDepth shownDivision)
       && (sameNumbers (st .tally .leaves) (tallies shownDivision 0 13)
       && eqb (pagesInUse viewOf (st .limits .pages)) (nonEmptyLeaves shownDivision))
 

@@ -17,7 +17,7 @@ use Rattle.store.specs.declared.State.{State}
 use Rattle.check_test.specs.Walk.{View, fieldRecords, pageTest}
 use Rattle.check_test.proofs.CodeLaws.{pageTest-chain}
 use Rattle.check_test.proofs.ShowsLaws.{nonEmpty-recordsFrom}
-use Rattle.check_page.specs.Private.{pagePasses, PageLent}
+use Rattle.check_page.specs.PageTest.{pagePasses, TestedPage}
 use Rattle.check_page.proofs.PageLaws.{page-end, pagePasses-none, pageChain-pagePasses}
 use Rattle.check_seen.specs.declared.Seen.{Seen}
 use Rattle.check_seen.specs.Seen.{failed, pageSeen}
@@ -54,7 +54,7 @@ module _ (st : State) (ws : List ℕ) (r : Region) where
   pub pageLent-part : (bytes : List ℕ) (g : ℕ) → PageAsked st ws (length bytes) r → g < st .limits .pages
       → let b = st .shape .capacity in
       let start = g * pageSize b in
-      PageLent ws b (r .depth) (length (take (start + pageSize b - start) (drop start bytes)))
+      TestedPage ws b (r .depth) (length (take (start + pageSize b - start) (drop start bytes)))
   pageLent-part bytes g a h =
       let b = st .shape .capacity in
       record {
@@ -67,7 +67,7 @@ module _ (st : State) (ws : List ℕ) (r : Region) where
 -- ---- a side of a region
 
 pub sub-walks : (st : State) (ws : List ℕ) (words bytes : ℕ) (r : Region) → Walks st ws words bytes r → (side : Region)
-    → RegionIn ws side → side .depth ≡ r .depth + 1 → r .depth < st .depth → Walks st ws words bytes side
+    → RegionIn ws side → side .depth ≡ r .depth + 1 → r .depth < st .deepest → Walks st ws words bytes side
 sub-walks st ws words bytes r w side i d l = record {
   directory = w .directory;
   within = omega arith;

@@ -16,11 +16,12 @@ use Rattle.split.specs.Steps.{steps, bitValue}
 use Rattle.split.proofs.StepLaws.{length-steps}
 use Rattle.address.specs.Address.{address, addressFrom, latestStep, createdBy}
 use Rattle.address.specs.Answers.{indexList}
-use Rattle.address.specs.Private.{InBox, StepPair}
+use Rattle.address.specs.Pairs.{StepPair}
+use Rattle.address.specs.Vectors.{InBox}
 use Rattle.cell.specs.Cell.{cell, cellAddress}
 use Rattle.cell.proofs.CellLaws.{cell-zero, cellAddress-lt, cellAddress-zero-bits}
 use Rattle.directory.specs.Directory.{DirectoryFits}
-use Rattle.directory.specs.Private.{StepsBefore, bitSet}
+use Rattle.directory.specs.Places.{StepsBefore, bitSet}
 use Rattle.directory.proofs.PlaceLaws.{stepsBefore-zero, stepsBefore-pair}
 use Rattle.directory.proofs.CellLaws.{inBox-cell}
 use Rattle.directory.proofs.RegionLaws.{cell-lower, cell-upper, getD-cell-lt}

@@ -7,7 +7,7 @@ use lib.ListN.{getD}
 use Rattle.address.specs.Address.{address}
 use Rattle.address.specs.Answers.{indexList}
 use Rattle.cell.specs.Cell.{cell, cellAddress}
-use Rattle.directory.specs.Private.{StepsBefore}
+use Rattle.directory.specs.Places.{StepsBefore}
 use Rattle.region.specs.Strings.{withBit}
 use Rattle.check_test.specs.Codes.{code}
 use Rattle.check_test.specs.Walk.{sameWords}

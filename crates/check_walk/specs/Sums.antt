@@ -27,7 +27,7 @@ viewBy ws st words bytes =
       bits = total ws;
       capacity = st .shape .capacity;
       pages = st .limits .pages;
-      word = cellWord ws (st .depth) words;
+      word = cellWord ws (st .deepest) words;
       shown = λ g. recordsOf (st .shape) (pageAt (st .shape .capacity) bytes g);
     }
 
@@ -64,8 +64,8 @@ module _ (st : State) (ws : List ℕ) where
 
   -- a region, and a directory and pages that are lent
   pub record Walks (words bytes : ℕ) (r : Region) : Type 0 where
-    pub directory : DirectoryFits ws (st .depth) words
-    pub within : r .depth ≤ st .depth
+    pub directory : DirectoryFits ws (st .deepest) words
+    pub within : r .depth ≤ st .deepest
     pub region : RegionIn ws r
     pub capacity : st .shape .capacity ≤ 16
     pub pages-lent : pagesSize st ≤ bytes
@@ -79,14 +79,14 @@ module _ (st : State) (ws : List ℕ) where
     -- of a leaf
     abbrev pub LeafSeen : Type 0
     LeafSeen = (p : ℕ → Bool) → Names ws r p → let v = viewBy ws st words bytes in
-        Tells (r .depth) before seen after (leafTest v (st .depth - r .depth) p (r .depth))
+        Tells (r .depth) before seen after (leafTest v (st .deepest - r .depth) p (r .depth))
         (leaf (fieldRecords v (pageField (v .word p))))
 
     -- and of a region
     abbrev pub Walked : Type 0
     Walked = (p : ℕ → Bool) → Names ws r p → let v = viewBy ws st words bytes in
-        Tells (r .depth) before seen after (regionTest v (st .depth - r .depth) p (r .depth))
-        (readDivision v (st .depth - r .depth) p (r .depth))
+        Tells (r .depth) before seen after (regionTest v (st .deepest - r .depth) p (r .depth))
+        (readDivision v (st .deepest - r .depth) p (r .depth))
 
 -- the tally has room for the leaves of a region, n steps above the cells
 pub record TallyRoom (n : ℕ) (tally : List ℕ) : Type 0 where

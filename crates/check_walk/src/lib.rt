@@ -29,7 +29,7 @@ pub fn walk(
     tally: &mut [u32],
 ) -> Seen
     requires { ⌜ Walks state (widthList widths) (length (now dir)) (length (now pages)) region
-        × TallyRoom (state .depth - region .depth) (now tally) ⌝ }
+        × TallyRoom (state .deepest - region .depth) (now tally) ⌝ }
     ensures { λ r. ⌜ Walked state (widthList widths) (now (dir .entry)) (now (pages .entry)) region
         (now (tally .entry)) r (now (tally .exit)) ⌝ }
 {
@@ -37,7 +37,7 @@ pub fn walk(
     if depth_of(word) <= region.depth {
         return leaf(state, widths, region, word, dir, pages, tally);
     }
-    if (state.depth as u64) <= region.depth {
+    if (state.deepest as u64) <= region.depth {
         return fails();
     }
     let sides = sides_of(widths, region);
@@ -63,7 +63,7 @@ fn leaf(
     tally: &mut [u32],
 ) -> Seen
     requires { ⌜ Walks state (widthList widths) (length (now dir)) (length (now pages)) region
-        × TallyRoom (state .depth - region .depth) (now tally) × (word ≡ getD (now dir) (region .address) 0) ⌝ }
+        × TallyRoom (state .deepest - region .depth) (now tally) × (word ≡ getD (now dir) (region .address) 0) ⌝ }
     ensures { λ r. ⌜ LeafSeen state (widthList widths) (now (dir .entry)) (now (pages .entry)) region
         (now (tally .entry)) r (now (tally .exit)) ⌝ }
 {
@@ -74,7 +74,7 @@ fn leaf(
     if !seen.ok {
         return seen;
     }
-    if !same_words(widths, region, state.depth as u64, word, dir) {
+    if !same_words(widths, region, state.deepest as u64, word, dir) {
         return fails();
     }
     let x = region.depth as usize;

@@ -31,7 +31,7 @@ use Rattle.delete_plan.specs.Plan.{RecordFound}
 use Rattle.delete_plan.specs.declared.Stored.{Stored}
 use Rattle.delete_plan.proofs.EarlyLaws.{encodings-values, indexFits-values}
 use Rattle.delete_plan.proofs.MetLaws.{pageLent}
-use Rattle.delete_steps.specs.Private.{RecordLent}
+use Rattle.delete_steps.specs.Steps.{RecordLent}
 use Rattle.delete.proofs.SoundPageLaws.{stored-here}
 
 -- 1, 2 or 3
@@ -48,7 +48,7 @@ module _ (before : Store) (values : List ℕ) (r : Stored) where
   P = before .state .limits .pages
 
   abbrev T : ℕ
-  T = before .state .depth
+  T = before .state .deepest
 
   abbrev L : ℕ
   L = before .state .limits .depth

@@ -17,7 +17,7 @@ use Rattle.store.proofs.ShownLaws.{shape-of-Sound}
 use Rattle.store.proofs.KeyLaws.{stored-page}
 use Rattle.change.proofs.DeletePromiseLaws.{delete-unsound}
 use Rattle.change.proofs.DeleteKeyLaws.{stored-record}
-use Rattle.delete_plan.specs.Plan.{Planned}
+use Rattle.delete_plan.specs.Plan.{DeletePlanned}
 use Rattle.delete_plan.specs.declared.Plan.{Plan}
 use Rattle.change_guard.specs.Guard.{DeleteTold, KeyStored}
 use Rattle.delete.proofs.FoundLaws.{recordFacts}
@@ -44,7 +44,7 @@ module _ (before : Store) (values : List ℕ) where
       (k .0, ap (λ v. stored v S) (k .2) ∙ k .1, k .2)
 
   -- 9: a leaf whose words the plan sets is not whole, or a word is lost at the new T
-  pub promise-not-whole : (plan : Plan) → Planned before values plan → (held : Bool)
+  pub promise-not-whole : (plan : Plan) → DeletePlanned before values plan → (held : Bool)
       → DeleteTold st words values plan held → held ≡ false → keyNumber before values ≡ 0
       → DeletePromise before values (refused 9) before
   promise-not-whole plan planned held told e early =

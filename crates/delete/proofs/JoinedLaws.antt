@@ -29,7 +29,7 @@ use Rattle.delete_plan.specs.declared.Stored.{Stored}
 use Rattle.delete_plan.specs.declared.Join.{Join}
 use Rattle.delete_plan.specs.declared.Plan.the-variants as plan
 use Rattle.delete_steps.specs.PageBytes.{keptPage, freedPage, joinedBytes}
-use Rattle.delete_steps.specs.Private.{PairLent, LeavesLent, JoinWords}
+use Rattle.delete_steps.specs.Steps.{PairLent, LeavesLent, JoinWords}
 use Rattle.delete_steps.proofs.PageLaws.{kept-or-freed}
 use Rattle.delete_steps.proofs.PageLaws.{length-joinedBytes, drop-joinedBytes}
 use Rattle.change_kept.proofs.ContainedLaws.{contained-joined}
@@ -45,7 +45,7 @@ module _ (before : Store) (values : List ℕ) (r : Stored) (f : RecordFound befo
   P = before .state .limits .pages
 
   abbrev T : ℕ
-  T = before .state .depth
+  T = before .state .deepest
 
   abbrev L : ℕ
   L = before .state .limits .depth
@@ -98,7 +98,7 @@ module _ (before : Store) (values : List ℕ) (r : Stored) (f : RecordFound befo
       after : bytes′ ≡ joinedBytes β b (r .page) (r .place) (r .count) (j .other) (j .count) bytes
       after = e ∙ ap (λ γ. joinedBytes γ b (r .page) (r .place) (r .count) (j .other) (j .count) bytes) (p .bit)
 
-      lower : state′ .depth ≤ T
+      lower : state′ .deepest ≤ T
       lower = omega (arith, w .depth, tallyDepth-le (state′ .tally .leaves) T)
 
       past-joined : KeepsPast before (memory words′ bytes′)
@@ -109,7 +109,7 @@ module _ (before : Store) (values : List ℕ) (r : Stored) (f : RecordFound befo
                 ap length after
                 ∙ length-joinedBytes b (r .page) (r .place) (r .count) bytes (k .own) (f .place-lt) (f .few) (j .other)
                 (j .count) (k .lent (j .other) (p .met .other-within)) (p .few) few β;
-            words-past = k .words-past (state′ .depth) (j .top) _ words′ lower (w .new-leaf);
+            words-past = k .words-past (state′ .deepest) (j .top) _ words′ lower (w .new-leaf);
             bytes-past =
                 ap (drop (P * pageSize b)) after
                 ∙ drop-joinedBytes b (r .page) (r .place) (r .count) bytes (k .own) (f .place-lt) (f .few) (j .other)
@@ -118,7 +118,7 @@ module _ (before : Store) (values : List ℕ) (r : Stored) (f : RecordFound befo
           }
 
       joined : (S : List Record) → Sound before S
-          → LeafJoined before values (r .page) (j .other) (j .step) (j .top) kept freed (state′ .depth) (state′ .tally)
+          → LeafJoined before values (r .page) (j .other) (j .step) (j .top) kept freed (state′ .deepest) (state′ .tally)
           (memory words′ bytes′)
       joined S sound =
           record {
@@ -140,7 +140,7 @@ module _ (before : Store) (values : List ℕ) (r : Stored) (f : RecordFound befo
             depth = w .depth;
             filled =
                 subst
-                (λ γ. Filled (widthsOf s) (state′ .depth) (j .top) (keyString before values)
+                (λ γ. Filled (widthsOf s) (state′ .deepest) (j .top) (keyString before values)
                 (wordOf (Page (keptPage γ (r .page) (j .other)) (j .top))) words words′)
                 (p .bit) (w .new-leaf);
           }
@@ -151,7 +151,7 @@ module _ (before : Store) (values : List ℕ) (r : Stored) (f : RecordFound befo
       promise-joined thirteen guarded =
           subst (λ st. DeletePromise before values (accepted changed) (store st words′ bytes′)) (sym (w .state))
           (delete-joined before values (f .leaf .early) (r .page) (j .other) (j .step) (j .top) kept freed
-          (state′ .depth) (state′ .tally) words′ bytes′ (λ S sound. rw (k .same) (p .met))
+          (state′ .deepest) (state′ .tally) words′ bytes′ (λ S sound. rw (k .same) (p .met))
           (λ S sound. rw (k .same) (joined S sound)) (λ S sound. rw (k .same) (k .found S sound)) past-joined
           (subst (λ st. KeepsOthers true before values (store st words′ bytes′)) (w .state)
           (k .others _

@@ -28,7 +28,7 @@ use Rattle.delete_plan.specs.Plan.{RecordFound, StaysAlone}
 use Rattle.delete_plan.specs.declared.Stored.{Stored}
 use Rattle.delete_plan.specs.declared.Plan.the-variants.{Keep}
 use Rattle.delete_steps.specs.PageBytes.{removedBytes}
-use Rattle.delete_steps.specs.Private.{LeafWords}
+use Rattle.delete_steps.specs.Steps.{LeafWords}
 use Rattle.delete_steps.proofs.PageLaws.{length-removedBytes, drop-removedBytes, some-left, none-left}
 use Rattle.change_kept.proofs.ContainedLaws.{contained-removed}
 use Rattle.change_guard.specs.Guard.{DeleteGuarded}
@@ -43,7 +43,7 @@ module _ (before : Store) (values : List ℕ) (r : Stored) (f : RecordFound befo
   P = before .state .limits .pages
 
   abbrev T : ℕ
-  T = before .state .depth
+  T = before .state .deepest
 
   abbrev L : ℕ
   L = before .state .limits .depth

@@ -11,7 +11,7 @@ use Rattle.directory_word.specs.declared.Leaf.the-variants.{Empty}
 use Rattle.store.specs.Store.{store}
 use Rattle.store.specs.declared.State.{State}
 use Rattle.change.specs.Delete.{AtSibling}
-use Rattle.delete_plan.specs.Private.{Climbed}
+use Rattle.delete_plan.specs.Siblings.{Climbed}
 
 module _ (st : State) (words values : List ℕ) where
   abbrev At : ℕ → (ℕ → Type 0) → Type 0

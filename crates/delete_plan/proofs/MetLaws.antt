@@ -42,7 +42,7 @@ use Rattle.leaf_word.specs.Hold.{wordHolds, ownPage, OwnAsked}
 use Rattle.leaf_word.proofs.HoldLaws.{word-of-sound, held-empty, held-page}
 use Rattle.leaf_word.proofs.PageLaws.{unpackedKey-values, indexFits-packed, endsBegin-word}
 use Rattle.delete_plan.specs.Plan.{LeafMet, RecordFound}
-use Rattle.delete_plan.specs.Private.{DirectoryLent}
+use Rattle.delete_plan.specs.Siblings.{DirectoryLent}
 use Rattle.lookup.proofs.EarlyLaws.{Passed, passed, SixteenBits-of-keyFits}
 use Rattle.delete_plan.proofs.EarlyLaws.{encodings-values}
 

@@ -38,7 +38,7 @@ use Rattle.lookup.proofs.EarlyLaws.{passed}
 use Rattle.tally.specs.Tally.{tallyHolds}
 use Rattle.tally.proofs.CountLaws.{tallyHolds-of-sound}
 use Rattle.delete_plan.specs.Plan.{RecordFound, StaysAlone, JoinPlanned}
-use Rattle.delete_plan.specs.Private.{SiblingMet, JoinMade, siblingHolds, siblingPage}
+use Rattle.delete_plan.specs.Siblings.{SiblingMet, JoinMade, siblingHolds, siblingPage}
 use Rattle.delete_plan.specs.declared.Stored.{Stored}
 use Rattle.delete_plan.specs.declared.Join.{Join}
 use Rattle.delete_plan.proofs.MetLaws.{refused-word, directoryLent, pageLent}
@@ -142,7 +142,7 @@ module _ (before : Store) (values : List ℕ) (r : Stored) (f : RecordFound befo
           absurd (wordOf-apart h x y (omega (arith, most)) (sym d ∙ held-empty (before .state) word holds y e .1)))
 
       module _ (h y : ℕ) (e : leafOf word ≡ Page h y) where
-        leaf : (h < P) × (y ≤ before .state .depth) × (word ≡ wordOf (Page h y))
+        leaf : (h < P) × (y ≤ before .state .deepest) × (word ≡ wordOf (Page h y))
         leaf = held-page (before .state) word holds h y e
 
         -- never joined with a divided sibling

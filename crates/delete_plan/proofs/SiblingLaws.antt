@@ -27,7 +27,7 @@ use Rattle.store.proofs.ShownLaws.{wordOn, divisionOn, wordOn-depth}
 use Rattle.change.specs.Delete.{keyString, AtSibling}
 use Rattle.change.proofs.DeleteWordLaws.{leaf-of-page-word, sibling-empty}
 use Rattle.leaf_word.specs.Hold.{wordHolds}
-use Rattle.delete_plan.specs.Private.{siblingHolds}
+use Rattle.delete_plan.specs.Siblings.{siblingHolds}
 
 module _ (before : Store) (S : List Record) (sound : Sound before S) (key : List ℕ) (g m : ℕ)
     (l : g < before .state .limits .pages)

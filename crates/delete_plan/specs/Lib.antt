@@ -1,2 +1,2 @@
 pub mod Plan
-pub mod Private
+pub mod Siblings

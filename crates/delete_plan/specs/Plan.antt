@@ -30,7 +30,7 @@ module _ (before : Store) (values : List ℕ) where
   P = before .state .limits .pages
 
   abbrev T : ℕ
-  T = before .state .depth
+  T = before .state .deepest
 
   abbrev b : ℕ
   b = before .state .shape .capacity
@@ -79,7 +79,7 @@ module _ (before : Store) (values : List ℕ) where
     pub bit : j .bit ≡ keyString before values (j .step)
     pub tally : tallyHolds (before .state .tally .leaves) ≡ true
 
-  abbrev pub Planned : Plan → Type 0
-  Planned (plan.Refused n) = DeletePromise before values (refused n) before
-  Planned (plan.Keep r) = RecordFound r × StaysAlone (r .page) (r .depth)
-  Planned (plan.Join r j) = RecordFound r × JoinPlanned r j
+  abbrev pub DeletePlanned : Plan → Type 0
+  DeletePlanned (plan.Refused n) = DeletePromise before values (refused n) before
+  DeletePlanned (plan.Keep r) = RecordFound r × StaysAlone (r .page) (r .depth)
+  DeletePlanned (plan.Join r j) = RecordFound r × JoinPlanned r j

@@ -27,8 +27,8 @@ ghost use Rattle.pages.specs.Pages.{PageLent};
 ghost use Rattle.page_matches.specs.KeyPlace.{keyPlace};
 ghost use Rattle.store.specs.Promises.{keyNumber};
 ghost use Rattle.store.specs.Store.{store};
-ghost use Rattle.delete_plan.specs.Plan.{LeafMet, RecordFound, Planned};
-ghost use Rattle.delete_plan.specs.Private.{SiblingMet};
+ghost use Rattle.delete_plan.specs.Plan.{LeafMet, RecordFound, DeletePlanned};
+ghost use Rattle.delete_plan.specs.Siblings.{SiblingMet};
 
 // Where the key's record is stored: page and depth of its leaf, and its place among the records of
 // the page.
@@ -61,14 +61,14 @@ pub enum Plan {
 // without a page.
 pub fn plan_delete(state: State, dir: &[u32], pages: &[u8], key: Key) -> Plan
     requires { ⌜ keyNumber (store state (now dir) (now pages)) (key .values) ≡ 0 ⌝ }
-    ensures { λ r. ⌜ Planned (store state (now (dir .entry)) (now (pages .entry))) (key .values) r ⌝ }
+    ensures { λ r. ⌜ DeletePlanned (store state (now (dir .entry)) (now (pages .entry))) (key .values) r ⌝ }
 {
     if !limits_hold(state) {
         return Plan::Refused(9);
     }
     let values = key.values;
     let widths = widths_of(state.shape);
-    let word = key_word(widths, state.depth as u64, dir, values);
+    let word = key_word(widths, state.deepest as u64, dir, values);
     if !word_holds(state, word) {
         return Plan::Refused(9);
     }
@@ -84,7 +84,7 @@ pub fn plan_delete(state: State, dir: &[u32], pages: &[u8], key: Key) -> Plan
 // leaf of depth 0 has no sibling.
 fn plan_leaf(state: State, dir: &[u32], pages: &[u8], key: Key, page: u32, depth: u32) -> Plan
     requires { ⌜ LeafMet (store state (now dir) (now pages)) (key .values) page depth ⌝ }
-    ensures { λ r. ⌜ Planned (store state (now (dir .entry)) (now (pages .entry))) (key .values) r ⌝ }
+    ensures { λ r. ⌜ DeletePlanned (store state (now (dir .entry)) (now (pages .entry))) (key .values) r ⌝ }
 {
     let shape = state.shape;
     let capacity = shape.capacity as usize;
@@ -131,7 +131,7 @@ fn place_on(pages: &[u8], capacity: usize, g: usize, n: usize, key: u64) -> usiz
 fn plan_sibling(state: State, dir: &[u32], pages: &[u8], key: Key, found: Stored) -> Plan
     requires { ⌜ RecordFound (store state (now dir) (now pages)) (key .values) found ⌝ }
     requires { ⌜ 0 < found .depth ⌝ }
-    ensures { λ r. ⌜ Planned (store state (now (dir .entry)) (now (pages .entry))) (key .values) r ⌝ }
+    ensures { λ r. ⌜ DeletePlanned (store state (now (dir .entry)) (now (pages .entry))) (key .values) r ⌝ }
 {
     let values = key.values;
     let word = sibling_of(state, dir, values, found.depth - 1);
@@ -154,7 +154,7 @@ fn plan_sibling(state: State, dir: &[u32], pages: &[u8], key: Key, found: Stored
 fn plan_pair(state: State, dir: &[u32], pages: &[u8], key: Key, found: Stored, other: u32) -> Plan
     requires { ⌜ RecordFound (store state (now dir) (now pages)) (key .values) found ⌝ }
     requires { ⌜ SiblingMet (store state (now dir) (now pages)) (key .values) found other ⌝ }
-    ensures { λ r. ⌜ Planned (store state (now (dir .entry)) (now (pages .entry))) (key .values) r ⌝ }
+    ensures { λ r. ⌜ DeletePlanned (store state (now (dir .entry)) (now (pages .entry))) (key .values) r ⌝ }
 {
     let shape = state.shape;
     let capacity = shape.capacity as usize;

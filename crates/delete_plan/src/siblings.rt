@@ -27,7 +27,7 @@ ghost use Rattle.pages.specs.Pages.{PageLent};
 ghost use Rattle.store.specs.Store.{store};
 ghost use Rattle.change.specs.Delete.{AtSibling};
 ghost use Rattle.leaf_word.specs.Hold.{OwnAsked};
-ghost use Rattle.delete_plan.specs.Private.{DirectoryLent, Climbed, JoinMade, siblingHolds, siblingPage};
+ghost use Rattle.delete_plan.specs.Siblings.{DirectoryLent, Climbed, JoinMade, siblingHolds, siblingPage};
 
 // The join of a leaf of depth x with its sibling, which has page `other` and so many records.
 pub fn plan_join(
@@ -38,7 +38,7 @@ pub fn plan_join(
     other: u32,
     count: usize,
 ) -> Join
-    requires { ⌜ DirectoryLent state (length (now dir)) × (0 < x) × (x ≤ state .depth) ⌝ }
+    requires { ⌜ DirectoryLent state (length (now dir)) × (0 < x) × (x ≤ state .deepest) ⌝ }
     ensures { λ r. ⌜ JoinMade state (now (dir .entry)) values x other count r ⌝ }
 {
     let step = x - 1;
@@ -56,7 +56,7 @@ pub fn plan_join(
 // The least depth y such that from depth m up the siblings are empty leaves, those of depths y + 1
 // to m.
 fn climb(state: State, dir: &[u32], values: [u32; 4], m: u32) -> u32
-    requires { ⌜ DirectoryLent state (length (now dir)) × (m < state .depth) ⌝ }
+    requires { ⌜ DirectoryLent state (length (now dir)) × (m < state .deepest) ⌝ }
     ensures { λ r. ⌜ Climbed state (now (dir .entry)) values m r ⌝ }
 {
     let mut y = m;
@@ -72,11 +72,11 @@ fn climb(state: State, dir: &[u32], values: [u32; 4], m: u32) -> u32
 
 // The word of a cell of the sibling of a key's region of z + 1 bits.
 pub fn sibling_of(state: State, dir: &[u32], values: [u32; 4], z: u32) -> u32
-    requires { ⌜ DirectoryLent state (length (now dir)) × (z < state .depth) ⌝ }
+    requires { ⌜ DirectoryLent state (length (now dir)) × (z < state .deepest) ⌝ }
     ensures { λ r. ⌜ AtSibling (store state (now (dir .entry)) []) values z (λ w. r ≡ w) ⌝ }
 {
     let widths = widths_of(state.shape);
-    sibling_word(widths, values, z as u64, state.depth as u64, dir)
+    sibling_word(widths, values, z as u64, state.deepest as u64, dir)
 }
 
 // The split bit of a key at a step.
@@ -93,7 +93,7 @@ fn step_bit(shape: Shape, values: [u32; 4], step: u32) -> bool
 // is not above that leaf, and none without a page beside it. The words of all these are up to that of
 // the latter.
 pub fn sibling_word_holds(state: State, word: u32, depth: u32) -> bool
-    requires { ⌜ (state .depth ≤ 12) × (depth < 16) ⌝ }
+    requires { ⌜ (state .deepest ≤ 12) × (depth < 16) ⌝ }
     ensures { λ r. ⌜ r ≡ siblingHolds state depth word ⌝ }
 {
     if !word_holds(state, word) {

@@ -15,15 +15,15 @@ use Rattle.directory.specs.Directory.{DirectoryFits, Filled}
 use Rattle.store.specs.declared.State.{State}
 use Rattle.change.specs.Delete.{joinedTally, tallyDepth}
 use Rattle.change.proofs.DeleteTallyLaws.{getD-joinedTally-at, le-tallyDepth}
-use Rattle.delete_plan.specs.Private.{DirectoryLent}
+use Rattle.delete_plan.specs.Siblings.{DirectoryLent}
 use Rattle.delete_plan.specs.declared.Stored.{Stored}
 use Rattle.delete_plan.specs.declared.Join.{Join}
 use Rattle.delete_steps.specs.PageBytes.{keptPage}
-use Rattle.delete_steps.specs.Private.{LeavesLent}
+use Rattle.delete_steps.specs.Steps.{LeavesLent}
 
 module _ (st : State) (ws : List ℕ) (e : ws ≡ widthsOf (st .shape)) where
   -- a directory of at most T
-  pub directoryFits : (size t : ℕ) → DirectoryLent st size → t ≤ st .depth → DirectoryFits ws t size
+  pub directoryFits : (size t : ℕ) → DirectoryLent st size → t ≤ st .deepest → DirectoryFits ws t size
   directoryFits size t l h =
       record {
         fit = widths-fit (st .shape) ws (l .shape) e;
@@ -40,16 +40,16 @@ module _ (st : State) (ws : List ℕ) (e : ws ≡ widthsOf (st .shape)) where
       (subst (λ w. Filled ws t x (splitBit ws values) w words words′) d f)
 
 -- a depth with a leaf is at most T
-pub top-le : (st : State) (r : Stored) (j : Join) → LeavesLent st r j → st .depth ≤ 12 → (leaves : List ℕ)
+pub top-le : (st : State) (r : Stored) (j : Join) → LeavesLent st r j → st .deepest ≤ 12 → (leaves : List ℕ)
     → leaves ≡ joinedTally (j .top) (suc (j .step) - j .top) (st .tally .leaves)
-    → j .top ≤ tallyDepth (st .depth) leaves
+    → j .top ≤ tallyDepth (st .deepest) leaves
 top-le st r j l short leaves e =
     let more : suc (j .step) - j .top ≡ suc (j .step - j .top) = omega (arith, l .above) in
     let one : getD leaves (j .top) 0 ≡ getD (st .tally .leaves) (j .top) 0 + 1 =
     rw (e, more)
     (getD-joinedTally-at (j .top) (j .step - j .top) (st .tally .leaves)
     (omega (arith, l .thirteen, l .above, l .deep, l .depth-step))) in
-    le-tallyDepth leaves (st .depth) (j .top) (omega (arith, l .above, l .deep, l .depth-step)) (omega arith)
+    le-tallyDepth leaves (st .deepest) (j .top) (omega (arith, l .above, l .deep, l .depth-step)) (omega arith)
 
 pub keptPage-lt : (β : Bool) (g h n : ℕ) → g < n → h < n → keptPage β g h < n
 keptPage-lt true g h n u v = v

@@ -16,13 +16,13 @@ ghost use Prim.Native.Nat.{suc, _+_, _-_, _≤_};
 ghost use lib.ListN.{length};
 ghost use Rattle.pages.specs.Pages.{PageLent};
 ghost use Rattle.change.specs.Delete.{joinedTally};
-ghost use Rattle.delete_plan.specs.Private.{DirectoryLent};
+ghost use Rattle.delete_plan.specs.Siblings.{DirectoryLent};
 ghost use Rattle.delete_steps.specs.PageBytes.{removedBytes, keptPage, joinedBytes};
-ghost use Rattle.delete_steps.specs.Private.{joinedPages, RecordLent, PairLent, LeavesLent, LeafWords, JoinWords};
+ghost use Rattle.delete_steps.specs.Steps.{joinedPages, RecordLent, PairLent, LeavesLent, LeafWords, JoinWords};
 
 // The key's leaf stays: its record is removed, and a leaf whose only record it was has no page now.
 pub fn keep_leaf(state: State, dir: &mut [u32], pages: &mut [u8], values: [u32; 4], found: Stored)
-    requires { ⌜ DirectoryLent state (length (now dir)) × (found .depth ≤ state .depth) ⌝ }
+    requires { ⌜ DirectoryLent state (length (now dir)) × (found .depth ≤ state .deepest) ⌝ }
     requires { ⌜ RecordLent (state .shape .capacity) found (now pages) ⌝ }
     ensures { λ _. ⌜ LeafWords state values found (now (dir .entry)) (now (dir .exit)) ⌝ }
     ensures { λ _. ⌜ now (pages .exit)
@@ -38,7 +38,7 @@ pub fn keep_leaf(state: State, dir: &mut [u32], pages: &mut [u8], values: [u32; 
         widths_of(shape),
         values,
         found.depth as u64,
-        state.depth as u64,
+        state.deepest as u64,
         word,
         dir,
     );
@@ -64,7 +64,7 @@ pub fn join_leaves(
     let limits = state.limits;
     let kept = join_records(pages, shape.capacity as usize, found, join);
     let tally = join_tally(state, found, join);
-    let depth = greatest_depth(tally, state.depth as usize);
+    let depth = greatest_depth(tally, state.deepest as usize);
     let word = pack_page(kept, join.top);
     fill(
         widths_of(shape),
@@ -77,14 +77,14 @@ pub fn join_leaves(
     State {
         shape,
         limits,
-        depth: depth as u32,
+        deepest: depth as u32,
         tally,
     }
 }
 
 // The tally after a join: one leaf at the new one's depth for all that lay below it.
 fn join_tally(state: State, found: Stored, join: Join) -> Tally
-    requires { ⌜ (state .depth ≤ 12) × LeavesLent state found join ⌝ }
+    requires { ⌜ (state .deepest ≤ 12) × LeavesLent state found join ⌝ }
     ensures { λ r. ⌜ r .leaves ≡ joinedTally (join .top) (suc (join .step) - join .top) (state .tally .leaves) ⌝ }
 {
     tally_lent::joined(

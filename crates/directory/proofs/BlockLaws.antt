@@ -10,11 +10,11 @@ use lib.ListN.{getD, length}
 use borrow.Author.Tests.{lt-ltb, le-ltb}
 use Rattle.shape.specs.Shape.{Fit}
 use Rattle.split.specs.Steps.{steps, bitValue}
-use Rattle.address.specs.Private.{StepPair}
+use Rattle.address.specs.Pairs.{StepPair}
 use Rattle.cell.specs.Cell.{cellAddress, Agree}
 use Rattle.cell.proofs.CellLaws.{cellAddress-lt, cellAddress-same}
 use Rattle.directory.specs.Directory.{Filled}
-use Rattle.directory.specs.Private.{Among, MaskFilled}
+use Rattle.directory.specs.Blocks.{Among, MaskFilled}
 use Rattle.directory.proofs.CellLaws.{cut, agree-cut, cut-past, withBit, withBit-here, agree-withBit}
 use Rattle.directory.proofs.CellLaws.{agree-sym, agree-trans, agree-le, cellAddress-zero-bit, cellAddress-new}
 use Rattle.directory.proofs.SubsetLaws.{weighed, weighed-agree, weighed-none, weighed-split, ones}

@@ -14,14 +14,15 @@ use borrow.Author.Tests.{lt-ltb, le-ltb, eq-eqb, ne-eqb}
 use Rattle.lists.proofs.Numbers.{lt-or-le}
 use Rattle.shape.specs.Shape.{Fit}
 use Rattle.split.specs.Steps.{steps, bitValue}
-use Rattle.split.proofs.DepthLaws.{depth-width}
-use Rattle.address.specs.Private.{InBox, IndexAt, StepPair}
+use Rattle.split.proofs.DepthLaws.{attributeDepth-width}
+use Rattle.address.specs.Pairs.{StepPair}
+use Rattle.address.specs.Vectors.{InBox, IndexAt}
 use Rattle.address.proofs.SideLaws.{In-sides-get, In-sides-mono, In-sides-all}
 use Rattle.address.proofs.DoublingLaws.{address-one-to-one}
 use Rattle.cell.specs.Cell.{cell, cellAddress, Agree}
 use Rattle.cell.proofs.CellLaws.{In-cell, cell-suc-pair, cellAddress-lt, cellAddress-onto, cellAddress-same}
 use Rattle.cell.proofs.CellLaws.{cellAddress-zero-bits}
-use Rattle.directory.specs.Private.{bitSet}
+use Rattle.directory.specs.Places.{bitSet}
 use Rattle.directory.proofs.PlaceLaws.{stepNumber-pair}
 
 -- ---- strings
@@ -70,7 +71,7 @@ agree-withBit p t β s l = withBit-other p t β s (λ e. omega arith)
 pub inBox-cell : (ws : List ℕ) → Fit ws → (t : ℕ) (p : ℕ → Bool) → InBox ws (cell ws t p)
 inBox-cell ws fit t p = record {
   fit = fit;
-  below = λ r l. le-trans (In-sides-get ws t (In-cell ws t p) r l) (pow-mono (depth-width ws r t l));
+  below = λ r l. le-trans (In-sides-get ws t (In-cell ws t p) r l) (pow-mono (attributeDepth-width ws r t l));
 }
 
 module _ (ws : List ℕ) (fit : Fit ws) where

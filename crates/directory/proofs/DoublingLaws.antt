@@ -13,11 +13,12 @@ use Rattle.lists.proofs.Numbers.{eq-or-ne}
 use Rattle.shape.specs.Shape.{Fit}
 use Rattle.split.specs.Steps.{steps}
 use Rattle.address.specs.Address.{address}
-use Rattle.address.specs.Private.{IndexAt, AppendedBy}
+use Rattle.address.specs.Vectors.{IndexAt, AppendedBy}
 use Rattle.cell.specs.Cell.{cell, cellAddress}
 use Rattle.cell.proofs.CellLaws.{length-cell, cellAddress-lt, cellAddress-same}
 use Rattle.directory.specs.Directory.{Doubled}
-use Rattle.directory.specs.Private.{bitSet, bitCleared, UpperHalf}
+use Rattle.directory.specs.Places.{bitSet, bitCleared}
+use Rattle.directory.specs.Blocks.{UpperHalf}
 use Rattle.directory.proofs.PlaceLaws.{stepPair-lt}
 use Rattle.directory.proofs.VectorLaws.{getD-bitSet, bitCleared-bitSet}
 use Rattle.directory.proofs.CellLaws.{agree-le, cell-bitSet, cell-indexAt, cellAddress-below, bit-cellAddress}

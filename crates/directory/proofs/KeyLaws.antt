@@ -11,15 +11,15 @@ use lib.ListN.{getD, length}
 use lib.Pow.{pow-mono, shr-shr}
 use Rattle.lists.proofs.Numbers.{pow-double}
 use Rattle.shape.specs.Shape.{Fit}
-use Rattle.split.specs.Steps.{bitValue, stepsBelow, depth}
+use Rattle.split.specs.Steps.{bitValue, stepsBelow, attributeDepth}
 use Rattle.split.specs.Bits.{bitOf, splitBit}
 use Rattle.split.proofs.StepLaws.{depthBefore}
-use Rattle.split.proofs.DepthLaws.{depth-width}
+use Rattle.split.proofs.DepthLaws.{attributeDepth-width}
 use Rattle.split.proofs.BitLaws.{splitBit-stepNumber}
 use Rattle.cell.specs.Cell.{sumBits, attributeBit, cell}
 use Rattle.cell.proofs.Strings.{sumBits-lt, sumBits-agree, bitValue-digit}
 use Rattle.directory.specs.Private.{reversedBits}
-use Rattle.directory.proofs.PlaceLaws.{depth-place}
+use Rattle.directory.proofs.PlaceLaws.{attributeDepth-place}
 use Rattle.directory.proofs.ReverseLaws.{reversedBits-four, four-more}
 
 -- ---- an index from an encoding's bits
@@ -176,11 +176,11 @@ sumBits-few w encoding (suc (suc (suc (suc (suc h))))) hw hs l r e = absurd (ome
 
 -- a key's bits of attribute j are those of its encoding
 sumBits-splitBit : (ws : List ℕ) → Fit ws → (t : ℕ) (key : List ℕ) (j : ℕ) → j < 4
-    → sumBits (attributeBit ws (splitBit ws key) j) (depth ws t j)
-    ≡ sumBits (bitOf (getD ws j 0) (getD key j 0)) (depth ws t j)
+    → sumBits (attributeBit ws (splitBit ws key) j) (attributeDepth ws t j)
+    ≡ sumBits (bitOf (getD ws j 0) (getD key j 0)) (attributeDepth ws t j)
 sumBits-splitBit ws fit t key j hj =
-    sumBits-agree (depth ws t j) _ _
-    (λ k l. splitBit-stepNumber ws fit key k j hj (le-trans l (depth-width ws j t hj)))
+    sumBits-agree (attributeDepth ws t j) _ _
+    (λ k l. splitBit-stepNumber ws fit key k j hj (le-trans l (attributeDepth-width ws j t hj)))
 
 pub cell-splitBit : (ws : List ℕ) → Fit ws → (g : ℕ) (key : List ℕ) (h0 h1 h2 h3 i0 i1 i2 i3 : ℕ) → g ≤ 64
     → h0 ≡ depthBefore ws g 0 → h1 ≡ depthBefore ws g 1 → h2 ≡ depthBefore ws g 2 → h3 ≡ depthBefore ws g 3
@@ -199,8 +199,8 @@ cell-splitBit ws fit g key h0 h1 h2 h3 i0 i1 i2 i3 low d0 d1 d2 d3 e0 e1 e2 e3 =
     t = length (stepsBelow ws g)
 
     at : (j h i : ℕ) → j < 4 → h ≡ depthBefore ws g j → i ≡ sumBits (bitOf (getD ws j 0) (getD key j 0)) h
-        → i ≡ sumBits (attributeBit ws (splitBit ws key) j) (depth ws (length (stepsBelow ws g)) j)
+        → i ≡ sumBits (attributeBit ws (splitBit ws key) j) (attributeDepth ws (length (stepsBelow ws g)) j)
     at j h i hj d e =
         e
-        ∙ ap (sumBits (bitOf (getD ws j 0) (getD key j 0))) (d ∙ sym (depth-place ws g j hj low))
+        ∙ ap (sumBits (bitOf (getD ws j 0) (getD key j 0))) (d ∙ sym (attributeDepth-place ws g j hj low))
         ∙ sym (sumBits-splitBit ws fit (length (stepsBelow ws g)) key j hj)

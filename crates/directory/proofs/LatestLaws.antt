@@ -11,15 +11,15 @@ use lib.ListN.{getD, length}
 use lib.Pow.{pow-mono}
 use Rattle.lists.proofs.Numbers.{eq-or-ne}
 use Rattle.shape.specs.Shape.{Fit}
-use Rattle.split.specs.Steps.{depth}
+use Rattle.split.specs.Steps.{attributeDepth}
 use Rattle.split.proofs.StepLaws.{depthBefore}
-use Rattle.address.specs.Private.{StepPair, creatingPair, latestPair}
+use Rattle.address.specs.Pairs.{StepPair, creatingPair, latestPair}
 use Rattle.address.proofs.LatestLaws.{highestBit-is, highestBit-below}
 use Rattle.address.proofs.PairLaws.{creatingPair-some, creatingPair-none}
 use Rattle.address.proofs.SideLaws.{In-sides-get}
 use Rattle.cell.specs.Cell.{cell}
 use Rattle.cell.proofs.CellLaws.{In-cell, length-cell}
-use Rattle.directory.proofs.PlaceLaws.{stepsBefore-pair, depth-place}
+use Rattle.directory.proofs.PlaceLaws.{stepsBefore-pair, attributeDepth-place}
 use Rattle.directory.proofs.VectorLaws.{getD-bitSet}
 use Rattle.directory.proofs.CellLaws.{cell-bitSet}
 
@@ -32,10 +32,10 @@ module _ (ws : List ℕ) (fit : Fit ws) (y g : ℕ) (pair : StepPair ws y g) (q 
   unfolding depthBefore
   below j h =
       let after = stepsBefore-pair ws y g pair in
-      let bits : depth ws (suc y) j ≡ depthBefore ws (g + 1) j =
-      ap (λ n. depth ws n j) (sym (after .before ∙ add-one y))
-      ∙ depth-place ws (g + 1) j h (after .low) in
-      let most : depth ws (suc y) j ≤ (g + 4 - j) / 4 = omega (arith, bits) in
+      let bits : attributeDepth ws (suc y) j ≡ depthBefore ws (g + 1) j =
+      ap (λ n. attributeDepth ws n j) (sym (after .before ∙ add-one y))
+      ∙ attributeDepth-place ws (g + 1) j h (after .low) in
+      let most : attributeDepth ws (suc y) j ≤ (g + 4 - j) / 4 = omega (arith, bits) in
       lt-of-lt-of-le (In-sides-get ws (suc y) (In-cell ws (suc y) q) j h) (pow-mono most)
 
   creatingPair-le : (j : ℕ) → j < 4 → creatingPair (getD is j 0) j ≤ g + 1

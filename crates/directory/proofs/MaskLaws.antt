@@ -9,7 +9,7 @@ use lib.Bits.{bitAnd, and-step, and-le-l, and-le-r, and-self}
 use lib.ListN.{getD, length, set, length-set}
 use lib.Seq.{getD-set-same, getD-set-other}
 use Rattle.lists.proofs.Numbers.{lt-or-le, eq-or-ne}
-use Rattle.directory.specs.Private.{Among, MaskFilled}
+use Rattle.directory.specs.Blocks.{Among, MaskFilled}
 
 -- ---- numbers among a mask
 

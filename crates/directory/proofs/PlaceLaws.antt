@@ -13,12 +13,12 @@ use lib.Seq.{take-append-seam}
 use borrow.Author.Tests.{eqb-true}
 use Rattle.lists.proofs.Numbers.{lt-or-le}
 use Rattle.shape.specs.Shape.{Fit, total, allBelow}
-use Rattle.split.specs.Steps.{stepsBelow, steps, stepNumber, stepsOf, depth}
+use Rattle.split.specs.Steps.{stepsBelow, steps, stepNumber, stepsOf, attributeDepth}
 use Rattle.split.proofs.StepLaws.{depthBefore, stepsOf-stepsBelow, length-stepsBelow, length-steps}
 use Rattle.split.proofs.StepLaws.{length-stepsBelow-step, length-stepsBelow-skip, stepsBelow-prefix}
 use Rattle.split.proofs.DepthLaws.{stepNumber-below}
-use Rattle.address.specs.Private.{StepPair}
-use Rattle.directory.specs.Private.{StepsBefore}
+use Rattle.address.specs.Pairs.{StepPair}
+use Rattle.directory.specs.Places.{StepsBefore}
 use Rattle.directory.proofs.ReverseLaws.{allBelow-at}
 
 -- ---- the search
@@ -138,10 +138,10 @@ module _ (ws : List ℕ) (t g : ℕ) (s : StepPair ws t g) where
 
 -- ---- the depths at a place
 
-pub depth-place : (ws : List ℕ) (g j : ℕ) → j < 4 → g ≤ 64
-    → depth ws (length (stepsBelow ws g)) j ≡ depthBefore ws g j
-unfolding depth steps
-depth-place ws g j hj h =
+pub attributeDepth-place : (ws : List ℕ) (g j : ℕ) → j < 4 → g ≤ 64
+    → attributeDepth ws (length (stepsBelow ws g)) j ≡ depthBefore ws g j
+unfolding attributeDepth steps
+attributeDepth-place ws g j hj h =
     let p = stepsBelow-prefix ws g 64 h in
     ap (λ s. stepsOf j (take (length (stepsBelow ws g)) s)) (p .1)
     ∙ ap (stepsOf j) (take-append-seam (stepsBelow ws g) (p .0))

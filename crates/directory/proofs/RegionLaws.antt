@@ -13,15 +13,17 @@ use lib.Seq.{getD-set-same, getD-set-other}
 use Rattle.shape.specs.Shape.{Fit}
 use Rattle.split.specs.Steps.{steps}
 use Rattle.split.proofs.StepLaws.{length-steps}
-use Rattle.split.proofs.DepthLaws.{depth-z}
+use Rattle.split.proofs.DepthLaws.{attributeDepth-z}
 use Rattle.address.specs.Address.{address}
-use Rattle.address.specs.Private.{InBox, StepPair, latestPair}
+use Rattle.address.specs.Pairs.{StepPair, latestPair}
+use Rattle.address.specs.Vectors.{InBox}
 use Rattle.address.proofs.SideLaws.{In-sides-get}
 use Rattle.cell.specs.Cell.{cell, cellAddress, Agree}
 use Rattle.cell.proofs.CellLaws.{In-cell, cell-agree, cell-zero-bits, cell-zero-bit}
 use Rattle.cell.proofs.CellLaws.{cellAddress-lt, cellAddress-same, cellAddress-zero-bits}
 use Rattle.directory.specs.Directory.{DirectoryFits, Filled}
-use Rattle.directory.specs.Private.{StepsBefore, bitSet, RegionAt, BlocksFilled, BlockFits, BlockFilled}
+use Rattle.directory.specs.Places.{StepsBefore, bitSet}
+use Rattle.directory.specs.Blocks.{RegionAt, BlocksFilled, BlockFits, BlockFilled}
 use Rattle.directory.proofs.PlaceLaws.{stepNumber-pair, stepPair-lt, stepsBefore-pair}
 use Rattle.directory.proofs.CellLaws.{cut, agree-cut, cut-past, withBit, withBit-here, agree-withBit, agree-sym}
 use Rattle.directory.proofs.CellLaws.{agree-trans, agree-le, agree-suc, inBox-cell, cell-bitSet}
@@ -103,7 +105,7 @@ module _ (ws : List ℕ) (fit : Fit ws) (y g : ℕ) (pair : StepPair ws y g) whe
   pub getD-cell-lt : (p : ℕ → Bool) → getD (cell ws y p) (g % 4) 0 < 2 ^ (g / 4)
   getD-cell-lt p =
       subst (λ h. getD (cell ws y p) (g % 4) 0 < 2 ^ h)
-      (depth-z ws fit (g / 4) (g % 4) (omega arith) (pair .live) (stepNumber-pair ws y g pair))
+      (attributeDepth-z ws fit (g / 4) (g % 4) (omega arith) (pair .live) (stepNumber-pair ws y g pair))
       (In-sides-get ws y (In-cell ws y p) (g % 4) (omega arith))
 
   module _ (x : ℕ) (h : x ≤ y) (p : ℕ → Bool) where

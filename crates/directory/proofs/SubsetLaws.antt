@@ -13,7 +13,7 @@ use Rattle.lists.proofs.Numbers.{eq-or-ne, pow-double}
 use Rattle.split.specs.Steps.{bitValue}
 use Rattle.cell.specs.Cell.{Agree}
 use Rattle.cell.proofs.Strings.{bitValue-digit}
-use Rattle.directory.specs.Private.{Among}
+use Rattle.directory.specs.Blocks.{Among}
 use Rattle.directory.proofs.CellLaws.{withBit, withBit-here, withBit-other, agree-withBit, agree-le}
 
 -- ---- one bit of a number

@@ -8,7 +8,8 @@ use lib.ListN.{getD, length, set}
 use lib.Seq.{getD-set-same, set-set, set-getD}
 use borrow.Author.Tests.{eq-eqb, ne-eqb}
 use Rattle.lists.proofs.Numbers.{eq-or-ne}
-use Rattle.directory.specs.Private.{bitSet, bitCleared, onlyAt}
+use Rattle.directory.specs.Places.{bitSet, bitCleared}
+use Rattle.directory.specs.Private.{onlyAt}
 
 -- ---- one attribute
 

@@ -8,11 +8,11 @@ use native.Mathlib.Omega.{arith}
 use lib.ListN.{getD, length, set}
 use lib.Pow.{pow-add}
 use Rattle.shape.specs.Shape.{Fit}
-use Rattle.split.specs.Steps.{steps, step, bitValue, depth}
+use Rattle.split.specs.Steps.{steps, step, bitValue, attributeDepth}
 use Rattle.split.proofs.DepthLaws.{step-of, step-here}
 use Rattle.address.specs.Address.{formula}
 use Rattle.address.specs.Doubling.{sides}
-use Rattle.address.specs.Private.{StepPair}
+use Rattle.address.specs.Pairs.{StepPair}
 use Rattle.address.proofs.AppendLaws.{address-new}
 use Rattle.cell.specs.Cell.{cell, cellAddress}
 use Rattle.cell.proofs.CellLaws.{In-cell, length-cell, cell-zero, cell-suc, cellAddress-same}
@@ -99,7 +99,7 @@ module _ (ws : List ℕ) (fit : Fit ws) where
   -- step y is the pair at place g
   module _ (y g : ℕ) (pair : StepPair ws y g) where
     abbrev pub weights : ℕ → ℕ
-    weights = exponent ws (shifts (g % 4) (depth ws y 0) (depth ws y 1) (depth ws y 2) (depth ws y 3))
+    weights = exponent ws (shifts (g % 4) (attributeDepth ws y 0) (attributeDepth ws y 1) (attributeDepth ws y 2) (attributeDepth ws y 3))
 
     pub cellAddress-weighed : (q : ℕ → Bool) → q y ≡ true → cellAddress ws (suc y) q ≡ weighed weights q (suc y)
     unfolding cellAddress sides cell
@@ -112,8 +112,8 @@ module _ (ws : List ℕ) (fit : Fit ws) where
         let new : 2 ^ k ≤ getD is z 0 =
         subst (λ v. 2 ^ k ≤ getD v z 0) (sym set-bit) (omega (arith, getD-bitSet g (cell ws y q) room)) in
         address-new ws fit k z (omega arith) (pair .live) (stepNumber-pair ws y g pair) is (In-cell ws (suc y) q) new
-        ∙ formula-shifts z (depth ws y 0) (depth ws y 1) (depth ws y 2) (depth ws y 3) (omega arith) _ _ _ _
-        ∙ shiftedSum-cell (shifts z (depth ws y 0) (depth ws y 1) (depth ws y 2) (depth ws y 3))
+        ∙ formula-shifts z (attributeDepth ws y 0) (attributeDepth ws y 1) (attributeDepth ws y 2) (attributeDepth ws y 3) (omega arith) _ _ _ _
+        ∙ shiftedSum-cell (shifts z (attributeDepth ws y 0) (attributeDepth ws y 1) (attributeDepth ws y 2) (attributeDepth ws y 3))
         (length-shifts z _ _ _ _) q (suc y) (stepPair-lt ws y g pair fit)
 
     -- two equal exponents would give two strings one address

@@ -1,2 +1,4 @@
 pub mod Directory
+pub mod Blocks
+pub mod Places
 pub mod Private

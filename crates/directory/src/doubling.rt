@@ -7,9 +7,9 @@ use shape::Widths;
 ghost use Prim.Native.Nat.{suc};
 ghost use lib.ListN.{length};
 ghost use Rattle.shape.specs.Shape.{widthList};
-ghost use Rattle.address.specs.Private.{AppendedBy};
+ghost use Rattle.address.specs.Vectors.{AppendedBy};
 ghost use Rattle.directory.specs.Directory.{DirectoryFits, Doubled};
-ghost use Rattle.directory.specs.Private.{UpperHalf};
+ghost use Rattle.directory.specs.Blocks.{UpperHalf};
 
 // Doubles the directory from depth t to t + 1. Words below 2^t and from 2^(t+1) on stay.
 pub fn double(widths: Widths, t: u64, dir: &mut [u32])

@@ -6,8 +6,8 @@ ghost use Prim.Native.Nat.{_<_, _≤_};
 ghost use lib.ListN.{length};
 ghost use Rattle.shape.specs.Shape.{Fit, widthList, total};
 ghost use Rattle.split.specs.Steps.{stepsBelow};
-ghost use Rattle.address.specs.Private.{StepPair};
-ghost use Rattle.directory.specs.Private.{StepsBefore};
+ghost use Rattle.address.specs.Pairs.{StepPair};
+ghost use Rattle.directory.specs.Places.{StepsBefore};
 
 // A place with t steps before it.
 pub fn place_of(widths: Widths, t: u64) -> u64

@@ -15,7 +15,7 @@ ghost use Rattle.shape.specs.Shape.{widthList};
 ghost use Rattle.split.specs.Bits.{splitBit};
 ghost use Rattle.address.specs.Answers.{indexList};
 ghost use Rattle.directory.specs.Directory.{DirectoryFits, Filled};
-ghost use Rattle.directory.specs.Private.{RegionAt, BlocksFilled, BlockFits, BlockFilled, MaskFilled};
+ghost use Rattle.directory.specs.Blocks.{RegionAt, BlocksFilled, BlockFits, BlockFilled, MaskFilled};
 
 // Sets every cell of the region of a key's first x split bits, in a directory of depth t. No other
 // word changes.

@@ -5,7 +5,8 @@ ghost use mathlib.Core.Path.{_≡_};
 ghost use Prim.Native.Nat.{_/_, _%_, _^_, _<_, _≤_};
 ghost use lib.ListN.{getD};
 ghost use Rattle.address.specs.Answers.{indexList};
-ghost use Rattle.directory.specs.Private.{bitSet, bitCleared, onlyAt};
+ghost use Rattle.directory.specs.Places.{bitSet, bitCleared};
+ghost use Rattle.directory.specs.Private.{onlyAt};
 
 // The vector with the bit set; no higher bit of that index is.
 pub fn with_bit(index: Index, g: u64) -> Index

@@ -11,7 +11,7 @@ use Rattle.lists.proofs.Bools.{cond-cases}
 use Rattle.directory.specs.Directory.{DirectoryFits, Doubled, Filled}
 use Rattle.directory_word.specs.Word.{wordOf}
 use Rattle.directory_word.specs.declared.Leaf.the-variants.{Empty, Page}
-use Rattle.change.specs.Private.{Deepened, SiblingsSet}
+use Rattle.change.specs.Divided.{Deepened, SiblingsSet}
 use Rattle.change.proofs.DirectoryLaws.{deepened-suc, siblings-whole}
 
 pub fits-shallower : (ws : List ℕ) (t u size size′ : ℕ) → DirectoryFits ws u size → t ≤ u → size′ ≡ size

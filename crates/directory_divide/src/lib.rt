@@ -13,7 +13,7 @@ ghost use lib.ListN.{length};
 ghost use Rattle.shape.specs.Shape.{widthList};
 ghost use Rattle.split.specs.Bits.{splitBit};
 ghost use Rattle.directory.specs.Directory.{DirectoryFits};
-ghost use Rattle.change.specs.Private.{Deepened, SiblingsSet, LeavesSet};
+ghost use Rattle.change.specs.Divided.{Deepened, SiblingsSet, LeavesSet};
 
 // Doubles the directory from depth t to u. Words from 2^u on stay.
 pub fn deepen(widths: Widths, t: u64, u: u64, dir: &mut [u32])

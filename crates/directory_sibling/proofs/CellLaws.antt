@@ -8,10 +8,10 @@ use native.Mathlib.Omega.{arith}
 use lib.ListN.{length}
 use Rattle.shape.specs.Shape.{Fit}
 use Rattle.split.specs.Steps.{steps}
-use Rattle.address.specs.Private.{StepPair}
+use Rattle.address.specs.Pairs.{StepPair}
 use Rattle.cell.specs.Cell.{cell, cellAddress}
 use Rattle.cell.proofs.CellLaws.{cell-zero-bit, cell-agree, cellAddress-same, cellAddress-zero-bits}
-use Rattle.directory.specs.Private.{bitSet}
+use Rattle.directory.specs.Places.{bitSet}
 use Rattle.directory.proofs.CellLaws.{cut, agree-cut, cut-past, withBit-here, agree-withBit, cell-bitSet}
 use Rattle.directory.proofs.PlaceLaws.{stepPair-lt}
 use Rattle.region.specs.Strings.{sibling}

@@ -14,7 +14,7 @@ use Rattle.shape.specs.Shape.{Fit}
 use Rattle.split.specs.Steps.{steps}
 use Rattle.cell.specs.Cell.{cellAddress, Agree}
 use Rattle.cell.proofs.CellLaws.{cellAddress-lt, cellAddress-same}
-use Rattle.directory.specs.Private.{UpperHalf}
+use Rattle.directory.specs.Blocks.{UpperHalf}
 use Rattle.directory.proofs.CellLaws.{agree-le, cellAddress-below}
 use Rattle.directory_tests.specs.Intact.{cellWord, Folds, FoldTold}
 use Rattle.directory_tests.specs.Private.{PairTold, StepTold}

@@ -7,7 +7,7 @@ use mathlib.Core.List.{List}
 use lib.ListN.{getD}
 use Rattle.address.specs.Address.{address}
 use Rattle.cell.specs.Cell.{cell, cellAddress}
-use Rattle.directory.specs.Private.{Among}
+use Rattle.directory.specs.Blocks.{Among}
 use Rattle.directory_tests.specs.Intact.{cellWord, RegionTold}
 
 -- ---- regions

@@ -17,7 +17,7 @@ ghost use Rattle.shape.specs.Shape.{widthList};
 ghost use Rattle.split.specs.Bits.{splitBit};
 ghost use Rattle.address.specs.Answers.{indexList};
 ghost use Rattle.directory.specs.Directory.{DirectoryFits};
-ghost use Rattle.directory.specs.Private.{RegionAt, BlockFits};
+ghost use Rattle.directory.specs.Blocks.{RegionAt, BlockFits};
 ghost use Rattle.region.specs.Strings.{sibling};
 ghost use Rattle.directory_tests.specs.Intact.{RegionTold};
 ghost use Rattle.directory_tests.specs.Private.{CellsTold, BlocksTold, BlockTold, MaskTold};

@@ -16,7 +16,7 @@ use Rattle.store.specs.Fresh.{FreshPromise, freshNumber, freshState, freshMemor
 use Rattle.store.specs.Store.{memory, store}
 use Rattle.store.specs.declared.State.{State}
 use Rattle.store.specs.declared.Tally.{Tally}
-use Rattle.fresh.specs.Private.{lacksMemory}
+use Rattle.fresh.specs.Memory.{lacksMemory}
 
 -- where memory is not lacking, there is word 0
 pub word-of-lent : (s : Shape) (words bytes : ℕ) → lacksMemory s words bytes ≡ false → 0 < words
@@ -57,7 +57,7 @@ module _ (s : Shape) (words bytes : List ℕ) where
   pub freshState-of : (shape : Shape) (tally : Tally) (pages depth : ℕ) → shape ≡ freshShape s
       → tally .leaves ≡ 1 ∷ replicate 12 0 → pages ≡ pageLimitOf s (length bytes)
       → depth ≡ depthLimitOf s (length words)
-      → record { shape = shape; limits = record { pages = pages; depth = depth }; depth = 0; tally = tally }
+      → record { shape = shape; limits = record { pages = pages; depth = depth }; deepest = 0; tally = tally }
       ≡ freshState s (memory words bytes)
   unfolding freshState
   freshState-of shape tally pages depth h t p d = rw (h, ← t, p, d)

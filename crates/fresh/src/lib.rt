@@ -19,7 +19,7 @@ ghost use Rattle.model.specs.Limits.{logarithm, pageLimitOf, depthLimitOf, fres
 ghost use Rattle.store.specs.Answers.{changedAnswer};
 ghost use Rattle.store.specs.Fresh.{FreshPromise, clearedCounts, noState};
 ghost use Rattle.store.specs.Store.{memory, store};
-ghost use Rattle.fresh.specs.Private.{lacksMemory};
+ghost use Rattle.fresh.specs.Memory.{lacksMemory};
 
 // Makes a store without records in lent memory: the state, word 0 and the counts of the P pages.
 // Refused with 1 for a shape outside its bounds, then with 2 for no directory word or no whole
@@ -39,17 +39,17 @@ pub fn fresh(shape: Shape, dir: &mut [u32], pages: &mut [u8]) -> Change
         return refuse(2);
     }
     let page_count = page_limit(shape, bytes);
-    let deepest = depth_limit(shape, words);
+    let limit = depth_limit(shape, words);
     dir[0] = 0;
     clear_counts(pages, shape.capacity, page_count);
     let limits = Limits {
         pages: page_count,
-        depth: deepest,
+        depth: limit,
     };
     let state = State {
         shape: fresh_shape(shape),
         limits,
-        depth: 0,
+        deepest: 0,
         tally: one_leaf(),
     };
     Change {
@@ -74,7 +74,7 @@ fn refuse(number: u32) -> Change
     let state = State {
         shape,
         limits,
-        depth: 0,
+        deepest: 0,
         tally,
     };
     Change {

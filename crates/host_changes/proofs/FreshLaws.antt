@@ -19,7 +19,7 @@ use Rattle.store.specs.declared.Change.{Change}
 use Rattle.store.specs.declared.Changed.{Changed}
 use Rattle.store.specs.declared.Changed.the-variants.{Done, Refused}
 use Rattle.store.specs.declared.State.{State}
-use Rattle.fresh.specs.Private.{lacksMemory}
+use Rattle.fresh.specs.Memory.{lacksMemory}
 use Rattle.fresh.proofs.PromiseLaws.{freshNumber-shape-out, freshNumber-lacks, freshNumber-none}
 use Rattle.host_state.specs.Image.{stateSize, stateIn, statePut}
 use Rattle.host_state.proofs.ImageLaws.{stateIn-statePut}

@@ -67,7 +67,7 @@ withLists s widths leaves =
     record {
       shape = record { attributes = s .shape .attributes; widths = widths; capacity = s .shape .capacity };
       limits = s .limits;
-      depth = s .depth;
+      deepest = s .deepest;
       tally = record { leaves = leaves };
     }
 

@@ -23,7 +23,7 @@ shownState words =
     record {
       shape = record { attributes = getD words 0 0; widths = wordsFrom 4 1 words; capacity = getD words 5 0 };
       limits = record { pages = getD words 6 0; depth = getD words 7 0 };
-      depth = getD words 8 0;
+      deepest = getD words 8 0;
       tally = record { leaves = wordsFrom 13 9 words };
     }
 
@@ -40,7 +40,7 @@ stateWords s =
     ++ s .shape .capacity
     ∷ s .limits .pages
     ∷ s .limits .depth
-    ∷ s .depth
+    ∷ s .deepest
     ∷ wordsFrom 13 0 (s .tally .leaves))
 
 -- a slice after a state was written into its first 22 words; its other words stay

@@ -48,7 +48,7 @@ pub fn put_state(words: &mut [u32], state: State)
         shape.capacity,
         limits.pages,
         limits.depth,
-        state.depth,
+        state.deepest,
         leaves[0],
         leaves[1],
         leaves[2],
@@ -82,7 +82,7 @@ fn no_state() -> State
     State {
         shape,
         limits,
-        depth: 0,
+        deepest: 0,
         tally,
     }
 }
@@ -121,7 +121,7 @@ fn shown_state(words: &[u32]) -> State
     State {
         shape,
         limits,
-        depth: words[8],
+        deepest: words[8],
         tally,
     }
 }

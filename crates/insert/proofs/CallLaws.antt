@@ -28,13 +28,13 @@ use Rattle.store.specs.Promises.{keyNumber, InsertPromise}
 use Rattle.store.specs.declared.State.{State}
 use Rattle.change.proofs.RegionLaws.{changedStore}
 use Rattle.change.proofs.InsertPromiseLaws.{insert-early, insert-unsound}
-use Rattle.insert_plan.specs.Private.{Planned, TakePlanned, GetPlanned, DividePlanned}
+use Rattle.insert_plan.specs.Plan.{InsertPlanned, TakePlanned, GetPlanned, DividePlanned}
 use Rattle.insert_plan.specs.declared.Plan.{Plan}
 use Rattle.insert_plan.specs.declared.Plan.the-variants.{Refused, Take, Get, Divide}
 use Rattle.insert_plan.specs.declared.Split.{Split}
 use Rattle.insert_plan.specs.declared.Cut.{Cut}
 use Rattle.insert_plan.proofs.MetLaws.{key-recordFor, unpacked-recordFor}
-use Rattle.insert_steps.specs.Private.{insertedPages, CutFits, dividedPages, WordsLent, WordsDivided}
+use Rattle.insert_steps.specs.Steps.{insertedPages, CutFits, dividedPages, WordsLent, WordsDivided}
 use Rattle.change_kept.proofs.ContainedLaws.{contained-taken, contained-got, contained-divided}
 use Rattle.change_guard.specs.Guard.{InsertGuarded, InsertTold}
 use Rattle.insert.proofs.TakeLaws.{page-lent, promise-taken, promise-got}
@@ -58,23 +58,23 @@ module _ (before : Store) (values : List ℕ) (content : Content) where
   by-early (suc k) e n = insert-early before values content k (sym e)
 
   -- 9: a leaf whose words the plan sets is not whole
-  pub by-guard : (plan : Plan) → Planned before values plan → (held : Bool)
+  pub by-guard : (plan : Plan) → InsertPlanned before values plan → (held : Bool)
       → InsertTold (before .state) (before .memory .words) values plan held → held ≡ false
       → keyNumber before values ≡ 0 → InsertPromise before values content (refused 9) before
   by-guard plan p held told e early =
       insert-unsound before values content early (λ S sound. told .no e bytes p S sound)
 
-  module _ (small : content .payload < 2 ^ 32) (plan : Plan) (p : Planned before values plan) (key : ℕ)
+  module _ (small : content .payload < 2 ^ 32) (plan : Plan) (p : InsertPlanned before values plan) (key : ℕ)
       (ek : key ≡ packedKey values) where
     -- 4, 6, 7, 9
     pub by-refused : (n : ℕ) → plan ≡ Refused n → InsertPromise before values content (refused n) before
-    by-refused n e = subst (Planned before values) e p content
+    by-refused n e = subst (InsertPlanned before values) e p content
 
     -- ---- a page takes the record
 
     module _ (g i n : ℕ) (e : plan ≡ Take g i n) where
       taken : TakePlanned before values g i n
-      taken = subst (Planned before values) e p
+      taken = subst (InsertPlanned before values) e p
 
       pub lent-taken : PageLent b g bytes × (i ≤ n) × (n < b)
       lent-taken = (page-lent before values (taken .asked) g (taken .met .within), taken .place .0, taken .room)
@@ -94,7 +94,7 @@ module _ (before : Store) (values : List ℕ) (content : Content) where
 
     module _ (g x : ℕ) (e : plan ≡ Get g x) where
       got : GetPlanned before values g x
-      got = subst (Planned before values) e p
+      got = subst (InsertPlanned before values) e p
 
       pub lent-got : PageLent b g bytes × (0 ≤ 0) × (0 < b)
       lent-got = (
@@ -111,24 +111,24 @@ module _ (before : Store) (values : List ℕ) (content : Content) where
           )
 
       pub fill-fits : (ws : List ℕ) → ws ≡ widthsOf s
-          → DirectoryFits ws (before .state .depth) (length (before .memory .words)) × (x ≤ before .state .depth)
+          → DirectoryFits ws (before .state .deepest) (length (before .memory .words)) × (x ≤ before .state .deepest)
       fill-fits ws ew =
           let a = got .asked in
-          let fits : DirectoryFits (widthsOf s) (before .state .depth) (length (before .memory .words)) =
+          let fits : DirectoryFits (widthsOf s) (before .state .deepest) (length (before .memory .words)) =
           record {
             fit = widthsOf-fit s (a .shape);
             deep = le-trans (a .within-limit) (a .bits);
             short = le-trans (a .within-limit) (a .short);
             room = le-trans (pow-mono (a .within-limit)) (a .words-lent);
           } in (
-            subst (λ v. DirectoryFits v (before .state .depth) (length (before .memory .words))) (sym ew) fits,
+            subst (λ v. DirectoryFits v (before .state .deepest) (length (before .memory .words))) (sym ew) fits,
             got .depth-le,
           )
 
       pub by-got : InsertGuarded (before .state) (before .memory .words) values (Get g x)
           → (bytes′ : List ℕ) → bytes′ ≡ insertedPages b g 0 0 (packedBytes key content) bytes
           → (ws : List ℕ) → ws ≡ widthsOf s → (word : ℕ) → word ≡ wordOf (Page g x) → (words′ : List ℕ)
-          → Filled ws (before .state .depth) x (splitBit ws values) word (before .memory .words) words′
+          → Filled ws (before .state .deepest) x (splitBit ws values) word (before .memory .words) words′
           → InsertPromise before values content (accepted changed) (store (before .state) words′ bytes′)
       by-got guarded bytes′ d ws ew word e′ words′ f =
           subst
@@ -137,21 +137,21 @@ module _ (before : Store) (values : List ℕ) (content : Content) where
           (promise-got before values content (got .asked) small g x got words′ filled
           (contained-got before values (packedKey values) content g x got lent-got guarded words′ filled _ refl))
         where
-          filled : Filled (widthsOf s) (before .state .depth) x (splitBit (widthsOf s) values) (wordOf (Page g x))
+          filled : Filled (widthsOf s) (before .state .deepest) x (splitBit (widthsOf s) values) (wordOf (Page g x))
               (before .memory .words) words′
           filled =
               subst
-              (λ v. Filled v (before .state .depth) x (splitBit v values) (wordOf (Page g x)) (before .memory .words)
+              (λ v. Filled v (before .state .deepest) x (splitBit v values) (wordOf (Page g x)) (before .memory .words)
               words′)
               ew
               (subst
-              (λ w. Filled ws (before .state .depth) x (splitBit ws values) w (before .memory .words) words′) e′ f)
+              (λ w. Filled ws (before .state .deepest) x (splitBit ws values) w (before .memory .words) words′) e′ f)
 
     -- ---- a full leaf is divided
 
     module _ (split : Split) (cut : Cut) (free : ℕ) (e : plan ≡ Divide split cut free) where
       dividing : DividePlanned before values split cut free
-      dividing = subst (Planned before values) e p
+      dividing = subst (InsertPlanned before values) e p
 
       key-bit : cut .bit ≡ splitBit (widthsOf s) values (split .step)
       key-bit =
@@ -208,15 +208,15 @@ module _ (before : Store) (values : List ℕ) (content : Content) where
           (sym (w .state))
           (subst
           (λ bs. InsertPromise before values content (accepted changed)
-          (changedStore before (after .depth) (after .tally) (memory words′ bs)))
+          (changedStore before (after .deepest) (after .tally) (memory words′ bs)))
           (sym (d ∙ ap (λ k. dividedPages b (split .page) free cut (packedBytes k content) bytes) ek))
-          (promise-divided before values content (dividing .asked) small split cut free dividing (after .depth)
+          (promise-divided before values content (dividing .asked) small split cut free dividing (after .deepest)
           (after .tally) (w .doubled) words′ (w .deeper) (w .tallied) (w .deepened) (w .leaves) contained))
         where
           new : List ℕ
           new = dividedPages b (split .page) free cut (packedBytes (packedKey values) content) bytes
 
-          contained : Contained false before (changedStore before (after .depth) (after .tally) (memory words′ new))
+          contained : Contained false before (changedStore before (after .deepest) (after .tally) (memory words′ new))
               (splitBit (widthsOf s) values)
           contained =
               subst (λ st. Contained false before (store st words′ new) (splitBit (widthsOf s) values)) (w .state)

@@ -18,11 +18,11 @@ use Rattle.model.specs.Model.{recordFor}
 use Rattle.store.specs.Store.{Store}
 use Rattle.store.proofs.ShownLaws.{pageRecords}
 use Rattle.change.proofs.MeetLaws.{recordsOn}
-use Rattle.insert_plan.specs.Private.{Asked, EndsMet, DividePlanned}
+use Rattle.insert_plan.specs.Plan.{InsertAsked, EndsMet, DividePlanned}
 use Rattle.insert_plan.specs.declared.Split.{Split}
 use Rattle.insert_plan.specs.declared.Cut.{Cut}
 use Rattle.insert_plan.proofs.HalfLaws.{cut-le}
-use Rattle.insert_steps.specs.Private.{dividedPages}
+use Rattle.insert_steps.specs.Steps.{dividedPages}
 use Rattle.insert_steps.proofs.InsertedLaws.{length-insertedPages, drop-insertedPages, pageAt-insertedPages-other}
 use Rattle.insert.proofs.TakeLaws.{page-lent, new-length}
 
@@ -35,7 +35,7 @@ cond-ne : (β : Bool) (x y k : ℕ) → (k ≡ x → ⊥) → (k ≡ y → ⊥) 
 cond-ne true x y k m n e = m e
 cond-ne false x y k m n e = n e
 
-module _ (before : Store) (values : List ℕ) (content : Content) (a : Asked before values)
+module _ (before : Store) (values : List ℕ) (content : Content) (a : InsertAsked before values)
     (small : content .payload < 2 ^ 32) (split : Split) (cut : Cut) (free : ℕ)
     (t : DividePlanned before values split cut free) where
   abbrev s : Shape

@@ -25,14 +25,14 @@ use Rattle.store.proofs.ShownLaws.{pageRecords}
 use Rattle.change.proofs.MeetLaws.{recordsOn}
 use Rattle.change.proofs.SharedLaws.{halfWith}
 use Rattle.change.proofs.PlaceLaws.{halves-of-carried}
-use Rattle.insert_plan.specs.Private.{Asked, EndsMet, DividePlanned}
+use Rattle.insert_plan.specs.Plan.{InsertAsked, EndsMet, DividePlanned}
 use Rattle.insert_plan.specs.declared.Split.{Split}
 use Rattle.insert_plan.specs.declared.Cut.{Cut}
 use Rattle.insert_plan.proofs.CutLaws.{insert-low, insert-high}
 use Rattle.insert_plan.proofs.MetLaws.{recordOf-recordFor, records-met}
 use Rattle.insert_plan.proofs.FullLaws.{order, between, step-lt}
 use Rattle.insert_plan.proofs.HalfLaws.{take-cut, drop-cut, cut-within, bit-is}
-use Rattle.insert_steps.specs.Private.{dividedPages}
+use Rattle.insert_steps.specs.Steps.{dividedPages}
 use Rattle.insert_steps.proofs.InsertedLaws.{recordsOf-insertedPages}
 use Rattle.insert.proofs.TakeLaws.{new-length}
 use Rattle.insert.proofs.CarriedLaws.{lent-own, lent-free, start-le, apart, place-le, run-le}
@@ -43,7 +43,7 @@ cond-apart : (β : Bool) (x y : ℕ) → (x ≡ y → ⊥) → cond β y x ≡ c
 cond-apart true x y n e = n (sym e)
 cond-apart false x y n e = n e
 
-module _ (before : Store) (values : List ℕ) (content : Content) (a : Asked before values)
+module _ (before : Store) (values : List ℕ) (content : Content) (a : InsertAsked before values)
     (small : content .payload < 2 ^ 32) (split : Split) (cut : Cut) (free : ℕ)
     (t : DividePlanned before values split cut free) where
   abbrev s : Shape

@@ -16,29 +16,29 @@ use Rattle.store.specs.Store.{Store, memory}
 use Rattle.store.specs.Contained.{Contained}
 use Rattle.store.specs.Promises.{InsertPromise}
 use Rattle.store.specs.declared.Tally.{Tally}
-use Rattle.change.specs.Private.{Deepened, LeavesSet, dividedTally}
+use Rattle.change.specs.Divided.{Deepened, LeavesSet, dividedTally}
 use Rattle.change.proofs.RegionLaws.{changedStore}
 use Rattle.change.proofs.PromiseLaws.{drop-of-past}
 use Rattle.change.proofs.DirectoryLaws.{divided-past, divided-size}
 use Rattle.change.proofs.InsertLaws.{DividedLeaf}
 use Rattle.change.proofs.InsertPromiseLaws.{OnSound, insert-divided}
-use Rattle.insert_plan.specs.Private.{Asked, DividePlanned}
+use Rattle.insert_plan.specs.Plan.{InsertAsked, DividePlanned}
 use Rattle.insert_plan.specs.declared.Split.{Split}
 use Rattle.insert_plan.specs.declared.Cut.{Cut}
 use Rattle.insert_plan.proofs.MetLaws.{key-recordFor}
 use Rattle.insert_plan.proofs.SplitLaws.{meets-full}
-use Rattle.insert_steps.specs.Private.{dividedPages}
+use Rattle.insert_steps.specs.Steps.{dividedPages}
 use Rattle.insert.proofs.TakeLaws.{keeps-others}
 use Rattle.insert.proofs.CarriedLaws.{length-divided, drop-divided, others-divided}
 use Rattle.insert.proofs.DividedLaws.{shows-divided}
 
-module _ (before : Store) (values : List ℕ) (content : Content) (a : Asked before values)
+module _ (before : Store) (values : List ℕ) (content : Content) (a : InsertAsked before values)
     (small : content .payload < 2 ^ 32) (split : Split) (cut : Cut) (free : ℕ)
     (t : DividePlanned before values split cut free) (depth′ : ℕ) (tally′ : Tally) (words₁ words′ : List ℕ)
-    (deeper : depth′ ≡ max (before .state .depth) (suc (split .step)))
+    (deeper : depth′ ≡ max (before .state .deepest) (suc (split .step)))
     (tallied : tally′ .leaves
     ≡ dividedTally (split .depth) (suc (split .step - split .depth)) (before .state .tally .leaves))
-    (deepened : Deepened (widthsOf (before .state .shape)) (before .state .depth) depth′ (before .memory .words) words₁)
+    (deepened : Deepened (widthsOf (before .state .shape)) (before .state .deepest) depth′ (before .memory .words) words₁)
     (leaves : LeavesSet (widthsOf (before .state .shape)) depth′ (split .depth) (split .step)
     (splitBit (widthsOf (before .state .shape)) values) (split .page) free words₁ words′) where
   abbrev s : Shape
@@ -84,14 +84,14 @@ module _ (before : Store) (values : List ℕ) (content : Content) (a : Asked bef
       words₁ words′ after divided
       (record {
         words-length =
-            divided-size (widthsOf s) (before .state .depth) depth′ (split .depth) (split .step) _ (split .page) free
+            divided-size (widthsOf s) (before .state .deepest) depth′ (split .depth) (split .step) _ (split .page) free
             (before .memory .words) words₁ words′ deepened leaves;
         bytes-length = length-divided before values content a small split cut free t;
         words-past =
             drop-of-past depth′ (before .state .limits .depth) (before .memory .words) words′ depth-le-limit
-            (divided-size (widthsOf s) (before .state .depth) depth′ (split .depth) (split .step) _ (split .page) free
+            (divided-size (widthsOf s) (before .state .deepest) depth′ (split .depth) (split .step) _ (split .page) free
             (before .memory .words) words₁ words′ deepened leaves)
-            (divided-past (widthsOf s) (before .state .depth) depth′ (split .depth) (split .step) _ (split .page) free
+            (divided-past (widthsOf s) (before .state .deepest) depth′ (split .depth) (split .step) _ (split .page) free
             (before .memory .words) words₁ words′ deepened leaves);
         bytes-past = drop-divided before values content a small split cut free t;
       })

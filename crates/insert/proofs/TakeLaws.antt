@@ -32,16 +32,16 @@ use Rattle.store.specs.Promises.{InsertPromise}
 use Rattle.change.proofs.PromiseLaws.{drop-of-past, KeepsOthers}
 use Rattle.change.proofs.InsertLaws.{TookRecord, GotPage}
 use Rattle.change.proofs.InsertPromiseLaws.{OnSound, insert-taken, insert-got}
-use Rattle.insert_plan.specs.Private.{Asked, TakePlanned, GetPlanned}
+use Rattle.insert_plan.specs.Plan.{InsertAsked, TakePlanned, GetPlanned}
 use Rattle.insert_plan.proofs.MetLaws.{key-recordFor, unpacked-recordFor, recordOf-recordFor}
 use Rattle.insert_plan.proofs.MetLaws.{page-bytes, meets, records-met}
 use Rattle.insert_plan.proofs.MetLaws.{sorted-met, absent-met}
-use Rattle.insert_steps.specs.Private.{insertedPages}
+use Rattle.insert_steps.specs.Steps.{insertedPages}
 use Rattle.insert_steps.proofs.InsertedLaws.{length-insertedPages, drop-insertedPages, pageAt-insertedPages-other}
 use Rattle.insert_steps.proofs.InsertedLaws.{recordsOf-insertedPages}
 
 -- a page of the P is lent
-pub page-lent : (before : Store) (values : List ℕ) → Asked before values → (g : ℕ) → g < before .state .limits .pages
+pub page-lent : (before : Store) (values : List ℕ) → InsertAsked before values → (g : ℕ) → g < before .state .limits .pages
     → PageLent (before .state .shape .capacity) g (before .memory .bytes)
 page-lent before values a g l =
     let b = before .state .shape .capacity in
@@ -52,7 +52,7 @@ page-lent before values a g l =
       whole = omega (arith, page-end-le b g (before .state .limits .pages) l, lent .lent);
     }
 
-module _ (before : Store) (values : List ℕ) (content : Content) (a : Asked before values)
+module _ (before : Store) (values : List ℕ) (content : Content) (a : InsertAsked before values)
     (small : content .payload < 2 ^ 32) where
   abbrev s : Shape
   s = before .state .shape
@@ -132,7 +132,7 @@ module _ (before : Store) (values : List ℕ) (content : Content) (a : Asked bef
   -- ---- an empty leaf gets a page
 
   module _ (g x : ℕ) (t : GetPlanned before values g x) (words′ : List ℕ)
-      (filled : Filled (widthsOf s) (before .state .depth) x (splitBit (widthsOf s) values) (wordOf (Page g x))
+      (filled : Filled (widthsOf s) (before .state .deepest) x (splitBit (widthsOf s) values) (wordOf (Page g x))
       (before .memory .words) words′) where
     abbrev got-after : List ℕ
     got-after = insertedPages b g 0 0 new (before .memory .bytes)
@@ -149,12 +149,12 @@ module _ (before : Store) (values : List ℕ) (content : Content) (a : Asked bef
         record {
           within = t .within;
           word =
-              ap (λ k. wordAt s (before .state .depth) (before .memory .words) (splitBit (widthsOf s) k)) key-is
+              ap (λ k. wordAt s (before .state .deepest) (before .memory .words) (splitBit (widthsOf s) k)) key-is
               ∙ t .own;
           free = t .free;
           filled =
               subst
-              (λ k. Filled (widthsOf s) (before .state .depth) x (splitBit (widthsOf s) k) (wordOf (Page g x))
+              (λ k. Filled (widthsOf s) (before .state .deepest) x (splitBit (widthsOf s) k) (wordOf (Page g x))
               (before .memory .words) words′)
               (sym key-is) filled;
           shows =
@@ -175,7 +175,7 @@ module _ (before : Store) (values : List ℕ) (content : Content) (a : Asked bef
           bytes-length =
               length-insertedPages b g 0 0 new (before .memory .bytes) got-lent (omega arith) some new-length;
           words-past =
-              drop-of-past (before .state .depth) (before .state .limits .depth) (before .memory .words) words′
+              drop-of-past (before .state .deepest) (before .state .limits .depth) (before .memory .words) words′
               (a .within-limit) (filled .size) (filled .past);
           bytes-past =
               drop-insertedPages b g 0 0 new (before .memory .bytes) got-lent (omega arith) some new-length

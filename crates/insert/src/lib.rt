@@ -66,7 +66,7 @@ pub fn insert(state: State, dir: &mut [u32], pages: &mut [u8], key: Key, content
                 widths_of(shape),
                 values,
                 depth as u64,
-                state.depth as u64,
+                state.deepest as u64,
                 word,
                 dir,
             );

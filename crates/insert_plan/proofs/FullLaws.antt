@@ -37,7 +37,7 @@ use Rattle.model.specs.Model.{recordFor}
 use Rattle.store.specs.Store.{Store}
 use Rattle.store.specs.Sound.{Sound}
 use Rattle.change.proofs.MeetLaws.{allHave, shared-page}
-use Rattle.insert_plan.specs.Private.{firstKey, lastKey, Asked, EndsMet}
+use Rattle.insert_plan.specs.Plan.{firstKey, lastKey, InsertAsked, EndsMet}
 use Rattle.insert_plan.proofs.EndLaws.{firstWith, lastWith, alike-of-ends, ends-of-alike, ends-apart}
 use Rattle.insert_plan.proofs.MetLaws.{unpacked-recordFor, page-bytes, meets, records-met, sorted-met}
 
@@ -47,7 +47,7 @@ chosen-key : (β : Bool) (k k′ : ℕ) (q q′ : Record) → unpackedKey k ≡ 
 chosen-key true k k′ q q′ d e = d
 chosen-key false k k′ q q′ d e = e
 
-module _ (before : Store) (values : List ℕ) (content : Content) (a : Asked before values) (g x i pair m : ℕ)
+module _ (before : Store) (values : List ℕ) (content : Content) (a : InsertAsked before values) (g x i pair m : ℕ)
     (e : EndsMet before values g x i pair m) (S : List Record) (sound : Sound before S) where
   abbrev s : Shape
   s = before .state .shape

@@ -25,12 +25,12 @@ use Rattle.model.specs.Model.{recordFor}
 use Rattle.store.specs.Store.{Store}
 use Rattle.store.specs.Sound.{Sound}
 use Rattle.change.proofs.SharedLaws.{sorted-shared}
-use Rattle.insert_plan.specs.Private.{Asked, EndsMet}
+use Rattle.insert_plan.specs.Plan.{InsertAsked, EndsMet}
 use Rattle.insert_plan.proofs.CutLaws.{length-filter-lt, place-low, place-high}
 use Rattle.insert_plan.proofs.MetLaws.{page-bytes}
 use Rattle.insert_plan.proofs.FullLaws.{rs, key-is, order, between, size, fit, step-lt, shared-bits, differ}
 
-module _ (before : Store) (values : List ℕ) (content : Content) (a : Asked before values) (g x i pair m : ℕ)
+module _ (before : Store) (values : List ℕ) (content : Content) (a : InsertAsked before values) (g x i pair m : ℕ)
     (e : EndsMet before values g x i pair m) (split : pair < 64) (cut : ℕ)
     (cut-at : cut
     ≡ firstOne (widthsOf (before .state .shape)) pair

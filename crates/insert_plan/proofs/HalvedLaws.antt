@@ -8,7 +8,7 @@ use native.Mathlib.Omega.{arith}
 use Rattle.record.specs.Packed.{unpackedKey}
 use Rattle.key_order.specs.Order.{pairBit}
 use Rattle.page_place.specs.Find.{firstOne}
-use Rattle.insert_plan.specs.Private.{HalfMet, Halved}
+use Rattle.insert_plan.specs.Plan.{HalfMet, Halved}
 use Rattle.insert_plan.specs.declared.Half.the-variants.{Damaged}
 
 module _ (ws page : List ℕ) (n key i pair start : ℕ) (es : start ≡ firstOne ws pair page n 0) where

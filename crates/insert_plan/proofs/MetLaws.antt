@@ -33,7 +33,7 @@ use Rattle.store.specs.Store.{Store, wordAt}
 use Rattle.store.specs.Sound.{Sound}
 use Rattle.store.proofs.DividedLaws.{leafRecords-divisionOf}
 use Rattle.change.proofs.MeetLaws.{recordsOn, MeetsPage, sorted-page, records-of-page}
-use Rattle.insert_plan.specs.Private.{Asked, PageMet, FallsBefore}
+use Rattle.insert_plan.specs.Plan.{InsertAsked, PageMet, FallsBefore}
 
 -- ---- a key's record
 
@@ -63,7 +63,7 @@ module _ (s : Shape) (values : List ℕ) (content : Content) (good : shapeNumber
 
 -- ---- the page
 
-module _ (before : Store) (values : List ℕ) (content : Content) (a : Asked before values) (g x n : ℕ)
+module _ (before : Store) (values : List ℕ) (content : Content) (a : InsertAsked before values) (g x n : ℕ)
     (met : PageMet before values g x n) where
   abbrev s : Shape
   s = before .state .shape
@@ -82,7 +82,7 @@ module _ (before : Store) (values : List ℕ) (content : Content) (a : Asked bef
       record {
         within = met .within;
         word =
-            ap (λ k. wordAt s (before .state .depth) (before .memory .words) (splitBit (widthsOf s) k))
+            ap (λ k. wordAt s (before .state .deepest) (before .memory .words) (splitBit (widthsOf s) k))
             (key-recordFor s values content (a .shape) (a .fits) (a .four))
             ∙ met .own;
       }

@@ -34,7 +34,7 @@ use Rattle.leaf_word.proofs.PageLaws.{unpackedKey-values, endsBegin-word}
 use Rattle.change.proofs.BoundLaws.{count-bounds}
 use Rattle.change.proofs.NumberLaws.{NoFreePage}
 use Rattle.change.proofs.InsertPromiseLaws.{OnSound, insert-unsound, insert-stored, insert-empty-none}
-use Rattle.insert_plan.specs.Private.{Asked, PageMet, Planned, EmptyMet, LeafMet, FullMet}
+use Rattle.insert_plan.specs.Plan.{InsertAsked, PageMet, InsertPlanned, EmptyMet, LeafMet, FullMet}
 use Rattle.insert_plan.specs.declared.Plan.the-variants.{Refused, Take, Get}
 use Rattle.insert_plan.proofs.MetLaws.{key-recordFor, meets, stored-met}
 
@@ -53,15 +53,15 @@ module _ (before : Store) (values : List ℕ) where
 
   -- ---- limits and word
 
-  pub nine-unsound : keyNumber before values ≡ 0 → OnSound before ⊥ → Planned before values (Refused 9)
+  pub nine-unsound : keyNumber before values ≡ 0 → OnSound before ⊥ → InsertPlanned before values (Refused 9)
   nine-unsound e none content = insert-unsound before values content e none
 
   pub nine-limits : keyNumber before values ≡ 0 → limitsHold (before .state) ≡ false
-      → Planned before values (Refused 9)
+      → InsertPlanned before values (Refused 9)
   nine-limits e l = nine-unsound e (λ S sound. false≢true (sym l ∙ limits-of-sound before S sound))
 
   pub nine-word : keyNumber before values ≡ 0 → (word : ℕ) → word ≡ wordOn before (splitBit (widthsOf s) values)
-      → wordHolds (before .state) word ≡ false → Planned before values (Refused 9)
+      → wordHolds (before .state) word ≡ false → InsertPlanned before values (Refused 9)
   nine-word e word w h =
       nine-unsound e
       (λ S sound.
@@ -71,7 +71,7 @@ module _ (before : Store) (values : List ℕ) where
       ∙ word-of-sound before S sound (splitBit (widthsOf s) values)))
 
   pub asked : keyNumber before values ≡ 0 → length values ≡ 4 → limitsHold (before .state) ≡ true
-      → Asked before values
+      → InsertAsked before values
   asked e f l =
       let p = passed before values e in
       let h = limits-parts (before .state) l in
@@ -106,16 +106,16 @@ module _ (before : Store) (values : List ℕ) where
     module _ (x : ℕ) (m : EmptyMet before values x) where
       empty-word : (content : Content) → wordOn before (recordBit s (recordFor s values content)) ≡ wordOf (Empty x)
       empty-word content =
-          ap (λ k. wordAt s (before .state .depth) (before .memory .words) (splitBit (widthsOf s) k))
+          ap (λ k. wordAt s (before .state .deepest) (before .memory .words) (splitBit (widthsOf s) k))
           (key-recordFor s values content (m .asked .shape) (m .asked .fits) (m .asked .four))
           ∙ m .own
 
-      pub seven-empty : free ≡ P → Planned before values (Refused 7)
+      pub seven-empty : free ≡ P → InsertPlanned before values (Refused 7)
       seven-empty f content =
           insert-empty-none before values content (m .asked .early) x (λ S sound. empty-word content)
           (λ S sound. no-free-page f)
 
-      pub get-planned : (free ≡ P → ⊥) → Planned before values (Get free x)
+      pub get-planned : (free ≡ P → ⊥) → InsertPlanned before values (Get free x)
       get-planned n =
           let f = free-page n in
           record {
@@ -130,7 +130,7 @@ module _ (before : Store) (values : List ℕ) where
   -- ---- a leaf with a page
 
   module _ (key g x : ℕ) (m : LeafMet before values key g x) (n : ℕ) (e : n ≡ countOf (page g)) where
-    pub nine-count : (n ≡ 0) ⊎ (b < n) → Planned before values (Refused 9)
+    pub nine-count : (n ≡ 0) ⊎ (b < n) → InsertPlanned before values (Refused 9)
     nine-count h =
         nine-unsound (m .asked .early)
         (λ S sound.
@@ -139,7 +139,7 @@ module _ (before : Store) (values : List ℕ) where
         ⊎-elim (λ z. omega (arith, e, c .0)) (λ l. omega (arith, e, c .1)) h)
 
     -- a page whose first or last record is not the leaf's
-    pub nine-ends : ownPage s x key (page g) n ≡ false → Planned before values (Refused 9)
+    pub nine-ends : ownPage s x key (page g) n ≡ false → InsertPlanned before values (Refused 9)
     nine-ends h =
         nine-unsound (m .asked .early)
         (λ S sound.
@@ -172,7 +172,7 @@ module _ (before : Store) (values : List ℕ) where
           }
 
       pub four-stored : (i : ℕ) → Placed (widthsOf s) (unpackedKey key) (page g) n (At i)
-          → Planned before values (Refused 4)
+          → InsertPlanned before values (Refused 4)
       four-stored i p content =
           let a = m .asked in
           let there = subst (λ k. Placed (widthsOf s) (unpackedKey k) (page g) n (At i)) (m .key-is) p in
@@ -184,7 +184,7 @@ module _ (before : Store) (values : List ℕ) where
         falls : Placed (widthsOf s) (unpackedKey (packedKey values)) (page g) n (Before i)
         falls = subst (λ k. Placed (widthsOf s) (unpackedKey k) (page g) n (Before i)) (m .key-is) p
 
-        pub take-planned : n < b → Planned before values (Take g i n)
+        pub take-planned : n < b → InsertPlanned before values (Take g i n)
         take-planned l = record { asked = m .asked; depth = x; met = page-met; room = l; place = falls }
 
         pub full-met : b ≤ n → FullMet before values key g x i

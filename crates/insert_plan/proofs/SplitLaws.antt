@@ -24,8 +24,8 @@ use Rattle.tally.proofs.CountLaws.{tallyHolds-of-sound}
 use Rattle.change.proofs.MeetLaws.{allHave, recordsOn}
 use Rattle.change.proofs.InsertLaws.{MeetsFull}
 use Rattle.change.proofs.InsertPromiseLaws.{OnSound, insert-unsound, insert-alike, insert-full-none}
-use Rattle.insert_plan.specs.Private.{firstKey, lastKey, HalfMet, Halved, Asked}
-use Rattle.insert_plan.specs.Private.{FullMet, EndsMet, SplitMet, DividingMet, Planned}
+use Rattle.insert_plan.specs.Plan.{firstKey, lastKey, HalfMet, Halved, InsertAsked}
+use Rattle.insert_plan.specs.Plan.{FullMet, EndsMet, SplitMet, DividingMet, InsertPlanned}
 use Rattle.insert_plan.specs.declared.Split.{Split}
 use Rattle.insert_plan.specs.declared.Cut.{Cut}
 use Rattle.insert_plan.specs.declared.Half.{Half}
@@ -64,8 +64,8 @@ module _ (before : Store) (values : List ℕ) where
         step = t ∙ ap (λ ws. length (stepsBelow ws pair)) e;
       }
 
-  module _ (a : Asked before values) (g x i pair m : ℕ) (e : EndsMet before values g x i pair m) where
-    pub nine-ends : pair ≡ 64 → Planned before values (Refused 9)
+  module _ (a : InsertAsked before values) (g x i pair m : ℕ) (e : EndsMet before values g x i pair m) where
+    pub nine-ends : pair ≡ 64 → InsertPlanned before values (Refused 9)
     nine-ends l content =
         insert-unsound before values content (a .early)
         (λ S sound. ends-differ before values content a g x i pair m e S sound (omega arith))
@@ -84,7 +84,7 @@ module _ (before : Store) (values : List ℕ) where
           (sym (records-met before values content a g x b (e .met)))
           (alike before values content a g x i pair m e S sound split t l)
 
-      pub six-alike : before .state .limits .depth ≤ m → Planned before values (Refused 6)
+      pub six-alike : before .state .limits .depth ≤ m → InsertPlanned before values (Refused 6)
       six-alike l content =
           insert-alike before values content (a .early) g x
           (λ S sound. meets before values content a g x b (e .met))
@@ -92,7 +92,7 @@ module _ (before : Store) (values : List ℕ) where
           (λ S sound. full content)
           (λ S sound t h k. alike-on content S sound t (omega arith))
 
-      pub nine-below : m < x → Planned before values (Refused 9)
+      pub nine-below : m < x → InsertPlanned before values (Refused 9)
       nine-below l content =
           insert-unsound before values content (a .early)
           (λ S sound. below-step before values content a g x i pair m e S sound split l)
@@ -113,8 +113,8 @@ module _ (before : Store) (values : List ℕ) where
             deep = l;
           }
 
-  pub nine-tally : Asked before values → tallyHolds (before .state .tally .leaves) ≡ false
-      → Planned before values (Refused 9)
+  pub nine-tally : InsertAsked before values → tallyHolds (before .state .tally .leaves) ≡ false
+      → InsertPlanned before values (Refused 9)
   nine-tally a h =
       nine-unsound before values (a .early) (λ S sound. false≢true (sym h ∙ tallyHolds-of-sound before S sound))
 
@@ -126,7 +126,7 @@ module _ (before : Store) (values : List ℕ) where
     met = d .split-met
 
     pub nine-half : (half : Half) → Halved ws′ page′ b key (split .behind) (split .pair) half → half ≡ Damaged
-        → Planned before values (Refused 9)
+        → InsertPlanned before values (Refused 9)
     nine-half half h q content =
         insert-unsound before values content (d .asked .early)
         (λ S sound.
@@ -150,14 +150,14 @@ module _ (before : Store) (values : List ℕ) where
 
     module _ (free start : ℕ)
         (ef : free ≡ freePage b (before .memory .bytes) (before .state .limits .pages) start) where
-      pub seven-full : free ≡ before .state .limits .pages → Planned before values (Refused 7)
+      pub seven-full : free ≡ before .state .limits .pages → InsertPlanned before values (Refused 7)
       seven-full f content =
           insert-full-none before values content (d .asked .early) _ _ _
           (meets-full (d .asked) _ _ _ _ _ (met .ends-met) (met .differ) (met .below) (met .deep) content)
           (λ S sound. no-free-page before values free start ef f)
 
       pub divide-planned : (half : Half) → Halved ws′ page′ b key (split .behind) (split .pair) half → (cut : Cut)
-          → half ≡ Own cut → (free ≡ before .state .limits .pages → ⊥) → Planned before values (Divide split cut free)
+          → half ≡ Own cut → (free ≡ before .state .limits .pages → ⊥) → InsertPlanned before values (Divide split cut free)
       divide-planned half h cut q n =
           let f = free-page before values free start ef n in
           let halves : ℕ → List ℕ → List ℕ → Type 0 =

@@ -13,7 +13,7 @@ ghost use Rattle.shape.specs.Shape.{Fit, widthList};
 ghost use Rattle.record.specs.Packed.{unpackedKey};
 ghost use Rattle.page.specs.Fields.{recordOffset};
 ghost use Rattle.key_order.specs.Order.{FirstPair};
-ghost use Rattle.insert_plan.specs.Private.{firstKey, lastKey, Halved};
+ghost use Rattle.insert_plan.specs.Plan.{firstKey, lastKey, Halved};
 
 // The place of the first pair in which the first and the last differ of the n keys of a page and one
 // more, which falls before record i; 64 where they do not.

@@ -30,8 +30,8 @@ ghost use Rattle.pages.specs.Pages.{PageLent};
 ghost use Rattle.store.specs.Store.{store};
 ghost use Rattle.store.specs.Promises.{keyNumber};
 ghost use Rattle.leaf_word.specs.Hold.{wordHolds};
-ghost use Rattle.insert_plan.specs.Private.{PagesLent, KeyAsked, Planned, PlannedFrom};
-ghost use Rattle.insert_plan.specs.Private.{WordMet, EmptyMet, LeafMet, FullMet, DividingMet};
+ghost use Rattle.insert_plan.specs.Plan.{PagesLent, KeyAsked, InsertPlanned, InsertPlannedFrom};
+ghost use Rattle.insert_plan.specs.Plan.{WordMet, EmptyMet, LeafMet, FullMet, DividingMet};
 
 // What is to be done: nothing, with the number of a refusal; a page takes the record at a place among
 // the records that it has; an empty leaf, of a depth, gets a free page; a full leaf is divided, and a
@@ -69,14 +69,14 @@ pub enum Half {
 // What an insert of a key is to do, after 1, 2 and 3.
 pub fn plan_insert(state: State, dir: &[u32], pages: &[u8], key: Key) -> Plan
     requires { ⌜ keyNumber (store state (now dir) (now pages)) (key .values) ≡ 0 ⌝ }
-    ensures { λ r. ⌜ Planned (store state (now (dir .entry)) (now (pages .entry))) (key .values) r ⌝ }
+    ensures { λ r. ⌜ InsertPlanned (store state (now (dir .entry)) (now (pages .entry))) (key .values) r ⌝ }
 {
     if !limits_hold(state) {
         return Plan::Refused(9);
     }
     let values = key.values;
     let widths = widths_of(state.shape);
-    let word = key_word(widths, state.depth as u64, dir, values);
+    let word = key_word(widths, state.deepest as u64, dir, values);
     if !word_holds(state, word) {
         return Plan::Refused(9);
     }
@@ -86,7 +86,7 @@ pub fn plan_insert(state: State, dir: &[u32], pages: &[u8], key: Key) -> Plan
 // In the leaf that the word of a packed key's cell names.
 fn plan_leaf(state: State, pages: &[u8], key: u64, word: u32) -> Plan
     requires { ⌜ PagesLent state (now pages) × (wordHolds state word ≡ true) × KeyAsked state key ⌝ }
-    ensures { λ r. ⌜ PlannedFrom state (now (pages .entry)) (λ before values. WordMet before values key word) r ⌝ }
+    ensures { λ r. ⌜ InsertPlannedFrom state (now (pages .entry)) (λ before values. WordMet before values key word) r ⌝ }
 {
     let leaf = unpack(word);
     match leaf {
@@ -98,7 +98,7 @@ fn plan_leaf(state: State, pages: &[u8], key: u64, word: u32) -> Plan
 // In a leaf without a page: 7 where no page is free.
 fn plan_empty(state: State, pages: &[u8], depth: u32) -> Plan
     requires { ⌜ PagesLent state (now pages) ⌝ }
-    ensures { λ r. ⌜ PlannedFrom state (now (pages .entry)) (λ before values. EmptyMet before values depth) r ⌝ }
+    ensures { λ r. ⌜ InsertPlannedFrom state (now (pages .entry)) (λ before values. EmptyMet before values depth) r ⌝ }
 {
     let limits = state.limits;
     let free = spare_page(state, pages);
@@ -112,8 +112,8 @@ fn plan_empty(state: State, pages: &[u8], depth: u32) -> Plan
 // of bounds or does not begin with the leaf's string; 4 where the key is there.
 fn plan_page(state: State, pages: &[u8], key: u64, page: u32, depth: u32) -> Plan
     requires { ⌜ PagesLent state (now pages) × PageLent (state .shape .capacity) page (now pages)
-        × KeyAsked state key × (depth ≤ state .depth) ⌝ }
-    ensures { λ r. ⌜ PlannedFrom state (now (pages .entry)) (λ before values. LeafMet before values key page depth)
+        × KeyAsked state key × (depth ≤ state .deepest) ⌝ }
+    ensures { λ r. ⌜ InsertPlannedFrom state (now (pages .entry)) (λ before values. LeafMet before values key page depth)
         r ⌝ }
 {
     let shape = state.shape;
@@ -146,7 +146,7 @@ fn plan_page(state: State, pages: &[u8], key: u64, page: u32, depth: u32) -> Pla
 // of a sound store.
 fn plan_split(state: State, pages: &[u8], key: u64, page: u32, depth: u32, i: usize) -> Plan
     requires { ⌜ PagesLent state (now pages) × PageLent (state .shape .capacity) page (now pages) ⌝ }
-    ensures { λ r. ⌜ PlannedFrom state (now (pages .entry)) (λ before values. FullMet before values key page depth i)
+    ensures { λ r. ⌜ InsertPlannedFrom state (now (pages .entry)) (λ before values. FullMet before values key page depth i)
         r ⌝ }
 {
     let shape = state.shape;
@@ -190,7 +190,7 @@ fn plan_cut(state: State, pages: &[u8], key: u64, split: Split) -> Plan
     requires { ⌜ PagesLent state (now pages) × PageLent (state .shape .capacity) (split .page) (now pages) ⌝ }
     requires { ⌜ (split .pair < 64)
         × (split .pair / 4 < getD (widthsOf (state .shape)) (split .pair % 4) 0) ⌝ }
-    ensures { λ r. ⌜ PlannedFrom state (now (pages .entry)) (λ before values. DividingMet before values key split)
+    ensures { λ r. ⌜ InsertPlannedFrom state (now (pages .entry)) (λ before values. DividingMet before values key split)
         r ⌝ }
 {
     let shape = state.shape;

@@ -5,7 +5,7 @@ use store::Tally;
 ghost use mathlib.Core.Path.{_≡_};
 ghost use Prim.Native.Nat.{_-_, _^_, _<_};
 ghost use Rattle.pages.specs.Pages.{freePage};
-ghost use Rattle.insert_plan.specs.Private.{PagesLent, leavesAbove};
+ghost use Rattle.insert_plan.specs.Plan.{PagesLent, leavesAbove};
 
 // A free page; P where none is. About as many pages as there are leaves are taken, the first ones:
 // the search starts at the last of them.

@@ -13,7 +13,7 @@ use Rattle.page.proofs.ChangeLaws.{length-insertedPage, recordsOf-insertedPage}
 use Rattle.pages.specs.Pages.{PageLent}
 use Rattle.pages.proofs.PageLaws.{length-pageAt, page-end-le, length-withPage, pageAt-withPage-same, drop-withPage}
 use Rattle.pages.proofs.PageLaws.{pageAt-withPage-other}
-use Rattle.insert_steps.specs.Private.{insertedPages}
+use Rattle.insert_steps.specs.Steps.{insertedPages}
 
 module _ (b g i n : ℕ) (new bytes : List ℕ) (lent : PageLent b g bytes) (h : i ≤ n) (l : n < b)
     (e : length new ≡ recordSize) where

@@ -16,7 +16,7 @@ use Rattle.pages.proofs.CarryLaws.{length-carriedPages}
 use Rattle.store.specs.declared.State.{State}
 use Rattle.insert_plan.specs.declared.Cut.{Cut}
 use Rattle.insert_plan.specs.declared.Split.{Split}
-use Rattle.insert_steps.specs.Private.{CutFits, WordsLent}
+use Rattle.insert_steps.specs.Steps.{CutFits, WordsLent}
 
 -- either page is lent, also once records were carried
 pub lent-carried : (b g h : ℕ) (cut : Cut) (bytes bytes′ : List ℕ) → PageLent b g bytes → PageLent b h bytes
@@ -42,14 +42,14 @@ lent-carried b g h cut bytes bytes′ lg lh f e own d =
     either false = after g lg
 
 module _ (st : State) (values : List ℕ) (split : Split) (bit : Bool) (free size : ℕ)
-    (w : WordsLent st values split bit free size) (u : ℕ) (e : u ≡ max (st .depth) (split .step + 1)) where
+    (w : WordsLent st values split bit free size) (u : ℕ) (e : u ≡ max (st .deepest) (split .step + 1)) where
   pub depth-le : u ≤ st .limits .depth
   depth-le = omega (arith, e, w .within-limit, w .deep)
 
   pub depth-short : u ≤ 12
   depth-short = le-trans depth-le (w .short)
 
-  pub depth-ge : st .depth ≤ u
+  pub depth-ge : st .deepest ≤ u
   depth-ge = omega (arith, e)
 
   pub step-lt : split .step < u

@@ -14,7 +14,7 @@ ghost use Prim.Native.Nat.{_-_, _+_, _<_, _≤_, max};
 ghost use lib.ListN.{length};
 ghost use Rattle.record.specs.Packed.{packedBytes};
 ghost use Rattle.pages.specs.Pages.{PageLent};
-ghost use Rattle.insert_steps.specs.Private.{insertedPages, CutFits, dividedPages, WordsLent, WordsDivided};
+ghost use Rattle.insert_steps.specs.Steps.{insertedPages, CutFits, dividedPages, WordsLent, WordsDivided};
 
 // Puts a record before record i of the n of page p.
 pub fn insert_record(
@@ -73,7 +73,7 @@ pub fn divide_words(
     let shape = state.shape;
     let limits = state.limits;
     let widths = widths_of(shape);
-    let old = state.depth as u64;
+    let old = state.deepest as u64;
     let x = split.depth as u64;
     let m = split.step;
     let depth = greater(old, m + 1);
@@ -85,7 +85,7 @@ pub fn divide_words(
     State {
         shape,
         limits,
-        depth: top,
+        deepest: top,
         tally,
     }
 }

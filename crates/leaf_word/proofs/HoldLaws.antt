@@ -40,35 +40,35 @@ module _ (st : State) (w : ℕ) where
 
   -- ---- by case
 
-  pub wordHolds-deep : st .depth < x → false ≡ wordHolds st w
+  pub wordHolds-deep : st .deepest < x → false ≡ wordHolds st w
   unfolding wordHolds
-  wordHolds-deep h = rw (lt-leb x (st .depth) h)
+  wordHolds-deep h = rw (lt-leb x (st .deepest) h)
 
-  module _ (deep : x ≤ st .depth) where
+  module _ (deep : x ≤ st .deepest) where
     -- no leaf has the depth
     pub wordHolds-none : many ≡ 0 → false ≡ wordHolds st w
     unfolding wordHolds
-    wordHolds-none e = rw (le-leb x (st .depth) deep, lt-leb 1 many (omega arith))
+    wordHolds-none e = rw (le-leb x (st .deepest) deep, lt-leb 1 many (omega arith))
 
     -- some leaf has it: the page decides
     pub wordHolds-page : (many ≡ 0 → ⊥) → leb (w % 2 ^ 16) P ≡ wordHolds st w
     unfolding wordHolds
-    wordHolds-page n = rw (le-leb x (st .depth) deep, le-leb 1 many (omega arith))
+    wordHolds-page n = rw (le-leb x (st .deepest) deep, le-leb 1 many (omega arith))
 
   -- ---- the leaf that it names
 
   module _ (e : wordHolds st w ≡ true) where
-    pub held-parts : (x ≤ st .depth) × (1 ≤ many) × (w % 2 ^ 16 ≤ P)
+    pub held-parts : (x ≤ st .deepest) × (1 ≤ many) × (w % 2 ^ 16 ≤ P)
     unfolding wordHolds
     held-parts =
-        let all = and-split (leb x (st .depth) && leb 1 many) (leb (w % 2 ^ 16) P) e in
-        let depth = and-split (leb x (st .depth)) (leb 1 many) (all .0) in
-        (leb-true x (st .depth) (depth .0), leb-true 1 many (depth .1), leb-true (w % 2 ^ 16) P (all .1))
+        let all = and-split (leb x (st .deepest) && leb 1 many) (leb (w % 2 ^ 16) P) e in
+        let depth = and-split (leb x (st .deepest)) (leb 1 many) (all .0) in
+        (leb-true x (st .deepest) (depth .0), leb-true 1 many (depth .1), leb-true (w % 2 ^ 16) P (all .1))
 
-    pub held-empty : (y : ℕ) → leafOf w ≡ Empty y → (y ≤ st .depth) × (w ≡ wordOf (Empty y))
+    pub held-empty : (y : ℕ) → leafOf w ≡ Empty y → (y ≤ st .deepest) × (w ≡ wordOf (Empty y))
     held-empty y h = let word = wordOf-of-leafOf w (Empty y) h in (omega (arith, held-parts .0, word), word)
 
-    pub held-page : (g y : ℕ) → leafOf w ≡ Page g y → (g < P) × (y ≤ st .depth) × (w ≡ wordOf (Page g y))
+    pub held-page : (g y : ℕ) → leafOf w ≡ Page g y → (g < P) × (y ≤ st .deepest) × (w ≡ wordOf (Page g y))
     unfolding leafOf
     held-page g y h =
         let word = wordOf-of-leafOf w (Page g y) h in
@@ -93,7 +93,7 @@ word-of-sound before S sound p =
     P : ℕ
     P = before .state .limits .pages
 
-    deep : word / 2 ^ 16 ≤ before .state .depth
+    deep : word / 2 ^ 16 ≤ before .state .deepest
     deep = omega (arith, wordOn-depth before S sound p, leafDepth-le-depth before S sound p)
 
     counted : 1 ≤ getD (before .state .tally .leaves) (word / 2 ^ 16) 0

@@ -19,7 +19,7 @@ use Rattle.page_ends.specs.Ends.{endsBegin}
 unfoldable pub wordHolds : State → ℕ → Bool
 wordHolds st w =
     let x = w / 2 ^ 16 in
-    leb x (st .depth) && leb 1 (getD (st .tally .leaves) x 0) && leb (w % 2 ^ 16) (st .limits .pages)
+    leb x (st .deepest) && leb 1 (getD (st .tally .leaves) x 0) && leb (w % 2 ^ 16) (st .limits .pages)
 
 -- a page of n records can be that of the leaf of depth x in which a packed key falls: its first and its last record
 -- have values in bounds and begin with the key's first x split bits, the leaf's string

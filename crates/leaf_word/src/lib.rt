@@ -30,11 +30,11 @@ pub fn key_word(widths: Widths, t: u64, dir: &[u32], values: [u32; 4]) -> u32
 // Whether a sound store can have a word: its depth is at most T and one that the tally has a leaf of,
 // its page one of the P. Where a bit of 20-31 is set the depth is 16 or more, so that it is above T.
 pub fn word_holds(state: State, word: u32) -> bool
-    requires { ⌜ state .depth ≤ 12 ⌝ }
+    requires { ⌜ state .deepest ≤ 12 ⌝ }
     ensures { λ r. ⌜ r ≡ wordHolds state word ⌝ }
 {
     let depth = word >> 16;
-    if state.depth < depth {
+    if state.deepest < depth {
         return false;
     }
     let tally = state.tally;

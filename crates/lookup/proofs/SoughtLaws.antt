@@ -109,8 +109,8 @@ module _ (store : Store) (values : List ℕ) (S : List Record)
   word-key : keyWord whole key ≡ wordOn store (splitBit (widthsOf s) values)
   word-key =
       sym
-      (wordAt-agree s good (store .state .depth) (store .memory .words) (splitBit (widthsOf s) values) bits
-      (Agree-le (splitBit (widthsOf s) values) bits (store .state .depth) (total (widthsOf s))
+      (wordAt-agree s good (store .state .deepest) (store .memory .words) (splitBit (widthsOf s) values) bits
+      (Agree-le (splitBit (widthsOf s) values) bits (store .state .deepest) (total (widthsOf s))
       (depth-of-Sound whole S sound) (Agree-encodings s values good)))
 
   wordAnswer-sound : keyFits s values ≡ true → (field : ℕ) → keyWord whole key % 2 ^ 16 ≡ field

@@ -61,8 +61,8 @@ wordAnswer st bytes key word = cond (wordHolds st word) (leafAnswer (st .shape) 
 pub record KeyPassed (st : State) (bytes : List ℕ) (key : ℕ) : Type 0 where
   pub shape : shapeNumber (st .shape) ≡ 0
   pub few : st .limits .pages ≤ 4096
-  pub short : st .depth ≤ 12
-  pub bits : st .depth ≤ total (widthsOf (st .shape))
+  pub short : st .deepest ≤ 12
+  pub bits : st .deepest ≤ total (widthsOf (st .shape))
   pub lent : pagesSize st ≤ length bytes
   pub fits : indexFits (widthsOf (st .shape)) (unpackedKey key) ≡ true
 
@@ -72,5 +72,5 @@ pub record KeyPassed (st : State) (bytes : List ℕ) (key : ℕ) : Type 0 where
 unfoldable pub soughtAnswer : Store → List ℕ → Answer Reply
 soughtAnswer store values =
     let st = store .state in
-    let word = wordAt (st .shape) (st .depth) (store .memory .words) (splitBit (widthsOf (st .shape)) values) in
+    let word = wordAt (st .shape) (st .deepest) (store .memory .words) (splitBit (widthsOf (st .shape)) values) in
     cond (limitsHold st) (wordAnswer st (store .memory .bytes) (packedKey values) word) (refused 9)

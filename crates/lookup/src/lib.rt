@@ -52,7 +52,7 @@ fn seek_key(state: State, dir: &[u32], pages: &[u8], key: Key) -> Found
     }
     let values = key.values;
     let widths = widths_of(state.shape);
-    let word = key_word(widths, state.depth as u64, dir, values);
+    let word = key_word(widths, state.deepest as u64, dir, values);
     seek_by_word(state, pages, word, pack_key(key))
 }
 

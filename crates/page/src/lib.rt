@@ -12,9 +12,17 @@ ghost use Prim.Native.Nat.{_+_, _*_, _<_, _≤_};
 ghost use lib.ListN.{length};
 ghost use Rattle.record.specs.Packed.{packedBytes};
 ghost use Rattle.record.specs.Bytes.{recordSize};
-ghost use Rattle.page.specs.Page.{countOf};
+ghost use Rattle.page.specs.Page.{pageSize, countOf};
 ghost use Rattle.page.specs.Fields.{recordOffset, keyAt, contentAt};
 ghost use Rattle.page.specs.Changes.{countedPage, insertedPage, removedPage, appendedPage};
+
+// The bytes of a page with room for so many records.
+pub fn page_size(capacity: usize) -> usize
+    requires { ⌜ capacity < 4294967296 ⌝ }
+    ensures { λ r. ⌜ r ≡ pageSize capacity ⌝ }
+{
+    2 + RECORD_SIZE * capacity
+}
 
 // How many records the page has, as its count says.
 pub fn count(page: &[u8]) -> usize

@@ -14,10 +14,10 @@ use borrow.Author.Tests.{lt-ltb}
 use Rattle.lists.proofs.Bools.{and-split, and-both}
 use Rattle.shape.specs.Shape.{Fit, total, indexFits}
 use Rattle.shape.proofs.ShapeLaws.{indexFits-below}
-use Rattle.split.specs.Steps.{steps, stepNumber, depth}
+use Rattle.split.specs.Steps.{steps, stepNumber, attributeDepth}
 use Rattle.split.specs.Bits.{bitOf, splitBit}
 use Rattle.split.proofs.StepLaws.{length-steps}
-use Rattle.split.proofs.DepthLaws.{step-of, depth-width, lt-depth, stepNumber-lt-depth}
+use Rattle.split.proofs.DepthLaws.{step-of, attributeDepth-width, lt-attributeDepth, stepNumber-lt-attributeDepth}
 use Rattle.split.proofs.BitLaws.{splitBit-stepNumber}
 use Rattle.region.specs.Strings.{sameBits}
 use Rattle.region.proofs.StringLaws.{bit-of-sameBits, sameBits-below}
@@ -63,7 +63,7 @@ length-steps-four ws four fit =
 module _ (ws : List ℕ) (x : ℕ) where
   -- how many bits of a value of attribute j are free after x steps
   abbrev pub freeBits : ℕ → ℕ
-  freeBits j = getD ws j 0 - depth ws x j
+  freeBits j = getD ws j 0 - attributeDepth ws x j
 
   -- two keys have the same bits above the free ones
   abbrev pub SameFixed : List ℕ → List ℕ → Type 0
@@ -80,8 +80,8 @@ module _ (ws : List ℕ) (four : length ws ≡ 4) (fit : Fit ws) (x : ℕ) (with
     sameFixed-of-begins e j l =
         let parts = and-split (indexFits ws key) (sameBits (splitBit ws key) (splitBit ws other) x 0) e in
         let w = getD ws j 0 in
-        let h = depth ws x j in
-        let hw = depth-width ws j x l in
+        let h = attributeDepth ws x j in
+        let hw = attributeDepth-width ws j x l in
         eq-of-bitOf h (getD key j 0 / 2 ^ (w - h)) (getD other j 0 / 2 ^ (w - h))
         (high-lt w h (getD key j 0) hw (below key (parts .0) j l))
         (high-lt w h (getD other j 0) hw (below other fits j l))
@@ -90,7 +90,7 @@ module _ (ws : List ℕ) (four : length ws ≡ 4) (fit : Fit ws) (x : ℕ) (with
         bitOf-high w h (getD key j 0) k hw m
         ∙ sym (splitBit-stepNumber ws fit key k j l kw)
         ∙ sym (bit-of-sameBits (splitBit ws key) (splitBit ws other) x 0 (parts .1) (stepNumber ws k j) (omega arith)
-        (omega (arith, stepNumber-lt-depth ws fit x k j l m)))
+        (omega (arith, stepNumber-lt-attributeDepth ws fit x k j l m)))
         ∙ splitBit-stepNumber ws fit other k j l kw
         ∙ sym (bitOf-high w h (getD other j 0) k hw m))
 
@@ -99,10 +99,10 @@ module _ (ws : List ℕ) (four : length ws ≡ 4) (fit : Fit ws) (x : ℕ) (with
         indexFits-of-below ws key
         (λ j m.
         let l : j < 4 = omega arith in
-        let hw = depth-width ws j x l in
-        lt-of-high (getD ws j 0) (depth ws x j) (getD key j 0) hw
-        (subst (λ n. n < 2 ^ depth ws x j) (sym (e j l))
-        (high-lt (getD ws j 0) (depth ws x j) (getD other j 0) hw (below other fits j l))))
+        let hw = attributeDepth-width ws j x l in
+        lt-of-high (getD ws j 0) (attributeDepth ws x j) (getD key j 0) hw
+        (subst (λ n. n < 2 ^ attributeDepth ws x j) (sym (e j l))
+        (high-lt (getD ws j 0) (attributeDepth ws x j) (getD other j 0) hw (below other fits j l))))
 
     begins-of-sameFixed : SameFixed ws x key other → keyBegins ws x (splitBit ws other) key ≡ true
     unfolding keyBegins
@@ -118,9 +118,9 @@ module _ (ws : List ℕ) (four : length ws ≡ 4) (fit : Fit ws) (x : ℕ) (with
             let l : j < 4 = st .2 in
             let kw = st .3 in
             let w = getD ws j 0 in
-            let h = depth ws x j in
-            let hw = depth-width ws j x l in
-            let kh : k < h = lt-depth ws fit x k j l kw (omega (arith, st .4)) in
+            let h = attributeDepth ws x j in
+            let hw = attributeDepth-width ws j x l in
+            let kh : k < h = lt-attributeDepth ws fit x k j l kw (omega (arith, st .4)) in
             subst (λ u. splitBit ws key u ≡ splitBit ws other u) (st .4)
             (splitBit-stepNumber ws fit key k j l kw
             ∙ sym (bitOf-high w h (getD key j 0) k hw kh)

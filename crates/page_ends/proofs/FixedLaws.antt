@@ -9,7 +9,7 @@ use lib.Pow.{pow-mono, pow-pos, shl-exact}
 use Rattle.shape.specs.Shape.{total}
 use Rattle.split.specs.Steps.{stepsBelow}
 use Rattle.split.proofs.StepLaws.{depthBefore}
-use Rattle.directory.proofs.PlaceLaws.{depth-place, stepsBefore-depths}
+use Rattle.directory.proofs.PlaceLaws.{attributeDepth-place, stepsBefore-depths}
 use Rattle.record.specs.Packed.{packedKey}
 use Rattle.page_ends.specs.Ends.{fixedBits}
 
@@ -61,10 +61,10 @@ pub fixedBits-values : (w0 w1 w2 w3 g m0 m1 m2 m3 : ℕ) → g ≤ 64
 unfolding fixedBits depthBefore packedKey
 fixedBits-values w0 w1 w2 w3 g m0 m1 m2 m3 h e0 e1 e2 e3 =
     let ws = w0 ∷ w1 ∷ w2 ∷ w3 ∷ [] in
-    let d0 = e0 .0 ∙ ap (λ x. 2 ^ 16 - 2 ^ (w0 - x)) (sym (depth-place ws g 0 (omega arith) h)) in
-    let d1 = e1 .0 ∙ ap (λ x. 2 ^ 16 - 2 ^ (w1 - x)) (sym (depth-place ws g 1 (omega arith) h)) in
-    let d2 = e2 .0 ∙ ap (λ x. 2 ^ 16 - 2 ^ (w2 - x)) (sym (depth-place ws g 2 (omega arith) h)) in
-    let d3 = e3 .0 ∙ ap (λ x. 2 ^ 16 - 2 ^ (w3 - x)) (sym (depth-place ws g 3 (omega arith) h)) in
+    let d0 = e0 .0 ∙ ap (λ x. 2 ^ 16 - 2 ^ (w0 - x)) (sym (attributeDepth-place ws g 0 (omega arith) h)) in
+    let d1 = e1 .0 ∙ ap (λ x. 2 ^ 16 - 2 ^ (w1 - x)) (sym (attributeDepth-place ws g 1 (omega arith) h)) in
+    let d2 = e2 .0 ∙ ap (λ x. 2 ^ 16 - 2 ^ (w2 - x)) (sym (attributeDepth-place ws g 2 (omega arith) h)) in
+    let d3 = e3 .0 ∙ ap (λ x. 2 ^ 16 - 2 ^ (w3 - x)) (sym (attributeDepth-place ws g 3 (omega arith) h)) in
     sum ∙ (λ i. packedKey (d0 i ∷ d1 i ∷ d2 i ∷ d3 i ∷ []))
   where
     sum : m0 + m1 * 2 ^ 16 % 2 ^ 64 + m2 * 2 ^ 32 % 2 ^ 64 + m3 * 2 ^ 48 % 2 ^ 64

@@ -7,8 +7,8 @@ use native.Mathlib.Nat.{two-pow-succ}
 use lib.ListN.{getD}
 use lib.Pow.{pow-mono}
 use Rattle.shape.specs.Shape.{Fit}
-use Rattle.split.specs.Steps.{stepNumber, depth}
-use Rattle.split.proofs.DepthLaws.{depth-z, depth-next, depth-next-other}
+use Rattle.split.specs.Steps.{stepNumber, attributeDepth}
+use Rattle.split.proofs.DepthLaws.{attributeDepth-z, attributeDepth-next, attributeDepth-next-other}
 use Rattle.record.specs.Packed.{packedKey}
 use Rattle.page_ends.specs.Ends.{fixedBits}
 
@@ -51,9 +51,9 @@ pub fixedBits-suc : (ws : List ℕ) → Fit ws → (k z : ℕ) → z < 4 → k <
     → fixedBits ws (suc x) ≡ fixedBits ws x + 2 ^ (getD ws z 0 - suc k) * 2 ^ (16 * z)
 unfolding fixedBits
 fixedBits-suc ws fit k z hz hk x number =
-    packedKey-grown z hz (λ j. 2 ^ 16 - 2 ^ (getD ws j 0 - depth ws x j))
-    (λ j. 2 ^ 16 - 2 ^ (getD ws j 0 - depth ws (suc x) j)) (2 ^ (getD ws z 0 - suc k))
-    (ap (λ h. 2 ^ 16 - 2 ^ (getD ws z 0 - h)) (depth-next ws fit k z hz hk number)
+    packedKey-grown z hz (λ j. 2 ^ 16 - 2 ^ (getD ws j 0 - attributeDepth ws x j))
+    (λ j. 2 ^ 16 - 2 ^ (getD ws j 0 - attributeDepth ws (suc x) j)) (2 ^ (getD ws z 0 - suc k))
+    (ap (λ h. 2 ^ 16 - 2 ^ (getD ws z 0 - h)) (attributeDepth-next ws fit k z hz hk number)
     ∙ fixed-next (getD ws z 0) k hk (fit z)
-    ∙ ap (λ h. 2 ^ 16 - 2 ^ (getD ws z 0 - h) + 2 ^ (getD ws z 0 - suc k)) (sym (depth-z ws fit k z hz hk number)))
-    (λ j l ne. ap (λ h. 2 ^ 16 - 2 ^ (getD ws j 0 - h)) (depth-next-other ws fit k z hz hk number j l ne))
+    ∙ ap (λ h. 2 ^ 16 - 2 ^ (getD ws z 0 - h) + 2 ^ (getD ws z 0 - suc k)) (sym (attributeDepth-z ws fit k z hz hk number)))
+    (λ j l ne. ap (λ h. 2 ^ 16 - 2 ^ (getD ws j 0 - h)) (attributeDepth-next-other ws fit k z hz hk number j l ne))

@@ -8,7 +8,7 @@ use lib.Dec.{eqb}
 use lib.ListN.{getD}
 use Rattle.shape.specs.Shape.{indexFits}
 use Rattle.shape.specs.Key.{perAttribute}
-use Rattle.split.specs.Steps.{depth}
+use Rattle.split.specs.Steps.{attributeDepth}
 use Rattle.split.specs.Bits.{splitBit}
 use Rattle.region.specs.Strings.{sameBits}
 use Rattle.record.specs.Packed.{packedKey, unpackedKey}
@@ -26,7 +26,7 @@ endsBegin ws x p page n =
 -- the bits of a packed key that are fixed in a leaf of depth x: of the value of attribute j its first h_j bits, and
 -- those past its width, which are 0. For widths 2, 2 and x = 1: 0xfffe, 0xfffc, 0xffff, 0xffff by attribute
 unfoldable pub fixedBits : List ℕ → ℕ → ℕ
-fixedBits ws x = packedKey (perAttribute (λ j. 2 ^ 16 - 2 ^ (getD ws j 0 - depth ws x j)))
+fixedBits ws x = packedKey (perAttribute (λ j. 2 ^ 16 - 2 ^ (getD ws j 0 - attributeDepth ws x j)))
 
 -- the first and the last of n records agree with a packed key in the bits of a mask
 unfoldable pub endsAgree : ℕ → ℕ → List ℕ → ℕ → Bool

@@ -27,7 +27,7 @@ use Rattle.store.specs.declared.State.{State}
 use Rattle.store.specs.Store.{store, pagesSize}
 use Rattle.store.specs.Promises.{QueryPromise, SoundWhereRead, withBytes}
 use Rattle.refusals.specs.Limits.{limitsHold}
-use Rattle.refusals.specs.Private.{lentNumberBy}
+use Rattle.refusals.specs.Lengths.{lentNumberBy}
 use Rattle.refusals.proofs.LentLaws.{shape-of-lentNumberBy}
 use Rattle.refusals.proofs.LimitsLaws.{limits-parts, limits-of-sound}
 use Rattle.query_walk.specs.declared.Noted.{Noted}
@@ -72,12 +72,12 @@ module _ (st : State) (words bytes : List ℕ) (q : List (Option ℕ))
 
   module _ (can : limitsHold st ≡ true) where
     -- what the walk asks besides its table
-    pub limits-walk : (inBounds (st .shape) ≡ true) × (st .depth ≤ 12) × (st .depth ≤ total (widthsOf (st .shape)))
-        × (2 ^ st .depth ≤ length words) × (st .limits .pages ≤ 4096) × (pagesSize st ≤ length bytes)
+    pub limits-walk : (inBounds (st .shape) ≡ true) × (st .deepest ≤ 12) × (st .deepest ≤ total (widthsOf (st .shape)))
+        × (2 ^ st .deepest ≤ length words) × (st .limits .pages ≤ 4096) × (pagesSize st ≤ length bytes)
     limits-walk =
         let b = limits-parts st can in
         let l = lent-of-lentNumberBy st (length words) (length bytes) q lent in
-        let p : 2 ^ st .depth ≤ 2 ^ st .limits .depth = pow-mono {i = st .depth} {j = st .limits .depth} (b .4) in (
+        let p : 2 ^ st .deepest ≤ 2 ^ st .limits .depth = pow-mono {i = st .deepest} {j = st .limits .depth} (b .4) in (
           inBounds-of (st .shape) shape-of-none,
           omega (arith, b .4, b .2),
           omega (arith, b .4, b .3),
@@ -87,13 +87,13 @@ module _ (st : State) (words bytes : List ℕ) (q : List (Option ℕ))
         )
 
     -- no walk notes more pages than the longer list has room for
-    pub rows-few : (rows : List ℕ) → mostPages rows (st .depth) 0 ≤ 4096
+    pub rows-few : (rows : List ℕ) → mostPages rows (st .deepest) 0 ≤ 4096
     rows-few rows =
-        let p : 2 ^ st .depth ≤ 2 ^ 12 = pow-mono {i = st .depth} {j = 12} (limits-walk .1) in
-        omega (arith, p, mostPages-le rows (st .depth) 0)
+        let p : 2 ^ st .deepest ≤ 2 ^ 12 = pow-mono {i = st .deepest} {j = 12} (limits-walk .1) in
+        omega (arith, p, mostPages-le rows (st .deepest) 0)
 
     pub walkable : (rows : List ℕ) (room : ℕ)
-        → Table st (queryBits (st .shape) q) rows → mostPages rows (st .depth) 0 ≤ room
+        → Table st (queryBits (st .shape) q) rows → mostPages rows (st .deepest) 0 ≤ room
         → Walkable st rows (length words) (length bytes) room
     walkable rows room t l = record {
       shape = limits-walk .0;
@@ -109,7 +109,7 @@ module _ (st : State) (words bytes : List ℕ) (q : List (Option ℕ))
 
     -- the list has room for what the walk sees
     pub seen-room : (rows : List ℕ) (room : ℕ)
-        → Table st (queryBits (st .shape) q) rows → mostPages rows (st .depth) 0 ≤ room
+        → Table st (queryBits (st .shape) q) rows → mostPages rows (st .deepest) 0 ≤ room
         → length (walkSeen st words bytes (queryBits (st .shape) q) .pages) ≤ room
     seen-room rows room t l =
         length-walkSeen-le st rows words bytes room (walkable rows room t l) (queryBits (st .shape) q) t .0
@@ -128,7 +128,7 @@ module _ (st : State) (words bytes : List ℕ) (q : List (Option ℕ))
         few : n ≤ 4096
         few =
             let b = limits-parts st can in
-            let p : 2 ^ st .depth ≤ 2 ^ 12 = pow-mono {i = st .depth} {j = 12} (omega (arith, b .4, b .2)) in
+            let p : 2 ^ st .deepest ≤ 2 ^ 12 = pow-mono {i = st .deepest} {j = 12} (omega (arith, b .4, b .2)) in
             omega (arith, p, noted-le st words bytes (queryBits (st .shape) q) list r later o n e)
 
         within : n ≤ length list

@@ -27,7 +27,7 @@ use Rattle.page_matches.proofs.EmitLaws.{IsField, length-emit, emit-records}
 use Rattle.store.specs.declared.State.{State}
 use Rattle.store.specs.Store.{Store, store, fixedOf, pagesSize}
 use Rattle.store.specs.Promises.{QueryPromise, SoundWhereRead, queryNumber}
-use Rattle.refusals.specs.Private.{lentNumberBy}
+use Rattle.refusals.specs.Lengths.{lentNumberBy}
 use Rattle.refusals.proofs.LentLaws.{lentNumberBy-none}
 use Rattle.query.specs.Private.{queryNumberBy}
 use Rattle.query.proofs.EarlyLaws.{queryNumberBy-query, queryNumber-by}
@@ -162,7 +162,7 @@ module _ (st : State) (words bytes : List ℕ) (q : List (Option ℕ)) (out : Li
             (none ∙ model-number S h)
             (ap accepted reply-as, output-as)
 
-        reads-bounded : reads ≤ 2 ^ (st .depth - givenDepths (st .shape) q (st .depth))
+        reads-bounded : reads ≤ 2 ^ (st .deepest - givenDepths (st .shape) q (st .deepest))
         unfolding readsBound
         reads-bounded =
             subst (λ T. reads ≤ 2 ^ (T - givenDepths (st .shape) q T)) (sym (h .1 .deepest))
@@ -177,5 +177,5 @@ module _ (st : State) (words bytes : List ℕ) (q : List (Option ℕ)) (out : Li
         output-length = length-emit out 0 fs whole;
         answered-as = λ S h. listed-as S h;
         bounded = λ S h w t r d.
-            subst (λ n. n ≤ 2 ^ (st .depth - givenDepths (st .shape) q (st .depth))) (ap readsIn d) (reads-bounded S h);
+            subst (λ n. n ≤ 2 ^ (st .deepest - givenDepths (st .shape) q (st .deepest))) (ap readsIn d) (reads-bounded S h);
       }

@@ -14,12 +14,12 @@ use borrow.Author.Tests.{eq-eqb, ne-eqb}
 use Rattle.lists.proofs.Numbers.{eq-or-ne}
 use Rattle.shape.specs.Shape.{Fit, total, indexFits}
 use Rattle.shape.specs.Key.{perAttribute}
-use Rattle.split.specs.Steps.{step, steps, stepsOf, stepNumber, bitValue, depth}
+use Rattle.split.specs.Steps.{step, steps, stepsOf, stepNumber, bitValue, attributeDepth}
 use Rattle.split.specs.Bits.{bitOf, splitBit}
 use Rattle.split.proofs.StepLaws.{StepBelow}
 use Rattle.split.proofs.BitLaws.{splitBit-stepNumber}
-use Rattle.split.proofs.DepthLaws.{depth-width, step-of, step-here, depth-z, depth-next, depth-next-other, lt-depth}
-use Rattle.split.proofs.DepthLaws.{stepNumber-lt-depth}
+use Rattle.split.proofs.DepthLaws.{attributeDepth-width, step-of, step-here, attributeDepth-z, attributeDepth-next, attributeDepth-next-other, lt-attributeDepth}
+use Rattle.split.proofs.DepthLaws.{stepNumber-lt-attributeDepth}
 use Rattle.cell.specs.Cell.{Agree}
 use Rattle.region.specs.Strings.{withBit, emptyString}
 use Rattle.region.proofs.StringLaws.{withBit-same, withBit-other}
@@ -89,15 +89,15 @@ module _ (ws : List ℕ) (fit : Fit ws) (t k z : ℕ) (hz : z < 4) (hk : k < get
   pub fixedBits-here : fixedBits ws (suc t) ≡ fixedBits ws t + valueBit ws t
   unfolding fixedBits
   fixedBits-here =
-      packedKey-plus (λ j. 2 ^ 16 - 2 ^ (getD ws j 0 - depth ws t j))
-      (λ j. 2 ^ 16 - 2 ^ (getD ws j 0 - depth ws (suc t) j)) z (2 ^ (w - suc k)) hz here
-      (λ j l ne. ap (λ d. 2 ^ 16 - 2 ^ (getD ws j 0 - d)) (depth-next-other ws fit k z hz hk number j l ne))
-      ∙ ap (λ v. packedKey (perAttribute (λ j. 2 ^ 16 - 2 ^ (getD ws j 0 - depth ws t j))) + v) (sym valueBit-here)
+      packedKey-plus (λ j. 2 ^ 16 - 2 ^ (getD ws j 0 - attributeDepth ws t j))
+      (λ j. 2 ^ 16 - 2 ^ (getD ws j 0 - attributeDepth ws (suc t) j)) z (2 ^ (w - suc k)) hz here
+      (λ j l ne. ap (λ d. 2 ^ 16 - 2 ^ (getD ws j 0 - d)) (attributeDepth-next-other ws fit k z hz hk number j l ne))
+      ∙ ap (λ v. packedKey (perAttribute (λ j. 2 ^ 16 - 2 ^ (getD ws j 0 - attributeDepth ws t j))) + v) (sym valueBit-here)
     where
-      here : 2 ^ 16 - 2 ^ (w - depth ws (suc t) z) ≡ (2 ^ 16 - 2 ^ (w - depth ws t z)) + 2 ^ (w - suc k)
+      here : 2 ^ 16 - 2 ^ (w - attributeDepth ws (suc t) z) ≡ (2 ^ 16 - 2 ^ (w - attributeDepth ws t z)) + 2 ^ (w - suc k)
       here =
           let few : 2 ^ (w - k) ≤ 2 ^ 16 = pow-mono {j = 16} (omega (arith, fit z)) in
-          rw (depth-next ws fit k z hz hk number, depth-z ws fit k z hz hk number) (omega (arith, halves))
+          rw (attributeDepth-next ws fit k z hz hk number, attributeDepth-z ws fit k z hz hk number) (omega (arith, halves))
 
   -- ---- the corner of a side
 
@@ -121,37 +121,37 @@ module _ (ws : List ℕ) (fit : Fit ws) (t k z : ℕ) (hz : z < 4) (hk : k < get
     eqb-bitValue false = refl
 
     packs-side : key + bitValue β * valueBit ws t
-        ≡ packedKey (perAttribute (λ j. firstOf j * 2 ^ (getD ws j 0 - depth ws (suc t) j)))
+        ≡ packedKey (perAttribute (λ j. firstOf j * 2 ^ (getD ws j 0 - attributeDepth ws (suc t) j)))
     packs-side =
         ap (λ n. n + bitValue β * valueBit ws t) (c .packs)
-        ∙ ap (λ n. packedKey (perAttribute (λ j. c .first j * 2 ^ (getD ws j 0 - depth ws t j))) + n) more
-        ∙ sym (packedKey-plus (λ j. c .first j * 2 ^ (getD ws j 0 - depth ws t j))
-        (λ j. firstOf j * 2 ^ (getD ws j 0 - depth ws (suc t) j)) z (bitValue β * 2 ^ (w - suc k)) hz here other)
+        ∙ ap (λ n. packedKey (perAttribute (λ j. c .first j * 2 ^ (getD ws j 0 - attributeDepth ws t j))) + n) more
+        ∙ sym (packedKey-plus (λ j. c .first j * 2 ^ (getD ws j 0 - attributeDepth ws t j))
+        (λ j. firstOf j * 2 ^ (getD ws j 0 - attributeDepth ws (suc t) j)) z (bitValue β * 2 ^ (w - suc k)) hz here other)
       where
         more : bitValue β * valueBit ws t ≡ 2 ^ (16 * z) * (bitValue β * 2 ^ (w - suc k))
         more = ap (λ n. bitValue β * n) valueBit-here ∙ omega arith
 
-        here : firstOf z * 2 ^ (w - depth ws (suc t) z)
-            ≡ c .first z * 2 ^ (w - depth ws t z) + bitValue β * 2 ^ (w - suc k)
+        here : firstOf z * 2 ^ (w - attributeDepth ws (suc t) z)
+            ≡ c .first z * 2 ^ (w - attributeDepth ws t z) + bitValue β * 2 ^ (w - suc k)
         here =
-            rw (first-here, depth-next ws fit k z hz hk number, depth-z ws fit k z hz hk number, halves) (omega arith)
+            rw (first-here, attributeDepth-next ws fit k z hz hk number, attributeDepth-z ws fit k z hz hk number, halves) (omega arith)
 
         other : (j : ℕ) → j < 4 → (j ≡ z → ⊥)
-            → firstOf j * 2 ^ (getD ws j 0 - depth ws (suc t) j) ≡ c .first j * 2 ^ (getD ws j 0 - depth ws t j)
-        other j l ne = rw (first-other j ne, depth-next-other ws fit k z hz hk number j l ne)
+            → firstOf j * 2 ^ (getD ws j 0 - attributeDepth ws (suc t) j) ≡ c .first j * 2 ^ (getD ws j 0 - attributeDepth ws t j)
+        other j l ne = rw (first-other j ne, attributeDepth-next-other ws fit k z hz hk number j l ne)
 
-    below-side : (j : ℕ) → j < 4 → (j ≡ z) ⊎ (j ≡ z → ⊥) → firstOf j < 2 ^ depth ws (suc t) j
+    below-side : (j : ℕ) → j < 4 → (j ≡ z) ⊎ (j ≡ z → ⊥) → firstOf j < 2 ^ attributeDepth ws (suc t) j
     below-side j l (inl e) =
         let old : c .first z < 2 ^ k =
-        subst (λ d. c .first z < 2 ^ d) (depth-z ws fit k z hz hk number) (c .below z hz) in
-        rw (e, first-here, depth-next ws fit k z hz hk number, pow-suc 2 k) (omega (arith, bitValue-lt β))
+        subst (λ d. c .first z < 2 ^ d) (attributeDepth-z ws fit k z hz hk number) (c .below z hz) in
+        rw (e, first-here, attributeDepth-next ws fit k z hz hk number, pow-suc 2 k) (omega (arith, bitValue-lt β))
     below-side j l (inr ne) =
-        rw (first-other j ne, depth-next-other ws fit k z hz hk number j l ne) (c .below j l)
+        rw (first-other j ne, attributeDepth-next-other ws fit k z hz hk number j l ne) (c .below j l)
 
-    bits-side : (j i : ℕ) → j < 4 → i < depth ws (suc t) j → (j ≡ z) ⊎ (j ≡ z → ⊥)
-        → bitOf (depth ws (suc t) j) (firstOf j) i ≡ withBit p t β (stepNumber ws i j)
+    bits-side : (j i : ℕ) → j < 4 → i < attributeDepth ws (suc t) j → (j ≡ z) ⊎ (j ≡ z → ⊥)
+        → bitOf (attributeDepth ws (suc t) j) (firstOf j) i ≡ withBit p t β (stepNumber ws i j)
     bits-side j i l h (inl e) =
-        rw (e, first-here, depth-next ws fit k z hz hk number) (by-bit (eq-or-ne i k))
+        rw (e, first-here, attributeDepth-next ws fit k z hz hk number) (by-bit (eq-or-ne i k))
       where
         all : ℕ
         all = 2 * c .first z + bitValue β
@@ -166,20 +166,20 @@ module _ (ws : List ℕ) (fit : Fit ws) (t k z : ℕ) (hz : z < 4) (hk : k < get
             ∙ sym (withBit-same p t β)
             ∙ ap (withBit p t β) (sym (ap (λ n. stepNumber ws n z) same ∙ number))
         by-bit (inr ne) =
-            let top : depth ws (suc t) j ≡ suc k = ap (depth ws (suc t)) e ∙ depth-next ws fit k z hz hk number in
-            let inner : i < depth ws t z = omega (arith, depth-z ws fit k z hz hk number) in
-            let before = stepNumber-lt-depth ws fit t i z hz inner in
-            let more : suc k - suc i ≡ 1 + (k - suc i) = omega (arith, depth-z ws fit k z hz hk number) in
+            let top : attributeDepth ws (suc t) j ≡ suc k = ap (attributeDepth ws (suc t)) e ∙ attributeDepth-next ws fit k z hz hk number in
+            let inner : i < attributeDepth ws t z = omega (arith, attributeDepth-z ws fit k z hz hk number) in
+            let before = stepNumber-lt-attributeDepth ws fit t i z hz inner in
+            let more : suc k - suc i ≡ 1 + (k - suc i) = omega (arith, attributeDepth-z ws fit k z hz hk number) in
             let half : all / 2 ^ 1 ≡ c .first z = omega (arith, bitValue-lt β) in
             ap (λ n. eqb (all / 2 ^ n % 2) 1) more
             ∙ ap (λ n. eqb (n % 2) 1) (sym (shr-shr all 1 (k - suc i)) ∙ ap (λ n. n / 2 ^ (k - suc i)) half)
-            ∙ subst (λ d. bitOf d (c .first z) i ≡ p (stepNumber ws i z)) (depth-z ws fit k z hz hk number)
+            ∙ subst (λ d. bitOf d (c .first z) i ≡ p (stepNumber ws i z)) (attributeDepth-z ws fit k z hz hk number)
             (c .bits z i hz inner)
             ∙ sym (withBit-other p t β (stepNumber ws i z) (λ q. omega arith))
     bits-side j i l h (inr ne) =
-        let inner : i < depth ws t j = omega (arith, depth-next-other ws fit k z hz hk number j l ne) in
-        let before = stepNumber-lt-depth ws fit t i j l inner in
-        rw (first-other j ne, depth-next-other ws fit k z hz hk number j l ne)
+        let inner : i < attributeDepth ws t j = omega (arith, attributeDepth-next-other ws fit k z hz hk number j l ne) in
+        let before = stepNumber-lt-attributeDepth ws fit t i j l inner in
+        rw (first-other j ne, attributeDepth-next-other ws fit k z hz hk number j l ne)
         (c .bits j i l inner ∙ sym (withBit-other p t β (stepNumber ws i j) (λ q. omega arith)))
 
     Corner-here : Corner ws (suc t) (withBit p t β) (key + bitValue β * valueBit ws t)
@@ -215,23 +215,23 @@ module _ (ws : List ℕ) (fit : Fit ws) (t : ℕ) (h : t < length (steps ws)) wh
 -- ---- a corner
 
 pub Corner-zero : (ws : List ℕ) → Corner ws 0 emptyString 0
-unfolding packedKey depth stepsOf
+unfolding packedKey attributeDepth stepsOf
 Corner-zero ws = record {
   first = λ j. 0;
   packs = omega arith;
-  below = λ j l. pow-pos (depth ws 0 j);
+  below = λ j l. pow-pos (attributeDepth ws 0 j);
   bits = λ j k l h. absurd (omega arith);
 }
 
 module _ (ws : List ℕ) (fit : Fit ws) (x : ℕ) (p : ℕ → Bool) (key : ℕ) (c : Corner ws x p key) where
   -- the values
   abbrev value : ℕ → ℕ
-  value j = c .first j * 2 ^ (getD ws j 0 - depth ws x j)
+  value j = c .first j * 2 ^ (getD ws j 0 - attributeDepth ws x j)
 
   value-lt : (j : ℕ) → j < 4 → value j < 2 ^ getD ws j 0
   value-lt j l =
-      let e : depth ws x j + (getD ws j 0 - depth ws x j) ≡ getD ws j 0 = omega (arith, depth-width ws j x l) in
-      subst (λ n. value j < 2 ^ n) e (shl-lt (depth ws x j) (getD ws j 0 - depth ws x j) (c .below j l))
+      let e : attributeDepth ws x j + (getD ws j 0 - attributeDepth ws x j) ≡ getD ws j 0 = omega (arith, attributeDepth-width ws j x l) in
+      subst (λ n. value j < 2 ^ n) e (shl-lt (attributeDepth ws x j) (getD ws j 0 - attributeDepth ws x j) (c .below j l))
 
   sixteen : SixteenBits (perAttribute value)
   sixteen zero = le-trans (value-lt 0 (omega arith)) (pow-mono (fit 0))
@@ -264,9 +264,9 @@ module _ (ws : List ℕ) (fit : Fit ws) (x : ℕ) (p : ℕ → Bool) (key : ℕ)
         at : StepBelow ws t 64 → splitBit ws (unpackedKey key) t ≡ p t
         at (k, j, hj, hk, number, low) =
             let w = getD ws j 0 in
-            let d = depth ws x j in
-            let deep = depth-width ws j x hj in
-            let kd : k < d = lt-depth ws fit x k j hj hk (omega arith) in
+            let d = attributeDepth ws x j in
+            let deep = attributeDepth-width ws j x hj in
+            let kd : k < d = lt-attributeDepth ws fit x k j hj hk (omega arith) in
             subst (λ u. splitBit ws (unpackedKey key) u ≡ p u) number
             (splitBit-stepNumber ws fit (unpackedKey key) k j hj hk
             ∙ ap (λ v. bitOf w v k) (unpacked j hj)
@@ -289,9 +289,9 @@ fixedBits-lt ws x = packedKey-lt _ sixteen
     lane : (n : ℕ) → 2 ^ 16 - 2 ^ n < 2 ^ 16
     lane n = omega (arith, pow-pos n)
 
-    sixteen : SixteenBits (perAttribute (λ j. 2 ^ 16 - 2 ^ (getD ws j 0 - depth ws x j)))
-    sixteen zero = lane (getD ws 0 0 - depth ws x 0)
-    sixteen (suc zero) = lane (getD ws 1 0 - depth ws x 1)
-    sixteen (suc (suc zero)) = lane (getD ws 2 0 - depth ws x 2)
-    sixteen (suc (suc (suc zero))) = lane (getD ws 3 0 - depth ws x 3)
+    sixteen : SixteenBits (perAttribute (λ j. 2 ^ 16 - 2 ^ (getD ws j 0 - attributeDepth ws x j)))
+    sixteen zero = lane (getD ws 0 0 - attributeDepth ws x 0)
+    sixteen (suc zero) = lane (getD ws 1 0 - attributeDepth ws x 1)
+    sixteen (suc (suc zero)) = lane (getD ws 2 0 - attributeDepth ws x 2)
+    sixteen (suc (suc (suc zero))) = lane (getD ws 3 0 - attributeDepth ws x 3)
     sixteen (suc (suc (suc (suc j)))) = omega arith

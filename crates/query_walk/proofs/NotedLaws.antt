@@ -50,14 +50,14 @@ module _ (st : State) (words bytes : List ℕ) (q : ℕ → QueryBit) (list : Li
       go true d = cc
       go false d = let z : _≡_ {A = ℕ} 0 1 = cc in absurd (omega arith)
 
-  pub noted-le : n ≤ 2 ^ st .depth
+  pub noted-le : n ≤ 2 ^ st .deepest
   unfolding walkSeen
   noted-le =
       omega (
         arith,
         length-noted,
-        length-seen-le (λ x p. wordAt (st .shape) x words p) (leafSeen st bytes) (queryEnters q) (st .depth)
-            (λ x p w. length-noted-le (st .limits .pages) _ _ w) (st .depth) emptyString 0,
+        length-seen-le (λ x p. wordAt (st .shape) x words p) (leafSeen st bytes) (queryEnters q) (st .deepest)
+            (λ x p w. length-noted-le (st .limits .pages) _ _ w) (st .deepest) emptyString 0,
       )
 
   module _ (room : n ≤ length list) where
@@ -75,7 +75,7 @@ module _ (st : State) (words bytes : List ℕ) (q : ℕ → QueryBit) (list : Li
     unfolding walkSeen fairPage
     noted-readable i l =
         let Q : ℕ → Type 0 = Readable (st .limits .pages) (st .shape .capacity) bytes in
-        let T = st .depth in
+        let T = st .deepest in
         let here : getD (s .pages) i 0 ≡ getD later i 0 =
         sym (ap (λ xs. getD xs i 0) (o .lines)
         ∙ ap (λ k. getD (emit list 0 (s .pages)) k 0) (sym (zero-add i))

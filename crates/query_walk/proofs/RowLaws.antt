@@ -20,9 +20,9 @@ use Rattle.shape.specs.declared.Wanted.{Wanted}
 use Rattle.shape.specs.declared.Wanted.the-variants.{Free, Given}
 use Rattle.shape.specs.declared.Query.{Query}
 use Rattle.shape.proofs.ShapeLaws.{shapeNumber-true, widthsOf-fit}
-use Rattle.split.specs.Steps.{step, steps, stepNumber, stepsBelow, depth}
+use Rattle.split.specs.Steps.{step, steps, stepNumber, stepsBelow, attributeDepth}
 use Rattle.split.proofs.StepLaws.{depthBefore, length-steps, length-stepsBelow-step, length-stepsBelow-skip}
-use Rattle.split.proofs.DepthLaws.{step-here, depth-here}
+use Rattle.split.proofs.DepthLaws.{step-here, attributeDepth-here}
 use Rattle.region.specs.Query.{QueryBit, given}
 use Rattle.page_ends.specs.Ends.{fixedBits}
 use Rattle.model.specs.Sets.{queryBitOf, queryBits, encodeWanted}
@@ -119,11 +119,11 @@ module _ (w0 w1 w2 w3 : ℕ) (fit : Fit (four w0 w1 w2 w3)) (g : ℕ) (low : g <
   unfolding stepNumber
   number = let e : 4 * (g / 4) + g % 4 ≡ g = omega arith in ap (λ x. length (stepsBelow ws x)) e
 
-  depth-at : (j : ℕ) → j < 4 → depth ws t j ≡ min (getD ws j 0) ((g + 3 - j) / 4)
+  depth-at : (j : ℕ) → j < 4 → attributeDepth ws t j ≡ min (getD ws j 0) ((g + 3 - j) / 4)
   unfolding depthBefore
   depth-at j hj =
       let e : 4 * (g / 4) + g % 4 ≡ g = omega arith in
-      depth-here ws fit (g / 4) (g % 4) (omega arith) live number j hj ∙ ap (λ x. depthBefore ws x j) e
+      attributeDepth-here ws fit (g / 4) (g % 4) (omega arith) live number j hj ∙ ap (λ x. depthBefore ws x j) e
 
   pub stepRow-pair : (wanted : List (Option ℕ)) (h0 h1 h2 h3 s0 s1 s2 s3 w n : ℕ)
       → h0 ≡ otherDepth w0 g 0 → h1 ≡ otherDepth w1 g 1 → h2 ≡ otherDepth w2 g 2 → h3 ≡ otherDepth w3 g 3
@@ -139,8 +139,8 @@ module _ (w0 w1 w2 w3 : ℕ) (fit : Fit (four w0 w1 w2 w3)) (g : ℕ) (low : g <
   stepRow-pair wanted h0 h1 h2 h3 s0 s1 s2 s3 w n e0 e1 e2 e3 i0 i1 i2 i3 ew en =
       let z = g % 4 in
       let deep : (j : ℕ) → j < 4 → (x : ℕ) → x ≡ cond (eqb j z) 0 (min (getD ws j 0) ((g + 3 - j) / 4))
-      → x ≡ cond (eqb j z) 0 (depth ws t j) = λ j hj x e. e ∙ ap (cond (eqb j z) 0) (sym (depth-at j hj)) in
-      let s = shifts (depth ws t 0) (depth ws t 1) (depth ws t 2) (depth ws t 3) h0 h1 h2 h3 z (omega arith)
+      → x ≡ cond (eqb j z) 0 (attributeDepth ws t j) = λ j hj x e. e ∙ ap (cond (eqb j z) 0) (sym (depth-at j hj)) in
+      let s = shifts (attributeDepth ws t 0) (attributeDepth ws t 1) (attributeDepth ws t 2) (attributeDepth ws t 3) h0 h1 h2 h3 z (omega arith)
       (deep 0 (omega arith) h0 e0) (deep 1 (omega arith) h1 e1) (deep 2 (omega arith) h2 e2)
       (deep 3 (omega arith) h3 e3) in
       let small : 16 * z + g / 4 < 64 = omega (arith, fit z, live) in
@@ -313,18 +313,18 @@ rows-filled s wanted t g x rows inv h = record {
     row-with y q = stepRow (widthsOf s) (λ t. q) y
 
 -- and behind them P, b, T and the depths in the tally
-module _ (st : State) (rows : List ℕ) (deep : st .depth ≤ 12) where
+module _ (st : State) (rows : List ℕ) (deep : st .deepest ≤ 12) where
   -- the rows stay
   limited-row : (i : ℕ) → i < 104 → getD (limited st rows) i 0 ≡ getD rows i 0
   unfolding limited
   limited-row i h = getD-emit-before rows 104 _ i h
 
-  pub Table-limited : (q : ℕ → QueryBit) → Rows (widthsOf (st .shape)) q (st .depth) rows → 108 ≤ length rows
+  pub Table-limited : (q : ℕ → QueryBit) → Rows (widthsOf (st .shape)) q (st .deepest) rows → 108 ≤ length rows
       → Table st q (limited st rows)
   unfolding limited
   Table-limited q r lent =
       let depths = depthsOf (st .tally .leaves) in
-      let more : List ℕ = st .limits .pages ∷ st .shape .capacity ∷ st .depth ∷ depths ∷ [] in
+      let more : List ℕ = st .limits .pages ∷ st .shape .capacity ∷ st .deepest ∷ depths ∷ [] in
       record {
         rows-of = record {
           row = λ x i l h. getD-emit-before rows 104 more (x * 8 + i) (omega arith) ∙ r .row x i l h;
@@ -343,8 +343,8 @@ module _ (st : State) (rows : List ℕ) (deep : st .depth ≤ 12) where
       λ i. mostPages-rows f (x + 1) (omega arith) i
       * cond (ltb 1 (limited-row (x * 8 + 5) (omega arith) i)) 2 1
 
-  pub mostPages-limited : mostPages (limited st rows) (st .depth) 0 ≡ mostPages rows (st .depth) 0
-  mostPages-limited = mostPages-rows (st .depth) 0 (omega arith)
+  pub mostPages-limited : mostPages (limited st rows) (st .deepest) 0 ≡ mostPages rows (st .deepest) 0
+  mostPages-limited = mostPages-rows (st .deepest) 0 (omega arith)
 
 -- ---- a shape within its bounds
 

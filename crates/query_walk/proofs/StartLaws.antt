@@ -123,15 +123,15 @@ module _ (st : State) (rows words bytes : List ℕ) (room : ℕ)
   abbrev ws : List ℕ
   ws = widthsOf (st .shape)
 
-  fits : (Fit ws) × (st .depth ≤ length (steps ws))
+  fits : (Fit ws) × (st .deepest ≤ length (steps ws))
   unfolding widthsOf
-  fits = fit-steps (st .shape) _ _ _ _ (st .depth) (h .shape) refl (h .depth-bits)
+  fits = fit-steps (st .shape) _ _ _ _ (st .deepest) (h .shape) refl (h .depth-bits)
 
   pub Turn-start : Turn rows words (length bytes) room 0 0 0 0
   Turn-start =
       let t = h .table in
       let most = pow-mono {j = 12} (h .depth-twelve) in
-      let all : depthIn rows - 0 ≡ st .depth = omega (arith, t .depth-of) in
+      let all : depthIn rows - 0 ≡ st .deepest = omega (arith, t .depth-of) in
       record {
         lent = record {
           most-pages = rw (t .pages) (h .most-pages);
@@ -157,21 +157,21 @@ module _ (st : State) (rows words bytes : List ℕ) (room : ℕ)
   abbrev byRows : ℕ → Seen
   byRows T = seenBy rows words (leafBy rows bytes) T (T - 0) 0 0 0 (getD words 0 0)
 
-  length-byRows-le : (length (byRows (st .depth) .pages) ≤ room) × (length (byRows (st .depth) .pages) ≤ 4096)
+  length-byRows-le : (length (byRows (st .deepest) .pages) ≤ room) × (length (byRows (st .deepest) .pages) ≤ 4096)
   length-byRows-le =
-      let all : st .depth - 0 ≡ st .depth = omega arith in
+      let all : st .deepest - 0 ≡ st .deepest = omega arith in
       let most = pow-mono {j = 12} (h .depth-twelve) in
-      let l = length-seenBy-le rows words (leafBy rows bytes) (st .depth) (OnePage-leafBy rows bytes) (st .depth - 0)
+      let l = length-seenBy-le rows words (leafBy rows bytes) (st .deepest) (OnePage-leafBy rows bytes) (st .deepest - 0)
       0 0 0 (getD words 0 0) in
       let e = ap (λ f. mostPages rows f 0) all in (
         omega (arith, l, e, h .list-lent),
-        omega (arith, l, e, most, mostPages-le rows (st .depth) 0),
+        omega (arith, l, e, most, mostPages-le rows (st .deepest) 0),
       )
 
   -- the table is that of this query
   module _ (q : ℕ → QueryBit) (table : Table st q rows) where
     -- a leaf's page, by its corner
-    fair-alike : (x : ℕ) (p : ℕ → Bool) (k : ℕ) → x ≤ st .depth → Corner ws x p k → (g : ℕ)
+    fair-alike : (x : ℕ) (p : ℕ → Bool) (k : ℕ) → x ≤ st .deepest → Corner ws x p k → (g : ℕ)
         → fairBy (capacityIn rows) (getD rows (x * 8 + 7) 0) k (pageAt (capacityIn rows) bytes g)
         ≡ fairPage (st .shape) bytes x p g
     unfolding fairPage fairBy widthsOf
@@ -183,7 +183,7 @@ module _ (st : State) (rows words bytes : List ℕ) (room : ℕ)
         ∙ ap (λ β. within 1 b (countOf page) && β)
         (endsAgree-corner ws (fits .0) x p k c refl (le-trans l (h .depth-bits)) page (countOf page))
 
-    leaf-alike : (x : ℕ) (p : ℕ → Bool) (k w : ℕ) → x ≤ st .depth → Corner ws x p k
+    leaf-alike : (x : ℕ) (p : ℕ → Bool) (k w : ℕ) → x ≤ st .deepest → Corner ws x p k
         → leafBy rows bytes x k w ≡ leafSeen st bytes x p w
     unfolding tallied
     leaf-alike x p k w l c =
@@ -194,7 +194,7 @@ module _ (st : State) (rows words bytes : List ℕ) (room : ℕ)
     byRows-walkSeen : byRows (depthIn rows) ≡ walkSeen st words bytes q
     unfolding walkSeen cellAddress
     byRows-walkSeen =
-        let T = st .depth in
+        let T = st .deepest in
         let all : T - 0 ≡ T = omega arith in
         let none = cell-zero ws emptyString in
         ap byRows (table .depth-of)

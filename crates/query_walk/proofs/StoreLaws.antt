@@ -18,7 +18,7 @@ use Rattle.region.specs.Sets.{sorted}
 use Rattle.region.specs.Division.{Division, leafDepth, leafRecords}
 use Rattle.region.specs.Query.{QueryBit, agrees, queryEnters, reads}
 use Rattle.region.proofs.StringLeafLaws.{length-leafRecords-le}
-use Rattle.region.proofs.QueryLaws.{found-divide}
+use Rattle.region.proofs.QueryLaws.{walkFound-divide}
 use Rattle.record.specs.Record.{Record, recordBit}
 use Rattle.page.proofs.FieldLaws.{length-recordsFrom}
 use Rattle.page.specs.Page.{countOf, recordsOf, pageAt}
@@ -83,7 +83,7 @@ module _ (store : Store) (q : ℕ → QueryBit) (S : List Record) (h : SoundWher
   P = store .state .limits .pages
 
   abbrev T : ℕ
-  T = store .state .depth
+  T = store .state .deepest
 
   abbrev words : List ℕ
   words = store .memory .words
@@ -169,5 +169,5 @@ module _ (store : Store) (q : ℕ → QueryBit) (S : List Record) (h : SoundWher
   unfolding readPages divisionOf
   records-readPages M agreeing =
       gathered-walkPages (queryEnters q) (pageIn (store .state) words) D M records page-records D _ 0 (Under-all D) refl
-      ∙ found-divide (recordBit s) q M (inShape s) (total (widthsOf s)) agreeing (s .capacity) S (set-parts .0)
+      ∙ walkFound-divide (recordBit s) q M (inShape s) (total (widthsOf s)) agreeing (s .capacity) S (set-parts .0)
       (set-parts .1)

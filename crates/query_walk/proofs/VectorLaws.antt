@@ -12,9 +12,9 @@ use lib.Seq.{getD-set-same}
 use lib.Dec.{eqb}
 use Rattle.lists.proofs.Bools.{cond-cases}
 use Rattle.shape.specs.Shape.{Fit, total}
-use Rattle.split.specs.Steps.{step, steps, bitValue, depth}
+use Rattle.split.specs.Steps.{step, steps, bitValue, attributeDepth}
 use Rattle.split.proofs.StepLaws.{StepBelow}
-use Rattle.split.proofs.DepthLaws.{depth-width, step-of, step-here, depth-sum}
+use Rattle.split.proofs.DepthLaws.{attributeDepth-width, step-of, step-here, attributeDepth-sum}
 use Rattle.address.specs.Address.{formula, address}
 use Rattle.address.specs.Doubling.{sides}
 use Rattle.address.proofs.SideLaws.{In-sides-get}
@@ -85,7 +85,7 @@ pub shiftOf-step-le : (ws : List ℕ) → Fit ws → (t : ℕ) → t < length (s
     → shiftOf z (depths ws t) j ≤ t
 shiftOf-step-le ws fit t h z j =
     let d = step-of ws t h in
-    omega (arith, shiftOf-le z (depths ws t) j, depth-sum ws fit (d .0) (d .1) (d .2) (d .3) (d .4))
+    omega (arith, shiftOf-le z (depths ws t) j, attributeDepth-sum ws fit (d .0) (d .1) (d .2) (d .3) (d .4))
 
 -- ---- cells
 
@@ -93,7 +93,7 @@ module _ (ws : List ℕ) (fit : Fit ws) where
   -- an index fits its lane
   cell-lane : (t : ℕ) (p : ℕ → Bool) (r : ℕ) → r < 4 → getD (cell ws t p) r 0 < 2 ^ 16
   cell-lane t p r h =
-      let deep : depth ws t r ≤ 16 = omega (arith, depth-width ws r t h, fit r) in
+      let deep : attributeDepth ws t r ≤ 16 = omega (arith, attributeDepth-width ws r t h, fit r) in
       le-trans (In-sides-get ws t (In-cell ws t p) r h) (pow-mono deep)
 
   pub packed-cell-lt : (t : ℕ) (p : ℕ → Bool) → packed (cell ws t p) < 2 ^ 64
@@ -195,7 +195,7 @@ module _ (ws : List ℕ) (fit : Fit ws) where
               shift 1 (omega arith),
               shift 2 (omega arith),
               shift 3 (omega arith),
-              formula-shifted (depth ws t 0) (depth ws t 1) (depth ws t 2) (depth ws t 3) (i 0) (i 1) (i 2) (i 3) z hz,
+              formula-shifted (attributeDepth ws t 0) (attributeDepth ws t 1) (attributeDepth ws t 2) (attributeDepth ws t 3) (i 0) (i 1) (i 2) (i 3) z hz,
               ap (formula z (sides ws t)) is-four,
               address-new ws fit k z hz hk number is (In-cell ws (suc t) p) new,
             )

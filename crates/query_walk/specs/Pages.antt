@@ -13,7 +13,7 @@ use Rattle.query_walk.specs.Seen.{fieldOf}
 
 -- the page that the word at a string's cell names
 abbrev pub pageIn : State → List ℕ → (ℕ → Bool) → ℕ
-pageIn st words p = fieldOf (wordAt (st .shape) (st .depth) words p) - 1
+pageIn st words p = fieldOf (wordAt (st .shape) (st .deepest) words p) - 1
 
 -- `page p` is the page of the leaf that p leads to
 module _ {R : Type 0} (enter : ℕ → (ℕ → Bool) → Bool) (page : (ℕ → Bool) → ℕ) where

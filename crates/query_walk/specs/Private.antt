@@ -9,7 +9,7 @@ use lib.Dec.{eqb}
 use lib.ListN.{getD, length}
 use Rattle.shape.specs.Shape.{Fit, within}
 use Rattle.shape.specs.Key.{perAttribute}
-use Rattle.split.specs.Steps.{steps, stepsBelow, stepNumber, depth}
+use Rattle.split.specs.Steps.{steps, stepsBelow, stepNumber, attributeDepth}
 use Rattle.split.specs.Bits.{bitOf}
 use Rattle.cell.specs.Cell.{cell}
 use Rattle.region.specs.Query.{QueryBit}
@@ -87,9 +87,9 @@ leafBy rows bytes x key word =
 -- and the others 0
 pub record Corner (ws : List ℕ) (x : ℕ) (p : ℕ → Bool) (key : ℕ) : Type 0 where
   pub first : ℕ → ℕ
-  pub packs : key ≡ packedKey (perAttribute (λ j. first j * 2 ^ (getD ws j 0 - depth ws x j)))
-  pub below : (j : ℕ) → j < 4 → first j < 2 ^ depth ws x j
-  pub bits : (j k : ℕ) → j < 4 → k < depth ws x j → bitOf (depth ws x j) (first j) k ≡ p (stepNumber ws k j)
+  pub packs : key ≡ packedKey (perAttribute (λ j. first j * 2 ^ (getD ws j 0 - attributeDepth ws x j)))
+  pub below : (j : ℕ) → j < 4 → first j < 2 ^ attributeDepth ws x j
+  pub bits : (j k : ℕ) → j < 4 → k < attributeDepth ws x j → bitOf (attributeDepth ws x j) (first j) k ≡ p (stepNumber ws k j)
 
 -- ---- the walk by rows
 

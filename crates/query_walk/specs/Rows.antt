@@ -8,7 +8,7 @@ use mathlib.Core.Option.{Option, none}
 use lib.Dec.{eqb, leb, ltb}
 use lib.ListN.{getD, set, drop}
 use Rattle.shape.specs.Shape.{widthsOf, total}
-use Rattle.split.specs.Steps.{step, depth, bitValue}
+use Rattle.split.specs.Steps.{step, attributeDepth, bitValue}
 use Rattle.region.specs.Query.{QueryBit, free, given}
 use Rattle.page_ends.specs.Ends.{fixedBits}
 use Rattle.model.specs.Sets.{queryBitOf}
@@ -22,7 +22,7 @@ emit list n (y ∷ ys) = emit (set list n y) (n + 1) ys
 
 -- the depths of the four attributes after t steps
 abbrev pub depths : List ℕ → ℕ → List ℕ
-depths ws t = depth ws t 0 ∷ depth ws t 1 ∷ depth ws t 2 ∷ depth ws t 3 ∷ []
+depths ws t = attributeDepth ws t 0 ∷ attributeDepth ws t 1 ∷ attributeDepth ws t 2 ∷ attributeDepth ws t 3 ∷ []
 
 -- how far index j is shifted in the address of a cell that a step of attribute z appended, before which the depths are
 -- hs: "the product of all J_j with j ≠ z" for z, "the product of those J_r with r > j and r ≠ z" for another
@@ -96,14 +96,14 @@ depthsOf (n ∷ ns) = bitValue (leb 1 n) + 2 * depthsOf ns
 -- P, b, T and the depths in the tally put there
 unfoldable pub limited : State → List ℕ → List ℕ
 limited st rows =
-    emit rows 104 (st .limits .pages ∷ st .shape .capacity ∷ st .depth ∷ depthsOf (st .tally .leaves) ∷ [])
+    emit rows 104 (st .limits .pages ∷ st .shape .capacity ∷ st .deepest ∷ depthsOf (st .tally .leaves) ∷ [])
 
 -- the table of a state and a query
 pub record Table (st : State) (q : ℕ → QueryBit) (rows : List ℕ) : Type 0 where
-  pub rows-of : Rows (widthsOf (st .shape)) q (st .depth) rows
+  pub rows-of : Rows (widthsOf (st .shape)) q (st .deepest) rows
   pub pages : pagesIn rows ≡ st .limits .pages
   pub capacity : capacityIn rows ≡ st .shape .capacity
-  pub depth-of : depthIn rows ≡ st .depth
+  pub depth-of : depthIn rows ≡ st .deepest
   pub depths : depthsIn rows ≡ depthsOf (st .tally .leaves)
 
 -- ---- how many pages

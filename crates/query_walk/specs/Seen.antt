@@ -100,7 +100,7 @@ module _ (word : ℕ → (ℕ → Bool) → ℕ) (leaf : ℕ → (ℕ → Bool) 
 -- a query's walk over a store's memory, "from the empty string"
 unfoldable pub walkSeen : State → List ℕ → List ℕ → (ℕ → QueryBit) → Seen
 walkSeen st words bytes q =
-    seen (λ x p. wordAt (st .shape) x words p) (leafSeen st bytes) (queryEnters q) (st .depth) (st .depth) emptyString
+    seen (λ x p. wordAt (st .shape) x words p) (leafSeen st bytes) (queryEnters q) (st .deepest) (st .deepest) emptyString
     0
 
 -- ---- the contract
@@ -123,11 +123,11 @@ Noting st rows words bytes list r later =
 -- what the walk asks of a state, its table, the lengths of its slices and the room in the list
 pub record Walkable (st : State) (rows : List ℕ) (words bytes room : ℕ) : Type 0 where
   pub shape : inBounds (st .shape) ≡ true
-  pub depth-twelve : st .depth ≤ 12
-  pub depth-bits : st .depth ≤ total (widthsOf (st .shape))
-  pub words-lent : 2 ^ st .depth ≤ words
+  pub depth-twelve : st .deepest ≤ 12
+  pub depth-bits : st .deepest ≤ total (widthsOf (st .shape))
+  pub words-lent : 2 ^ st .deepest ≤ words
   pub most-pages : st .limits .pages ≤ 4096
   pub pages-lent : pagesSize st ≤ bytes
   pub query : ℕ → QueryBit
   pub table : Table st query rows
-  pub list-lent : mostPages rows (st .depth) 0 ≤ room
+  pub list-lent : mostPages rows (st .deepest) 0 ≤ room

@@ -97,7 +97,7 @@ pub fn fill_limits(state: State, rows: &mut [u64; 108])
     let limits = state.limits;
     rows[104] = limits.pages as u64;
     rows[105] = shape.capacity as u64;
-    rows[106] = state.depth as u64;
+    rows[106] = state.deepest as u64;
     rows[107] = depths_of(state.tally);
 }
 

@@ -16,7 +16,7 @@ use Rattle.model.specs.Model.{keyConditions}
 use Rattle.store.specs.Store.{store, lentConditions, pagesSize}
 use Rattle.store.specs.Promises.{lentNumber, keyNumber}
 use Rattle.store.specs.declared.State.{State}
-use Rattle.refusals.specs.Private.{lentBy, lentNumberBy, keyNumberBy}
+use Rattle.refusals.specs.Lengths.{lentBy, lentNumberBy, keyNumberBy}
 
 module _ (st : State) (words bytes : ℕ) where
   abbrev lacksWords : Bool

@@ -44,17 +44,17 @@ module _ (st : State) where
     limitsHold-bits l h = rw (le-leb 1 P some, le-leb P 4096 few, le-leb L 12 l, lt-leb L W h)
 
     -- within the others, T decides
-    pub limitsHold-depth : L ≤ 12 → L ≤ W → leb (st .depth) L ≡ limitsHold st
+    pub limitsHold-depth : L ≤ 12 → L ≤ W → leb (st .deepest) L ≡ limitsHold st
     unfolding limitsHold
     limitsHold-depth l h = rw (le-leb 1 P some, le-leb P 4096 few, le-leb L 12 l, le-leb L W h)
 
   -- ---- what the test leaves
 
   pub limits-parts : limitsHold st ≡ true
-      → (1 ≤ P) × (P ≤ 4096) × (L ≤ 12) × (L ≤ W) × (st .depth ≤ L)
+      → (1 ≤ P) × (P ≤ 4096) × (L ≤ 12) × (L ≤ W) × (st .deepest ≤ L)
   unfolding limitsHold
   limits-parts e =
-      let T = st .depth in
+      let T = st .deepest in
       let pages = and-split (within 1 4096 P) (leb L 12 && (leb L W && leb T L)) e in
       let some = and-split (leb 1 P) (leb P 4096) (pages .0) in
       let depth = and-split (leb L 12) (leb L W && leb T L) (pages .1) in
@@ -72,4 +72,4 @@ pub limits-of-sound : (before : Store) (S : List Record) → Sound before S → 
 limits-of-sound before S sound =
     let st = before .state in
     sym (limitsHold-depth st (sound .some-page) (sound .most-pages) (sound .depth-limit) (sound .depth-bits))
-    ∙ le-leb (st .depth) (st .limits .depth) (sound .depth-within)
+    ∙ le-leb (st .deepest) (st .limits .depth) (sound .depth-within)

@@ -9,4 +9,4 @@ use Rattle.store.specs.declared.State.{State}
 unfoldable pub limitsHold : State → Bool
 limitsHold st =
     let L = st .limits .depth in
-    within 1 4096 (st .limits .pages) && (leb L 12 && (leb L (total (widthsOf (st .shape))) && leb (st .depth) L))
+    within 1 4096 (st .limits .pages) && (leb L 12 && (leb L (total (widthsOf (st .shape))) && leb (st .deepest) L))

@@ -15,7 +15,7 @@ ghost use Rattle.shape.specs.Key.{keyFits};
 ghost use Rattle.shape.specs.Shape.{shapeNumber};
 ghost use Rattle.page.specs.Page.{pageSize};
 ghost use Rattle.refusals.specs.Limits.{limitsHold};
-ghost use Rattle.refusals.specs.Private.{lentNumberBy, keyNumberBy};
+ghost use Rattle.refusals.specs.Lengths.{lentNumberBy, keyNumberBy};
 
 // 1 for a shape outside its bounds, then 2 for fewer than 2^L words or P pages lent; 0 for neither.
 pub fn lent_number(state: State, words: usize, bytes: usize) -> u32
@@ -66,7 +66,7 @@ pub fn limits_hold(state: State) -> bool
     if total_of(widths_of(state.shape)) < (limits.depth as u64) {
         return false;
     }
-    state.depth <= limits.depth
+    state.deepest <= limits.depth
 }
 
 // Whether each value of a key fits its attribute.

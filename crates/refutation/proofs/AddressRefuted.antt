@@ -4,7 +4,7 @@ use mathlib.Core.Path.{_≡_, refl, sym, _∙_}
 use native.Mathlib.Omega.{arith}
 use Rattle.shape.specs.Refusal.{accepted, firstNumber}
 use Rattle.shape.specs.Shape.{inBounds, shapeConditions, widthsOf}
-use Rattle.split.specs.Steps.{stepsBelow, steps, step, stepNumber, stepsOf, depth}
+use Rattle.split.specs.Steps.{stepsBelow, steps, step, stepNumber, stepsOf, attributeDepth}
 use Rattle.address.specs.Address.{highestBit, createdBy, latestStep, formula, addressFrom, address}
 use Rattle.address.specs.Doubling.{sides}
 use Rattle.address.specs.Answers.{addressNumber, addressAnswer, addressAnswerOf}
@@ -18,7 +18,7 @@ record Addresses : Type 0 where
 
 addresses : Addresses
 unfolding
-    firstNumber inBounds shapeConditions widthsOf stepsBelow steps step stepNumber stepsOf depth
+    firstNumber inBounds shapeConditions widthsOf stepsBelow steps step stepNumber stepsOf attributeDepth
     highestBit createdBy latestStep formula addressFrom address sides addressNumber addressAnswer
 addresses = record { at-0-0 = refl; at-1-0 = refl; at-0-1 = refl }
 

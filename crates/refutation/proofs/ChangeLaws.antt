@@ -53,7 +53,7 @@ module _ {c : Call} {early : ℕ} {values numbers : List ℕ} {before after : St
     (S : List Record) (p : ChangePromise c values early numbers before answer after) (sound : Sound before S)
     (D : Division Record)
     (leaves : divisionOf (before .state .shape) (next (fixedOf (before .state)) S c) ≡ D) where
-  pub depth-after : after .state .depth ≡ greatestDepth D
+  pub depth-after : after .state .deepest ≡ greatestDepth D
   depth-after = rw (p .shape-kept, leaves) at (p .shown S sound .deepest)
 
   pub tally-after : after .state .tally .leaves ≡ tallies D 0 13
@@ -66,15 +66,15 @@ module _ {c : Call} {early : ℕ} {values numbers : List ℕ} {before after : St
     -- `KeepsPages` and `TakesPages`, by the leaves before and after
     pub kept-after : (p : ℕ → Bool) → leafDepth p 0 D₀ ≡ leafDepth p 0 D → nonEmpty (leafRecords p 0 D) ≡ true
         → (g x : ℕ) → g < before .state .limits .pages
-        → wordAt (before .state .shape) (before .state .depth) (before .memory .words) p ≡ wordOf (Page g x)
+        → wordAt (before .state .shape) (before .state .deepest) (before .memory .words) p ≡ wordOf (Page g x)
         → wordAt (before .state .shape) (greatestDepth D) (after .memory .words) p ≡ wordOf (Page g x)
     kept-after = rw (depth-after, p .shape-kept, leaves, leaves-before) at (p .pages-kept S sound)
 
     pub taken-after : (p : ℕ → Bool) (g x : ℕ) → g < before .state .limits .pages
         → wordAt (before .state .shape) (greatestDepth D) (after .memory .words) p ≡ wordOf (Page g x)
-        → (wordAt (before .state .shape) (before .state .depth) (before .memory .words) p ≡ wordOf (Page g x))
+        → (wordAt (before .state .shape) (before .state .deepest) (before .memory .words) p ≡ wordOf (Page g x))
         ⊎ ((countOf (pageAt (before .state .shape .capacity) (before .memory .bytes) g) ≡ 0)
         ⊎ ((q : ℕ → Bool) × (y : ℕ)
-        × (wordAt (before .state .shape) (before .state .depth) (before .memory .words) q ≡ wordOf (Page g y))
+        × (wordAt (before .state .shape) (before .state .deepest) (before .memory .words) q ≡ wordOf (Page g y))
         × (leafDepth q 0 D₀ ≡ leafDepth q 0 D → ⊥)))
     taken-after = rw (depth-after, p .shape-kept, leaves, leaves-before) at (p .pages-taken S sound)

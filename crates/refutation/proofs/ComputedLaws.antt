@@ -8,7 +8,7 @@ use lib.ListN.{length, getD, replicate}
 use Rattle.shape.specs.Refusal.{accepted, refused, firstNumber}
 use Rattle.shape.specs.Shape.{inBounds, shapeConditions, widthsOf}
 use Rattle.shape.specs.Key.{keyFits, encodings, namesUnused, queryFits}
-use Rattle.split.specs.Steps.{stepsBelow, steps, step, stepNumber, stepsOf, depth}
+use Rattle.split.specs.Steps.{stepsBelow, steps, step, stepNumber, stepsOf, attributeDepth}
 use Rattle.split.specs.Bits.{splitBit}
 use Rattle.address.specs.Address.{highestBit, createdBy, latestStep, formula, addressFrom, address}
 use Rattle.address.specs.Doubling.{sides}
@@ -70,7 +70,7 @@ pub record Inserts (content : Content) : Type 0 where
 pub inserts : (content : Content) → Inserts content
 unfolding
     firstNumber inBounds shapeConditions widthsOf keyFits encodings namesUnused queryFits
-    stepsBelow steps step stepNumber stepsOf depth splitBit matches recordBytes
+    stepsBelow steps step stepNumber stepsOf attributeDepth splitBit matches recordBytes
     numberFor replyTo setAfter outputOf outputAfter outcome next divisionOf queryBits readsOf
 inserts content =
     record {
@@ -99,7 +99,7 @@ pub record Deletes : Type 0 where
 pub deletes : Deletes
 unfolding
     firstNumber inBounds shapeConditions widthsOf keyFits encodings namesUnused queryFits
-    stepsBelow steps step stepNumber stepsOf depth splitBit matches recordBytes
+    stepsBelow steps step stepNumber stepsOf attributeDepth splitBit matches recordBytes
     numberFor replyTo setAfter outputOf outputAfter outcome next divisionOf queryBits readsOf
 deletes =
     record {
@@ -140,7 +140,7 @@ pub record Reads (out : List ℕ) : Type 0 where
 pub reads : (out : List ℕ) → Reads out
 unfolding
     firstNumber inBounds shapeConditions widthsOf keyFits encodings namesUnused queryFits
-    stepsBelow steps step stepNumber stepsOf depth splitBit matches recordBytes
+    stepsBelow steps step stepNumber stepsOf attributeDepth splitBit matches recordBytes
     numberFor replyTo setAfter outputOf outputAfter outcome next divisionOf queryBits readsOf givenDepths readsBound
 reads out =
     record {
@@ -172,7 +172,7 @@ pub record Cells (words : List ℕ) : Type 0 where
 
 pub cells : (words : List ℕ) → Cells words
 unfolding
-    widthsOf stepsBelow steps step stepNumber stepsOf depth
+    widthsOf stepsBelow steps step stepNumber stepsOf attributeDepth
     highestBit createdBy latestStep formula addressFrom address sides sumBits cell cellAddress
 cells words =
     record {

@@ -9,7 +9,7 @@ use lib.ListN.{getD}
 use Rattle.shape.specs.Refusal.{Answer}
 use Rattle.shape.specs.Shape.{widthsOf}
 use Rattle.shape.specs.Key.{encodings}
-use Rattle.split.specs.Steps.{stepsBelow, steps, step, stepNumber, stepsOf, depth}
+use Rattle.split.specs.Steps.{stepsBelow, steps, step, stepNumber, stepsOf, attributeDepth}
 use Rattle.split.specs.Bits.{splitBit}
 use Rattle.address.specs.Address.{highestBit, createdBy, latestStep, formula, addressFrom, address}
 use Rattle.address.specs.Doubling.{sides}
@@ -64,7 +64,7 @@ pub record Computed (words : List ℕ) : Type 0 where
 
 computed : (words : List ℕ) → Computed words
 unfolding
-    widthsOf encodings stepsBelow steps step stepNumber stepsOf depth splitBit
+    widthsOf encodings stepsBelow steps step stepNumber stepsOf attributeDepth splitBit
     highestBit createdBy latestStep formula addressFrom address sides sumBits cell cellAddress recordBytes
 computed words =
     record {
@@ -95,11 +95,11 @@ none-joined old new k q j = true≢false (sym (j .allowed))
 module _ (content : Content) (answer : Answer Reply) (after : Store) where
   -- the zeroed word of one cell is taken as a leaf of depth 0: the whole directory, the word of the leaf 0 among it, is
   -- set to the word of the free page 3
-  pub fills-directory : InsertPromise zeroedWord (key 2 2) content answer after → after .state .depth ≡ 3
+  pub fills-directory : InsertPromise zeroedWord (key 2 2) content answer after → after .state .deepest ≡ 3
       → getD (after .memory .words) 0 0 ≡ wordOf (Page 3 0) → ⊥
   fills-directory p e filled = ⊎-elim same gives (p .contained .words-kept emptyString)
     where
-      same : wordAt (after .state .shape) (after .state .depth) (after .memory .words) emptyString
+      same : wordAt (after .state .shape) (after .state .deepest) (after .memory .words) emptyString
           ≡ wordAt twoTwo 3 (zeroedWord .memory .words) emptyString → ⊥
       same w =
           let now : wordAt twoTwo 3 (after .memory .words) emptyString
@@ -109,7 +109,7 @@ module _ (content : Content) (answer : Answer Reply) (after : Store) where
           omega (arith, word)
 
       gives : GivesWay false (wordAt twoTwo 3 (zeroedWord .memory .words))
-          (wordAt (after .state .shape) (after .state .depth) (after .memory .words)) (keyString (key 2 2)) emptyString
+          (wordAt (after .state .shape) (after .state .deepest) (after .memory .words)) (keyString (key 2 2)) emptyString
           → ⊥
       gives way =
           ⊎-elim (λ a. true≢false (sym (computed [] .one) ∙ sym (a 0 (omega (arith, computed [] .first)))))
@@ -130,11 +130,11 @@ module _ (content : Content) (answer : Answer Reply) (after : Store) where
           (λ free. let one : _≡_ {A = ℕ} 1 0 = free .0 in omega (arith, one)))
 
   -- the key's leaf 101 takes its sibling 100 in
-  pub takes-sibling : InsertPromise lowTally (key 3 0) content answer after → after .state .depth ≡ 3
+  pub takes-sibling : InsertPromise lowTally (key 3 0) content answer after → after .state .deepest ≡ 3
       → getD (after .memory .words) 1 0 ≡ wordOf (Page 2 2) → ⊥
   takes-sibling p e taken = ⊎-elim same gives (p .contained .words-kept lower)
     where
-      same : wordAt (after .state .shape) (after .state .depth) (after .memory .words) lower
+      same : wordAt (after .state .shape) (after .state .deepest) (after .memory .words) lower
           ≡ wordAt twoTwo 3 (lowTally .memory .words) lower → ⊥
       same w =
           let now : wordAt twoTwo 3 (after .memory .words) lower ≡ wordAt twoTwo 3 (lowTally .memory .words) lower =
@@ -144,7 +144,7 @@ module _ (content : Content) (answer : Answer Reply) (after : Store) where
           omega (arith, word)
 
       gives : GivesWay false (wordAt twoTwo 3 (lowTally .memory .words))
-          (wordAt (after .state .shape) (after .state .depth) (after .memory .words)) (keyString (key 3 0)) lower → ⊥
+          (wordAt (after .state .shape) (after .state .deepest) (after .memory .words)) (keyString (key 3 0)) lower → ⊥
       gives way =
           ⊎-elim (λ a. true≢false (sym (computed [] .third) ∙ sym (a 2 (omega (arith, computed [] .low)))))
           (none-joined _ _ _ lower) (way .1)
@@ -153,7 +153,7 @@ module _ (content : Content) (answer : Answer Reply) (after : Store) where
 
 -- T is set by a tally that has no leaf of depth 3: the leaves 100 and 101 would have one cell
 pub lowers-depth : (answer : Answer Reply) (after : Store) → DeletePromise lowTally (key 0 0) answer after
-    → after .state .depth ≡ 2 → ⊥
+    → after .state .deepest ≡ 2 → ⊥
 lowers-depth answer after p e =
     let one : wordOf (Page 1 3) ≡ wordOf (Page 2 3) =
     sym (kept 1 lower refl (computed [] .low)) ∙ computed words .low-at-1 ∙ sym (computed words .high-at-1)
@@ -169,7 +169,7 @@ lowers-depth answer after p e =
         → wordAt twoTwo 2 (after .memory .words) q ≡ wordOf (Page h 3)
     kept h q first w = ⊎-elim same gives (p .contained .words-kept q)
       where
-        same : wordAt (after .state .shape) (after .state .depth) (after .memory .words) q
+        same : wordAt (after .state .shape) (after .state .deepest) (after .memory .words) q
             ≡ wordAt twoTwo 3 (lowTally .memory .words) q
             → wordAt twoTwo 2 (after .memory .words) q ≡ wordOf (Page h 3)
         same k =
@@ -178,7 +178,7 @@ lowers-depth answer after p e =
             now ∙ w
 
         gives : GivesWay true (wordAt twoTwo 3 (lowTally .memory .words))
-            (wordAt (after .state .shape) (after .state .depth) (after .memory .words)) (keyString (key 0 0)) q
+            (wordAt (after .state .shape) (after .state .deepest) (after .memory .words)) (keyString (key 0 0)) q
             → wordAt twoTwo 2 (after .memory .words) q ≡ wordOf (Page h 3)
         gives way =
             absurd (⊎-elim (λ a. true≢false (sym first ∙ a 0 (omega (arith, w)) ∙ computed [] .zero))
@@ -186,7 +186,7 @@ lowers-depth answer after p e =
 
 -- the page of the leaf 100, the sibling of the key's leaf 101, is cleared and its word left
 pub clears-sibling : (answer : Answer Reply) (after : Store) → DeletePromise lowTally (key 3 1) answer after
-    → after .state .depth ≡ 3 → getD (after .memory .words) 1 0 ≡ wordOf (Page 1 3)
+    → after .state .deepest ≡ 3 → getD (after .memory .words) 1 0 ≡ wordOf (Page 1 3)
     → countOf (pageAt 2 (after .memory .bytes) 1) ≡ 0 → ⊥
 clears-sibling answer after p e left none = ⊎-elim same written (p .contained .bytes-kept 1 (omega arith))
   where
@@ -197,7 +197,7 @@ clears-sibling answer after p e left none = ⊎-elim same written (p .contained 
     old = wordAt twoTwo 3 (lowTally .memory .words)
 
     new : (ℕ → Bool) → ℕ
-    new = wordAt (after .state .shape) (after .state .depth) (after .memory .words)
+    new = wordAt (after .state .shape) (after .state .deepest) (after .memory .words)
 
     same : pageAt 2 (after .memory .bytes) 1 ≡ pageAt 2 (lowTally .memory .bytes) 1 → ⊥
     same d = let two : _≡_ {A = ℕ} 0 2 = sym none ∙ ap countOf d ∙ computed [] .low-count in omega (arith, two)
@@ -234,10 +234,10 @@ clears-sibling answer after p e left none = ⊎-elim same written (p .contained 
 
 -- the leaf 0 above, which has a page, is joined with the key's leaf 101
 pub joins-leaf-above : (answer : Answer Reply) (after : Store) → DeletePromise lowTally (key 3 1) answer after
-    → after .state .depth ≡ 3 → getD (after .memory .words) 0 0 ≡ wordOf (Page 1 0) → ⊥
+    → after .state .deepest ≡ 3 → getD (after .memory .words) 0 0 ≡ wordOf (Page 1 0) → ⊥
 joins-leaf-above answer after p e joined = ⊎-elim same gives (p .contained .words-kept emptyString)
   where
-    same : wordAt (after .state .shape) (after .state .depth) (after .memory .words) emptyString
+    same : wordAt (after .state .shape) (after .state .deepest) (after .memory .words) emptyString
         ≡ wordAt twoTwo 3 (lowTally .memory .words) emptyString → ⊥
     same w =
         let now : wordAt twoTwo 3 (after .memory .words) emptyString
@@ -247,7 +247,7 @@ joins-leaf-above answer after p e joined = ⊎-elim same gives (p .contained .wo
         omega (arith, word)
 
     gives : GivesWay true (wordAt twoTwo 3 (lowTally .memory .words))
-        (wordAt (after .state .shape) (after .state .depth) (after .memory .words)) (keyString (key 3 1)) emptyString
+        (wordAt (after .state .shape) (after .state .deepest) (after .memory .words)) (keyString (key 3 1)) emptyString
         → ⊥
     gives way =
         ⊎-elim (λ a. true≢false (sym (computed [] .sibling-one) ∙ sym (a 0 (omega (arith, computed [] .first-low)))))

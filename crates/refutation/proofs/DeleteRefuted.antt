@@ -42,20 +42,20 @@ module _ (answer : Answer Reply) (after : Store) where
       omega (arith, none, e)
 
   -- "the directory halves with T": T stays
-  pub keeps-depth : DeletePromise fourRecords (key 2 1) answer after → after .state .depth ≡ 3 → ⊥
+  pub keeps-depth : DeletePromise fourRecords (key 2 1) answer after → after .state .deepest ≡ 3 → ⊥
   keeps-depth p e =
       let T = depth-after setOfFour p fourRecords-sound _ (deletes .joined-leaves) in
       omega (arith, T, e)
 
   -- "Delete joins one level only" (faults): 100 with 101, but not 10 with 11
-  pub joins-one-level : DeletePromise fourRecords (key 2 1) answer after → after .state .depth ≡ 2 → ⊥
+  pub joins-one-level : DeletePromise fourRecords (key 2 1) answer after → after .state .deepest ≡ 2 → ⊥
   joins-one-level p e =
       let T = depth-after setOfFour p fourRecords-sound _ (deletes .joined-leaves) in
       omega (arith, T, e)
 
   -- ".. or joins with a sibling that is divided" (faults): the emptied leaf 0 with 1, so that T is 0, or word 0 has the
   -- page of 100
-  pub joins-divided : DeletePromise fourRecords (key 0 0) answer after → after .state .depth ≡ 0 → ⊥
+  pub joins-divided : DeletePromise fourRecords (key 0 0) answer after → after .state .deepest ≡ 0 → ⊥
   joins-divided p e =
       let T = depth-after setOfFour p fourRecords-sound _ (deletes .emptied-leaves) in
       omega (arith, T, e)

@@ -8,7 +8,7 @@ use lib.ListN.{length, getD}
 use Rattle.shape.specs.Refusal.{Answer, accepted, refused, firstNumber}
 use Rattle.shape.specs.Shape.{inBounds, shapeConditions, widthsOf}
 use Rattle.shape.specs.Key.{keyFits, encodings, namesUnused, queryFits}
-use Rattle.split.specs.Steps.{stepsBelow, steps, step, stepNumber, stepsOf, depth}
+use Rattle.split.specs.Steps.{stepsBelow, steps, step, stepNumber, stepsOf, attributeDepth}
 use Rattle.split.specs.Bits.{splitBit}
 use Rattle.record.specs.declared.Content.{Content}
 use Rattle.record.specs.Record.{matches}
@@ -46,7 +46,7 @@ record ModelAnswers (content : Content) (out : List ℕ) : Type 0 where
 model-answers : (content : Content) (out : List ℕ) → ModelAnswers content out
 unfolding
     firstNumber inBounds shapeConditions widthsOf keyFits encodings namesUnused queryFits
-    stepsBelow steps step stepNumber stepsOf depth splitBit matches recordBytes
+    stepsBelow steps step stepNumber stepsOf attributeDepth splitBit matches recordBytes
     logarithm pageLimitOf depthLimitOf freshShape fixedBy
     numberFor replyTo setAfter outputOf outputAfter outcome next run divisionOf queryBits readsOf
 model-answers content out =

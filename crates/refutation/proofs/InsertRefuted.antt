@@ -51,7 +51,7 @@ module _ (content : Content) (answer : Answer Reply) (after : Store) where
       omega (arith, page)
 
   -- "One division is made when all b + 1 keys fall on one side" (faults)
-  pub one-division : InsertPromise twoRecords (key 2 1) content answer after → after .state .depth ≡ 1 → ⊥
+  pub one-division : InsertPromise twoRecords (key 2 1) content answer after → after .state .deepest ≡ 1 → ⊥
   one-division p e =
       let T = depth-after setOfTwo p twoRecords-sound _ (inserts content .third-leaves) in
       omega (arith, T, e)
@@ -85,8 +85,8 @@ module _ (content : Content) (answer : Answer Reply) (after : Store) where
 
   -- "The directory doubles before 7 is found" (faults): T is one more, or word 2 is the copy of word 0
   pub doubles-before-refusal : InsertPromise (threeRecords 2) (key 2 1) content answer after
-      → after .state .depth ≡ 2 → ⊥
-  doubles-before-refusal p e = let T = ap (λ s. s .state .depth) (unchanged-when-full p) in omega (arith, T, e)
+      → after .state .deepest ≡ 2 → ⊥
+  doubles-before-refusal p e = let T = ap (λ s. s .state .deepest) (unchanged-when-full p) in omega (arith, T, e)
 
   pub copies-before-refusal : InsertPromise (threeRecords 2) (key 2 1) content answer after
       → getD (after .memory .words) 2 0 ≡ wordOf (Page 0 1) → ⊥

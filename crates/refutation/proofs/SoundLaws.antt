@@ -6,7 +6,7 @@ use mathlib.Core.List.{List, [], _∷_, _++_}
 use native.Mathlib.Omega.{arith}
 use lib.ListN.{length, getD, replicate}
 use Rattle.shape.specs.Shape.{inBounds, widthsOf}
-use Rattle.split.specs.Steps.{stepsBelow, steps, step, stepNumber, stepsOf, depth}
+use Rattle.split.specs.Steps.{stepsBelow, steps, step, stepNumber, stepsOf, attributeDepth}
 use Rattle.split.specs.Bits.{splitBit}
 use Rattle.address.specs.Address.{highestBit, createdBy, latestStep, formula, addressFrom, address}
 use Rattle.address.specs.Doubling.{sides}
@@ -56,7 +56,7 @@ shows-leaf : (m : Memory) (rs : List Record) → LeafWord twoTwo 3 (m .bytes) rs
     → ((g : ℕ) → g < 3 → ((x : ℕ) → getD (m .words) 0 0 ≡ wordOf (Page g x) → ⊥) → countOf (pageAt 2 (m .bytes) g) ≡ 0)
     → Shows twoTwo 3 0 m (leaf rs)
 unfolding
-    widthsOf stepsBelow steps step stepNumber stepsOf depth
+    widthsOf stepsBelow steps step stepNumber stepsOf attributeDepth
     highestBit createdBy latestStep formula addressFrom address sides sumBits cell cellAddress
 shows-leaf m rs word free =
     record {
@@ -116,7 +116,7 @@ wordOfThree true = wordOf (Page 1 1)
 
 pub wordAt-three : (P : ℕ) (p : ℕ → Bool) → wordAt twoTwo 1 (threeRecords P .memory .words) p ≡ wordOfThree (p 0)
 unfolding
-    widthsOf stepsBelow steps step stepNumber stepsOf depth
+    widthsOf stepsBelow steps step stepNumber stepsOf attributeDepth
     highestBit createdBy latestStep formula addressFrom address sides sumBits cell cellAddress
 wordAt-three P p = by-bit (p 0)
   where
@@ -135,7 +135,7 @@ wordOfThree-page false true g x y e e′ = absurd (omega arith)
 shows-three : (P : ℕ) → 2 ≤ P → ((g : ℕ) → 2 ≤ g → g < P → countOf (pageAt 2 (threeRecords P .memory .bytes) g) ≡ 0)
     → Shows twoTwo P 1 (threeRecords P .memory) (divisionOf twoTwo setOfThree)
 unfolding
-    widthsOf stepsBelow steps step stepNumber stepsOf depth splitBit
+    widthsOf stepsBelow steps step stepNumber stepsOf attributeDepth splitBit
     highestBit createdBy latestStep formula addressFrom address sides sumBits cell cellAddress
     recordBytes recordOf divisionOf
 shows-three P enough others =
@@ -206,7 +206,7 @@ depthOfFour true false γ = 3
 
 wordAt-four : (p : ℕ → Bool) → wordAt twoTwo 3 (fourRecords .memory .words) p ≡ wordOfFour (p 0) (p 1) (p 2)
 unfolding
-    widthsOf stepsBelow steps step stepNumber stepsOf depth
+    widthsOf stepsBelow steps step stepNumber stepsOf attributeDepth
     highestBit createdBy latestStep formula addressFrom address sides sumBits cell cellAddress
 wordAt-four p = by-bits (p 0) (p 1) (p 2)
   where
@@ -293,7 +293,7 @@ wordOfFour-page true false true true false false g x y l e e′ = absurd (omega 
 
 shows-four : Shows twoTwo 3 3 (fourRecords .memory) (divisionOf twoTwo setOfFour)
 unfolding
-    widthsOf stepsBelow steps step stepNumber stepsOf depth splitBit
+    widthsOf stepsBelow steps step stepNumber stepsOf attributeDepth splitBit
     highestBit createdBy latestStep formula addressFrom address sides sumBits cell cellAddress
     recordBytes recordOf divisionOf
 shows-four =

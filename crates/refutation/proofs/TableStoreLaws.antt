@@ -4,7 +4,7 @@ use mathlib.Core.List.{[]}
 use Rattle.shape.specs.Refusal.{firstNumber}
 use Rattle.shape.specs.Shape.{widthsOf}
 use Rattle.shape.specs.Key.{keyFits, encodings}
-use Rattle.split.specs.Steps.{stepsBelow, steps, step, stepNumber, stepsOf, depth}
+use Rattle.split.specs.Steps.{stepsBelow, steps, step, stepNumber, stepsOf, attributeDepth}
 use Rattle.split.specs.Bits.{splitBit}
 use Rattle.address.specs.Address.{highestBit, createdBy, latestStep, formula, addressFrom, address}
 use Rattle.address.specs.Doubling.{sides}
@@ -25,7 +25,7 @@ setAfterAll-four = refl
 
 directoryWords-four : fourRecords .memory .words ≡ directoryWords (divisionAfter four)
 unfolding
-    firstNumber widthsOf keyFits encodings stepsBelow steps step stepNumber stepsOf depth splitBit
+    firstNumber widthsOf keyFits encodings stepsBelow steps step stepNumber stepsOf attributeDepth splitBit
     highestBit createdBy latestStep formula addressFrom address sides sumBits cell cellAddress
     logarithm pageLimitOf depthLimitOf freshShape fixedBy numberFor setAfter next divisionOf
 directoryWords-four = refl

@@ -32,7 +32,7 @@ stateWith P T leaves =
     record {
       shape = twoTwo;
       limits = record { pages = P; depth = 3 };
-      depth = T;
+      deepest = T;
       tally = record { leaves = leaves ++ replicate 9 0 };
     }
 

@@ -16,8 +16,8 @@ use Rattle.lists.proofs.Sequences.{flatMap-ext}
 use Rattle.region.specs.Strings.{sameBits, withBit, emptyString}
 use Rattle.region.specs.Sets.{sorted}
 use Rattle.region.specs.Division.{Division, leaf, divided, divide, greatestDepth, depth, stringBit, leaves}
-use Rattle.region.specs.Query.{QueryBit, free, given, bitAgrees, agrees, isGiven, givenSteps, freeSteps}
-use Rattle.region.specs.Query.{walkRecords, walkReads, queryEnters, found, reads}
+use Rattle.region.specs.Query.{QueryBit, free, given, bitAgrees, agrees, isGivenBit, givenSteps, freeSteps}
+use Rattle.region.specs.Query.{walkRecords, walkReads, queryEnters, walkFound, reads}
 use Rattle.region.proofs.StringLaws.{bit-of-sameBits, withBit-same, withBit-other}
 use Rattle.region.proofs.WalkLaws.{goodIn, walkRecords-divide}
 use Rattle.region.proofs.LeafWalkLaws.{walkReads-leaves, walkRecords-leaves}
@@ -87,9 +87,9 @@ module _ {R : Type 0} (bit : R → ℕ → Bool) (q : ℕ → QueryBit) (matches
       (λ r g m x h. agrees-le q (bit r) x W 0 h (agreeing r g m)) (no-records matches)
 
   -- the matching records of the set, in split order
-  pub found-divide : (b : ℕ) (S : List R) → sorted bit W 0 S ≡ true → all good S ≡ true
-      → found q matches (divide bit b W 0 S) ≡ filter matches S
-  found-divide b S e g =
+  pub walkFound-divide : (b : ℕ) (S : List R) → sorted bit W 0 S ≡ true → all good S ≡ true
+      → walkFound q matches (divide bit b W 0 S) ≡ filter matches S
+  walkFound-divide b S e g =
       walkRecords-query-divide b W 0 S emptyString (omega arith) e
       (all-imp good (goodIn bit good emptyString 0) (λ r k. rw k) S g)
 
@@ -105,9 +105,9 @@ module _ {R : Type 0} (q : ℕ → QueryBit) (D : Division R) where
       nonEmpty emptyString D refl
 
   -- what is found are the matching records of the agreeing leaves, one leaf after the other
-  pub found-leaves : (matches : R → Bool) → found q matches D
+  pub walkFound-leaves : (matches : R → Bool) → walkFound q matches D
       ≡ flatMap (λ l. filter matches (l .records)) (filter (λ l. agrees q (stringBit l) (depth l) 0) (leaves D))
-  found-leaves matches =
+  walkFound-leaves matches =
       walkRecords-leaves (queryEnters q) (λ x p p′ e. agrees-same q p p′ x 0 e)
       (λ x p e. agrees-le q p x (suc x) 0 (omega arith) e)
       nonEmpty matches emptyString D refl
@@ -122,14 +122,14 @@ module _ {R : Type 0} (q : ℕ → QueryBit) (D : Division R) where
 -- given + free = all
 pub givenSteps-add-freeSteps : (q : ℕ → QueryBit) (t n : ℕ) → givenSteps q t n + freeSteps q t n ≡ n
 givenSteps-add-freeSteps q t zero = refl
-givenSteps-add-freeSteps q t (suc n) = omega (arith, one (isGiven (q t)), givenSteps-add-freeSteps q (suc t) n)
+givenSteps-add-freeSteps q t (suc n) = omega (arith, one (isGivenBit (q t)), givenSteps-add-freeSteps q (suc t) n)
   where
     one : (β : Bool) → cond β 1 0 + cond β 0 1 ≡ 1
     one true = refl
     one false = refl
 
 two-sides : (w : QueryBit) (x y m : ℕ) → (bitAgrees w false ≡ true → x ≤ 2 ^ m) → (bitAgrees w true ≡ true → y ≤ 2 ^ m)
-    → cond (bitAgrees w false) x 0 + cond (bitAgrees w true) y 0 ≤ 2 ^ (cond (isGiven w) 0 1 + m)
+    → cond (bitAgrees w false) x 0 + cond (bitAgrees w true) y 0 ≤ 2 ^ (cond (isGivenBit w) 0 1 + m)
 two-sides free x y m h k = rw (add-comm 1 m, add-one m, two-pow-succ m) (omega (arith, h refl, k refl))
 two-sides (given true) x y m h k = rw (zero-add m) (omega (arith, k refl))
 two-sides (given false) x y m h k = rw (zero-add m) (omega (arith, h refl))

@@ -27,19 +27,19 @@ agrees q p zero t = true
 agrees q p (suc n) t = bitAgrees (q t) (p t) && agrees q p n (suc t)
 
 -- the step is of a given attribute
-abbrev pub isGiven : QueryBit → Bool
-isGiven free = false
-isGiven (given β) = true
+abbrev pub isGivenBit : QueryBit → Bool
+isGivenBit free = false
+isGivenBit (given β) = true
 
 -- how many of the n steps from t on the query gives: of the first three, 1
 abbrev pub givenSteps : (ℕ → QueryBit) → ℕ → ℕ → ℕ
 givenSteps q t zero = 0
-givenSteps q t (suc n) = cond (isGiven (q t)) 1 0 + givenSteps q (suc t) n
+givenSteps q t (suc n) = cond (isGivenBit (q t)) 1 0 + givenSteps q (suc t) n
 
 -- and how many it leaves free: 2
 abbrev pub freeSteps : (ℕ → QueryBit) → ℕ → ℕ → ℕ
 freeSteps q t zero = 0
-freeSteps q t (suc n) = cond (isGiven (q t)) 0 1 + freeSteps q (suc t) n
+freeSteps q t (suc n) = cond (isGivenBit (q t)) 0 1 + freeSteps q (suc t) n
 
 -- ---- walks over the regions of a division
 
@@ -68,8 +68,8 @@ queryEnters q x p = agrees q p x 0
 
 module _ {R : Type 0} (q : ℕ → QueryBit) where
   -- the matching records, "from the empty string": 1001, 1011
-  abbrev pub found : (R → Bool) → Division R → List R
-  found matches D = walkRecords (queryEnters q) nonEmpty matches emptyString 0 D
+  abbrev pub walkFound : (R → Bool) → Division R → List R
+  walkFound matches D = walkRecords (queryEnters q) nonEmpty matches emptyString 0 D
 
   -- "Reads are the non-empty agreeing leaves": 3
   abbrev pub reads : Division R → ℕ

@@ -14,9 +14,9 @@ use Rattle.replay_encoding.specs.declared.Request.{Request}
 use Rattle.replay_encoding.specs.Encoding.{requestAt, callOf, callAt, requestSize}
 use Rattle.replay_encoding.specs.Encoding.{outputSize, outputStart, outputAt, callsIn}
 use Rattle.replay_encoding.specs.Encoding.{answerSize, answerWords, answersOf, outputsOf}
-use Rattle.replay_encoding.specs.Private.{fourAt}
+use Rattle.replay_encoding.specs.Words.{fourAt}
 use Rattle.replay_encoding.proofs.EncodingLaws.{fourAt-answer, answersOf-more, outputsOf-more}
-use Rattle.replay_call.specs.Private.{Kept}
+use Rattle.replay_call.specs.Promise.{Kept}
 use Rattle.replay.specs.Private.{Ran}
 use Rattle.replay.proofs.PartLaws.{part-came, putMid-done, put-done}
 

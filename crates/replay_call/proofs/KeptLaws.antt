@@ -14,7 +14,7 @@ use Rattle.history.specs.History.{Promised}
 use Rattle.replay_encoding.specs.declared.Request.{Request}
 use Rattle.replay_encoding.specs.Encoding.{wantedIn, callOf, requestSize, answerWords}
 use Rattle.replay_encoding.proofs.EncodingLaws.{callOf-insert, callOf-delete, callOf-lookup, callOf-query, no-output}
-use Rattle.replay_call.specs.Private.{Kept}
+use Rattle.replay_call.specs.Promise.{Kept}
 
 module _ (before : Store) (r : Request) (out ws : List ℕ) (a : Answer Reply) (e-words : ws ≡ answerWords a) where
   -- by the call that the words say

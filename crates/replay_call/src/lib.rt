@@ -17,7 +17,7 @@ ghost use lib.ListN.{length};
 ghost use Rattle.store.specs.Store.{store};
 ghost use Rattle.store.specs.Answers.{changedAnswer};
 ghost use Rattle.replay_encoding.specs.Encoding.{callOf, requestSize, answerWords};
-ghost use Rattle.replay_call.specs.Private.{Kept};
+ghost use Rattle.replay_call.specs.Promise.{Kept};
 
 // The state after a call, and the words of its answer.
 pub struct Step {

@@ -12,7 +12,7 @@ use Rattle.model.specs.Model.{insertCall, deleteCall, lookupCall, queryCall, Re
 use Rattle.replay_encoding.specs.declared.Request.{Request}
 use Rattle.replay_encoding.specs.Encoding.{callSize, requestAt, valueIf, wantedIn, callOfKind, callOf, sizeOfKind}
 use Rattle.replay_encoding.specs.Encoding.{requestSize, answerWords, answersOf, outputsOf}
-use Rattle.replay_encoding.specs.Private.{fourAt}
+use Rattle.replay_encoding.specs.Words.{fourAt}
 
 -- ---- calls
 

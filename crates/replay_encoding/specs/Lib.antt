@@ -1,3 +1,3 @@
 pub mod Encoded
 pub mod Encoding
-pub mod Private
+pub mod Words

@@ -14,7 +14,7 @@ ghost use Rattle.shape.specs.Key.{wantedValues, wantedValue};
 ghost use Rattle.store.specs.Answers.{changedAnswer, foundAnswer, listedAnswer};
 ghost use Rattle.replay_encoding.specs.Encoding.{callSize, requestAt, valueIf, wantedIn, requestSize};
 ghost use Rattle.replay_encoding.specs.Encoding.{answerSize, answerWords};
-ghost use Rattle.replay_encoding.specs.Private.{fourAt};
+ghost use Rattle.replay_encoding.specs.Words.{fourAt};
 
 // The words of one call.
 pub const CALL_SIZE: usize = 11;

@@ -12,9 +12,9 @@ use lib.Seq.{take-suc, take-length, take-all}
 use borrow.Author.Tests.{eq-eqb, ne-eqb}
 use Rattle.lists.proofs.Numbers.{lt-or-le}
 use Rattle.shape.specs.Shape.{Fit}
-use Rattle.split.specs.Steps.{Step, pair, stepsBelow, steps, step, stepNumber, bitValue, stepsOf, depth}
+use Rattle.split.specs.Steps.{Step, pair, stepsBelow, steps, step, stepNumber, bitValue, stepsOf, attributeDepth}
 use Rattle.split.proofs.StepLaws.{depthBefore, stepsOf-append, stepsOf-stepsBelow, length-stepsBelow}
-use Rattle.split.proofs.StepLaws.{step-stepNumber, depth-stepNumber, stepNumber-lt, StepBelow, stepNumber-onto}
+use Rattle.split.proofs.StepLaws.{step-stepNumber, attributeDepth-stepNumber, stepNumber-lt, StepBelow, stepNumber-onto}
 
 -- ---- just before a place
 
@@ -50,21 +50,21 @@ stepsOf-take j (suc t) zero h ss = absurd (omega arith)
 stepsOf-take j (suc t) (suc u) h [] = omega arith
 stepsOf-take j (suc t) (suc u) h (s ∷ ss) = omega (arith, stepsOf-take j t u (omega arith) ss)
 
-pub depth-suc : (ws : List ℕ) (t : ℕ) → t < length (steps ws) → (j : ℕ)
-    → depth ws (suc t) j ≡ depth ws t j + bitValue (eqb (step ws t .attribute) j)
-unfolding depth step stepsOf
-depth-suc ws t h j =
+pub attributeDepth-suc : (ws : List ℕ) (t : ℕ) → t < length (steps ws) → (j : ℕ)
+    → attributeDepth ws (suc t) j ≡ attributeDepth ws t j + bitValue (eqb (step ws t .attribute) j)
+unfolding attributeDepth step stepsOf
+attributeDepth-suc ws t h j =
     ap (stepsOf j) (take-suc (steps ws) t (pair 0) h)
     ∙ stepsOf-append j (take t (steps ws)) (getD (steps ws) t (pair 0) ∷ [])
     ∙ omega arith
 
-pub depth-mono : (ws : List ℕ) (j t u : ℕ) → t ≤ u → depth ws t j ≤ depth ws u j
-unfolding depth
-depth-mono ws j t u h = stepsOf-take j t u h (steps ws)
+pub attributeDepth-mono : (ws : List ℕ) (j t u : ℕ) → t ≤ u → attributeDepth ws t j ≤ attributeDepth ws u j
+unfolding attributeDepth
+attributeDepth-mono ws j t u h = stepsOf-take j t u h (steps ws)
 
-pub depth-width : (ws : List ℕ) (j t : ℕ) → j < 4 → depth ws t j ≤ getD ws j 0
-unfolding depth steps
-depth-width ws j t h =
+pub attributeDepth-width : (ws : List ℕ) (j t : ℕ) → j < 4 → attributeDepth ws t j ≤ getD ws j 0
+unfolding attributeDepth steps
+attributeDepth-width ws j t h =
     let u = t + length (steps ws) in
     let all : take u (steps ws) ≡ steps ws = take-all u (steps ws) (omega arith) in
     omega (
@@ -76,9 +76,9 @@ depth-width ws j t h =
     )
 
 -- after all steps each attribute has its whole width
-pub depth-all : (ws : List ℕ) → Fit ws → (j : ℕ) → j < 4 → depth ws (length (steps ws)) j ≡ getD ws j 0
-unfolding depth steps depthBefore
-depth-all ws fit j h =
+pub attributeDepth-all : (ws : List ℕ) → Fit ws → (j : ℕ) → j < 4 → attributeDepth ws (length (steps ws)) j ≡ getD ws j 0
+unfolding attributeDepth steps depthBefore
+attributeDepth-all ws fit j h =
     ap (stepsOf j) (take-length (stepsBelow ws 64)) ∙ stepsOf-stepsBelow ws j h 64 ∙ omega (arith, fit j)
 
 -- ---- at a step
@@ -99,51 +99,51 @@ module _ (ws : List ℕ) (fit : Fit ws) (k z : ℕ) (hz : z < 4) (hk : k < getD 
     step-here =
         subst (λ u. step ws u ≡ record { bit = k; attribute = z }) number (step-stepNumber ws k z hz hk (fit z))
 
-    pub depth-here : (j : ℕ) → j < 4 → depth ws t j ≡ depthBefore ws (4 * k + z) j
-    depth-here j hj =
-        subst (λ u. depth ws u j ≡ depthBefore ws (4 * k + z) j) number
-        (depth-stepNumber ws k z hz hk (fit z) j hj)
+    pub attributeDepth-here : (j : ℕ) → j < 4 → attributeDepth ws t j ≡ depthBefore ws (4 * k + z) j
+    attributeDepth-here j hj =
+        subst (λ u. attributeDepth ws u j ≡ depthBefore ws (4 * k + z) j) number
+        (attributeDepth-stepNumber ws k z hz hk (fit z) j hj)
 
-    pub depth-z : depth ws t z ≡ k
+    pub attributeDepth-z : attributeDepth ws t z ≡ k
     unfolding depthBefore
-    depth-z = depth-here z hz ∙ omega arith
+    attributeDepth-z = attributeDepth-here z hz ∙ omega arith
 
     -- the depths add up to the number of steps
-    pub depth-sum : depth ws t 0 + depth ws t 1 + depth ws t 2 + depth ws t 3 ≡ t
+    pub attributeDepth-sum : attributeDepth ws t 0 + attributeDepth ws t 1 + attributeDepth ws t 2 + attributeDepth ws t 3 ≡ t
     unfolding stepNumber
-    depth-sum =
+    attributeDepth-sum =
         cc (
           number,
-          depth-here 0 (omega arith),
-          depth-here 1 (omega arith),
-          depth-here 2 (omega arith),
-          depth-here 3 (omega arith),
+          attributeDepth-here 0 (omega arith),
+          attributeDepth-here 1 (omega arith),
+          attributeDepth-here 2 (omega arith),
+          attributeDepth-here 3 (omega arith),
           length-stepsBelow ws (4 * k + z),
         )
 
     -- one step later attribute z is one deeper, and the others are as they were
-    suc-here : (j : ℕ) → depth ws (suc t) j ≡ depth ws t j + bitValue (eqb z j)
+    suc-here : (j : ℕ) → attributeDepth ws (suc t) j ≡ attributeDepth ws t j + bitValue (eqb z j)
     suc-here j =
-        depth-suc ws t (subst (λ u. u < length (steps ws)) number stepNumber-below) j
-        ∙ ap (λ s. depth ws t j + bitValue (eqb (s .attribute) j)) step-here
+        attributeDepth-suc ws t (subst (λ u. u < length (steps ws)) number stepNumber-below) j
+        ∙ ap (λ s. attributeDepth ws t j + bitValue (eqb (s .attribute) j)) step-here
 
-    pub depth-next : depth ws (suc t) z ≡ suc k
-    depth-next = suc-here z ∙ omega (arith, depth-z, ap bitValue (eq-eqb z z refl))
+    pub attributeDepth-next : attributeDepth ws (suc t) z ≡ suc k
+    attributeDepth-next = suc-here z ∙ omega (arith, attributeDepth-z, ap bitValue (eq-eqb z z refl))
 
-    pub depth-next-other : (j : ℕ) → j < 4 → (j ≡ z → ⊥) → depth ws (suc t) j ≡ depth ws t j
-    depth-next-other j hj ne = suc-here j ∙ omega (arith, ap bitValue (ne-eqb z j (λ e. ne (sym e))))
+    pub attributeDepth-next-other : (j : ℕ) → j < 4 → (j ≡ z → ⊥) → attributeDepth ws (suc t) j ≡ attributeDepth ws t j
+    attributeDepth-next-other j hj ne = suc-here j ∙ omega (arith, ap bitValue (ne-eqb z j (λ e. ne (sym e))))
 
 -- ---- after t steps the bits below the depth are those whose step is below t
 
 module _ (ws : List ℕ) (fit : Fit ws) (t k j : ℕ) (hj : j < 4) where
-  pub lt-depth : k < getD ws j 0 → stepNumber ws k j < t → k < depth ws t j
-  lt-depth hk h = omega (arith, depth-next ws fit k j hj hk refl, depth-mono ws j (suc (stepNumber ws k j)) t h)
+  pub lt-attributeDepth : k < getD ws j 0 → stepNumber ws k j < t → k < attributeDepth ws t j
+  lt-attributeDepth hk h = omega (arith, attributeDepth-next ws fit k j hj hk refl, attributeDepth-mono ws j (suc (stepNumber ws k j)) t h)
 
-  pub stepNumber-lt-depth : k < depth ws t j → stepNumber ws k j < t
-  stepNumber-lt-depth h = go (lt-or-le (stepNumber ws k j) t)
+  pub stepNumber-lt-attributeDepth : k < attributeDepth ws t j → stepNumber ws k j < t
+  stepNumber-lt-attributeDepth h = go (lt-or-le (stepNumber ws k j) t)
     where
       go : (stepNumber ws k j < t) ⊎ (t ≤ stepNumber ws k j) → stepNumber ws k j < t
       go (inl l) = l
       go (inr l) =
-          let hk : k < getD ws j 0 = le-trans h (depth-width ws j t hj) in
-          absurd (omega (arith, depth-z ws fit k j hj hk refl, depth-mono ws j t (stepNumber ws k j) l))
+          let hk : k < getD ws j 0 = le-trans h (attributeDepth-width ws j t hj) in
+          absurd (omega (arith, attributeDepth-z ws fit k j hj hk refl, attributeDepth-mono ws j t (stepNumber ws k j) l))

@@ -12,7 +12,7 @@ use lib.Seq.{take-append-seam, getD-append-seam}
 use borrow.Author.Tests.{lt-ltb, le-ltb, eq-eqb, ne-eqb}
 use Rattle.lists.proofs.Numbers.{lt-or-le, eq-or-ne}
 use Rattle.shape.specs.Shape.{Fit, total}
-use Rattle.split.specs.Steps.{Step, pair, stepsBelow, steps, step, stepNumber, bitValue, stepsOf, depth}
+use Rattle.split.specs.Steps.{Step, pair, stepsBelow, steps, step, stepNumber, bitValue, stepsOf, attributeDepth}
 
 -- ---- the steps of one attribute before a place
 
@@ -181,10 +181,10 @@ module _ (ws : List ℕ) (k j : ℕ) (hj : j < 4) (hk : k < getD ws j 0) where
       ∙ getD-append-seam (stepsBelow ws (4 * k + j)) _ (p .0) (pair 0)
 
   -- the depths just before (k, j)
-  pub depth-stepNumber : getD ws j 0 ≤ 16 → (r : ℕ) → r < 4
-      → depth ws (stepNumber ws k j) r ≡ depthBefore ws (4 * k + j) r
-  unfolding depth stepNumber
-  depth-stepNumber f r hr =
+  pub attributeDepth-stepNumber : getD ws j 0 ≤ 16 → (r : ℕ) → r < 4
+      → attributeDepth ws (stepNumber ws k j) r ≡ depthBefore ws (4 * k + j) r
+  unfolding attributeDepth stepNumber
+  attributeDepth-stepNumber f r hr =
       let p = steps-prefix f in
       ap (λ x. stepsOf r (take (length (stepsBelow ws (4 * k + j))) x)) (p .1)
       ∙ ap (stepsOf r) (take-append-seam (stepsBelow ws (4 * k + j)) _)

@@ -43,5 +43,5 @@ stepsOf j [] = 0
 stepsOf j (s ∷ ss) = bitValue (eqb (s .attribute) j) + stepsOf j ss
 
 -- "After T steps, attribute j has depth h_j: the number of its steps below T."
-unfoldable pub depth : List ℕ → ℕ → ℕ → ℕ
-depth ws t j = stepsOf j (take t (steps ws))
+unfoldable pub attributeDepth : List ℕ → ℕ → ℕ → ℕ
+attributeDepth ws t j = stepsOf j (take t (steps ws))

@@ -1,3 +1,3 @@
 pub mod Asked
-pub mod Private
+pub mod Commands
 pub mod Session

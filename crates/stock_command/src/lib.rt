@@ -11,7 +11,7 @@ ghost use mathlib.Core.Bool.{_&&_, not};
 ghost use Prim.Native.Nat.{ℕ};
 ghost use lib.Dec.{eqb};
 ghost use Rattle.stock_command.specs.Asked.{asked, askedShape};
-ghost use Rattle.stock_command.specs.Private.{askedAs};
+ghost use Rattle.stock_command.specs.Commands.{askedAs};
 
 // A line that asks nothing, one of a shape with d outside 1 to 4, a shape, and the three others.
 pub enum Command {

@@ -24,7 +24,7 @@ use Rattle.stock_text.specs.Text.{Grown}
 use Rattle.stock_command.specs.Asked.{Asked, put, cut, list, valuesFrom, itemsOf, contentIn, asked}
 use Rattle.stock_command.specs.declared.session.Session.{Session}
 use Rattle.stock_replies.specs.Replies.{changedText, listedText}
-use Rattle.stock_replies.specs.Private.{Printable}
+use Rattle.stock_replies.specs.Printed.{Printable}
 use Rattle.stock_console.specs.Console.{Lent, lent, ReplyPromise}
 use Rattle.stock_console.specs.declared.Next.{Next}
 

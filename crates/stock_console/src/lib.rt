@@ -22,7 +22,7 @@ ghost use mathlib.Core.List.{List};
 ghost use Prim.Native.Nat.{ℕ, _+_, _≤_};
 ghost use lib.ListN.{length};
 ghost use Rattle.stock_command.specs.Asked.{asked, nothing, noShape, newShape};
-ghost use Rattle.stock_command.specs.Private.{askedAs};
+ghost use Rattle.stock_command.specs.Commands.{askedAs};
 ghost use Rattle.stock_command.specs.declared.Command.the-variants as command;
 ghost use Rattle.stock_replies.specs.Replies.{replySize};
 ghost use Rattle.stock_console.specs.Console.{Lent, ReplyPromise, lent};

@@ -7,7 +7,7 @@ use mathlib.Core.Logic.{_⊎_, inl, inr}
 use native.Mathlib.Omega.{arith}
 use lib.Dec.{eqb}
 use lib.ListN.{getD, length, length-append, length-take, take}
-use Rattle.stock_line.specs.Private.{start, fed, ended, closed, opened, added}
+use Rattle.stock_line.specs.LineBytes.{start, fed, ended, closed, opened, added}
 use Rattle.stock_line.specs.declared.Line.{Line}
 use Rattle.stock_line.specs.declared.Reading.{Reading}
 use Rattle.stock_text.specs.Text.{Grown}

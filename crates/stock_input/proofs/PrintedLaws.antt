@@ -12,7 +12,7 @@ use borrow.Author.Tests.{ltb-false, lt-ltb, eqb-true, eqb-false}
 use Rattle.lists.specs.Filter.{all}
 use Rattle.lists.proofs.Bools.{and-split, and-both}
 use Rattle.lists.proofs.FilterLaws.{all-append}
-use Rattle.stock_line.specs.Private.{start, fed, ended, readFrom, closed, opened, added, wordWith, fieldWith}
+use Rattle.stock_line.specs.LineBytes.{start, fed, ended, readFrom, closed, opened, added, wordWith, fieldWith}
 use Rattle.stock_line.specs.declared.Reading.{Reading}
 use Rattle.stock_line.proofs.ShownLaws.{line-shown}
 use Rattle.stock_input.specs.Input.{Standing, LineEnded, ByteRead, Stepped, Ran, nothingRead}

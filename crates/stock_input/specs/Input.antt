@@ -7,7 +7,7 @@ use mathlib.Core.List.{List, _++_}
 use mathlib.Core.Logic.{_⊎_}
 use lib.Dec.{eqb}
 use lib.ListN.{getD, length, take}
-use Rattle.stock_line.specs.Private.{start, fed, ended}
+use Rattle.stock_line.specs.LineBytes.{start, fed, ended}
 use Rattle.stock_line.specs.declared.Reading.{Reading}
 use Rattle.stock_command.specs.Asked.{asked}
 use Rattle.stock_command.specs.declared.session.Session.{Session}

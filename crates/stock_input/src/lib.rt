@@ -15,7 +15,7 @@ ghost use mathlib.Core.Path.{_≡_};
 ghost use mathlib.Core.Bool.{false};
 ghost use Prim.Native.Nat.{_+_, _≤_};
 ghost use lib.ListN.{length};
-ghost use Rattle.stock_line.specs.Private.{start};
+ghost use Rattle.stock_line.specs.LineBytes.{start};
 ghost use Rattle.stock_replies.specs.Replies.{replySize};
 ghost use Rattle.stock_console.specs.Console.{lent};
 ghost use Rattle.stock_input.specs.Input.{standing, Stepped, Standable, RunPromise, nothingRead};
@@ -51,7 +51,7 @@ pub fn start() -> Progress
     let state = State {
         shape,
         limits,
-        depth: 0,
+        deepest: 0,
         tally,
     };
     let session = Session {

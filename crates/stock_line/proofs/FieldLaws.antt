@@ -11,7 +11,7 @@ use borrow.Author.Tests.{lt-ltb, le-ltb, ltb-true, ltb-false, le-leb, lt-leb, ne
 use Rattle.lists.specs.Filter.{all, nonEmpty}
 use Rattle.lists.proofs.Bools.{and-split}
 use Rattle.stock_line.specs.Line.{isDigit, valueFrom, numberIn, isStar, itemIn}
-use Rattle.stock_line.specs.Private.{firstOf, digitWith, fieldWith}
+use Rattle.stock_line.specs.LineBytes.{firstOf, digitWith, fieldWith}
 
 -- a field of another form
 abbrev pub wrong : ℕ

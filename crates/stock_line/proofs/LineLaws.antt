@@ -13,7 +13,7 @@ use borrow.Author.Tests.{ne-eqb, lt-ltb, le-ltb}
 use Rattle.lists.proofs.Numbers.{lt-or-le, eq-or-ne}
 use Rattle.stock_line.specs.Line.{itemIn, withItem, itemsIn, codeOf, hasStar}
 use Rattle.stock_line.specs.declared.Reading.{Reading}
-use Rattle.stock_line.specs.Private.{closed, opened, keptWord, starWith}
+use Rattle.stock_line.specs.LineBytes.{closed, opened, keptWord, starWith}
 use Rattle.stock_line.proofs.FieldLaws.{codeFrom, CodeFor, for-star, for-number, for-none, codeFor-field}
 use Rattle.stock_line.proofs.ReadingLaws.{took, tookAll, addedAll-field}
 

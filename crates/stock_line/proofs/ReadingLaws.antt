@@ -9,7 +9,7 @@ use borrow.Author.Tests.{ne-eqb}
 use Rattle.lists.specs.Filter.{nonEmpty}
 use Rattle.stock_line.specs.Line.{longer, fieldsOf}
 use Rattle.stock_line.specs.declared.Reading.{Reading}
-use Rattle.stock_line.specs.Private.{closed, opened, added, fed, readFrom, wordWith, fieldWith}
+use Rattle.stock_line.specs.LineBytes.{closed, opened, added, fed, readFrom, wordWith, fieldWith}
 use Rattle.stock_line.proofs.FieldLaws.{codeFrom}
 
 pub closed-fields : (r : Reading) → r .fields ≤ 7 → closed r .fields ≤ 7

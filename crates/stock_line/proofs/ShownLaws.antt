@@ -13,7 +13,7 @@ use Rattle.lists.proofs.Bools.{and-split, and-both}
 use Rattle.stock_line.specs.Line.{longer, fieldsOf, itemsIn, codeOf, rest, ShowsFields, LineShown}
 use Rattle.stock_line.specs.declared.Reading.{Reading}
 use Rattle.stock_line.specs.declared.Line.{Line}
-use Rattle.stock_line.specs.Private.{start, closed, readFrom, ended, kindOf}
+use Rattle.stock_line.specs.LineBytes.{start, closed, readFrom, ended, kindOf}
 use Rattle.stock_line.proofs.ReadingLaws.{wordFrom, addedAll, tookAll, readFields, some-field, readFrom-fields}
 use Rattle.stock_line.proofs.ReadingLaws.{closed-spaced, addedAll-word}
 use Rattle.stock_line.proofs.LineLaws.{KeptAs, tookAll-items}

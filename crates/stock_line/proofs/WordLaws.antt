@@ -14,7 +14,7 @@ use Rattle.lists.specs.Filter.{all}
 use Rattle.lists.proofs.Bools.{and-split, and-both, eq-of-iff}
 use Rattle.lists.proofs.Numbers.{lt-or-le}
 use Rattle.stock_line.specs.Line.{sameBytes, kindIn}
-use Rattle.stock_line.specs.Private.{wordWith, kindOf}
+use Rattle.stock_line.specs.LineBytes.{wordWith, kindOf}
 use Rattle.stock_line.proofs.ReadingLaws.{wordFrom}
 
 -- ---- numbers of words

@@ -1,2 +1,2 @@
 pub mod Line
-pub mod Private
+pub mod LineBytes

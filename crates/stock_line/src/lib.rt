@@ -3,9 +3,9 @@
 ghost use mathlib.Core.Path.{_≡_};
 ghost use Prim.Native.Nat.{_≤_};
 ghost use Rattle.stock_line.specs.Line.{isDigit};
-ghost use Rattle.stock_line.specs.Private.{start, fed, ended, opened, closed};
-ghost use Rattle.stock_line.specs.Private.{keptWord, starWith, wordWith, fieldWith};
-ghost use Rattle.stock_line.specs.Private.{firstOf, kindOf};
+ghost use Rattle.stock_line.specs.LineBytes.{start, fed, ended, opened, closed};
+ghost use Rattle.stock_line.specs.LineBytes.{keptWord, starWith, wordWith, fieldWith};
+ghost use Rattle.stock_line.specs.LineBytes.{firstOf, kindOf};
 
 // A field that is `*`; lesser codes are numbers. Greater ones are of a field that is still empty, and
 // of one that is no number below 2^32.

@@ -1,2 +1,2 @@
-pub mod Private
+pub mod Printed
 pub mod Replies

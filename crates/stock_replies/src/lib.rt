@@ -13,7 +13,7 @@ ghost use Rattle.record.specs.Bytes.{recordSize};
 ghost use Rattle.store.specs.Answers.{changedAnswer, listedAnswer};
 ghost use Rattle.stock_text.specs.Text.{Grown, recordsText, sumText};
 ghost use Rattle.stock_replies.specs.Replies.{replySize, changedText, listedText};
-ghost use Rattle.stock_replies.specs.Private.{Printable};
+ghost use Rattle.stock_replies.specs.Printed.{Printable};
 
 // The bytes that the longest reply needs: 256 records and the sum.
 pub const REPLY_SIZE: usize = 12352;

@@ -57,10 +57,10 @@ module _ (joins : Bool) (old new : (ℕ → Bool) → ℕ) (key : ℕ → Bool) 
 
 module _ (joins : Bool) (before after : Store) (key : ℕ → Bool) where
   abbrev old : (ℕ → Bool) → ℕ
-  old p = wordAt (before .state .shape) (before .state .depth) (before .memory .words) p
+  old p = wordAt (before .state .shape) (before .state .deepest) (before .memory .words) p
 
   abbrev new : (ℕ → Bool) → ℕ
-  new p = wordAt (after .state .shape) (after .state .depth) (after .memory .words) p
+  new p = wordAt (after .state .shape) (after .state .deepest) (after .memory .words) p
 
   -- page g may be written: it is the page of the key's leaf, or of a whole leaf that is joined with it, or it was free
   -- and a leaf in the region of the key's leaf has it now. Shut out: a delete that changes a page for the sake of one

@@ -46,10 +46,10 @@ queryNumber s q = firstNumber (lentConditions s ++ queryConditions (s .state .sh
 
 module _ (before after : Store) (D D′ : Division Record) where
   abbrev wordBefore : (ℕ → Bool) → ℕ
-  wordBefore p = wordAt (before .state .shape) (before .state .depth) (before .memory .words) p
+  wordBefore p = wordAt (before .state .shape) (before .state .deepest) (before .memory .words) p
 
   abbrev wordAfter : (ℕ → Bool) → ℕ
-  wordAfter p = wordAt (after .state .shape) (after .state .depth) (after .memory .words) p
+  wordAfter p = wordAt (after .state .shape) (after .state .deepest) (after .memory .words) p
 
   -- "Every other leaf keeps its page": a leaf of both divisions that has a page before and records after
   abbrev pub KeepsPages : Type 0
@@ -130,7 +130,7 @@ SameWhereRead sound bytes q S =
     let s = sound .state .shape in
     (p : ℕ → Bool) → agrees q p (leafDepth p 0 (divisionOf s S)) 0 ≡ true
     → (g x : ℕ) → g < sound .state .limits .pages
-    → wordAt s (sound .state .depth) (sound .memory .words) p ≡ wordOf (Page g x)
+    → wordAt s (sound .state .deepest) (sound .memory .words) p ≡ wordOf (Page g x)
     → pageAt (s .capacity) bytes g ≡ pageAt (s .capacity) (sound .memory .bytes) g
 
 -- the store with other page bytes
@@ -176,7 +176,7 @@ pub record QueryPromise (store : Store) (q : List (Option ℕ)) (out : List ℕ)
   -- and reads within the bound
   pub bounded : (S : List Record) → SoundWhereRead store (queryBits (store .state .shape) q) S
       → (written total reads : ℕ) → answer ≡ accepted (listed written total reads)
-      → reads ≤ 2 ^ (store .state .depth - givenDepths (store .state .shape) q (store .state .depth))
+      → reads ≤ 2 ^ (store .state .deepest - givenDepths (store .state .shape) q (store .state .deepest))
 
 -- "says yes exactly for a sound store and otherwise no; it never gives 9". Shut out: always yes, always no
 pub record CheckPromise (store : Store) (answer : Answer Bool) : Type 0 where

@@ -16,7 +16,7 @@ use Rattle.shape.proofs.BoundsLaws.{allBelow-suc, test-of-allBelow}
 use Rattle.record.specs.Record.{Record}
 use Rattle.store.specs.Store.{Store}
 use Rattle.store.specs.Sound.{Sound}
-use Rattle.change.specs.Private.{dividedOnce, dividedTally}
+use Rattle.change.specs.Divided.{dividedOnce, dividedTally}
 use Rattle.change.specs.Delete.{joinedOnce, joinedTally, tallyDepth}
 use Rattle.change.proofs.BoundLaws.{leaves-le}
 use Rattle.tally.specs.Tally.{tallyHolds}

@@ -4,7 +4,7 @@ ghost use mathlib.Core.Path.{_≡_};
 ghost use mathlib.Core.Bool.{true};
 ghost use Prim.Native.Nat.{_+_, _-_, _^_, _≤_, _<_};
 ghost use lib.ListN.{getD};
-ghost use Rattle.change.specs.Private.{dividedOnce, dividedTally};
+ghost use Rattle.change.specs.Divided.{dividedOnce, dividedTally};
 ghost use Rattle.change.specs.Delete.{joinedOnce, joinedTally, tallyDepth};
 ghost use Rattle.tally.specs.Tally.{tallyHolds};
 

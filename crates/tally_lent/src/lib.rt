@@ -4,7 +4,7 @@ use store::Tally;
 ghost use mathlib.Core.Path.{_≡_};
 ghost use mathlib.Core.Bool.{true};
 ghost use Prim.Native.Nat.{_+_, _≤_};
-ghost use Rattle.change.specs.Private.{dividedTally};
+ghost use Rattle.change.specs.Divided.{dividedTally};
 ghost use Rattle.change.specs.Delete.{joinedTally};
 ghost use Rattle.tally.specs.Tally.{tallyHolds};
 

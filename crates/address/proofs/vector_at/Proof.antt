@@ -7,7 +7,7 @@ use Rattle.lists.proofs.Numbers.{pow-below}
 use Rattle.lists.proofs.Shifts.{leading-bounds}
 use mathlib.Core.List.{[], _∷_}
 use Rattle.shape.specs.Shape.{widthList}
-use Rattle.address.specs.Private.{IndexAt}
+use Rattle.address.specs.Vectors.{IndexAt}
 use Rattle.address.proofs.SearchLaws.{indexAt-zero}
 use borrow.Author.Needs.{needs}
 use Rattle.address.proofs.vector_at.Statement.{statement}

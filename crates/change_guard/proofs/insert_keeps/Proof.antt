@@ -4,7 +4,7 @@ use mathlib.Core.Bool.{true}
 use native.Mathlib.Omega.{arith}
 use borrow.Author.Needs.{needs}
 use Rattle.store.specs.Store.{store}
-use Rattle.insert_plan.specs.Private.{GetPlanned, DividePlanned, Planned}
+use Rattle.insert_plan.specs.Plan.{GetPlanned, DividePlanned, InsertPlanned}
 use Rattle.change_guard.specs.Guard.{InsertTold}
 use Rattle.change_guard.proofs.InsertLaws.{lent-of-asked, insertTold-refused, insertTold-take}
 use Rattle.change_guard.proofs.InsertLaws.{insertTold-get, insertTold-divide}
@@ -17,7 +17,7 @@ got : (c : tie.After-known-told) → let s = c .before .before .before .before i
     GetPlanned (store (s .args .state) (s .args .dir .now) (s .pre .bytes)) (s .args .values) (p .0) (p .1 .0)
 got c =
     let s = c .before .before .before .before in
-    subst (Planned (store (s .args .state) (s .args .dir .now) (s .pre .bytes)) (s .args .values))
+    subst (InsertPlanned (store (s .args .state) (s .args .dir .now) (s .pre .bytes)) (s .args .values))
     (c .before .plan .given .1) (s .pre .planned)
 
 cut : (c : tie.After-known-told2) → let s = c .before .before .before .before in
@@ -26,7 +26,7 @@ cut : (c : tie.After-known-told2) → let s = c .before .before .before .before 
     (p .1 .1 .0)
 cut c =
     let s = c .before .before .before .before in
-    subst (Planned (store (s .args .state) (s .args .dir .now) (s .pre .bytes)) (s .args .values))
+    subst (InsertPlanned (store (s .args .state) (s .args .dir .now) (s .pre .bytes)) (s .args .values))
     (c .before .plan2 .given .1) (s .pre .planned)
 
 enum-told : tie.Need-enum-told

@@ -16,18 +16,18 @@ depth-is c =
     let s = c .before .before .before .before .before .before in
     let a = s .args in
     c .greatest-depth .ensures
-    ∙ ap (tallyDepth (a .state .depth))
+    ∙ ap (tallyDepth (a .state .deepest))
     (c .before .before .join .ensures
     ∙ ap (λ x. joinedTally (a .join .top) (x - a .join .top) (a .state .tally .leaves)) (s .pre .1 .depth-step))
 
 depth-le : (c : tie.After-greatest-depth)
-    → c .greatest-depth .result ≤ c .before .before .before .before .before .before .args .state .depth
+    → c .greatest-depth .result ≤ c .before .before .before .before .before .before .args .state .deepest
 depth-le c =
     let a = c .before .before .before .before .before .before .args in
     omega (
       arith,
       c .greatest-depth .ensures,
-      tallyDepth-le (c .before .before .join .result .leaves) (a .state .depth),
+      tallyDepth-le (c .before .before .join .result .leaves) (a .state .deepest),
     )
 
 sub-levels : tie.Need-sub-levels

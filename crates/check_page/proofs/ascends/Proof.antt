@@ -7,7 +7,7 @@ use borrow.Author.Tests.{not-true, not-false}
 use Rattle.shape.specs.Shape.{widthList}
 use Rattle.record.specs.Packed.{unpackedKey}
 use Rattle.page.specs.Fields.{recordOffset}
-use Rattle.check_page.specs.Private.{keyAt}
+use Rattle.check_page.specs.PageTest.{valuesAt}
 use Rattle.check_page.proofs.ByteLaws.{unpackedKey-keyAt}
 use Rattle.check_page.proofs.AscendLaws.{Risen, risen-first, risen-next, risen-stop, risen-end}
 use Rattle.check_page.proofs.ascends.Statement.{statement}
@@ -22,7 +22,7 @@ abbrev μ-loop : tie.MeasureT-loop
 -- the key of record k
 key : (c : tie.After-key-at2 Inv-loop μ-loop) → let loop = c .before .before .loop in
     unpackedKey (c .key-at2 .result)
-    ≡ keyAt (c .before .before .before .before .before .args .page .now) (recordOffset (loop .k))
+    ≡ valuesAt (c .before .before .before .before .before .args .page .now) (recordOffset (loop .k))
 key c =
     let start = c .before .before .before .before in
     let bytes = start .shared-slice-known .given in

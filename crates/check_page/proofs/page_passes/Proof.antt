@@ -8,7 +8,7 @@ use borrow.Author.Tests.{not-true, not-false, eqb-true}
 use Rattle.shape.specs.Shape.{widthList, total}
 use Rattle.record.specs.Packed.{unpackedKey}
 use Rattle.page.specs.Fields.{recordOffset}
-use Rattle.check_page.specs.Private.{keyAt, keyCode}
+use Rattle.check_page.specs.PageTest.{valuesAt, keyCode}
 use Rattle.check_page.proofs.ByteLaws.{unpackedKey-keyAt}
 use Rattle.check_page.proofs.CodeLaws.{begins-same, begins-other}
 use Rattle.check_page.proofs.PageLaws.{pagePasses-none, pagePasses-over, pagePasses-first, pagePasses-last}
@@ -19,7 +19,7 @@ use Rattle.check_page.proofs.page_passes.Tie as tie
 -- the keys of the first and of the last record
 first : (c : tie.After-key-at) →
     unpackedKey (c .key-at .result)
-    ≡ keyAt (c .before .before .before .before .before .args .page .now) (recordOffset 0)
+    ≡ valuesAt (c .before .before .before .before .before .args .page .now) (recordOffset 0)
 first c =
     let start = c .before .before .before .before in
     let bytes = start .shared-slice-known .given in
@@ -28,7 +28,7 @@ first c =
 
 last : (c : tie.After-key-at2) → let few = c .before .before .before .before in
     unpackedKey (c .key-at2 .result)
-    ≡ keyAt (few .before .before .before .before .args .page .now)
+    ≡ valuesAt (few .before .before .before .before .args .page .now)
     (recordOffset (few .before .before .number-at .result - 1))
 last c =
     let few = c .before .before .before .before in

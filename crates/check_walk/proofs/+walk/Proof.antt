@@ -32,7 +32,7 @@ use Rattle.check_walk.proofs.+walk.{statement}
 use Rattle.check_walk.proofs.+walk.Tie.{close}
 
 abbrev μ-walk : Measures 3 walk-kinds.ps ℕ
-μ-walk κs a = a .0 .depth - a .1 .1 .0 .depth
+μ-walk κs a = a .0 .deepest - a .1 .1 .0 .depth
 
 abbrev walk-at : ℕ → In 3 walk-kinds.ps
 walk-at t = and 3 walk-kinds.ps (is 3 walk-kinds.ps μ-walk t) walk.Pre
@@ -96,7 +96,7 @@ abbrev view : (t : ℕ) → Start t → View Record
 view t s = let a = s .args in viewBy (widthList (a .widths)) (a .state) (a .dir .now) (a .pages .now)
 
 abbrev steps : (t : ℕ) → Start t → ℕ
-steps t s = s .args .state .depth - s .args .region .depth
+steps t s = s .args .state .deepest - s .args .region .depth
 
 abbrev IsNamed : (t : ℕ) → Start t → (ℕ → Bool) → Type 0
 IsNamed t s p = Names (widthList (s .args .widths)) (s .args .region) p
@@ -107,7 +107,7 @@ low t s =
     let a = s .args in
     let w = a .widths in
     let k = s .pre .1 .0 in
-    region-lt (w .w0) (w .w1) (w .w2) (w .w3) (a .region) (k .region) (a .state .depth) _ (k .directory) (k .within)
+    region-lt (w .w0) (w .w1) (w .w2) (w .w3) (a .region) (k .region) (a .state .deepest) _ (k .directory) (k .within)
 
 here : (t : ℕ) (s : Start t) (p : ℕ → Bool) → IsNamed t s p
     → view t s .word p ≡ getD (s .args .dir .now) (s .args .region .address) 0
@@ -115,7 +115,7 @@ here t s p n =
     let a = s .args in
     let w = a .widths in
     let k = s .pre .1 .0 in
-    cellWord-first (w .w0) (w .w1) (w .w2) (w .w3) (a .region) (k .region) (a .state .depth) _ (k .directory)
+    cellWord-first (w .w0) (w .w1) (w .w2) (w .w3) (a .region) (k .region) (a .state .deepest) _ (k .directory)
     (k .within) (a .dir .now) p n
 
 -- the depth of the word, as the test has it
@@ -131,7 +131,7 @@ deeper t c p n = subst (λ d. of-deeper t c .args .region .depth < d) (depth t (
 -- the region is divided, and a step is left
 divided : (t : ℕ) (c : Sides t) (p : ℕ → Bool) → let s = of-sides t c in
     let y = c .sides-of .result .lower .depth in
-    IsNamed t s p → Divided (view t s) (steps t s) (s .args .state .depth - y) p (s .args .region .depth) y
+    IsNamed t s p → Divided (view t s) (steps t s) (s .args .state .deepest - y) p (s .args .region .depth) y
 divided t c p n =
     let next = c .sides-of .ensures .lower-depth in
     let left = c .before .if2 .left in
@@ -148,8 +148,8 @@ lower-depth t c = c .before .before .sides-of .result .lower .depth
 abbrev Told : (t : ℕ) → Start t → (ℕ → Bool) → Bool → List ℕ → Seen → List ℕ → ℕ → Type 0
 Told t s p β before seen after y =
     let q = withBit p (s .args .region .depth) β in
-    Tells y before seen after (regionTest (view t s) (s .args .state .depth - y) q y)
-    (readDivision (view t s) (s .args .state .depth - y) q y)
+    Tells y before seen after (regionTest (view t s) (s .args .state .deepest - y) q y)
+    (readDivision (view t s) (s .args .state .deepest - y) q y)
 
 -- the tally that a call leaves
 abbrev tally-lower : (t : ℕ) → First t → List ℕ
@@ -256,7 +256,7 @@ walk-walk-requires-2 t c κs =
       (
         sub-walks _ _ _ _ _ k _ (sides .sides-of .ensures .upper-in) (sides .sides-of .ensures .upper-depth)
             (sides .before .if2 .left),
-        subst (λ y. TallyRoom (s .args .state .depth - y) (tally-lower t lower)) (sym (level t sides))
+        subst (λ y. TallyRoom (s .args .state .deepest - y) (tally-lower t lower)) (sym (level t sides))
             (room-upper _ _ _ _ _ _ d _ _ _ (told-lower t lower p n) (not-false _ (c .before .if3 .left)) (s .pre .1 .1)
             (lower .walk .kept .1 .1 .1 .1 .1 .0)),
       ),

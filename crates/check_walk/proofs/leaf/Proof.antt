@@ -25,7 +25,7 @@ abbrev view : tie.Start → View Record
 view s = let a = s .args in viewBy (widthList (a .widths)) (a .state) (a .dir .now) (a .pages .now)
 
 abbrev steps : tie.Start → ℕ
-steps s = s .args .state .depth - s .args .region .depth
+steps s = s .args .state .deepest - s .args .region .depth
 
 abbrev IsNamed : tie.Start → (ℕ → Bool) → Type 0
 IsNamed s p = Names (widthList (s .args .widths)) (s .args .region) p
@@ -36,7 +36,7 @@ here s p n =
     let a = s .args in
     let w = a .widths in
     let k = s .pre .0 in
-    cellWord-first (w .w0) (w .w1) (w .w2) (w .w3) (a .region) (k .region) (a .state .depth) _ (k .directory)
+    cellWord-first (w .w0) (w .w1) (w .w2) (w .w3) (a .region) (k .region) (a .state .deepest) _ (k .directory)
     (k .within)
     (a .dir .now) p n
     ∙ sym (s .pre .2)

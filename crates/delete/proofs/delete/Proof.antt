@@ -8,7 +8,7 @@ use Rattle.store.specs.Promises.{keyNumber}
 use Rattle.store.specs.Store.{Store, store}
 use Rattle.refusals.proofs.LentLaws.{keyNumber-by}
 use Rattle.refusals.proofs.LimitsLaws.{limits-parts}
-use Rattle.delete_plan.specs.Plan.{RecordFound, StaysAlone, JoinPlanned, Planned}
+use Rattle.delete_plan.specs.Plan.{RecordFound, StaysAlone, JoinPlanned, DeletePlanned}
 use Rattle.delete_plan.proofs.MetLaws.{directoryLent}
 use Rattle.delete.proofs.FoundLaws.{promise-early, recordLent}
 use Rattle.delete.proofs.GuardLaws.{promise-not-whole}
@@ -51,7 +51,7 @@ kept : (c : tie.After-plan2)
     RecordFound (given s) (s .args .key .values) r × StaysAlone (given s) (s .args .key .values) (r .page) (r .depth)
 kept c =
     let p = c .before .before .before in
-    subst (Planned (given (start p)) (start p .args .key .values)) (c .plan2 .given .1) (p .plan-delete .ensures)
+    subst (DeletePlanned (given (start p)) (start p .args .key .values)) (c .plan2 .given .1) (p .plan-delete .ensures)
 
 -- and of one that is joined
 joined : (c : tie.After-plan3)
@@ -61,7 +61,7 @@ joined : (c : tie.After-plan3)
     RecordFound (given s) (s .args .key .values) r × JoinPlanned (given s) (s .args .key .values) r j
 joined c =
     let p = c .before .before .before in
-    subst (Planned (given (start p)) (start p .args .key .values)) (c .plan3 .given .1) (p .plan-delete .ensures)
+    subst (DeletePlanned (given (start p)) (start p .args .key .values)) (c .plan3 .given .1) (p .plan-delete .ensures)
 
 key-number-requires : tie.Need-key-number-requires
 key-number-requires c κs = search needs
@@ -158,7 +158,7 @@ returns-4 : tie.Need-returns-4
 unfolding changedAnswer
 returns-4 c =
     let p = c .before .before .before .before in
-    subst (Planned (given (start p)) (start p .args .key .values)) (c .before .plan .given .1)
+    subst (DeletePlanned (given (start p)) (start p .args .key .values)) (c .before .plan .given .1)
     (p .plan-delete .ensures)
 
 same-length-7 : tie.Need-same-length-7

@@ -36,7 +36,7 @@ found : (c : tie.After-key-word)
     c .key-word .result ≡ wordOn before (keyString before (a .key .values))
 found c =
     let a = c .before .before .before .before .before .before .before .before .args in
-    key-word-is (a .state .shape) _ (c .before .before .widths-of .ensures) (a .state .depth) (a .dir .now)
+    key-word-is (a .state .shape) _ (c .before .before .widths-of .ensures) (a .state .deepest) (a .dir .now)
     (a .key .values) _ (c .key-word .ensures)
 
 -- it holds
@@ -91,7 +91,7 @@ key-word-requires c κs =
     let before = store (a .state) (a .dir .now) (a .pages .now) in
     let p = passed before (a .key .values) (s .pre) in
     let l = limits-parts (a .state) (limited (c .before .before .before)) in
-    key-word-asks (a .state .shape) _ (c .before .widths-of .ensures) (a .state .depth) (p .shape)
+    key-word-asks (a .state .shape) _ (c .before .widths-of .ensures) (a .state .deepest) (p .shape)
     (le-trans (l .4) (l .3)) _ (le-trans (pow-mono (l .4)) (p .words-lent))
 
 word-holds-requires : tie.Need-word-holds-requires

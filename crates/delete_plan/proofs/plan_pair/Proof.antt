@@ -7,7 +7,7 @@ use Rattle.record.specs.Packed.{packedKey}
 use Rattle.page.specs.Page.{pageAt}
 use Rattle.store.specs.Store.{store}
 use Rattle.lookup.proofs.EarlyLaws.{passed, SixteenBits-of-keyFits}
-use Rattle.delete_plan.specs.Private.{JoinMade, siblingPage}
+use Rattle.delete_plan.specs.Siblings.{JoinMade, siblingPage}
 use Rattle.delete_plan.proofs.MetLaws.{directoryLent, pageLent}
 use Rattle.delete_plan.proofs.PairLaws.{refused-shared, refused-other-count, refused-other-ends}
 use Rattle.delete_plan.proofs.PairLaws.{refused-tally, stays-full, sideAsked, joinPlanned}

@@ -53,7 +53,7 @@ fill-requires c κs =
     let depth = c .before .before .before .before .greatest-depth in
     let tally = c .before .before .before .before .before .before .join-tally in (
       directoryFits (a .state) (widthList (w .result)) (w .ensures) _ _ (s .pre .0 .0)
-          (omega (arith, depth .ensures, tallyDepth-le (tally .result .leaves) (a .state .depth))),
+          (omega (arith, depth .ensures, tallyDepth-le (tally .result .leaves) (a .state .deepest))),
       omega (
         arith,
         depth .ensures,
@@ -69,7 +69,7 @@ cast-t22 c =
     omega (
       arith,
       c .before .before .before .before .before .before .before .greatest-depth .ensures,
-      tallyDepth-le (earlier .join-tally .result .leaves) (a .state .depth),
+      tallyDepth-le (earlier .join-tally .result .leaves) (a .state .deepest),
       earlier .before .before .before .before .before .before .before .before .before .before .pre .0 .0 .short,
     )
 

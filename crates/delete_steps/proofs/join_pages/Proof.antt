@@ -1,5 +1,5 @@
 -- `delete_steps::join_pages` meets its contract: the bit says which page is carried. Assumes nothing.
-use Rattle.delete_steps.specs.Private.{joinedPages}
+use Rattle.delete_steps.specs.Steps.{joinedPages}
 use borrow.Author.Needs.{needs}
 use Rattle.delete_steps.proofs.join_pages.Statement.{statement}
 use Rattle.delete_steps.proofs.join_pages.Tie as tie

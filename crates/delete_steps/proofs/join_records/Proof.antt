@@ -4,7 +4,7 @@ use mathlib.Core.Path.{ap, subst, sym, _∙_}
 use native.Mathlib.Omega.{arith}
 use Rattle.pages.specs.Pages.{PageLent}
 use Rattle.delete_steps.specs.PageBytes.{joinedBytes}
-use Rattle.delete_steps.specs.Private.{joinedPages}
+use Rattle.delete_steps.specs.Steps.{joinedPages}
 use Rattle.delete_steps.proofs.PageLaws.{lent-removedBytes}
 use borrow.Author.Needs.{needs}
 use Rattle.delete_steps.proofs.join_records.Statement.{statement}

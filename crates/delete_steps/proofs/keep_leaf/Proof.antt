@@ -58,7 +58,7 @@ returns-2 c =
     let word = c .before .before .before .before .before .before .before .pack-empty .ensures in
     let w = c .before .before .before .before .before .before .widths-of in (
       record {
-        emptied = λ e. filled-shape (a .state) (widthList (w .result)) (w .ensures) (a .state .depth) (a .found .depth)
+        emptied = λ e. filled-shape (a .state) (widthList (w .result)) (w .ensures) (a .state .deepest) (a .found .depth)
             (a .values) _ _ (a .dir .now) _ word filled;
         same = λ n. absurd (n (c .before .before .before .before .before .before .before .before .if1 .left));
       },

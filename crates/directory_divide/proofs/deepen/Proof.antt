@@ -3,7 +3,7 @@
 use Prim.Native.Nat.{_-_, _≤_}
 use native.Mathlib.Omega.{arith}
 use Rattle.shape.specs.Shape.{widthList}
-use Rattle.change.specs.Private.{Deepened}
+use Rattle.change.specs.Divided.{Deepened}
 use Rattle.change.proofs.DirectoryLaws.{deepened-none}
 use Rattle.directory_divide.proofs.StepLaws.{fits-shallower, deepened-at, deepened-next}
 use Rattle.directory_divide.proofs.deepen.Statement.{statement}

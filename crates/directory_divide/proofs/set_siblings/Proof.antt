@@ -4,7 +4,7 @@ use Prim.Native.Nat.{_-_, _≤_, _<_}
 use native.Mathlib.Omega.{arith}
 use Rattle.shape.specs.Shape.{widthList}
 use Rattle.split.specs.Bits.{splitBit}
-use Rattle.change.specs.Private.{SiblingsSet}
+use Rattle.change.specs.Divided.{SiblingsSet}
 use Rattle.change.proofs.DirectoryLaws.{siblings-none}
 use Rattle.directory_divide.proofs.StepLaws.{fits-shallower, siblings-at, siblings-next}
 use Rattle.directory_divide.proofs.set_siblings.Statement.{statement}

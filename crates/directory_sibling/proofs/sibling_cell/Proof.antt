@@ -9,9 +9,9 @@ use Rattle.shape.specs.Shape.{widthList}
 use Rattle.split.specs.Bits.{splitBit}
 use Rattle.address.specs.Address.{address}
 use Rattle.address.specs.Answers.{indexList}
-use Rattle.address.specs.Private.{InBox}
+use Rattle.address.specs.Vectors.{InBox}
 use Rattle.cell.specs.Cell.{cell, cellAddress}
-use Rattle.directory.specs.Private.{bitSet}
+use Rattle.directory.specs.Places.{bitSet}
 use Rattle.directory.proofs.CellLaws.{inBox-cell}
 use Rattle.directory.proofs.RegionLaws.{getD-cell-lt}
 use Rattle.region.specs.Strings.{sibling}

@@ -9,7 +9,7 @@ use Rattle.store.specs.Promises.{keyNumber}
 use Rattle.store.specs.Store.{Store, store}
 use Rattle.refusals.proofs.LentLaws.{keyNumber-by}
 use Rattle.refusals.proofs.PassedLaws.{passed}
-use Rattle.insert_plan.specs.Private.{Planned}
+use Rattle.insert_plan.specs.Plan.{InsertPlanned}
 use Rattle.insert_plan.proofs.MetLaws.{sixteen}
 use Rattle.insert.proofs.CallLaws.{by-early, by-guard, by-refused, lent-taken, by-taken, lent-got, word-fits}
 use Rattle.insert.proofs.CallLaws.{fill-fits, by-got, words-lent, pages-lent, cut-fits, by-divided}
@@ -127,7 +127,7 @@ insert-keeps-requires c κs =
     let s = start k in
     record {
       bytes = s .args .pages .now;
-      planned = subst (Planned (given s) (s .args .key .values)) (c .before .before .step3 .given .1)
+      planned = subst (InsertPlanned (given s) (s .args .key .values)) (c .before .before .step3 .given .1)
           (planning k .plan-insert .ensures);
     }
 
@@ -143,7 +143,7 @@ returns-4 c =
     let k = c .before .before .before .before .before .before .before .before in
     let s = start k in
     by-guard (given s) (s .args .key .values) (s .args .content) _
-    (subst (Planned (given s) (s .args .key .values)) (c .before .before .before .before .step3 .given .1)
+    (subst (InsertPlanned (given s) (s .args .key .values)) (c .before .before .before .before .step3 .given .1)
     (planning k .plan-insert .ensures)) _
     (c .before .insert-keeps .ensures) (not-true _ (c .if2 .taken)) (early k)
 
@@ -213,7 +213,7 @@ insert-keeps-requires-2 c κs =
     let s = start k in
     record {
       bytes = s .args .pages .now;
-      planned = subst (Planned (given s) (s .args .key .values)) (c .before .before .step4 .given .1)
+      planned = subst (InsertPlanned (given s) (s .args .key .values)) (c .before .before .step4 .given .1)
           (planning k .plan-insert .ensures);
     }
 
@@ -229,7 +229,7 @@ returns-6 c =
     let k = c .before .before .before .before .before .before .before .before in
     let s = start k in
     by-guard (given s) (s .args .key .values) (s .args .content) _
-    (subst (Planned (given s) (s .args .key .values)) (c .before .before .before .before .step4 .given .1)
+    (subst (InsertPlanned (given s) (s .args .key .values)) (c .before .before .before .before .step4 .given .1)
     (planning k .plan-insert .ensures)) _
     (c .before .insert-keeps2 .ensures) (not-true _ (c .if3 .taken)) (early k)
 

@@ -13,7 +13,7 @@ use Rattle.store.specs.Store.{store, wordAt}
 use Rattle.refusals.proofs.PassedLaws.{passed}
 use Rattle.leaf_word.proofs.PageLaws.{indexFits-packed}
 use Rattle.leaf_word.proofs.WordLaws.{key-word-asks, key-word-is}
-use Rattle.insert_plan.specs.Private.{Asked}
+use Rattle.insert_plan.specs.Plan.{InsertAsked}
 use Rattle.insert_plan.proofs.MetLaws.{sixteen}
 use Rattle.insert_plan.proofs.RefusalLaws.{nine-limits, nine-word, asked}
 use Rattle.insert_plan.proofs.plan_insert.Statement.{statement}
@@ -26,7 +26,7 @@ four c = sym (length-map (c .args .key .values) (λ v. v)) ∙ c .good .1 .1 .1 
 -- what the early refusals and the limits leave
 told : (c : tie.Else1)
     → let a = c .before .before .before .before .args in
-    Asked (store (a .state) (a .dir .now) (a .pages .now)) (a .key .values)
+    InsertAsked (store (a .state) (a .dir .now) (a .pages .now)) (a .key .values)
 told c =
     let s = c .before .before .before .before in
     let a = s .args in
@@ -51,10 +51,10 @@ returns c =
 found : (c : tie.After-key-word)
     → let a = c .before .before .before .before .before .before .before .before .args in
     c .key-word .result
-    ≡ wordAt (a .state .shape) (a .state .depth) (a .dir .now) (splitBit (widthsOf (a .state .shape)) (a .key .values))
+    ≡ wordAt (a .state .shape) (a .state .deepest) (a .dir .now) (splitBit (widthsOf (a .state .shape)) (a .key .values))
 found c =
     let a = c .before .before .before .before .before .before .before .before .args in
-    key-word-is (a .state .shape) _ (c .before .before .widths-of .ensures) (a .state .depth) (a .dir .now)
+    key-word-is (a .state .shape) _ (c .before .before .widths-of .ensures) (a .state .deepest) (a .dir .now)
     (a .key .values) _ (c .key-word .ensures)
 
 widths-of-requires : tie.Need-widths-of-requires
@@ -67,7 +67,7 @@ key-word-requires : tie.Need-key-word-requires
 key-word-requires c κs =
     let st = c .before .before .before .before .before .before .before .args .state in
     let t = told (c .before .before .before) in
-    key-word-asks (st .shape) _ (c .before .widths-of .ensures) (st .depth) (t .shape)
+    key-word-asks (st .shape) _ (c .before .widths-of .ensures) (st .deepest) (t .shape)
     (le-trans (t .within-limit) (t .bits)) _ (le-trans (pow-mono (t .within-limit)) (t .words-lent))
 
 word-holds-requires : tie.Need-word-holds-requires

@@ -16,7 +16,7 @@ use Rattle.insert_plan.proofs.plan_leaf.Tie as tie
 held : (c : tie.After-leaf2)
     → let a = c .before .before .before .before .args in
     let leaf = c .leaf2 .given .0 in
-    (leaf .0 < a .state .limits .pages) × (leaf .1 .0 ≤ a .state .depth) ×
+    (leaf .0 < a .state .limits .pages) × (leaf .1 .0 ≤ a .state .deepest) ×
     (a .word ≡ wordOf (Page (leaf .0) (leaf .1 .0)))
 held c =
     let s = c .before .before .before .before in

@@ -13,7 +13,7 @@ use Rattle.split.specs.Steps.{stepsBelow}
 use Rattle.address.proofs.AnswerLaws.{widths-fit}
 use Rattle.pages.proofs.PageLaws.{midOf-page, length-pageAt}
 use Rattle.store.specs.Store.{store}
-use Rattle.insert_plan.specs.Private.{FullMet, EndsMet}
+use Rattle.insert_plan.specs.Plan.{FullMet, EndsMet}
 use Rattle.insert_plan.proofs.SplitLaws.{ends-met, nine-ends, six-alike, nine-below, nine-tally}
 use Rattle.insert_plan.proofs.plan_split.Statement.{statement}
 use Rattle.insert_plan.proofs.plan_split.Tie as tie

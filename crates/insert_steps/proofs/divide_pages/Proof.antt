@@ -5,7 +5,7 @@ use mathlib.Core.Path.{sym, _∙_, subst}
 use native.Mathlib.Omega.{arith}
 use borrow.Author.Needs.{needs}
 use Rattle.record.specs.Packed.{packedBytes}
-use Rattle.insert_steps.specs.Private.{insertedPages, dividedPages}
+use Rattle.insert_steps.specs.Steps.{insertedPages, dividedPages}
 use Rattle.insert_steps.proofs.StepLaws.{lent-carried}
 use Rattle.insert_steps.proofs.divide_pages.Statement.{statement}
 use Rattle.insert_steps.proofs.divide_pages.Tie as tie

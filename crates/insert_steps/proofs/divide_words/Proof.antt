@@ -5,7 +5,7 @@ use mathlib.Core.Path.{_≡_, refl, sym, ap, _∙_, subst}
 use native.Mathlib.Omega.{arith}
 use borrow.Author.Needs.{needs}
 use Rattle.split.specs.Bits.{splitBit}
-use Rattle.change.specs.Private.{Deepened, LeavesSet, dividedTally}
+use Rattle.change.specs.Divided.{Deepened, LeavesSet, dividedTally}
 use Rattle.insert_steps.proofs.StepLaws.{depth-short, depth-ge, step-lt, directory-fits}
 use Rattle.insert_steps.proofs.divide_words.Statement.{statement}
 use Rattle.insert_steps.proofs.divide_words.Tie as tie
@@ -108,7 +108,7 @@ returns c =
       tallied =
           c .divided .ensures ∙ ap (λ n. dividedTally (a .split .depth) n (a .state .tally .leaves)) levels;
       deepened =
-          subst (λ ws. Deepened ws (a .state .depth) (g .greater .result) (a .dir .now) (d .last .1 .1 .1 .0)) w
+          subst (λ ws. Deepened ws (a .state .deepest) (g .greater .result) (a .dir .now) (d .last .1 .1 .1 .0)) w
           (d .ensures);
       leaves =
           subst

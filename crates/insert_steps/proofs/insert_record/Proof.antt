@@ -5,7 +5,7 @@ use Rattle.record.specs.Packed.{packedBytes}
 use Rattle.record.proofs.CodecLaws.{length-packedBytes}
 use Rattle.page.specs.Changes.{insertedPage}
 use Rattle.pages.proofs.PageLaws.{putMid-change}
-use Rattle.insert_steps.specs.Private.{insertedPages}
+use Rattle.insert_steps.specs.Steps.{insertedPages}
 use Rattle.insert_steps.proofs.InsertedLaws.{length-inserted}
 use Rattle.insert_steps.proofs.insert_record.Statement.{statement}
 use Rattle.insert_steps.proofs.insert_record.Tie as tie

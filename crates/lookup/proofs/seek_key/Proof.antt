@@ -47,10 +47,10 @@ returns c =
 found : (c : tie.After-key-word)
     → let a = c .before .before .before .before .before .before .before .before .args in
     c .key-word .result
-    ≡ wordAt (a .state .shape) (a .state .depth) (a .dir .now) (splitBit (widthsOf (a .state .shape)) (a .key .values))
+    ≡ wordAt (a .state .shape) (a .state .deepest) (a .dir .now) (splitBit (widthsOf (a .state .shape)) (a .key .values))
 found c =
     let a = c .before .before .before .before .before .before .before .before .args in
-    key-word-is (a .state .shape) _ (c .before .before .widths-of .ensures) (a .state .depth) (a .dir .now)
+    key-word-is (a .state .shape) _ (c .before .before .widths-of .ensures) (a .state .deepest) (a .dir .now)
     (a .key .values) _ (c .key-word .ensures)
 
 widths-of-requires : tie.Need-widths-of-requires
@@ -64,7 +64,7 @@ key-word-requires c κs =
     let st = c .before .before .before .before .before .before .before .args .state in
     let p = early (c .before .before .before .before .before) in
     let l = limits-parts st (held (c .before .before .before)) in
-    key-word-asks (st .shape) _ (c .before .widths-of .ensures) (st .depth) (p .shape) (le-trans (l .4) (l .3)) _
+    key-word-asks (st .shape) _ (c .before .widths-of .ensures) (st .deepest) (p .shape) (le-trans (l .4) (l .3)) _
     (le-trans (pow-mono (l .4)) (p .words-lent))
 
 pack-key-requires : tie.Need-pack-key-requires

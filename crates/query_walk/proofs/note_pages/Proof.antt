@@ -10,7 +10,7 @@ use Rattle.query_walk.proofs.note_pages.Tie as tie
 shared-slice-read-word : tie.Need-shared-slice-read-word
 shared-slice-read-word c =
     let s = c .before .before .before .before in
-    omega (arith, s .pre .words-lent, pow-pos (s .args .state .depth))
+    omega (arith, s .pre .words-lent, pow-pos (s .args .state .deepest))
 
 walk-requires : tie.Need-walk-requires
 walk-requires c κs =

@@ -1,6 +1,6 @@
 -- `refusals::key_number` meets its contract: each way that it ends is a law of the number. Assumes nothing.
 use mathlib.Core.Path.{_≡_, sym, _∙_}
-use Rattle.refusals.specs.Private.{lentNumberBy}
+use Rattle.refusals.specs.Lengths.{lentNumberBy}
 use Rattle.refusals.proofs.LentLaws.{keyNumberBy-lent, keyNumberBy-fits, keyNumberBy-out, shape-of-lentNumberBy}
 use borrow.Author.Needs.{needs}
 use Rattle.refusals.proofs.key_number.Statement.{statement}

@@ -1,7 +1,7 @@
 -- `stock_console::reply` meets its contract: what the line asks is what the arm answers. Assumes nothing.
 use mathlib.Core.Path.{sym, ap, _∙_}
 use Rattle.stock_command.specs.Asked.{newShape}
-use Rattle.stock_command.specs.Private.{askedAs}
+use Rattle.stock_command.specs.Commands.{askedAs}
 use Rattle.stock_console.proofs.ReplyLaws.{reply-asked}
 use borrow.Author.Needs.{needs}
 use Rattle.stock_console.proofs.reply.Statement.{statement}

@@ -1,6 +1,6 @@
 -- `stock_line::begin` meets its contract. Assumes nothing.
 use mathlib.Core.Path.{refl}
-use Rattle.stock_line.specs.Private.{start}
+use Rattle.stock_line.specs.LineBytes.{start}
 use Rattle.stock_line.proofs.begin.Statement.{statement}
 use Rattle.stock_line.proofs.begin.Tie as tie
 

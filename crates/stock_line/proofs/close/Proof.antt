@@ -1,7 +1,7 @@
 -- `stock_line::close` meets its contract: without a field nothing is kept. Assumes nothing.
 use borrow.Author.Tests.{eq-eqb, ne-eqb, lt-ltb, le-ltb}
 use borrow.Author.Needs.{needs}
-use Rattle.stock_line.specs.Private.{closed}
+use Rattle.stock_line.specs.LineBytes.{closed}
 use Rattle.stock_line.proofs.close.Statement.{statement}
 use Rattle.stock_line.proofs.close.Tie as tie
 

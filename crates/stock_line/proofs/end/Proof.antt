@@ -1,6 +1,6 @@
 -- `stock_line::end` meets its contract: the last field is kept, and the word names the command. Assumes nothing.
 use borrow.Author.Needs.{needs}
-use Rattle.stock_line.specs.Private.{ended}
+use Rattle.stock_line.specs.LineBytes.{ended}
 use Rattle.stock_line.proofs.end.Statement.{statement}
 use Rattle.stock_line.proofs.end.Tie as tie
 

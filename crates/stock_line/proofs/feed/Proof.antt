@@ -2,7 +2,7 @@
 use mathlib.Core.Path.{ap, _∙_}
 use borrow.Author.Tests.{eq-eqb, ne-eqb}
 use borrow.Author.Needs.{needs}
-use Rattle.stock_line.specs.Private.{fed, added, opened}
+use Rattle.stock_line.specs.LineBytes.{fed, added, opened}
 use Rattle.stock_line.proofs.ReadingLaws.{closed-fields}
 use Rattle.stock_line.proofs.feed.Statement.{statement}
 use Rattle.stock_line.proofs.feed.Tie as tie

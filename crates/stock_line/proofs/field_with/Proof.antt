@@ -4,7 +4,7 @@ use borrow.Author.Tests.{eq-eqb, ne-eqb, le-leb, lt-leb, lt-ltb, le-ltb, leb-tru
 use borrow.Author.Needs.{needs}
 use Rattle.lists.proofs.Bools.{and-split}
 use Rattle.stock_line.specs.Line.{isDigit}
-use Rattle.stock_line.specs.Private.{fieldWith, digitWith}
+use Rattle.stock_line.specs.LineBytes.{fieldWith, digitWith}
 use Rattle.stock_line.proofs.field_with.Statement.{statement}
 use Rattle.stock_line.proofs.field_with.Tie as tie
 

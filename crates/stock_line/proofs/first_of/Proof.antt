@@ -4,7 +4,7 @@ use borrow.Author.Tests.{eq-eqb, ne-eqb, leb-true}
 use borrow.Author.Needs.{needs}
 use Rattle.lists.proofs.Bools.{and-split}
 use Rattle.stock_line.specs.Line.{isDigit}
-use Rattle.stock_line.specs.Private.{firstOf}
+use Rattle.stock_line.specs.LineBytes.{firstOf}
 use Rattle.stock_line.proofs.first_of.Statement.{statement}
 use Rattle.stock_line.proofs.first_of.Tie as tie
 

@@ -1,5 +1,5 @@
 -- `stock_line::is_any` meets its contract: the fields before decide, or the last one. Assumes nothing.
-use Rattle.stock_line.specs.Private.{starWith}
+use Rattle.stock_line.specs.LineBytes.{starWith}
 use Rattle.stock_line.proofs.is_any.Statement.{statement}
 use Rattle.stock_line.proofs.is_any.Tie as tie
 

@@ -1,6 +1,6 @@
 -- `stock_line::kept_word` meets its contract: the test decides. Assumes nothing.
 use borrow.Author.Tests.{lt-ltb, le-ltb}
-use Rattle.stock_line.specs.Private.{keptWord}
+use Rattle.stock_line.specs.LineBytes.{keptWord}
 use Rattle.stock_line.proofs.kept_word.Statement.{statement}
 use Rattle.stock_line.proofs.kept_word.Tie as tie
 

@@ -1,6 +1,6 @@
 -- `stock_line::kind_of` meets its contract: each word in turn. Assumes nothing.
 use borrow.Author.Tests.{ne-eqb}
-use Rattle.stock_line.specs.Private.{kindOf}
+use Rattle.stock_line.specs.LineBytes.{kindOf}
 use Rattle.stock_line.proofs.kind_of.Statement.{statement}
 use Rattle.stock_line.proofs.kind_of.Tie as tie
 

@@ -3,7 +3,7 @@ use Prim.Native.Nat.{suc, _+_, min}
 use mathlib.Core.Path.{_≡_, sym}
 use native.Mathlib.Omega.{arith}
 use borrow.Author.Needs.{needs}
-use Rattle.stock_line.specs.Private.{opened}
+use Rattle.stock_line.specs.LineBytes.{opened}
 use Rattle.stock_line.proofs.open.Statement.{statement}
 use Rattle.stock_line.proofs.open.Tie as tie
 

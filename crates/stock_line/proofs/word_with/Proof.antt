@@ -1,7 +1,7 @@
 -- `stock_line::word_with` meets its contract: the test decides. Assumes nothing.
 use borrow.Author.Tests.{lt-ltb, le-ltb}
 use borrow.Author.Needs.{needs}
-use Rattle.stock_line.specs.Private.{wordWith}
+use Rattle.stock_line.specs.LineBytes.{wordWith}
 use Rattle.stock_line.proofs.word_with.Statement.{statement}
 use Rattle.stock_line.proofs.word_with.Tie as tie
 

@@ -5,7 +5,7 @@ use mathlib.Core.Path.{_≡_, refl, ap, _∙_}
 use native.Mathlib.Omega.{arith}
 use native.Mathlib.Nat.{add-zero, sub-zero}
 use lib.ListN.{getD}
-use Rattle.change.specs.Private.{dividedTally}
+use Rattle.change.specs.Divided.{dividedTally}
 use Rattle.tally.proofs.CountLaws.{small-of-tallyHolds, getD-dividedOnce-past, dividedTally-next}
 use Rattle.tally.proofs.divide.Statement.{statement}
 use Rattle.tally.proofs.divide.Tie as tie

@@ -3,7 +3,7 @@ use Prim.Native.Nat.{_+_}
 use mathlib.Core.Path.{refl}
 use native.Mathlib.Omega.{arith}
 use lib.Seq.{getD-set-other}
-use Rattle.change.specs.Private.{dividedOnce}
+use Rattle.change.specs.Divided.{dividedOnce}
 use borrow.Author.Needs.{needs}
 use Rattle.tally.proofs.divide_once.Statement.{statement}
 use Rattle.tally.proofs.divide_once.Tie as tie

@@ -2,7 +2,7 @@
 use mathlib.Core.Path.{refl}
 use contract.Running.{givenOf, tables, tablesOf}
 use denote.Triple.Table.{entered, cited}
-use Rattle.change.specs.Private.{dividedTally}
+use Rattle.change.specs.Divided.{dividedTally}
 use Rattle.tally.proofs.divide.Symbol as callee
 use Rattle.tally.proofs.divide.Symbol.{name as #tally·divide}
 use Rattle.tally.proofs.divide.Met as callee-thm

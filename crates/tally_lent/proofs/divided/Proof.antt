@@ -2,7 +2,7 @@
 use mathlib.Core.Path.{refl}
 use contract.Running.{givenOf, tables, tablesOf}
 use denote.Triple.Table.{entered, cited}
-use Rattle.change.specs.Private.{dividedTally}
+use Rattle.change.specs.Divided.{dividedTally}
 use Rattle.tally_lent.proofs.Numbers.{passing}
 use Rattle.tally_lent.proofs.Lending.{ByValue, Lent}
 use Rattle.tally_lent.proofs.ValueLaws.{value-meets}

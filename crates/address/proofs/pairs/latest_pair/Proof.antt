@@ -3,7 +3,7 @@ use Prim.Native.Nat.{_-_}
 use mathlib.Core.Path.{_≡_, sym}
 use native.Mathlib.Omega.{arith}
 use Rattle.address.specs.Answers.{indexList}
-use Rattle.address.specs.Private.{latestPair}
+use Rattle.address.specs.Pairs.{latestPair}
 use Rattle.address.proofs.PairLaws.{latestPair-after}
 use borrow.Author.Needs.{needs}
 use Rattle.address.proofs.pairs.latest_pair.Statement.{statement}

@@ -37,7 +37,7 @@ returns c =
     let a = c .before .before .before .before .args in
     subst
     (λ ws. (q : ℕ → Bool) × Agree (suc (a .z)) (sibling (splitBit ws (a .values)) (a .z)) q
-    × (c .sibling-word .result ≡ getD (a .dir .now) (cellAddress ws (a .state .depth) q) 0))
+    × (c .sibling-word .result ≡ getD (a .dir .now) (cellAddress ws (a .state .deepest) q) 0))
     (c .before .before .widths-of .ensures) (c .sibling-word .ensures)
 
 pub sibling-of-spec : {M : Type 1} → statement M

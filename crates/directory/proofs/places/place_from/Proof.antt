@@ -5,7 +5,7 @@ use mathlib.Core.Path.{_≡_, subst}
 use mathlib.Core.Logic.{⊎-elim}
 use native.Mathlib.Omega.{arith}
 use Rattle.shape.specs.Shape.{widthList}
-use Rattle.directory.specs.Private.{StepsBefore}
+use Rattle.directory.specs.Places.{StepsBefore}
 use Rattle.directory.proofs.PlaceLaws.{stepsBefore-step, stepsBefore-skip, stepsBefore-lt}
 use Rattle.directory.proofs.places.place_from.Statement.{statement}
 use Rattle.directory.proofs.places.place_from.Tie as tie

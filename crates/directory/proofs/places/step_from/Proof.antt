@@ -4,7 +4,7 @@ use Prim.Native.Nat.{_-_, _/_, _≤_, _<_}
 use mathlib.Core.Path.{subst}
 use native.Mathlib.Omega.{arith}
 use Rattle.shape.specs.Shape.{widthList}
-use Rattle.directory.specs.Private.{StepsBefore}
+use Rattle.directory.specs.Places.{StepsBefore}
 use Rattle.directory.proofs.PlaceLaws.{stepsBefore-skip, stepsBefore-lt}
 use Rattle.directory.proofs.places.step_from.Statement.{statement}
 use Rattle.directory.proofs.places.step_from.Tie as tie

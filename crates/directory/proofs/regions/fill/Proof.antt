@@ -12,7 +12,7 @@ use Rattle.split.specs.Steps.{steps}
 use Rattle.split.specs.Bits.{splitBit}
 use Rattle.address.specs.Address.{address}
 use Rattle.address.specs.Answers.{indexList}
-use Rattle.address.specs.Private.{InBox}
+use Rattle.address.specs.Vectors.{InBox}
 use Rattle.cell.specs.Cell.{cell, cellAddress}
 use Rattle.directory.specs.Directory.{DirectoryFits}
 use Rattle.directory.proofs.CellLaws.{inBox-cell}

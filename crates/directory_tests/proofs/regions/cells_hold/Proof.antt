@@ -10,7 +10,7 @@ use Rattle.shape.specs.Shape.{widthList}
 use Rattle.split.specs.Steps.{steps}
 use Rattle.address.specs.Address.{address}
 use Rattle.address.specs.Answers.{indexList}
-use Rattle.address.specs.Private.{InBox}
+use Rattle.address.specs.Vectors.{InBox}
 use Rattle.cell.specs.Cell.{cellAddress}
 use Rattle.directory.proofs.CellLaws.{inBox-cell}
 use Rattle.directory.proofs.RegionLaws.{fits-steps, own-lt}

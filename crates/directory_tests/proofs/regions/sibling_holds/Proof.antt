@@ -12,7 +12,7 @@ use Rattle.shape.specs.Shape.{widthList}
 use Rattle.split.specs.Bits.{splitBit}
 use Rattle.address.specs.Answers.{indexList}
 use Rattle.cell.specs.Cell.{cell}
-use Rattle.directory.specs.Private.{bitSet}
+use Rattle.directory.specs.Places.{bitSet}
 use Rattle.directory.proofs.PlaceLaws.{stepsBefore-pair}
 use Rattle.directory.proofs.RegionLaws.{getD-cell-lt}
 use Rattle.region.specs.Strings.{sibling}

@@ -3,7 +3,7 @@ use mathlib.Core.Path.{subst}
 use Rattle.shape.specs.Shape.{widthList}
 use Rattle.record.specs.Packed.{unpackedKey}
 use Rattle.key_order.specs.Order.{FirstPair}
-use Rattle.insert_plan.specs.Private.{lastKey}
+use Rattle.insert_plan.specs.Plan.{lastKey}
 use borrow.Author.Needs.{needs}
 use Rattle.insert_plan.proofs.halves.ends_pair.Statement.{statement}
 use Rattle.insert_plan.proofs.halves.ends_pair.Tie as tie

@@ -5,7 +5,7 @@ use mathlib.Core.Path.{_≡_, refl, ap, _∙_}
 use native.Mathlib.Omega.{arith}
 use native.Mathlib.Numerals.{add-one}
 use borrow.Author.Needs.{needs}
-use Rattle.insert_plan.specs.Private.{leavesAbove}
+use Rattle.insert_plan.specs.Plan.{leavesAbove}
 use Rattle.insert_plan.proofs.spare.leaf_count.Statement.{statement}
 use Rattle.insert_plan.proofs.spare.leaf_count.Tie as tie
 

@@ -10,7 +10,7 @@ use Rattle.page.specs.Page.{pageAt}
 use Rattle.page.specs.Changes.{insertedPage}
 use Rattle.pages.specs.Pages.{withPage, carriedPages}
 use Rattle.store.specs.declared.State.{State}
-use Rattle.change.specs.Private.{Deepened, LeavesSet, dividedTally}
+use Rattle.change.specs.Divided.{Deepened, LeavesSet, dividedTally}
 use Rattle.tally.specs.Tally.{tallyHolds}
 use Rattle.insert_plan.specs.declared.Cut.{Cut}
 use Rattle.insert_plan.specs.declared.Split.{Split}
@@ -39,7 +39,7 @@ pub record WordsLent (st : State) (values : List ℕ) (split : Split) (bit : Boo
   pub lent : 2 ^ st .limits .depth ≤ size
   pub short : st .limits .depth ≤ 12
   pub bits : st .limits .depth ≤ total (widthsOf (st .shape))
-  pub within-limit : st .depth ≤ st .limits .depth
+  pub within-limit : st .deepest ≤ st .limits .depth
   pub below : split .depth ≤ split .step
   pub deep : split .step < st .limits .depth
   pub tally : tallyHolds (st .tally .leaves) ≡ true
@@ -52,10 +52,10 @@ pub record WordsDivided (st : State) (values : List ℕ) (split : Split) (free :
     (words′ : List ℕ) : Type 0 where
   pub doubled : List ℕ
   pub state : after
-      ≡ record { shape = st .shape; limits = st .limits; depth = after .depth; tally = after .tally }
-  pub deeper : after .depth ≡ max (st .depth) (suc (split .step))
+      ≡ record { shape = st .shape; limits = st .limits; deepest = after .deepest; tally = after .tally }
+  pub deeper : after .deepest ≡ max (st .deepest) (suc (split .step))
   pub tallied : after .tally .leaves
       ≡ dividedTally (split .depth) (suc (split .step - split .depth)) (st .tally .leaves)
-  pub deepened : Deepened (widthsOf (st .shape)) (st .depth) (after .depth) words doubled
-  pub leaves : LeavesSet (widthsOf (st .shape)) (after .depth) (split .depth) (split .step)
+  pub deepened : Deepened (widthsOf (st .shape)) (st .deepest) (after .deepest) words doubled
+  pub leaves : LeavesSet (widthsOf (st .shape)) (after .deepest) (split .depth) (split .step)
       (splitBit (widthsOf (st .shape)) values) (split .page) free doubled words′

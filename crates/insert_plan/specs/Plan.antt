@@ -42,7 +42,7 @@ pub record PagesLent (st : State) (bytes : List ℕ) : Type 0 where
 
 -- a packed key within the widths, and a directory depth of at most W
 pub record KeyAsked (st : State) (key : ℕ) : Type 0 where
-  pub bits : st .depth ≤ total (widthsOf (st .shape))
+  pub bits : st .deepest ≤ total (widthsOf (st .shape))
   pub fits : indexFits (widthsOf (st .shape)) (unpackedKey key) ≡ true
 
 -- how many leaves a tally has at the depths below x
@@ -51,7 +51,7 @@ leavesAbove leaves zero = 0
 leavesAbove leaves (suc x) = leavesAbove leaves x + getD leaves x 0
 
 -- the early refusals let the key pass, and the limits hold
-pub record Asked (before : Store) (values : List ℕ) : Type 0 where
+pub record InsertAsked (before : Store) (values : List ℕ) : Type 0 where
   pub early : keyNumber before values ≡ 0
   pub shape : shapeNumber (before .state .shape) ≡ 0
   pub fits : keyFits (before .state .shape) values ≡ true
@@ -60,7 +60,7 @@ pub record Asked (before : Store) (values : List ℕ) : Type 0 where
   pub pages-lent : PagesLent (before .state) (before .memory .bytes)
   pub short : before .state .limits .depth ≤ 12
   pub bits : before .state .limits .depth ≤ total (widthsOf (before .state .shape))
-  pub within-limit : before .state .depth ≤ before .state .limits .depth
+  pub within-limit : before .state .deepest ≤ before .state .limits .depth
 
 -- ---- a full page
 
@@ -100,13 +100,13 @@ module _ (before : Store) (values : List ℕ) where
 
   -- the word at the key's cell
   abbrev word : ℕ
-  word = wordAt (before .state .shape) (before .state .depth) (before .memory .words) (splitBit ws values)
+  word = wordAt (before .state .shape) (before .state .deepest) (before .memory .words) (splitBit ws values)
 
   -- the key's leaf has page g and depth x, and the page has n records, of which the first and the last have values in
   -- bounds and begin with the leaf's string
   pub record PageMet (g x n : ℕ) : Type 0 where
     pub within : g < before .state .limits .pages
-    pub depth-le : x ≤ before .state .depth
+    pub depth-le : x ≤ before .state .deepest
     pub holds : wordHolds (before .state) word ≡ true
     pub own : word ≡ wordOf (Page g x)
     pub count : n ≡ countOf (page g)
@@ -120,7 +120,7 @@ module _ (before : Store) (values : List ℕ) where
 
   -- page g has room, and takes the key before record i of n
   pub record TakePlanned (g i n : ℕ) : Type 0 where
-    pub asked : Asked before values
+    pub asked : InsertAsked before values
     pub depth : ℕ
     pub met : PageMet g depth n
     pub room : n < before .state .shape .capacity
@@ -128,9 +128,9 @@ module _ (before : Store) (values : List ℕ) where
 
   -- the key's leaf, of depth x, is empty, and page g is free
   pub record GetPlanned (g x : ℕ) : Type 0 where
-    pub asked : Asked before values
+    pub asked : InsertAsked before values
     pub within : g < before .state .limits .pages
-    pub depth-le : x ≤ before .state .depth
+    pub depth-le : x ≤ before .state .deepest
     pub holds : wordHolds (before .state) word ≡ true
     pub own : word ≡ wordOf (Empty x)
     pub free : countOf (page g) ≡ 0
@@ -154,7 +154,7 @@ module _ (before : Store) (values : List ℕ) where
 
   -- page `free` is free, and the key falls into its own half
   pub record DividePlanned (split : Split) (cut : Cut) (free : ℕ) : Type 0 where
-    pub asked : Asked before values
+    pub asked : InsertAsked before values
     pub met : SplitMet split
     pub half : HalfMet ws (page (split .page)) (before .state .shape .capacity) (packedKey values) (split .behind)
         (split .pair) cut
@@ -162,50 +162,50 @@ module _ (before : Store) (values : List ℕ) where
     pub free-none : countOf (page free) ≡ 0
 
   -- what a plan tells: a refusal is what the call promises, whatever the record holds
-  abbrev pub Planned : Plan → Type 0
-  Planned (Refused n) = (content : Content) → InsertPromise before values content (refused n) before
-  Planned (Take g i n) = TakePlanned g i n
-  Planned (Get g x) = GetPlanned g x
-  Planned (Divide split cut free) = DividePlanned split cut free
+  abbrev pub InsertPlanned : Plan → Type 0
+  InsertPlanned (Refused n) = (content : Content) → InsertPromise before values content (refused n) before
+  InsertPlanned (Take g i n) = TakePlanned g i n
+  InsertPlanned (Get g x) = GetPlanned g x
+  InsertPlanned (Divide split cut free) = DividePlanned split cut free
 
   -- ---- what the steps of a plan are told
 
   -- the key's word
   pub record WordMet (key found : ℕ) : Type 0 where
-    pub asked : Asked before values
+    pub asked : InsertAsked before values
     pub key-is : key ≡ packedKey values
     pub found-is : word ≡ found
 
   -- it is that of a leaf of depth x without a page
   pub record EmptyMet (x : ℕ) : Type 0 where
-    pub asked : Asked before values
-    pub depth-le : x ≤ before .state .depth
+    pub asked : InsertAsked before values
+    pub depth-le : x ≤ before .state .deepest
     pub holds : wordHolds (before .state) word ≡ true
     pub own : word ≡ wordOf (Empty x)
 
   -- or of one with page g
   pub record LeafMet (key g x : ℕ) : Type 0 where
-    pub asked : Asked before values
+    pub asked : InsertAsked before values
     pub key-is : key ≡ packedKey values
     pub within : g < before .state .limits .pages
-    pub depth-le : x ≤ before .state .depth
+    pub depth-le : x ≤ before .state .deepest
     pub holds : wordHolds (before .state) word ≡ true
     pub own : word ≡ wordOf (Page g x)
 
   -- the page is full, and the key falls before record i
   pub record FullMet (key g x i : ℕ) : Type 0 where
-    pub asked : Asked before values
+    pub asked : InsertAsked before values
     pub key-is : key ≡ packedKey values
     pub met : PageMet g x (before .state .shape .capacity)
     pub place : FallsBefore g (before .state .shape .capacity) i
 
   -- the leaf is to be divided
   pub record DividingMet (key : ℕ) (split : Split) : Type 0 where
-    pub asked : Asked before values
+    pub asked : InsertAsked before values
     pub key-is : key ≡ packedKey values
     pub split-met : SplitMet split
 
 -- whatever the words and the key, a step that was told X of them tells what the plan tells
-abbrev pub PlannedFrom : State → List ℕ → (Store → List ℕ → Type 0) → Plan → Type 0
-PlannedFrom st bytes X plan =
-    (words values : List ℕ) → X (store st words bytes) values → Planned (store st words bytes) values plan
+abbrev pub InsertPlannedFrom : State → List ℕ → (Store → List ℕ → Type 0) → Plan → Type 0
+InsertPlannedFrom st bytes X plan =
+    (words values : List ℕ) → X (store st words bytes) values → InsertPlanned (store st words bytes) values plan

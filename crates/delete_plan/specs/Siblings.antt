@@ -44,9 +44,9 @@ siblingPage s m key page n =
 -- the directory of depth T fits the shape, the greatest depth 12, and a slice of so many words
 pub record DirectoryLent (st : State) (size : ℕ) : Type 0 where
   pub shape : shapeNumber (st .shape) ≡ 0
-  pub deep : st .depth ≤ total (widthsOf (st .shape))
-  pub short : st .depth ≤ 12
-  pub room : 2 ^ st .depth ≤ size
+  pub deep : st .deepest ≤ total (widthsOf (st .shape))
+  pub short : st .deepest ≤ 12
+  pub room : 2 ^ st .deepest ≤ size
 
 module _ (st : State) (words values : List ℕ) where
   -- from depth m up, the siblings are empty leaves from depth y + 1 on, and that at depth y is none

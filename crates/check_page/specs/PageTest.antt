@@ -13,8 +13,8 @@ use Rattle.page.specs.Page.{pageSize, countOf}
 use Rattle.check_test.specs.Codes.{code}
 
 -- "each four 16-bit values": those of the record at an offset
-abbrev pub keyAt : List ℕ → ℕ → List ℕ
-keyAt page at = perAttribute (λ j. numberOf (field page (at + 2 * j) 2))
+abbrev pub valuesAt : List ℕ → ℕ → List ℕ
+valuesAt page at = perAttribute (λ j. numberOf (field page (at + 2 * j) 2))
 
 -- all split bits of a key as one number
 unfoldable pub keyCode : List ℕ → List ℕ → ℕ
@@ -30,14 +30,14 @@ module _ (ws : List ℕ) (x s : ℕ) where
   abbrev pub recordsAfter : List ℕ → ℕ → ℕ → ℕ → Bool
   recordsAfter page c zero at = true
   recordsAfter page c (suc n) at =
-      let key = keyAt page at in
+      let key = valuesAt page at in
       ltb c (keyCode ws key) && (recordPasses key && recordsAfter page (keyCode ws key) n (at + recordSize))
 
   -- n records, one at least
   abbrev pub recordsPass : List ℕ → ℕ → Bool
   recordsPass page zero = false
   recordsPass page (suc n) =
-      recordPasses (keyAt page 2) && recordsAfter page (keyCode ws (keyAt page 2)) n (2 + recordSize)
+      recordPasses (valuesAt page 2) && recordsAfter page (keyCode ws (valuesAt page 2)) n (2 + recordSize)
 
 -- the records of a page in split order and within the widths, wherever they begin
 module _ (ws : List ℕ) where
@@ -45,24 +45,24 @@ module _ (ws : List ℕ) where
   abbrev pub ascendAfter : List ℕ → ℕ → ℕ → ℕ → Bool
   ascendAfter page c zero at = true
   ascendAfter page c (suc n) at =
-      let key = keyAt page at in
+      let key = valuesAt page at in
       ltb c (keyCode ws key) && ascendAfter page (keyCode ws key) n (at + recordSize)
 
   -- n records from an offset on, each within the widths
   abbrev pub allFit : List ℕ → ℕ → ℕ → Bool
   allFit page zero at = true
-  allFit page (suc n) at = indexFits ws (keyAt page at) && allFit page n (at + recordSize)
+  allFit page (suc n) at = indexFits ws (valuesAt page at) && allFit page n (at + recordSize)
 
   -- n records, one at least
   unfoldable pub ascending : List ℕ → ℕ → Bool
-  ascending page n = ascendAfter page (keyCode ws (keyAt page 2)) (n - 1) (2 + recordSize) && allFit page n 2
+  ascending page n = ascendAfter page (keyCode ws (valuesAt page 2)) (n - 1) (2 + recordSize) && allFit page n 2
 
 -- 1 to b records, in split order, each within the widths and beginning with the x bits
 unfoldable pub pagePasses : List ℕ → ℕ → ℕ → ℕ → List ℕ → Bool
 pagePasses ws b x s page = leb (countOf page) b && recordsPass ws x s page (countOf page)
 
 -- a page of b records, and x of the split bits
-pub record PageLent (ws : List ℕ) (b x size : ℕ) : Type 0 where
+pub record TestedPage (ws : List ℕ) (b x size : ℕ) : Type 0 where
   pub fit : Fit ws
   pub within : x ≤ total ws
   pub whole : size ≡ pageSize b

@@ -39,7 +39,7 @@ pub record PairLent (b : ℕ) (r : Stored) (j : Join) (bytes : List ℕ) : Type 
 
 -- the depths of both leaves and of the new one, and the tally
 pub record LeavesLent (st : State) (r : Stored) (j : Join) : Type 0 where
-  pub deep : r .depth ≤ st .depth
+  pub deep : r .depth ≤ st .deepest
   pub depth-step : r .depth ≡ suc (j .step)
   pub above : j .top ≤ j .step
   pub thirteen : length (st .tally .leaves) ≡ 13
@@ -54,13 +54,13 @@ module _ (st : State) (values : List ℕ) where
 
   -- the words of a leaf that stays: without a page, if its page had one record
   pub record LeafWords (r : Stored) (words words′ : List ℕ) : Type 0 where
-    pub emptied : r .count ≡ 1 → filled (st .depth) (r .depth) (wordOf (Empty (r .depth))) words words′
+    pub emptied : r .count ≡ 1 → filled (st .deepest) (r .depth) (wordOf (Empty (r .depth))) words words′
     pub same : (r .count ≡ 1 → ⊥) → words′ ≡ words
 
   -- T and the tally after a join, and the words of the new leaf
   pub record JoinWords (r : Stored) (j : Join) (st′ : State) (words words′ : List ℕ) : Type 0 where
-    pub state : st′ ≡ record { shape = st .shape; limits = st .limits; depth = st′ .depth; tally = st′ .tally }
+    pub state : st′ ≡ record { shape = st .shape; limits = st .limits; deepest = st′ .deepest; tally = st′ .tally }
     pub tally : st′ .tally .leaves ≡ joinedTally (j .top) (suc (j .step) - j .top) (st .tally .leaves)
-    pub depth : st′ .depth ≡ tallyDepth (st .depth) (st′ .tally .leaves)
-    pub new-leaf : filled (st′ .depth) (j .top) (wordOf (Page (keptPage (j .bit) (r .page) (j .other)) (j .top))) words
+    pub depth : st′ .deepest ≡ tallyDepth (st .deepest) (st′ .tally .leaves)
+    pub new-leaf : filled (st′ .deepest) (j .top) (wordOf (Page (keptPage (j .bit) (r .page) (j .other)) (j .top))) words
         words′
