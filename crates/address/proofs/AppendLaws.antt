@@ -77,7 +77,9 @@ module _ (ws : List ℕ) (fit : Fit ws) (k z : ℕ) (hz : z < 4) (hk : k < getD 
 
   module _ (is : List ℕ) (b : In (sides ws (suc t)) is) (new : 2 ^ k ≤ getD is z 0) where
     below-z : getD is z 0 < 2 ^ suc k
-    below-z = subst (λ h. getD is z 0 < 2 ^ h) (attributeDepth-next ws fit k z hz hk number) (In-sides-get ws (suc t) b z hz)
+    below-z =
+        subst (λ h. getD is z 0 < 2 ^ h) (attributeDepth-next ws fit k z hz hk number)
+        (In-sides-get ws (suc t) b z hz)
 
     below-other : (r : ℕ) → r < 4 → (r ≡ z → ⊥) → getD is r 0 < 2 ^ attributeDepth ws t r
     below-other r hr ne =

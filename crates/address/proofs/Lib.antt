@@ -1,11 +1,6 @@
-pub mod AnswerLaws
 pub mod AppendLaws
 pub mod BoxLaws
-pub mod DigitLaws
 pub mod DoublingLaws
 pub mod LatestLaws
 pub mod MapLaws
-pub mod PairLaws
-pub mod RoundTripLaws
-pub mod SearchLaws
 pub mod SideLaws

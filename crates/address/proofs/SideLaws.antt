@@ -10,7 +10,8 @@ use lib.ListN.{getD, length}
 use Rattle.shape.specs.Shape.{Fit}
 use Rattle.split.specs.Steps.{steps, stepNumber, attributeDepth}
 use Rattle.split.proofs.StepLaws.{depthBefore, attributeDepth-stepNumber}
-use Rattle.split.proofs.DepthLaws.{attributeDepth-mono, attributeDepth-all, attributeDepth-z, attributeDepth-sum, attributeDepth-next-other}
+use Rattle.split.proofs.DepthLaws.{attributeDepth-mono, attributeDepth-all, attributeDepth-z, attributeDepth-sum}
+use Rattle.split.proofs.DepthLaws.{attributeDepth-next-other}
 use Rattle.address.specs.Doubling.{In, without, sides}
 use Rattle.address.specs.Address.{product}
 use Rattle.address.specs.Vectors.{InBox}
@@ -31,17 +32,21 @@ module _ (ws : List ℕ) (t : ℕ) where
   unfolding sides
   length-sides = refl
 
-  pub product-sides : product (sides ws t) ≡ 2 ^ (attributeDepth ws t 0 + attributeDepth ws t 1 + attributeDepth ws t 2 + attributeDepth ws t 3)
+  pub product-sides : product (sides ws t)
+      ≡ 2 ^ (attributeDepth ws t 0 + attributeDepth ws t 1 + attributeDepth ws t 2 + attributeDepth ws t 3)
   unfolding sides
   product-sides =
       sym
       (pow-add 2 (attributeDepth ws t 0 + attributeDepth ws t 1 + attributeDepth ws t 2) (attributeDepth ws t 3)
-      ∙ ap (λ x. x * 2 ^ attributeDepth ws t 3) (pow-add 2 (attributeDepth ws t 0 + attributeDepth ws t 1) (attributeDepth ws t 2))
-      ∙ ap (λ x. x * 2 ^ attributeDepth ws t 2 * 2 ^ attributeDepth ws t 3) (pow-add 2 (attributeDepth ws t 0) (attributeDepth ws t 1))
+      ∙ ap (λ x. x * 2 ^ attributeDepth ws t 3)
+      (pow-add 2 (attributeDepth ws t 0 + attributeDepth ws t 1) (attributeDepth ws t 2))
+      ∙ ap (λ x. x * 2 ^ attributeDepth ws t 2 * 2 ^ attributeDepth ws t 3)
+      (pow-add 2 (attributeDepth ws t 0) (attributeDepth ws t 1))
       ∙ omega arith)
 
   -- depths that agree but at z
-  pub without-sides : (u z : ℕ) → z < 4 → ((r : ℕ) → r < 4 → (r ≡ z → ⊥) → attributeDepth ws t r ≡ attributeDepth ws u r)
+  pub without-sides : (u z : ℕ) → z < 4
+      → ((r : ℕ) → r < 4 → (r ≡ z → ⊥) → attributeDepth ws t r ≡ attributeDepth ws u r)
       → without z (sides ws t) ≡ without z (sides ws u)
   unfolding sides
   without-sides u zero h e =

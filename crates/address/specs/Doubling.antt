@@ -42,7 +42,12 @@ moveFirst z (x ∷ xs) = putAmong z x xs
 
 -- the numbers 2^h_j after t steps
 unfoldable pub sides : List ℕ → ℕ → List ℕ
-sides ws t = 2 ^ attributeDepth ws t 0 ∷ 2 ^ attributeDepth ws t 1 ∷ 2 ^ attributeDepth ws t 2 ∷ 2 ^ attributeDepth ws t 3 ∷ []
+sides ws t =
+    2 ^ attributeDepth ws t 0
+    ∷ 2 ^ attributeDepth ws t 1
+    ∷ 2 ^ attributeDepth ws t 2
+    ∷ 2 ^ attributeDepth ws t 3
+    ∷ []
 
 -- "step t appends 2^t addresses, holding the vectors whose new bit is set, ordered by i_z, then by the other indices
 -- from attribute 0, the last fastest": with s = (k, z), i_z runs from 2^k to 2^(k+1) − 1

@@ -1,11 +1,10 @@
 -- Index vectors of the widths' whole box, and their addresses. Assumes nothing.
-use Prim.Native.Nat.{ℕ, _+_, _^_, _≤_, _<_}
+use Prim.Native.Nat.{ℕ, _^_, _<_}
 use mathlib.Core.Path.{_≡_}
 use mathlib.Core.List.{List}
 use lib.ListN.{getD}
 use Rattle.shape.specs.Shape.{Fit}
 use Rattle.address.specs.Address.{address}
-use Rattle.address.specs.Pairs.{StepPair}
 
 -- an index vector of the widths' whole box
 pub record InBox (ws is : List ℕ) : Type 0 where
@@ -16,10 +15,3 @@ pub record InBox (ws is : List ℕ) : Type 0 where
 pub record IndexAt (ws : List ℕ) (a : ℕ) (is : List ℕ) : Type 0 where
   pub below : (r : ℕ) → r < 4 → getD is r 0 < 2 ^ getD ws r 0
   pub back : address ws is ≡ a
-
--- an address that step t, the pair at place g, appended
-pub record AppendedBy (ws : List ℕ) (a t g : ℕ) : Type 0 where
-  pub fit : Fit ws
-  pub from : 2 ^ t ≤ a
-  pub past : a < 2 ^ (t + 1)
-  pub pair : StepPair ws t g

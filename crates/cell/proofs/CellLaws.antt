@@ -138,7 +138,8 @@ module _ (ws : List ℕ) (fit : Fit ws) where
   cell-agree t p q a = cc (each 0 (omega arith), each 1 (omega arith), each 2 (omega arith), each 3 (omega arith))
     where
       each : (j : ℕ) → j < 4
-          → sumBits (attributeBit ws p j) (attributeDepth ws t j) ≡ sumBits (attributeBit ws q j) (attributeDepth ws t j)
+          → sumBits (attributeBit ws p j) (attributeDepth ws t j)
+          ≡ sumBits (attributeBit ws q j) (attributeDepth ws t j)
       each j hj = sumBits-agree (attributeDepth ws t j) (attributeBit ws p j) (attributeBit ws q j)
           (λ k l. a (stepNumber ws k j) (stepNumber-lt-attributeDepth ws fit t k j hj l))
 

@@ -1,2 +1,4 @@
+pub mod AgreeLaws
 pub mod CellLaws
+pub mod HalfLaws
 pub mod Strings

@@ -52,9 +52,6 @@ module _ (before : Store) (S : List Record) (sound : Sound before S) where
           (sound .most-pages) (leafRecords p 0 (divisionOn before S)) (leafDepth p 0 (divisionOn before S))
           (wordOn before p) (sound .shown .word p) x word .0
 
-      pub empty-depth-le : x ≤ before .state .deepest
-      empty-depth-le = omega (arith, empty-depth, leafDepth-le-depth before S sound p)
-
     module _ (g x : ℕ) (l : g < 2 ^ 16 - 1) (word : wordOn before p ≡ wordOf (Page g x)) where
       parts : (g < before .state .limits .pages) × (leafDepth p 0 (divisionOn before S) ≡ x)
           × (pageRecords (before .state .shape) (before .memory .bytes) g ≡ leafRecords p 0 (divisionOn before S))
@@ -67,12 +64,6 @@ module _ (before : Store) (S : List Record) (sound : Sound before S) where
       -- "word with page number P"
       pub page-lt : g < before .state .limits .pages
       page-lt = parts .0
-
-      pub page-depth-le : x ≤ before .state .deepest
-      page-depth-le = omega (arith, parts .1, leafDepth-le-depth before S sound p)
-
-      pub page-depth-counted : 1 ≤ getD (before .state .tally .leaves) x 0
-      page-depth-counted = rw (sym (parts .1)) leaf-counted
 
       -- from 1 to b records
       pub count-bounds : (1 ≤ countOf (pageAt (before .state .shape .capacity) (before .memory .bytes) g))

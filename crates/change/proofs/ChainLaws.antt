@@ -9,7 +9,7 @@ use native.Mathlib.Omega.{arith}
 use native.Mathlib.Nat.{zero-add}
 use Rattle.lists.proofs.Numbers.{eq-or-ne}
 use Rattle.cell.specs.Cell.{Agree}
-use Rattle.directory.proofs.CellLaws.{agree-suc}
+use Rattle.cell.proofs.AgreeLaws.{agree-suc}
 use Rattle.region.specs.Division.{Division, leaf, leafDepth, leafRecords}
 use Rattle.region.proofs.DivideLaws.{dividedAt, dividedAlong}
 use Rattle.change.specs.Divided.{Leaves}

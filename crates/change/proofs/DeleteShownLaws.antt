@@ -142,37 +142,6 @@ module _ (before : Store) (S : List Record) (sound : Sound before S) (r : Record
       ap (tallyDepth T) tallies-joined
       ∙ tallyDepth-tallies D′ T 13 greatestDepth-joined-le (omega (arith, depth-le before S sound))
 
-  -- before the leaves of depth z + 1 are joined, at least two are counted; those at depth z have not changed
-  pub joins-enough : (z : ℕ) → y ≤ z → z ≤ m → 2 ≤ getD (joinedTally (suc z) (m - z) leaves) (suc z) 0
-  unfolding joinedTally
-  joins-enough z a b = by-level (m - z) refl
-    where
-      by-level : (n : ℕ) → m - z ≡ n → 2 ≤ getD (joinedTally (suc z) n leaves) (suc z) 0
-      by-level zero e =
-          let last : z ≡ m = omega arith in
-          rw last
-          (omega (
-            arith,
-            read (suc m) (omega (arith, siblings-within, depth-le before S sound)),
-            tally-below s good S (sound .set) r held m y joined,
-          ))
-      by-level (suc n) e =
-          omega (
-            arith,
-            getD-joinedTally-at (suc z) n leaves
-                (omega (arith, siblings-within, depth-le before S sound, length-tally before S sound)),
-            read (suc z) (omega (arith, siblings-within, depth-le before S sound)),
-            tally-between s good S (sound .set) r held m y joined (suc z) (omega arith) (omega arith),
-          )
-
-  pub getD-joins-le : (z : ℕ) → z < 13 → getD (joinedTally (suc z) (m - z) leaves) z 0 ≤ 2 ^ z
-  getD-joins-le z l =
-      omega (
-        arith,
-        getD-joinedTally-above (suc z) (m - z) leaves z (omega arith),
-        leaves-le before S sound z l,
-      )
-
   -- ---- the store
 
   pub showsNext-joined : (kept freed T′ : ℕ) (tally′ : Tally) (m′ : Memory)

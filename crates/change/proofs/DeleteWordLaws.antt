@@ -9,7 +9,7 @@ use lib.ListN.{length, getD}
 use Rattle.shape.specs.Shape.{widthsOf}
 use Rattle.shape.specs.declared.Shape.{Shape}
 use Rattle.cell.specs.Cell.{Agree}
-use Rattle.directory.proofs.CellLaws.{cut, agree-cut, cut-past}
+use Rattle.cell.proofs.AgreeLaws.{cut, agree-cut, cut-past}
 use Rattle.region.specs.Strings.{sibling}
 use Rattle.region.specs.Division.{Division, leafDepth, leafRecords}
 use Rattle.record.specs.Record.{Record}

@@ -13,7 +13,9 @@ use Rattle.shape.specs.Shape.{widthsOf}
 use Rattle.shape.specs.declared.Shape.{Shape}
 use Rattle.cell.specs.Cell.{cellAddress, Agree}
 use Rattle.directory.specs.Directory.{Doubled, Filled}
-use Rattle.directory.proofs.CellLaws.{withBit, withBit-here, agree-withBit, agree-suc}
+use Rattle.region.specs.Strings.{withBit}
+use Rattle.region.proofs.StringLaws.{withBit-same}
+use Rattle.cell.proofs.AgreeLaws.{agree-withBit, agree-suc}
 use Rattle.region.specs.Division.{Division}
 use Rattle.record.specs.Record.{Record}
 use Rattle.directory_word.specs.Word.{wordOf}
@@ -62,27 +64,6 @@ module _ (ws : List ℕ) (t x : ℕ) (p : ℕ → Bool) (before : List ℕ) wher
       }
 
   module _ (y : ℕ) (h : x ≤ y) (middle after : List ℕ) (s : SiblingsSet ws t x y p before middle) where
-    -- one more, by the region of p′, which leaves p in bit y
-    pub siblings-suc : (p′ : ℕ → Bool) → Leaves p p′ y → Filled ws t (suc y) p′ (wordOf (Empty (suc y))) middle after
-        → SiblingsSet ws t x (suc y) p before after
-    siblings-suc p′ leaves f =
-        record {
-          sibling = λ q z b l k. by-order q z b l k (eq-or-ne z y);
-          outside = λ q o.
-              f .outside q (λ a. o (λ i l. leaves .agree i (omega arith) ∙ a i (omega arith))) ∙ s .outside q o;
-          past = λ a l. f .past a l ∙ s .past a l;
-          size = f .size ∙ s .size;
-        }
-      where
-        by-order : (q : ℕ → Bool) (z : ℕ) → x ≤ z → z < suc y → Leaves p q z → (z ≡ y) ⊎ (z ≡ y → ⊥)
-            → getD after (cellAddress ws t q) 0 ≡ wordOf (Empty (suc z))
-        by-order q z b l k (inl e) =
-            let k′ : Leaves p q y = rw e at k in
-            rw e (f .inside q (agree-of-leaves p p′ q y leaves k′))
-        by-order q z b l k (inr n) =
-            f .outside q (λ a. k .differ (leaves .agree z (omega arith) ∙ a z (omega arith)))
-            ∙ s .sibling q z b (omega arith) k
-
     -- or by the whole region of p's first y bits, whose other half is set later
     pub siblings-whole : Filled ws t y p (wordOf (Empty (suc y))) middle after
         → SiblingsSet ws t x (suc y) p before after
@@ -115,33 +96,6 @@ module _ (ws : List ℕ) (t x : ℕ) (p : ℕ → Bool) (before : List ℕ) wher
   -- ---- halves
 
   module _ (m : ℕ) (l : x ≤ m) (g h : ℕ) (middle one after : List ℕ) (s : SiblingsSet ws t x m p before middle) where
-    -- each by its own region
-    pub leaves-of-halves : Filled ws t (suc m) (withBit p m false) (wordOf (Page g (suc m))) middle one
-        → Filled ws t (suc m) (withBit p m true) (wordOf (Page h (suc m))) one after
-        → LeavesSet ws t x m p g h before after
-    leaves-of-halves f₀ f₁ =
-        record {
-          siblings =
-              siblings-kept m (suc m) (withBit p m true) _ one after l (omega arith) (within true)
-              (siblings-kept m (suc m) (withBit p m false) _ middle one l (omega arith) (within false) s f₀) f₁;
-          half = λ q a. by-bit q a (q m) refl;
-        }
-      where
-        within : (β : Bool) → Agree m p (withBit p m β)
-        within β i k = sym (agree-withBit p m β i k)
-
-        inside : (q : ℕ → Bool) (β : Bool) → Agree m p q → q m ≡ β → Agree (suc m) (withBit p m β) q
-        inside q β a e =
-            agree-suc m (withBit p m β) q (λ i k. agree-withBit p m β i k ∙ a i k) (withBit-here p m β ∙ sym e)
-
-        by-bit : (q : ℕ → Bool) → Agree m p q → (β : Bool) → q m ≡ β
-            → getD after (cellAddress ws t q) 0 ≡ wordOf (Page (cond (q m) h g) (suc m))
-        by-bit q a true e = rw e (f₁ .inside q (inside q true a e))
-        by-bit q a false e =
-            rw e
-            (f₁ .outside q (λ c. true≢false (sym (withBit-here p m true) ∙ c m (omega arith) ∙ e))
-            ∙ f₀ .inside q (inside q false a e))
-
     -- or the whole region for the half that p is not in, then p's
     pub leaves-of-whole : Filled ws t m p (wordOf (Page (cond (p m) g h) (suc m))) middle one
         → Filled ws t (suc m) p (wordOf (Page (cond (p m) h g) (suc m))) one after

@@ -13,8 +13,9 @@ use Rattle.lists.proofs.Numbers.{eq-or-ne}
 use Rattle.shape.specs.Shape.{widthsOf, total}
 use Rattle.shape.specs.declared.Shape.{Shape}
 use Rattle.cell.specs.Cell.{Agree}
-use Rattle.directory.proofs.CellLaws.{withBit, withBit-here, agree-withBit}
-use Rattle.region.specs.Strings.{sameBits}
+use Rattle.region.specs.Strings.{withBit, sameBits}
+use Rattle.region.proofs.StringLaws.{withBit-same}
+use Rattle.cell.proofs.AgreeLaws.{agree-withBit}
 use Rattle.region.specs.Division.{Division, leafDepth, leafRecords}
 use Rattle.record.specs.Record.{Record, recordBit}
 use Rattle.directory_word.specs.Word.{wordOf}
@@ -173,7 +174,7 @@ module _ (before : Store) (S : List Record) (sound : Sound before S) (r : Record
             suc m,
             λ i l. sym (agree-withBit p₀ m β i (omega (arith, within))),
             set .half (withBit p₀ m β) (λ i l. sym (agree-withBit p₀ m β i l))
-                ∙ ap (λ γ. wordOf (Page (cond γ h g) (suc m))) (withBit-here p₀ m β)
+                ∙ ap (λ γ. wordOf (Page (cond γ h g) (suc m))) (withBit-same p₀ m β)
                 ∙ ap (λ j. wordOf (Page j (suc m))) (sym e),
           )
 

@@ -11,12 +11,12 @@ pub mod DeleteTallyLaws
 pub mod DeleteWordLaws
 pub mod DirectoryLaws
 pub mod DivideLaws
+pub mod HalfLaws
 pub mod InsertLaws
 pub mod InsertPromiseLaws
 pub mod LeafLaws
 pub mod MeetLaws
 pub mod NumberLaws
-pub mod PlaceLaws
 pub mod PromiseLaws
 pub mod RegionLaws
 pub mod RoomLaws

@@ -3,20 +3,16 @@
 use Prim.Native.Nat.{ℕ, zero, suc, _+_, _-_, _<_}
 use mathlib.Core.Path.{_≡_, refl, sym, ap, _∙_}
 use mathlib.Core.Bool.{Bool, true, false, not, _&&_, cond, Bool·beq, false≢true}
-use mathlib.Core.List.{List, [], _∷_, _++_, append-nil}
+use mathlib.Core.List.{List, [], _∷_, _++_}
 use native.Mathlib.Omega.{arith}
 use native.Mathlib.Nat.{zero-add, suc-add, add-suc}
-use lib.ListN.{length, take, drop, take-append-drop}
-use lib.Seq.{take-append-seam, drop-append-seam}
 use Rattle.lists.specs.Filter.{filter, all, nonEmpty}
 use Rattle.lists.proofs.Bools.{and-split, and-both}
 use Rattle.lists.proofs.FilterLaws.{all-and, all-imp, filter-append, filter-comm, filter-cong}
-use Rattle.lists.proofs.FilterLaws.{filter-all, filter-none}
 use Rattle.region.specs.Strings.{sameBits}
 use Rattle.region.specs.Sets.{before, sorted, insert}
 use Rattle.region.specs.Division.{side}
 use Rattle.region.proofs.StringLaws.{sameBits-comm, sameBits-join}
-use Rattle.region.proofs.OrderLaws.{before-asym, side-append-side}
 use Rattle.region.proofs.SideLaws.{side-insert-out}
 
 module _ {R : Type 0} (bit : R → ℕ → Bool) where
@@ -74,23 +70,6 @@ module _ {R : Type 0} (bit : R → ℕ → Bool) where
         one [] ys = refl
         one (x ∷ xs) ys = refl
 
-    -- at place i, where those before it stand before r, and r before the others
-    pub insert-place : (S : List R) (i : ℕ) → all (λ y. before bit n t y r) (take i S) ≡ true
-        → all (λ y. before bit n t r y) (drop i S) ≡ true → insert bit n t r S ≡ take i S ++ r ∷ drop i S
-    insert-place S i h k =
-        ap (insert bit n t r) (sym (take-append-drop i S))
-        ∙ rw (
-          filter-append (λ y. before bit n t y r) (take i S) (drop i S),
-          filter-append (λ y. before bit n t r y) (take i S) (drop i S),
-          filter-all (λ y. before bit n t y r) (λ y. before bit n t y r) (λ y e. e) (take i S) h,
-          filter-none (λ y. before bit n t r y) (λ y. before bit n t y r) (λ y e. before-asym bit n t r y e)
-              (drop i S) k,
-          filter-none (λ y. before bit n t y r) (λ y. before bit n t r y) (λ y e. before-asym bit n t y r e)
-              (take i S) h,
-          filter-all (λ y. before bit n t r y) (λ y. before bit n t r y) (λ y e. e) (drop i S) k,
-          append-nil (take i S),
-        )
-
     -- those that pass a test that r passes
     pub filter-insert : (f : R → Bool) (S : List R) → f r ≡ true
         → filter f (insert bit n t r S) ≡ insert bit n t r (filter f S)
@@ -125,21 +104,3 @@ module _ {R : Type 0} (bit : R → ℕ → Bool) where
             ap (side bit β m)
             (ap (λ n. insert bit n 0 r S) (sym rest) ∙ insert-shared m (suc (W - suc m)) 0 m (zero-add m) r S h)
             ∙ side-insert-out bit (W - suc m) m r S β (other β (bit r m) d)
-
-    -- sorted, they are those with bit 0, then those with bit 1
-    module _ (p : ℕ → Bool) (h : all (λ y. sameBits p (bit y) m 0) S ≡ true) (k : sorted bit W 0 S ≡ true) where
-      pub side-append-shared : side bit false m S ++ side bit true m S ≡ S
-      side-append-shared =
-          let rest : m + suc (W - suc m) ≡ W = omega arith in
-          side-append-side bit (W - suc m) m S
-          (sorted-shared m (suc (W - suc m)) 0 m (zero-add m) p S h (ap (λ n. sorted bit n 0 S) rest ∙ k))
-
-      pub take-side : take (length (side bit false m S)) S ≡ side bit false m S
-      take-side =
-          ap (take (length (side bit false m S))) (sym side-append-shared)
-          ∙ take-append-seam (side bit false m S) (side bit true m S)
-
-      pub drop-side : drop (length (side bit false m S)) S ≡ side bit true m S
-      drop-side =
-          ap (drop (length (side bit false m S))) (sym side-append-shared)
-          ∙ drop-append-seam (side bit false m S) (side bit true m S)

@@ -8,7 +8,7 @@ use mathlib.Core.Logic.{_⊎_, inl, inr}
 use native.Mathlib.Omega.{arith}
 use native.Mathlib.Nat.{add-zero, zero-add}
 use native.Mathlib.Numerals.{add-one}
-use lib.Dec.{eqb, eqb·suc-suc}
+use lib.Dec.{eqb}
 use lib.ListN.{length, getD, set, length-set}
 use lib.Pow.{pow-pos}
 use lib.Seq.{getD-set-same, getD-set-other, ext-getD}
@@ -17,6 +17,7 @@ use Rattle.lists.proofs.Numbers.{eq-or-ne}
 use Rattle.region.specs.Division.{Division, leaf, divided, tally, leafDepth}
 use Rattle.region.proofs.DivideLaws.{dividedAt, dividedAlong}
 use Rattle.region.proofs.CountLaws.{tallyBelow}
+use Rattle.region.proofs.TallyLaws.{tallyBelow-leaf}
 use Rattle.record.specs.Record.{Record}
 use Rattle.store.specs.Sound.{tallies}
 use Rattle.change.specs.Divided.{dividedOnce, dividedTally}
@@ -76,11 +77,6 @@ tally-le (divided l u) (suc i) = omega (arith, tally-le l i, tally-le u i)
 -- ---- divisions below a region of depth x
 
 module _ {R : Type 0} where
-  pub tallyBelow-leaf : (x : ℕ) (rs : List R) (i : ℕ) → tallyBelow x (leaf rs) i ≡ at x i
-  tallyBelow-leaf zero rs i = refl
-  tallyBelow-leaf (suc x) rs zero = sym (at-other (suc x) 0 (λ e. omega arith))
-  tallyBelow-leaf (suc x) rs (suc i) = tallyBelow-leaf x rs i ∙ rw (eqb·suc-suc i x)
-
   tallyBelow-divided : (x : ℕ) (l u : Division R) (i : ℕ)
       → tallyBelow x (divided l u) i ≡ tallyBelow (suc x) l i + tallyBelow (suc x) u i
   tallyBelow-divided zero l u zero = refl
@@ -91,9 +87,9 @@ module _ {R : Type 0} where
   tallyBelow-dividedAt : (x : ℕ) (β : Bool) (E : Division R) (i : ℕ)
       → tallyBelow x (dividedAt β E (leaf [])) i ≡ at (suc x) i + tallyBelow (suc x) E i
   tallyBelow-dividedAt x true E i =
-      tallyBelow-divided x (leaf []) E i ∙ ap (λ k. k + tallyBelow (suc x) E i) (tallyBelow-leaf (suc x) [] i)
+      tallyBelow-divided x (leaf []) E i ∙ ap (λ k. k + tallyBelow (suc x) E i) (tallyBelow-leaf {R = R} (suc x) [] i)
   tallyBelow-dividedAt x false E i =
-      omega (arith, tallyBelow-divided x E (leaf []) i, tallyBelow-leaf (suc x) [] i)
+      omega (arith, tallyBelow-divided x E (leaf []) i, tallyBelow-leaf {R = R} (suc x) [] i)
 
 -- ---- a leaf divided
 

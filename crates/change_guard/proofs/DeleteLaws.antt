@@ -22,7 +22,7 @@ use Rattle.delete_plan.specs.declared.Plan.the-variants as plan
 use Rattle.directory_tests.specs.Intact.{RegionTold}
 use Rattle.change_kept.proofs.SoundLaws.{sound-leaf, sound-sibling, sound-folds}
 use Rattle.change_guard.specs.Guard.{DeleteTold, JoinPasses, JoinTold}
-use Rattle.change_guard.proofs.InsertLaws.{leaf-told}
+use Rattle.change_guard.proofs.LeafLaws.{leaf-told}
 
 -- a sound store passes the tests of a join
 pub sound-passes : (st : State) (words bytes : List ℕ) (S : List Record) → Sound (store st words bytes) S
@@ -58,12 +58,13 @@ module _ (st : State) (words values : List ℕ) where
         → DeleteTold st words values (plan.Keep r) held
     deleteTold-one word held named told =
         let x = r .depth in
-        let by = subst (λ w. RegionTold (widthsOf (st .shape)) (st .deepest) x (splitBit (widthsOf (st .shape)) values) w
-        words held) named told in
+        let by = subst
+        (λ w. RegionTold (widthsOf (st .shape)) (st .deepest) x (splitBit (widthsOf (st .shape)) values) w words held)
+        named told in
         record {
           yes = λ e one. by .yes e;
           no = λ e bytes planned S sound stored-key.
-              let leaf = planned .0 .leaf in
+              let leaf = planned .found .leaf in
               let few : r .page < 2 ^ 16 - 1 = omega (arith, leaf .own-within, sound .most-pages) in
               leaf-told st words values x (wordOf (Page (r .page) x)) held by e bytes (leaf .own)
               (wordOf-depth (r .page) x few) S sound;
@@ -75,9 +76,9 @@ module _ (st : State) (words values : List ℕ) where
         record {
           yes = told .yes;
           no = λ e bytes planned S sound stored-key.
-              let k = stored-key r (planned .0) in
+              let k = stored-key r (planned .found) in
               let f = subst (λ v. JoinFound (store st words bytes) v (r .page) (j .other) (j .step) (j .top))
-              (sym (k .2)) (planned .1 .met) in
-              let p = sound-passes st words bytes S sound (k .0) (k .1) r j f in
-              told .no e (subst (λ v. JoinPasses st words v r j) (k .2) p);
+              (sym (k .key)) (planned .met) in
+              let p = sound-passes st words bytes S sound (k .content) (k .held) r j f in
+              told .no e (subst (λ v. JoinPasses st words v r j) (k .key) p);
         }

@@ -15,41 +15,51 @@ use Rattle.model.specs.Sets.{stored}
 use Rattle.store.specs.Store.{store}
 use Rattle.store.specs.Sound.{Sound}
 use Rattle.store.specs.declared.State.{State}
-use Rattle.insert_plan.specs.Plan as insert
-use Rattle.insert_plan.specs.declared.Plan as insert-plan
-use Rattle.insert_plan.specs.declared.Plan.the-variants as insert-plans
 use Rattle.delete_plan.specs.Plan as delete
 use Rattle.delete_plan.specs.declared.Plan as delete-plan
 use Rattle.delete_plan.specs.declared.Plan.the-variants as delete-plans
 use Rattle.delete_plan.specs.declared.Stored.{Stored}
 use Rattle.delete_plan.specs.declared.Join.{Join}
+use Rattle.directory_lent.specs.Lent.{DirectoryLent}
+use Rattle.delete_steps.specs.Steps.{LeavesLent}
 use Rattle.directory_tests.specs.Intact.{cellWord}
 use Rattle.change_kept.specs.Tested.{joinedDepth, LeafTested, SiblingTested, JoinTested}
 
+-- ---- what is asked
+
+-- the cells of a leaf that loses its only record
+pub record RemovalAsked (st : State) (size : ℕ) (r : Stored) : Type 0 where
+  pub lent : DirectoryLent st size
+  pub deep : r .depth ≤ st .deepest
+  pub page-lt : r .page < 65535
+
+-- those of two leaves that are joined, and of the empty ones above
+pub record JoiningAsked (st : State) (size : ℕ) (r : Stored) (j : Join) : Type 0 where
+  pub lent : DirectoryLent st size
+  pub leaves : LeavesLent st r j
+  pub page-lt : r .page < 65535
+  pub other-lt : j .other < 65535
+
+-- those of the siblings of depths y + 1 to m
+pub record EmptiesAsked (st : State) (size m y : ℕ) : Type 0 where
+  pub lent : DirectoryLent st size
+  pub below : m < st .deepest
+  pub above : y ≤ m
+
+-- T after a join
+pub record DepthJoined (st : State) (j : Join) (depth : ℕ) : Type 0 where
+  pub is : depth ≡ joinedDepth st j
+  pub at-most : depth ≤ st .deepest
+
+-- ---- what is told
+
+-- a set has one record with these values as its key
+pub record KeyHeld (values : List ℕ) (S : List Record) : Type 0 where
+  pub content : Record
+  pub held : stored (content .key) S ≡ content ∷ []
+  pub key : content .key ≡ values
+
 module _ (st : State) (words values : List ℕ) where
-  -- ---- insert
-
-  -- the plan was made on a store with these words
-  pub record InsertMet (plan : insert-plan.Plan) : Type 0 where
-    pub bytes : List ℕ
-    pub planned : insert.InsertPlanned (store st words bytes) values plan
-
-  -- what the steps of a plan need
-  abbrev pub InsertGuarded : insert-plan.Plan → Type 0
-  InsertGuarded (insert-plans.Refused n) = Unit
-  InsertGuarded (insert-plans.Take g i n) = Unit
-  InsertGuarded (insert-plans.Get g x) = LeafTested st words values x (wordOf (Empty x))
-  InsertGuarded (insert-plans.Divide split cut free) =
-      LeafTested st words values (split .depth) (wordOf (Page (split .page) (split .depth)))
-
-  -- where a test fails, no sound store has these words and this plan
-  pub record InsertTold (plan : insert-plan.Plan) (held : Bool) : Type 0 where
-    pub yes : held ≡ true → InsertGuarded plan
-    pub no : held ≡ false → (bytes : List ℕ) → insert.InsertPlanned (store st words bytes) values plan
-        → (S : List Record) → Sound (store st words bytes) S → ⊥
-
-  -- ---- delete
-
   abbrev pub DeleteGuarded : delete-plan.Plan → Type 0
   DeleteGuarded (delete-plans.Refused n) = Unit
   DeleteGuarded (delete-plans.Keep r) =
@@ -58,8 +68,7 @@ module _ (st : State) (words values : List ℕ) where
 
   -- a key whose record was found is stored
   abbrev pub KeyStored : List ℕ → List Record → Type 0
-  KeyStored bytes S = (r : Stored) → delete.RecordFound (store st words bytes) values r
-      → (q : Record) × (stored (q .key) S ≡ q ∷ []) × (q .key ≡ values)
+  KeyStored bytes S = (r : Stored) → delete.RecordFound (store st words bytes) values r → KeyHeld values S
 
   -- where a test fails, no sound store has these words and this plan
   pub record DeleteTold (plan : delete-plan.Plan) (held : Bool) : Type 0 where

@@ -11,44 +11,31 @@ use directory_word::pack_page;
 use shape::widths_of;
 use store::State;
 use tally::greatest_depth;
-ghost use mathlib.Core.Path.{_≡_};
 ghost use Prim.Native.Nat.{suc, _≤_, _<_};
 ghost use lib.ListN.{length};
 ghost use Rattle.shape.specs.Shape.{widthsOf};
 ghost use Rattle.split.specs.Bits.{splitBit};
 ghost use Rattle.region.specs.Strings.{sibling};
-ghost use Rattle.delete_plan.specs.Siblings.{DirectoryLent};
+ghost use Rattle.directory_lent.specs.Lent.{DirectoryLent};
 ghost use Rattle.delete_steps.specs.Steps.{LeavesLent};
 ghost use Rattle.directory_tests.specs.Intact.{RegionTold, FoldTold};
-ghost use Rattle.change_kept.specs.Tested.{joinedDepth};
-ghost use Rattle.change_guard.specs.Guard.{InsertMet, InsertTold, RemovalTold, JoiningTold, EmptiesTold};
+ghost use Rattle.change_guard.specs.Guard.{RemovalAsked, JoiningAsked, EmptiesAsked, DepthJoined};
+ghost use Rattle.change_guard.specs.Guard.{RemovalTold, JoiningTold, EmptiesTold};
 
-// Whether the leaf of an insert's key is whole, where the plan sets its words.
-pub fn insert_keeps(state: State, dir: &[u32], values: [u32; 4], plan: insert_plan::Plan) -> bool
-    requires { ⌜ InsertMet state (now dir) values plan ⌝ }
-    ensures { λ r. ⌜ InsertTold state (now (dir .entry)) values plan r ⌝ }
+// Whether every cell of a key's region of x bits holds a word.
+pub fn leaf_whole(state: State, dir: &[u32], values: [u32; 4], x: u32, word: u32) -> bool
+    requires { ⌜ DirectoryLent state (length (now dir)) × (x ≤ state .deepest) ⌝ }
+    ensures { λ r. ⌜ RegionTold (widthsOf (state .shape)) (state .deepest) x
+        (splitBit (widthsOf (state .shape)) values) word (now (dir .entry)) r ⌝ }
 {
-    match plan {
-        insert_plan::Plan::Refused(_) => true,
-        insert_plan::Plan::Take(_, _, _) => true,
-        insert_plan::Plan::Get(_, depth) => leaf_whole(
-            state,
-            dir,
-            values,
-            depth,
-            pack_empty(depth),
-        ),
-        insert_plan::Plan::Divide(split, _, _) => {
-            let word = pack_page(split.page, split.depth);
-            leaf_whole(state, dir, values, split.depth, word)
-        }
-    }
+    let widths = widths_of(state.shape);
+    region_holds(widths, values, x as u64, state.deepest as u64, word, dir)
 }
 
 // Whether the leaf of a delete's key is whole, where it stays and its only record is removed. It
 // hands on the widths alone: a call that takes the state would cost a leaf with more records a copy.
 pub fn removal_keeps(state: State, dir: &[u32], values: [u32; 4], found: Stored) -> bool
-    requires { ⌜ DirectoryLent state (length (now dir)) × (found .depth ≤ state .deepest) × (found .page < 65535) ⌝ }
+    requires { ⌜ RemovalAsked state (length (now dir)) found ⌝ }
     ensures { λ r. ⌜ RemovalTold state (now (dir .entry)) values found r ⌝ }
 {
     if found.count != 1 {
@@ -68,8 +55,7 @@ pub fn removal_keeps(state: State, dir: &[u32], values: [u32; 4], found: Stored)
 
 // Whether the leaves that a delete joins are whole, and no other word is lost at the new T.
 pub fn join_keeps(state: State, dir: &[u32], values: [u32; 4], found: Stored, join: Join) -> bool
-    requires { ⌜ DirectoryLent state (length (now dir)) × LeavesLent state found join ⌝ }
-    requires { ⌜ (found .page < 65535) × (join .other < 65535) ⌝ }
+    requires { ⌜ JoiningAsked state (length (now dir)) found join ⌝ }
     ensures { λ r. ⌜ JoiningTold state (now (dir .entry)) values found join r ⌝ }
 {
     let own = pack_page(found.page, found.depth);
@@ -89,21 +75,11 @@ pub fn join_keeps(state: State, dir: &[u32], values: [u32; 4], found: Stored, jo
 // T after a join.
 fn joined_depth(state: State, found: Stored, join: Join) -> u32
     requires { ⌜ (state .deepest ≤ 12) × LeavesLent state found join ⌝ }
-    ensures { λ r. ⌜ (r ≡ joinedDepth state join) × (r ≤ state .deepest) ⌝ }
+    ensures { λ r. ⌜ DepthJoined state join r ⌝ }
 {
     let levels = found.depth - join.top;
     let tally = tally::join(state.tally, join.top as usize, levels as usize);
     greatest_depth(tally, state.deepest as usize) as u32
-}
-
-// Whether every cell of a key's region of x bits holds a word.
-fn leaf_whole(state: State, dir: &[u32], values: [u32; 4], x: u32, word: u32) -> bool
-    requires { ⌜ DirectoryLent state (length (now dir)) × (x ≤ state .deepest) ⌝ }
-    ensures { λ r. ⌜ RegionTold (widthsOf (state .shape)) (state .deepest) x
-        (splitBit (widthsOf (state .shape)) values) word (now (dir .entry)) r ⌝ }
-{
-    let widths = widths_of(state.shape);
-    region_holds(widths, values, x as u64, state.deepest as u64, word, dir)
 }
 
 // The same for the sibling of its region of z + 1 bits.
@@ -118,7 +94,7 @@ fn sibling_whole(state: State, dir: &[u32], values: [u32; 4], z: u32, word: u32)
 
 // Whether the siblings of its regions of depths y + 1 to m are empty leaves.
 fn empties_whole(state: State, dir: &[u32], values: [u32; 4], m: u32, y: u32) -> bool
-    requires { ⌜ DirectoryLent state (length (now dir)) × (m < state .deepest) × (y ≤ m) ⌝ }
+    requires { ⌜ EmptiesAsked state (length (now dir)) m y ⌝ }
     ensures { λ r. ⌜ EmptiesTold state (now (dir .entry)) values m y r ⌝ }
 {
     let mut z = y;

@@ -10,32 +10,34 @@ use native.Mathlib.Omega.{arith}
 use Rattle.shape.specs.Shape.{widthsOf}
 use Rattle.shape.specs.declared.Shape.{Shape}
 use Rattle.directory.specs.Directory.{Filled}
-use Rattle.directory.proofs.CellLaws.{withBit, withBit-here, agree-withBit}
-use Rattle.region.specs.Strings.{sibling}
+use Rattle.region.specs.Strings.{withBit, sibling}
+use Rattle.region.proofs.StringLaws.{withBit-same}
+use Rattle.cell.proofs.AgreeLaws.{agree-withBit}
 use Rattle.record.specs.declared.Content.{Content}
 use Rattle.record.specs.Packed.{packedBytes}
 use Rattle.record.proofs.CodecLaws.{length-packedBytes}
 use Rattle.page.specs.Page.{pageAt}
 use Rattle.pages.specs.Pages.{PageLent}
-use Rattle.directory_word.specs.Word.{wordOf}
+use Rattle.directory_word.specs.Word.{wordOf, depthField}
 use Rattle.directory_word.specs.declared.Leaf.the-variants.{Empty, Page}
 use Rattle.directory_word.proofs.WordLaws.{wordOf-depth}
 use Rattle.store.specs.Store.{Store, store, wordAt}
-use Rattle.store.specs.Contained.{depthNamed, Whole, JoinedWith, Contained}
+use Rattle.store.specs.Contained.{Whole, JoinedWith, Contained}
 use Rattle.store.specs.declared.State.{State}
 use Rattle.change.specs.Delete.{keyString}
 use Rattle.refusals.proofs.LimitsLaws.{limits-parts}
-use Rattle.insert_plan.specs.declared.Split.{Split}
-use Rattle.insert_plan.specs.declared.Cut.{Cut}
-use Rattle.insert_plan.specs.Plan.{TakePlanned, GetPlanned, DividePlanned}
-use Rattle.insert_steps.specs.Steps.{insertedPages, CutFits, dividedPages, WordsDivided}
-use Rattle.insert_steps.proofs.InsertedLaws.{pageAt-insertedPages-other}
+use Rattle.insert_planned.specs.declared.Split.{Split}
+use Rattle.insert_cut.specs.declared.Cut.{Cut}
+use Rattle.insert_planned.specs.Planned.{TakePlanned, GetPlanned, DividePlanned}
+use Rattle.insert_pages.specs.Inserted.{insertedPages, CutFits, dividedPages}
+use Rattle.insert_words.specs.Divided.{WordsDivided}
+use Rattle.insert_pages.proofs.InsertedLaws.{pageAt-insertedPages-other}
 use Rattle.delete_plan.specs.declared.Stored.{Stored}
 use Rattle.delete_plan.specs.declared.Join.{Join}
 use Rattle.delete_plan.specs.Plan.{RecordFound, JoinPlanned}
-use Rattle.delete_steps.specs.PageBytes.{removedBytes, keptPage, joinedBytes}
-use Rattle.delete_steps.specs.Steps.{RecordLent, PairLent, LeavesLent, LeafWords, JoinWords}
-use Rattle.delete_steps.proofs.PageLaws.{pageAt-removedBytes-other, pageAt-joinedBytes-other}
+use Rattle.delete_pages.specs.PageBytes.{RecordLent, PairLent, removedBytes, keptPage, joinedBytes}
+use Rattle.delete_steps.specs.Steps.{LeavesLent, LeafWords, JoinWords}
+use Rattle.delete_pages.proofs.PageLaws.{pageAt-removedBytes-other, pageAt-joinedBytes-other}
 use Rattle.delete_steps.proofs.StepLaws.{keptPage-lt}
 use Rattle.change_kept.specs.Tested.{LeafTested, JoinTested}
 use Rattle.change_kept.proofs.WordLaws.{leaves-sibling, sibling-joined}
@@ -128,8 +130,8 @@ module _ (before : Store) (values : List ℕ) where
         few : split .page < 2 ^ 16 - 1
         few = omega (arith, planned .met .ends-met .met .within, planned .asked .pages-lent .few)
 
-        depth : depthNamed (wordAt s (st .deepest) words key) ≡ split .depth
-        depth = ap depthNamed met-own ∙ wordOf-depth (split .page) (split .depth) few
+        depth : depthField (wordAt s (st .deepest) words key) ≡ split .depth
+        depth = ap depthField met-own ∙ wordOf-depth (split .page) (split .depth) few
 
         upper : ℕ → Bool
         upper = withBit key m true
@@ -137,14 +139,14 @@ module _ (before : Store) (values : List ℕ) where
         near-step : (i : ℕ) → i < m → key i ≡ upper i
         near-step i l = sym (agree-withBit key m true i l)
 
-        near : (i : ℕ) → i < depthNamed (wordAt s (st .deepest) words key) → key i ≡ upper i
+        near : (i : ℕ) → i < depthField (wordAt s (st .deepest) words key) → key i ≡ upper i
         near i l = near-step i (omega (arith, depth, planned .met .below))
 
         named : wordAt (st′ .shape) (st′ .deepest) words′ upper ≡ wordOf (Page free (suc m))
         named =
             ap (λ t. wordAt (t .shape) (st′ .deepest) words′ upper) (w .state)
             ∙ w .leaves .half upper near-step
-            ∙ ap (λ β. wordOf (Page (cond β free (split .page)) (suc m))) (withBit-here key m true)
+            ∙ ap (λ β. wordOf (Page (cond β free (split .page)) (suc m))) (withBit-same key m true)
 
   -- ---- delete
 
@@ -203,16 +205,17 @@ module _ (before : Store) (values : List ℕ) where
             (planned .met .other-within) in
             omega (arith, l, few)
 
-        top : depthNamed (wordAt (st′ .shape) (st′ .deepest) words′ key) ≡ j .top
+        top : depthField (wordAt (st′ .shape) (st′ .deepest) words′ key) ≡ j .top
         top =
-            ap (λ t. depthNamed (wordAt (t .shape) (st′ .deepest) words′ key)) (w .state)
-            ∙ ap depthNamed (w .new-leaf .inside key (λ i l. refl))
+            ap (λ t. depthField (wordAt (t .shape) (st′ .deepest) words′ key)) (w .state)
+            ∙ ap depthField (w .new-leaf .inside key (λ i l. refl))
             ∙ wordOf-depth kept (j .top) kept-lt
 
         one-leaf : Whole (wordAt (st′ .shape) (st′ .deepest) words′) key
         one-leaf =
             subst (λ v. Whole (wordAt v (st′ .deepest) words′) key) (sym (ap (λ t. t .shape) (w .state)))
-            (filled-whole (widthsOf s) (st .deepest) key words (st′ .deepest) (j .top) kept kept-lt words′ (w .new-leaf))
+            (filled-whole (widthsOf s) (st .deepest) key words (st′ .deepest) (j .top) kept kept-lt words′
+            (w .new-leaf))
 
         joined : Whole (wordAt s (st .deepest) words) beside
             × JoinedWith true (wordAt s (st .deepest) words) (wordAt (st′ .shape) (st′ .deepest) words′) key beside

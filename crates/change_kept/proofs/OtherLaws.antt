@@ -7,8 +7,9 @@ use mathlib.Core.Bool.{Bool, true, false, true≢false}
 use mathlib.Core.Logic.{_⊎_, inl, inr}
 use Rattle.region.specs.Strings.{sibling}
 use Rattle.page.specs.Page.{countOf, pageAt}
+use Rattle.directory_word.specs.Word.{depthField}
 use Rattle.store.specs.Store.{Store}
-use Rattle.store.specs.Contained.{depthNamed, Names, Whole, JoinedWith, GivesWay, Written, Contained}
+use Rattle.store.specs.Contained.{Names, Whole, JoinedWith, GivesWay, Written, Contained}
 use Rattle.store.proofs.ShownLaws.{wordOn}
 use Rattle.change.specs.Divided.{Leaves}
 use Rattle.change.proofs.ChainLaws.{agree-of-leaves}
@@ -23,7 +24,7 @@ module _ (joins : Bool) (before after : Store) (key : ℕ → Bool) (c : Contain
 
   -- z is a bit in which a sibling leaves the key's string that the key's leaf was joined with
   abbrev Joined : ℕ → Type 0
-  Joined z = (joins ≡ true) × (depthNamed (new key) ≤ z) × (z < depthNamed (old key))
+  Joined z = (joins ≡ true) × (depthField (new key) ≤ z) × (z < depthField (old key))
 
   -- another leaf keeps its word
   pub other-word : (p : ℕ → Bool) → (old p ≡ old key → ⊥) → ((z : ℕ) → Joined z → old p ≡ old (sibling key z) → ⊥)

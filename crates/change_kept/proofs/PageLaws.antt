@@ -13,10 +13,10 @@ use Rattle.pages.specs.Pages.{PageLent, carriedPages}
 use Rattle.pages.proofs.CarryLaws.{pageAt-carriedPages-other}
 use Rattle.store.specs.Store.{Store}
 use Rattle.store.specs.Contained.{Written, BytesKept}
-use Rattle.insert_plan.specs.declared.Cut.{Cut}
-use Rattle.insert_steps.specs.Steps.{CutFits, dividedPages}
-use Rattle.insert_steps.proofs.InsertedLaws.{pageAt-insertedPages-other}
-use Rattle.insert_steps.proofs.StepLaws.{lent-carried}
+use Rattle.insert_cut.specs.declared.Cut.{Cut}
+use Rattle.insert_pages.specs.Inserted.{CutFits, dividedPages}
+use Rattle.insert_pages.proofs.InsertedLaws.{pageAt-insertedPages-other}
+use Rattle.insert_pages.proofs.CarriedLaws.{lent-carried}
 
 -- ---- a page that is divided
 

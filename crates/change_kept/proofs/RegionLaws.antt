@@ -5,11 +5,12 @@ use mathlib.Core.Path.{_≡_, refl, sym, ap, _∙_}
 use mathlib.Core.Bool.{Bool, true, false}
 use mathlib.Core.List.{List}
 use Rattle.directory.specs.Directory.{Filled}
-use Rattle.directory.proofs.CellLaws.{agree-le}
+use Rattle.cell.proofs.AgreeLaws.{agree-le}
 use Rattle.directory_word.specs.Word.{wordOf}
+use Rattle.directory_word.specs.Word.{wordOf, depthField}
 use Rattle.directory_word.specs.declared.Leaf.the-variants.{Page}
 use Rattle.directory_word.proofs.WordLaws.{wordOf-depth}
-use Rattle.store.specs.Contained.{depthNamed, Whole, WordsKept}
+use Rattle.store.specs.Contained.{Whole, WordsKept}
 use Rattle.change.specs.Divided.{Deepened, LeavesSet}
 use Rattle.directory_tests.specs.Intact.{cellWord, RegionHolds, Folds}
 use Rattle.change_kept.proofs.WordLaws.{whole-of-holds, SiblingLeaf, kept-leaf, kept-joined}
@@ -18,7 +19,7 @@ module _ (ws : List ℕ) (T : ℕ) (key : ℕ → Bool) (words : List ℕ) where
   abbrev own : ℕ
   own = cellWord ws T words key
 
-  module _ (x : ℕ) (depth : depthNamed own ≡ x) (whole : RegionHolds ws T x key own words) where
+  module _ (x : ℕ) (depth : depthField own ≡ x) (whole : RegionHolds ws T x key own words) where
     -- the leaf gets a page, or loses it
     pub filled-kept : (joins : Bool) (word : ℕ) (words′ : List ℕ) → Filled ws T x key word words words′
         → WordsKept joins (cellWord ws T words) (cellWord ws T words′) key
@@ -40,7 +41,7 @@ module _ (ws : List ℕ) (T : ℕ) (key : ℕ → Bool) (words : List ℕ) where
       (λ i l. refl)
 
   -- the leaf is joined with its siblings from depth y + 1 on
-  pub joined-kept : (m y T′ kept : ℕ) → y ≤ m → y ≤ T′ → depthNamed own ≡ suc m
+  pub joined-kept : (m y T′ kept : ℕ) → y ≤ m → y ≤ T′ → depthField own ≡ suc m
       → RegionHolds ws T (suc m) key own words
       → ((z : ℕ) → y ≤ z → z ≤ m → SiblingLeaf (cellWord ws T words) key z) → kept < 2 ^ 16 - 1
       → Folds ws T′ T key words
@@ -48,5 +49,5 @@ module _ (ws : List ℕ) (T : ℕ) (key : ℕ → Bool) (words : List ℕ) where
       → WordsKept true (cellWord ws T words) (cellWord ws T′ words′) key
   joined-kept m y T′ kept l b depth whole siblings few folds words′ f =
       kept-joined (cellWord ws T words) (cellWord ws T′ words′) key m y l depth whole siblings
-      (ap depthNamed (f .inside key (λ i k. refl)) ∙ wordOf-depth kept y few) (filled-whole T′ y kept few words′ f)
+      (ap depthField (f .inside key (λ i k. refl)) ∙ wordOf-depth kept y few) (filled-whole T′ y kept few words′ f)
       (λ p n. f .outside p n ∙ sym (folds p (λ a. n (agree-le y T′ key p b a))))

@@ -14,8 +14,8 @@ use Rattle.region.specs.Division.{Division, leafDepth}
 use Rattle.region.proofs.StringLeafLaws.{leafDepth-le}
 use Rattle.record.specs.Record.{Record, recordBit}
 use Rattle.model.specs.Sets.{stored, withoutKey}
+use Rattle.directory_word.specs.Word.{depthField}
 use Rattle.store.specs.Store.{Store}
-use Rattle.store.specs.Contained.{depthNamed}
 use Rattle.store.specs.Sound.{Sound}
 use Rattle.store.proofs.AgreeLaws.{agree-or-not, leafDepth-agree}
 use Rattle.store.proofs.ShownLaws.{wordOn, divisionOn, wordOn-depth, shape-of-Sound}
@@ -50,18 +50,18 @@ module _ (before : Store) (S : List Record) (sound : Sound before S) where
   -- ---- regions
 
   -- a string's leaf is whole
-  pub sound-holds : (p : ℕ → Bool) (x word : ℕ) → wordOn before p ≡ word → depthNamed word ≡ x
+  pub sound-holds : (p : ℕ → Bool) (x word : ℕ) → wordOn before p ≡ word → depthField word ≡ x
       → RegionHolds (widthsOf s) T x p word (before .memory .words)
   sound-holds p x word e d q a =
-      let depth : leafDepth p 0 D ≡ x = sym (wordOn-depth before S sound p) ∙ ap depthNamed e ∙ d in
+      let depth : leafDepth p 0 D ≡ x = sym (wordOn-depth before S sound p) ∙ ap depthField e ∙ d in
       sym (sound .shown .same-word p q (rw depth a)) ∙ e
 
-  pub sound-leaf : (key : List ℕ) (x word : ℕ) → wordOn before (keyString before key) ≡ word → depthNamed word ≡ x
+  pub sound-leaf : (key : List ℕ) (x word : ℕ) → wordOn before (keyString before key) ≡ word → depthField word ≡ x
       → LeafTested (before .state) (before .memory .words) key x word
   sound-leaf key x word e d = sound-holds (keyString before key) x word e d
 
   -- a sibling by the word of one of its cells
-  pub sound-sibling : (key : List ℕ) (z word : ℕ) → depthNamed word ≡ suc z → AtSibling before key z (λ w. w ≡ word)
+  pub sound-sibling : (key : List ℕ) (z word : ℕ) → depthField word ≡ suc z → AtSibling before key z (λ w. w ≡ word)
       → SiblingTested (before .state) (before .memory .words) key z word
   sound-sibling key z word d c q a =
       sound-holds (c .0) (suc z) word (c .2) d q (λ i l. sym (c .1 i l) ∙ a i l)

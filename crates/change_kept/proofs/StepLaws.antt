@@ -11,22 +11,22 @@ use Rattle.lists.proofs.Numbers.{eq-or-ne}
 use Rattle.shape.specs.Shape.{widthsOf}
 use Rattle.shape.specs.declared.Shape.{Shape}
 use Rattle.directory.specs.Directory.{Filled}
-use Rattle.directory_word.specs.Word.{wordOf}
+use Rattle.directory_word.specs.Word.{wordOf, depthField}
 use Rattle.directory_word.specs.declared.Leaf.the-variants.{Empty, Page}
 use Rattle.directory_word.proofs.WordLaws.{wordOf-depth, wordOf-depth-empty}
 use Rattle.store.specs.Store.{Store, wordAt}
-use Rattle.store.specs.Contained.{depthNamed, WordsKept}
+use Rattle.store.specs.Contained.{WordsKept}
 use Rattle.store.specs.declared.State.{State}
 use Rattle.change.specs.Delete.{keyString, tallyDepth}
 use Rattle.refusals.proofs.LimitsLaws.{limits-parts}
-use Rattle.insert_plan.specs.declared.Split.{Split}
-use Rattle.insert_plan.specs.declared.Cut.{Cut}
-use Rattle.insert_plan.specs.Plan.{GetPlanned, DividePlanned}
-use Rattle.insert_steps.specs.Steps.{WordsDivided}
+use Rattle.insert_planned.specs.declared.Split.{Split}
+use Rattle.insert_cut.specs.declared.Cut.{Cut}
+use Rattle.insert_planned.specs.Planned.{GetPlanned, DividePlanned}
+use Rattle.insert_words.specs.Divided.{WordsDivided}
 use Rattle.delete_plan.specs.declared.Stored.{Stored}
 use Rattle.delete_plan.specs.declared.Join.{Join}
 use Rattle.delete_plan.specs.Plan.{RecordFound, JoinPlanned}
-use Rattle.delete_steps.specs.PageBytes.{keptPage}
+use Rattle.delete_pages.specs.PageBytes.{keptPage}
 use Rattle.delete_steps.specs.Steps.{LeavesLent, LeafWords, JoinWords}
 use Rattle.delete_steps.proofs.StepLaws.{top-le, keptPage-lt}
 use Rattle.directory_tests.specs.Intact.{cellWord, RegionHolds, Folds}
@@ -52,7 +52,8 @@ module _ (before : Store) (values : List ℕ) where
 
   -- the words outside the leaves that give way are kept in a state and words then
   abbrev pub KeptIn : Bool → State → List ℕ → Type 0
-  KeptIn joins st′ words′ = WordsKept joins (wordAt s (st .deepest) words) (wordAt (st′ .shape) (st′ .deepest) words′) key
+  KeptIn joins st′ words′ =
+      WordsKept joins (wordAt s (st .deepest) words) (wordAt (st′ .shape) (st′ .deepest) words′) key
 
   -- a test of the word that is the key's
   tested : (x word : ℕ) → own ≡ word → LeafTested st words values x word
@@ -81,7 +82,7 @@ module _ (before : Store) (values : List ℕ) where
       → LeafTested st words values x (wordOf (Empty x)) → Filled (widthsOf s) (st .deepest) x key word words words′
       → KeptIn false st words′
   get-kept g x word words′ planned h f =
-      filled-kept (widthsOf s) (st .deepest) key words x (ap depthNamed (planned .own) ∙ wordOf-depth-empty x)
+      filled-kept (widthsOf s) (st .deepest) key words x (ap depthField (planned .own) ∙ wordOf-depth-empty x)
       (tested x _ (planned .own) h) false word words′ f
 
   -- a full leaf is divided
@@ -95,7 +96,7 @@ module _ (before : Store) (values : List ℕ) where
       let few : split .page < 2 ^ 16 - 1 = omega (arith, met .within, planned .asked .pages-lent .few) in
       with-shape false st′ words′ (w .state)
       (divided-kept (widthsOf s) (st .deepest) key words x
-      (ap depthNamed (met .own) ∙ wordOf-depth (split .page) x few) (tested x _ (met .own) h)
+      (ap depthField (met .own) ∙ wordOf-depth (split .page) x few) (tested x _ (met .own) h)
       (st′ .deepest) (split .step) (split .page) free (w .doubled) words′ (w .deepened) (w .leaves))
 
   -- ---- delete
@@ -107,9 +108,9 @@ module _ (before : Store) (values : List ℕ) where
     short : st .deepest ≤ 12
     short = let l = limits-parts st (found .leaf .limits) in le-trans (l .4) (l .2)
 
-    pub depth-is : depthNamed own ≡ r .depth
+    pub depth-is : depthField own ≡ r .depth
     depth-is =
-        ap depthNamed (found .leaf .own)
+        ap depthField (found .leaf .own)
         ∙ wordOf-depth (r .page) (r .depth) (omega (arith, found .leaf .own-within, few))
 
     -- the key's leaf stays: without a page, where its only record is removed

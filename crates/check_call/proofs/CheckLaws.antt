@@ -1,32 +1,33 @@
 -- Laws of the call's tests, one for each way that a function ends: the sums of the whole walk, the answer.
 -- Assumes nothing.
-use Prim.Native.Nat.{ℕ, _+_, _-_, _^_, _≤_, _<_}
+use Prim.Native.Nat.{ℕ, zero, suc, _+_, _-_, _^_, _≤_, _<_}
 use mathlib.Core.Path.{_≡_, refl, sym, ap, _∙_, subst}
-use mathlib.Core.Bool.{Bool, true, false, _&&_, _||_, false≢true}
-use mathlib.Core.List.{List, [], _∷_}
+use mathlib.Core.Bool.{Bool, true, false, _&&_}
+use mathlib.Core.List.{List}
 use native.Mathlib.Omega.{arith}
 use native.Mathlib.Nat.{le-trans, sub-zero}
-use lib.Dec.{ltb, eqb}
+use lib.Dec.{eqb}
 use lib.ListN.{length, getD, replicate, getD-replicate}
 use lib.Pow.{pow-mono}
-use borrow.Author.Tests.{ltb-false, eq-eqb, ne-eqb}
-use Rattle.shape.specs.Refusal.{accepted, refused, refusal}
-use Rattle.shape.specs.Shape.{Fit, shapeNumber, widthsOf, total}
-use Rattle.shape.proofs.ShapeLaws.{inBounds-of, widthsOf-fit}
-use Rattle.shape.proofs.RefusalLaws.{answered-shape-out, answered-first, answered-none}
+use borrow.Author.Tests.{eq-eqb, ne-eqb}
+use Rattle.shape.specs.Refusal.{accepted, refused}
+use Rattle.shape.specs.Shape.{Fit, widthsOf, total}
+use Rattle.shape.proofs.ShapeLaws.{widthsOf-fit}
 use Rattle.region.specs.Strings.{emptyString}
 use Rattle.region.specs.Division.{Division, nonEmptyLeaves}
 use Rattle.record.specs.Record.{Record}
 use Rattle.shape.proofs.ShapeLaws.{capacity-bounds}
-use Rattle.store.specs.Store.{Store, store, pagesSize, lentConditions}
+use Rattle.store.specs.Store.{Store, store}
 use Rattle.store.specs.declared.State.{State}
 use Rattle.store.specs.Sound.{tallies}
 use Rattle.store.specs.Promises.{lentNumber, CheckPromise}
 use Rattle.check_test.specs.Walk.{regionTest, readDivision, pagesInUse}
-use Rattle.check_test.specs.Test.{viewOf, shownDivision, sameNumbers, walkTest, sumsTest, soundTest, checkAnswer}
-use Rattle.check_test.proofs.AnswerLaws.{check-promise}
-use Rattle.check_test.proofs.ShowsLaws.{Lent, lentNumber-lent}
+use Rattle.check_test.specs.Test.{viewOf, shownDivision, sameNumbers, walkTest, sumsTest, soundTest}
+use Rattle.check_test.proofs.AnswerLaws.{checkAnswer-refused, checkAnswer-accepted, check-promise}
+use Rattle.check_test.proofs.ShowsLaws.{lent-of-number}
+use Rattle.refusals.specs.Lengths.{lentNumberBy}
 use Rattle.refusals.specs.Limits.{limitsHold}
+use Rattle.refusals.proofs.LentLaws.{memoryLent, lentNumber-by}
 use Rattle.refusals.proofs.LimitsLaws.{limits-parts}
 use Rattle.check_counts.specs.Counts.{usedPages, sameTally}
 use Rattle.check_counts.proofs.CountLaws.{pagesInUse-usedPages}
@@ -35,7 +36,7 @@ use Rattle.check_walk.specs.declared.regions.Region.{Region}
 use Rattle.check_walk.specs.Regions.{wholeRegion}
 use Rattle.check_walk.specs.Sums.{viewBy, Tells, Walks, Walked, TallyRoom}
 use Rattle.check_walk.proofs.RegionLaws.{names-whole, regionIn-whole}
-use Rattle.check_call.specs.Private.{lacksMemory, StoreLent}
+use Rattle.check_call.specs.Private.{StoreLent}
 use Rattle.check_call.proofs.TallyLaws.{sameNumbers-sameTally}
 
 -- ---- the whole walk
@@ -146,64 +147,42 @@ module _ (st : State) (words bytes : List ℕ) where
   abbrev whole : Store
   whole = store st words bytes
 
-  pub check-shape-out : (shapeNumber (st .shape) ≡ 0 → ⊥) → (n : ℕ) → n ≡ shapeNumber (st .shape)
+  -- 1 or 2
+  pub check-refused : (n : ℕ) → (n ≡ 0 → ⊥) → n ≡ lentNumberBy st (length words) (length bytes)
       → CheckPromise whole (refused n)
-  unfolding checkAnswer lentNumber lentConditions
-  check-shape-out ne n e =
-      subst (CheckPromise whole)
-      (sym (ap refused e ∙ answered-shape-out (st .shape) (soundTest whole)
-      (refusal 2 (lacksMemory st (length words) (length bytes)) ∷ []) ne))
+  check-refused zero ne e = absurd (ne refl)
+  check-refused (suc n) ne e =
+      subst (CheckPromise whole) (checkAnswer-refused whole n (lentNumber-by st words bytes ∙ sym e))
       (check-promise whole)
 
-  module _ (n : shapeNumber (st .shape) ≡ 0) where
-    pub check-lacks : lacksMemory st (length words) (length bytes) ≡ true → CheckPromise whole (refused 2)
-    unfolding checkAnswer lentNumber lentConditions
-    check-lacks e =
-        subst (CheckPromise whole)
-        (sym (answered-first (st .shape) (soundTest whole) 1 (lacksMemory st (length words) (length bytes)) [] n e))
-        (check-promise whole)
+  module _ (none : lentNumberBy st (length words) (length bytes) ≡ 0) where
+    lent-none : lentNumber whole ≡ 0
+    lent-none = lentNumber-by st words bytes ∙ none
 
-    module _ (lent : lacksMemory st (length words) (length bytes) ≡ false) where
-      parts : (a b : Bool) → (a || b) ≡ false → (a ≡ false) × (b ≡ false)
-      parts true b e = absurd (false≢true (sym e))
-      parts false b e = (refl, e)
+    answer : (β : Bool) → soundTest whole ≡ β → CheckPromise whole (accepted β)
+    answer β e =
+        subst (CheckPromise whole) (checkAnswer-accepted whole lent-none ∙ ap accepted e) (check-promise whole)
 
-      memory-lent : Lent whole
-      memory-lent =
-          let k = parts (ltb (length words) (2 ^ st .limits .depth)) (ltb (length bytes) (pagesSize st)) lent in
+    sound : soundTest whole ≡ (limitsHold st && (walkTest whole && sumsTest whole))
+    unfolding soundTest
+    sound = rw lent-none
+
+    pub check-limits-fail : limitsHold st ≡ false → CheckPromise whole (accepted false)
+    check-limits-fail e = answer false (sound ∙ ap (λ β. β && (walkTest whole && sumsTest whole)) e)
+
+    module _ (limits : limitsHold st ≡ true) where
+      pub storeLent : StoreLent st (length words) (length bytes)
+      storeLent =
+          let b = limits-parts st limits in
+          let k = lent-of-number whole lent-none in
           record {
-            shape = inBounds-of (st .shape) n;
-            words-lent = ltb-false (length words) (2 ^ st .limits .depth) (k .0);
-            pages-lent = ltb-false (length bytes) (pagesSize st) (k .1);
+            shape = memoryLent st (length words) (length bytes) none .shape;
+            words-lent = k .words-lent;
+            pages-lent = k .pages-lent;
+            short = b .2;
+            bits = b .3;
+            within = b .4;
           }
 
-      answer : (β : Bool) → soundTest whole ≡ β → CheckPromise whole (accepted β)
-      unfolding checkAnswer lentNumber lentConditions
-      answer β e =
-          subst (CheckPromise whole)
-          (sym (ap accepted (sym e)
-          ∙ answered-none (st .shape) (soundTest whole) 1 (lacksMemory st (length words) (length bytes)) n lent))
-          (check-promise whole)
-
-      sound : soundTest whole ≡ (limitsHold st && (walkTest whole && sumsTest whole))
-      unfolding soundTest
-      sound = rw (lentNumber-lent whole memory-lent)
-
-      pub check-limits-fail : limitsHold st ≡ false → CheckPromise whole (accepted false)
-      check-limits-fail e = answer false (sound ∙ ap (λ β. β && (walkTest whole && sumsTest whole)) e)
-
-      module _ (limits : limitsHold st ≡ true) where
-        pub storeLent : StoreLent st (length words) (length bytes)
-        storeLent =
-            let b = limits-parts st limits in
-            record {
-              shape = n;
-              words-lent = memory-lent .words-lent;
-              pages-lent = memory-lent .pages-lent;
-              short = b .2;
-              bits = b .3;
-              within = b .4;
-            }
-
-        pub check-shows : (β : Bool) → β ≡ (walkTest whole && sumsTest whole) → CheckPromise whole (accepted β)
-        check-shows β e = answer β (sound ∙ ap (λ γ. γ && (walkTest whole && sumsTest whole)) limits ∙ sym e)
+      pub check-shows : (β : Bool) → β ≡ (walkTest whole && sumsTest whole) → CheckPromise whole (accepted β)
+      check-shows β e = answer β (sound ∙ ap (λ γ. γ && (walkTest whole && sumsTest whole)) limits ∙ sym e)

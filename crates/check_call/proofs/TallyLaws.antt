@@ -1,31 +1,24 @@
--- Laws of the tally and of the memory that is lent, as the call check compares them. Assumes nothing.
-use Prim.Native.Nat.{ℕ, zero, suc, _+_, _*_, _%_, _^_, _≤_, _<_}
+-- Laws of the tally as the call check compares it. Assumes nothing.
+use Prim.Native.Nat.{ℕ, zero, suc, _+_, _<_}
 use mathlib.Core.Path.{_≡_, refl, sym, ap, _∙_, subst}
 use mathlib.Core.Bool.{true, cond}
 use mathlib.Core.List.{List}
 use native.Mathlib.Omega.{arith}
-use native.Mathlib.Nat.{zero-add, add-zero, add-suc, suc-add, lt-of-lt-of-le, mul-le-mul}
-use lib.Dec.{ltb, eqb}
+use native.Mathlib.Nat.{zero-add, add-zero, add-suc, suc-add}
+use lib.Dec.{eqb}
 use lib.ListN.{length, getD, replicate, getD-replicate}
-use lib.Pow.{pow-mono}
 use lib.Seq.{ext-getD}
-use borrow.Author.Tests.{eqb-true, eq-eqb, ne-eqb, lt-ltb, le-ltb}
+use borrow.Author.Tests.{eqb-true, eq-eqb, ne-eqb}
 use Rattle.lists.proofs.Bools.{eq-of-iff}
-use Rattle.lists.proofs.Shifts.{one-shifted}
 use Rattle.shape.proofs.BoundsLaws.{test-of-allBelow}
 use Rattle.region.specs.Division.{Division, leaf, divided, tally}
 use Rattle.record.specs.Record.{Record}
 use Rattle.record.proofs.KeyLaws.{allBelow-of-tests}
 use Rattle.store.specs.Sound.{tallies}
-use Rattle.store.specs.Store.{pagesSize}
-use Rattle.store.specs.declared.State.{State}
 use Rattle.check_test.specs.Test.{sameNumbers}
 use Rattle.check_test.proofs.SoundLaws.{eq-of-sameNumbers, sameNumbers-refl}
 use Rattle.check_counts.specs.Counts.{sameTally}
 use Rattle.check_walk.specs.Sums.{leavesAt, Tallied}
-use Rattle.check_call.specs.Private.{lacksMemory}
-
--- ---- the tally
 
 -- no leaf of a region is above it
 leavesAt-above : (D : Division Record) (x y : ℕ) → y < x → leavesAt D x y ≡ 0
@@ -82,33 +75,3 @@ sameNumbers-sameTally D leaves counts len told =
         eqb-true (getD leaves x 0) (getD counts x 0)
         (test-of-allBelow (λ x. eqb (getD leaves x 0) (getD counts x 0)) 13 x e below) ∙ count x below) in
         ap (λ l. sameNumbers l (tallies D 0 13)) same ∙ sameNumbers-refl (tallies D 0 13)
-
--- ---- the memory that is lent
-
-module _ (st : State) (words bytes : ℕ) where
-  -- no slice has 2^64 words
-  pub lacksMemory-deep : 63 < st .limits .depth → words < 2 ^ 64 → true ≡ lacksMemory st words bytes
-  lacksMemory-deep h w =
-      let m : 2 ^ 64 ≤ 2 ^ st .limits .depth = pow-mono {i = 64} h in
-      sym (rw (lt-ltb words (2 ^ st .limits .depth) (lt-of-lt-of-le w m)))
-
-  module _ (l : st .limits .depth ≤ 63) where
-    abbrev shifted : ℕ
-    shifted = (1 * 2 ^ st .limits .depth) % 2 ^ 64
-
-    power : shifted ≡ 2 ^ st .limits .depth
-    power = one-shifted (st .limits .depth) (omega arith)
-
-    pub lacksMemory-words : words < shifted → true ≡ lacksMemory st words bytes
-    lacksMemory-words h = sym (rw (lt-ltb words (2 ^ st .limits .depth) (subst (λ y. words < y) power h)))
-
-    pub lacksMemory-bytes : shifted ≤ words → ltb bytes (pagesSize st) ≡ lacksMemory st words bytes
-    lacksMemory-bytes h = sym (rw (le-ltb words (2 ^ st .limits .depth) (subst (λ y. y ≤ words) power h)))
-
--- P pages of up to 16 records
-pub pagesSize-lt : (pages b : ℕ) → pages < 2 ^ 32 → b ≤ 16 → pages * (2 + 12 * b) < 2 ^ 64
-pagesSize-lt pages b h k =
-    let small : 2 + 12 * b ≤ 194 = omega arith in
-    let low : pages ≤ 2 ^ 32 = omega arith in
-    let most : pages * (2 + 12 * b) ≤ 2 ^ 32 * 194 = mul-le-mul low small in
-    omega arith

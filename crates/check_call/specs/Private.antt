@@ -1,15 +1,9 @@
 -- What the call check asks of the lent memory before it walks. Only the code's contracts cite these. Assumes nothing.
 use Prim.Native.Nat.{ℕ, _^_, _≤_}
 use mathlib.Core.Path.{_≡_}
-use mathlib.Core.Bool.{Bool, _||_}
-use lib.Dec.{ltb}
 use Rattle.shape.specs.Shape.{total, shapeNumber, widthsOf}
 use Rattle.store.specs.Store.{pagesSize}
 use Rattle.store.specs.declared.State.{State}
-
--- "fewer than 2^L words or P pages", from the lengths of the directory and of the page bytes
-abbrev pub lacksMemory : State → ℕ → ℕ → Bool
-lacksMemory st words bytes = ltb words (2 ^ st .limits .depth) || ltb bytes (pagesSize st)
 
 -- neither 1 nor 2, and within the limits: what the walk over the whole store asks
 pub record StoreLent (st : State) (words bytes : ℕ) : Type 0 where

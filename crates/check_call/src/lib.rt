@@ -3,34 +3,28 @@ use check_counts::pages_in_use;
 use check_counts::same_tally;
 use check_walk::regions::whole_region;
 use check_walk::walk;
+use refusals::lent_number;
 use refusals::limits_hold;
-use shape::shape_number;
 use shape::widths_of;
 use store::Checked;
 use store::State;
 ghost use mathlib.Core.Path.{_≡_};
 ghost use mathlib.Core.Bool.{_&&_};
 ghost use lib.ListN.{length};
-ghost use Rattle.shape.specs.Shape.{shapeNumber};
 ghost use Rattle.store.specs.Store.{store};
 ghost use Rattle.store.specs.Answers.{checkedAnswer};
 ghost use Rattle.store.specs.Promises.{CheckPromise};
 ghost use Rattle.check_test.specs.Test.{walkTest, sumsTest};
-ghost use Rattle.check_call.specs.Private.{lacksMemory, StoreLent};
+ghost use Rattle.check_call.specs.Private.{StoreLent};
 
 // Whether the lent store is sound: yes exactly for a sound store, otherwise no. Refused with 1 for a
 // shape outside its bounds, then with 2 for fewer than 2^L words or P pages. Writes nothing.
 pub fn check(state: State, dir: &[u32], pages: &[u8]) -> Checked
     ensures { λ r. ⌜ CheckPromise (store state (now (dir .entry)) (now (pages .entry))) (checkedAnswer r) ⌝ }
 {
-    let number = shape_number(state.shape);
+    let number = lent_number(state, dir.len(), pages.len());
     if number != 0 {
         return Checked::Refused(number);
-    }
-    let words = dir.len();
-    let bytes = pages.len();
-    if lacks_memory(state, words, bytes) {
-        return Checked::Refused(2);
     }
     if !limits_hold(state) {
         return Checked::No;
@@ -39,22 +33,6 @@ pub fn check(state: State, dir: &[u32], pages: &[u8]) -> Checked
         return Checked::Yes;
     }
     Checked::No
-}
-
-// Whether there are fewer than 2^L words or P pages. No slice has 2^64 words.
-fn lacks_memory(state: State, words: usize, bytes: usize) -> bool
-    requires { ⌜ shapeNumber (state .shape) ≡ 0 ⌝ }
-    ensures { λ r. ⌜ r ≡ lacksMemory state words bytes ⌝ }
-{
-    let depth = state.limits.depth;
-    if 63 < depth {
-        return true;
-    }
-    if (words as u64) < 1u64 << depth {
-        return true;
-    }
-    let size = 2 + 12 * (state.shape.capacity as u64);
-    (bytes as u64) < (state.limits.pages as u64) * size
 }
 
 // Whether words and pages show the leaves of some set, and T, the tally and the pages in use are

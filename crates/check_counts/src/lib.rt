@@ -1,6 +1,7 @@
 // What the call check compares the sums of its walk with: the pages in use and the state's tally
 // (document 01, "Calls").
 use check_page::bytes::number_at;
+use page::page_size;
 use store::Tally;
 ghost use mathlib.Core.Path.{_≡_};
 ghost use Prim.Native.Nat.{_*_, _≤_};
@@ -13,7 +14,7 @@ pub fn pages_in_use(capacity: u32, n: u32, pages: &[u8]) -> u32
     requires { ⌜ n * pageSize capacity ≤ length (now pages) ⌝ }
     ensures { λ r. ⌜ r ≡ usedPages capacity (now (pages .entry)) n ⌝ }
 {
-    let size = 2 + 12 * (capacity as usize);
+    let size = page_size(capacity as usize);
     let mut used: u32 = 0;
     let mut page: u32 = 0;
     let mut start: usize = 0;

@@ -10,7 +10,8 @@ use lib.Seq.{getD-take, getD-drop}
 use Rattle.shape.specs.declared.Shape.{Shape}
 use Rattle.record.specs.Bytes.{recordSize, numberOf, field, recordOf}
 use Rattle.record.specs.Packed.{unpackedKey}
-use Rattle.record.proofs.CodecLaws.{AreBytes, AreBytes-field, unpackedKey-keyIn}
+use Rattle.record.proofs.CodecLaws.{unpackedKey-keyIn}
+use Rattle.record.proofs.ByteLaws.{AreBytes, AreBytes-field}
 use Rattle.page.specs.Fields as fields
 use Rattle.page.specs.Fields.{recordOffset, recordField}
 use Rattle.check_page.specs.PageTest.{valuesAt}

@@ -15,10 +15,9 @@ use Rattle.shape.specs.Shape.{Fit, total}
 use Rattle.split.specs.Steps.{bitValue}
 use Rattle.split.specs.Bits.{bitOf, splitBit}
 use Rattle.split.proofs.BitLaws.{splitBit-stepNumber}
-use Rattle.address.specs.Pairs.{StepPair}
+use Rattle.pairs.specs.Pairs.{StepPair, StepsBefore}
 use Rattle.cell.proofs.Strings.{bitValue-digit}
-use Rattle.directory.specs.Places.{StepsBefore}
-use Rattle.directory.proofs.PlaceLaws.{stepsBefore-zero, stepsBefore-step, stepsBefore-skip, stepNumber-pair}
+use Rattle.pairs.proofs.PlaceLaws.{stepsBefore-zero, stepsBefore-step, stepsBefore-skip, stepNumber-pair}
 use Rattle.region.specs.Strings.{sameBits}
 use Rattle.region.specs.Sets.{before}
 use Rattle.key_order.specs.Order.{firstStep, compared}

@@ -1,11 +1,10 @@
--- Laws of a page and its test: where the page ends; by case, as the code ends or goes on; it is the test over the
--- page's records. Assumes nothing.
+-- Laws of the test of a page: by case, as the code ends or goes on; it is the test over the page's records. Assumes
+-- nothing.
 use Prim.Native.Nat.{ℕ, zero, suc, _+_, _-_, _*_, _/_, _^_, _≤_, _<_}
 use mathlib.Core.Path.{_≡_, refl, sym, ap, _∙_, subst}
 use mathlib.Core.Bool.{Bool, true, false, _&&_, and-false}
 use mathlib.Core.List.{List}
 use native.Mathlib.Omega.{arith}
-use native.Mathlib.Nat.{mul-le-mul-right, suc-mul}
 use lib.Dec.{leb, eqb}
 use lib.ListN.{length}
 use borrow.Author.Tests.{le-leb, lt-leb, eq-eqb}
@@ -22,12 +21,6 @@ use Rattle.check_page.specs.PageTest.{valuesAt, keyCode, recordPasses, r
 use Rattle.check_page.specs.PageTest.{ascendAfter, allFit, ascending}
 use Rattle.check_page.proofs.AscendLaws.{lastCode, lastCode-at, both, last-begins, recordsAfter-ascend}
 use Rattle.check_page.proofs.ByteLaws.{key-recordOf}
-
--- ---- where it lies
-
--- page g ends within the first n
-pub page-end : (g n size : ℕ) → g < n → g * size + size ≤ n * size
-page-end g n size h = rw suc-mul at (mul-le-mul-right size h)
 
 -- ---- by case
 

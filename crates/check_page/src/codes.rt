@@ -1,5 +1,5 @@
 // The first split bits of a key as one number, the first bit highest.
-use address::pairs::width_at;
+use pairs::width_at;
 use shape::Widths;
 ghost use mathlib.Core.Path.{_≡_};
 ghost use Prim.Native.Nat.{_-_, _/_, _^_, _<_, _≤_};

@@ -2,13 +2,13 @@
 pub mod bytes;
 pub mod codes;
 
-use address::below;
 use bytes::number_at;
 use codes::begins;
 use codes::value_at;
 use key_order::Order;
 use key_order::compare;
 use key_order::first_step;
+use numbers::below;
 use page::key_at;
 use shape::Widths;
 ghost use mathlib.Core.Path.{_≡_};

@@ -7,7 +7,7 @@ ghost use mathlib.Core.Path.{_≡_};
 ghost use Prim.Native.Nat.{max};
 ghost use lib.ListN.{length};
 ghost use Rattle.shape.specs.Shape.{widthList};
-ghost use Rattle.check_test.specs.Walk.{depthField};
+ghost use Rattle.directory_word.specs.Word.{depthField};
 ghost use Rattle.check_page.specs.PageTest.{TestedPage};
 ghost use Rattle.check_seen.specs.Seen.{failed, pageSeen, joinedSeen, JoinFits};
 

@@ -17,7 +17,8 @@ use Rattle.region.proofs.StringLeafLaws.{sameBits-leafDepth}
 use Rattle.region.proofs.PageLaws.{PagesApart, PagesShared, leafPages, length-leafPages, All-leafPages}
 use Rattle.region.proofs.PageLaws.{NoRepeat-leafPages}
 use Rattle.region.proofs.PageLaws.{Member-leafPages}
-use Rattle.check_test.specs.Walk.{pageField, View, pagesInUse}
+use Rattle.directory_word.specs.Word.{pageField}
+use Rattle.check_test.specs.Walk.{View, pagesInUse}
 use Rattle.check_test.proofs.ViewLaws.{Holds, Shown}
 
 Member-or-not : (g : ℕ) (xs : List ℕ) → Member g xs ⊎ (Member g xs → ⊥)

@@ -18,7 +18,8 @@ use Rattle.region.specs.Division.{Division, leaf, divided, side, divide, leafDe
 use Rattle.region.proofs.StringLaws.{sameBits-refl}
 use Rattle.region.proofs.OrderLaws.{sorted-filter, sorted-side, length-sorted-le, length-sides}
 use Rattle.region.proofs.DivideLaws.{divide-leaf, divide-divided, allRecords-divide}
-use Rattle.check_test.specs.Walk.{depthField, pageField, View, fieldRecords, pageTest, sameWords, leafTest}
+use Rattle.directory_word.specs.Word.{depthField, pageField}
+use Rattle.check_test.specs.Walk.{View, fieldRecords, pageTest, sameWords, leafTest}
 use Rattle.check_test.specs.Walk.{readDivision}
 use Rattle.check_test.specs.Walk.{recordCount, regionTest}
 use Rattle.check_test.proofs.WalkLaws.{readDivision-leaf, readDivision-divided}

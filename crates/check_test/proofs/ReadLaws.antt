@@ -17,7 +17,8 @@ use Rattle.region.specs.Sets.{before, sorted}
 use Rattle.region.specs.Division.{Division, leaf, divided, side, divide, leafDepth, leafRecords, allRecords}
 use Rattle.region.proofs.OrderLaws.{sorted-append}
 use Rattle.region.proofs.DivideLaws.{divide-leaf, divide-divided}
-use Rattle.check_test.specs.Walk.{depthField, pageField, View, fieldRecords, pageTest, sameWords, leafTest}
+use Rattle.directory_word.specs.Word.{depthField, pageField}
+use Rattle.check_test.specs.Walk.{View, fieldRecords, pageTest, sameWords, leafTest}
 use Rattle.check_test.specs.Walk.{readDivision}
 use Rattle.check_test.specs.Walk.{recordCount, regionTest}
 use Rattle.check_test.proofs.WalkLaws.{readDivision-leaf, readDivision-divided}

@@ -29,7 +29,8 @@ use Rattle.store.specs.Store.{Store, wordAt, pagesSize, lentConditions}
 use Rattle.store.specs.Sound.{LeafWord, Shows}
 use Rattle.store.specs.Promises.{lentNumber}
 use Rattle.page.proofs.FieldLaws.{length-recordsFrom}
-use Rattle.check_test.specs.Walk.{depthField, pageField, pagesInUse}
+use Rattle.directory_word.specs.Word.{depthField, pageField}
+use Rattle.check_test.specs.Walk.{pagesInUse}
 use Rattle.check_test.specs.Test.{viewOf}
 use Rattle.check_test.proofs.ViewLaws.{Holds, Shown}
 use Rattle.check_test.proofs.InUseLaws.{Holds-nonEmpty, pages-apart, free-of-count, count-of-free}

@@ -16,7 +16,8 @@ use Rattle.region.specs.Strings.{sameBits, withBit}
 use Rattle.region.specs.Sets.{sorted}
 use Rattle.region.specs.Division.{Division, leafDepth, leafRecords}
 use Rattle.region.proofs.StringLaws.{sameBits-refl, sameBits-withBit}
-use Rattle.check_test.specs.Walk.{depthField, pageField, View, fieldRecords, recordTest, pageTest, sameWords}
+use Rattle.directory_word.specs.Word.{depthField, pageField}
+use Rattle.check_test.specs.Walk.{View, fieldRecords, recordTest, pageTest, sameWords}
 
 -- ---- a region's sides
 

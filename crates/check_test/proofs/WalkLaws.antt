@@ -14,7 +14,8 @@ use Rattle.lists.specs.Filter.{nonEmpty}
 use Rattle.lists.proofs.FilterLaws.{cond-le-one}
 use Rattle.region.specs.Strings.{withBit}
 use Rattle.region.specs.Division.{Division, leaf, divided, greatestDepth, tally, nonEmptyLeaves, allRecords}
-use Rattle.check_test.specs.Walk.{depthField, pageField, View, fieldRecords, leafTest, readDivision, recordCount}
+use Rattle.directory_word.specs.Word.{depthField, pageField}
+use Rattle.check_test.specs.Walk.{View, fieldRecords, leafTest, readDivision, recordCount}
 use Rattle.check_test.specs.Walk.{regionTest}
 
 module _ {R : Type 0} (v : View R) where
@@ -84,32 +85,3 @@ module _ {R : Type 0} (v : View R) where
       readDivision-all (λ n D. nonEmptyLeaves D ≤ 2 ^ n)
       (λ n p. omega (arith, cond-le-one (nonEmpty (fieldRecords v (pageField (v .word p)))), pow-pos n))
       (λ n l u h k. omega (arith, two-pow-succ n))
-
-  pub tally-readDivision-le : (x n : ℕ) (p : ℕ → Bool) (t : ℕ) → tally (readDivision v n p t) x ≤ 2 ^ n
-  tally-readDivision-le x n p t =
-      readDivision-all (λ n D. (x : ℕ) → tally D x ≤ 2 ^ n)
-      (λ n p x. omega (arith, cond-le-one (eqb x 0), pow-pos n)) by-sides n p t x
-    where
-      by-sides : (n : ℕ) (l u : Division R) → ((x : ℕ) → tally l x ≤ 2 ^ n) → ((x : ℕ) → tally u x ≤ 2 ^ n)
-          → (x : ℕ) → tally (divided l u) x ≤ 2 ^ suc n
-      by-sides n l u h k zero = omega arith
-      by-sides n l u h k (suc x) = omega (arith, two-pow-succ n, h x, k x)
-
-  -- where no page shows more than m records
-  pub recordCount-le : (m : ℕ) → ((g : ℕ) → length (v .shown g) ≤ m) → (n : ℕ) (p : ℕ → Bool) (t : ℕ)
-      → recordCount v n p t ≤ m * 2 ^ n
-  recordCount-le m few =
-      readDivision-all (λ n D. length (allRecords D) ≤ m * 2 ^ n)
-      (λ n p. of-field n (pageField (v .word p)))
-      (λ n l u h k. by-sides n (allRecords l) (allRecords u) h k)
-    where
-      of-field : (n f : ℕ) → length (fieldRecords v f) ≤ m * 2 ^ n
-      of-field n zero = omega arith
-      of-field n (suc g) = le-trans (few g) (le-mul-of-pos-right m (pow-pos n))
-
-      by-sides : (n : ℕ) (xs ys : List R) → length xs ≤ m * 2 ^ n → length ys ≤ m * 2 ^ n
-          → length (xs ++ ys) ≤ m * 2 ^ suc n
-      by-sides n xs ys h k =
-          let e : m * 2 ^ suc n ≡ m * 2 ^ n + m * 2 ^ n =
-          ap (λ c. m * c) (two-pow-succ n) ∙ mul-add m (2 ^ n) (2 ^ n) in
-          omega (arith, length-append xs ys)

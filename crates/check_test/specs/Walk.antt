@@ -1,7 +1,7 @@
 -- The test of words and pages, by recursion over regions (document 01, "Regions of a set", "Lent memory"). It is over
 -- any records with split bits. A region of depth t is given by a string p whose first t bits count; the walk sets the
 -- others to 0, so that p is the string of the region's first cell too. Assumes nothing.
-use Prim.Native.Nat.{ℕ, zero, suc, _+_, _/_, _%_, _^_}
+use Prim.Native.Nat.{ℕ, zero, suc, _+_}
 use mathlib.Core.Bool.{Bool, true, false, _&&_, cond}
 use mathlib.Core.List.{List, []}
 use lib.Dec.{leb, ltb, eqb}
@@ -10,17 +10,7 @@ use Rattle.lists.specs.Filter.{all, nonEmpty}
 use Rattle.region.specs.Strings.{sameBits, withBit}
 use Rattle.region.specs.Sets.{sorted}
 use Rattle.region.specs.Division.{Division, leaf, divided, allRecords}
-
--- ---- the halves of a directory word
-
--- the depth: all of the upper half, so that a word with one of the bits 20–31 set has a depth of 16 or more. 0x30001
--- gives 3
-abbrev pub depthField : ℕ → ℕ
-depthField word = word / 2 ^ 16
-
--- "the page number plus one .. or 0 for no page": 0x30001 gives 1
-abbrev pub pageField : ℕ → ℕ
-pageField word = word % 2 ^ 16
+use Rattle.directory_word.specs.Word.{depthField, pageField}
 
 -- "Every cell whose split bits begin with a leaf holds that leaf's word": the cells that begin with the first t bits of
 -- p, n steps more, hold the word x, where `word` gives the word at the cell of a string

@@ -13,7 +13,8 @@ use borrow.Author.Tests.{ne-eqb}
 use Rattle.region.specs.Strings.{withBit}
 use Rattle.region.specs.Division.{Division, leaf, divided, allRecords}
 use Rattle.record.specs.Record.{Record}
-use Rattle.check_test.specs.Walk.{depthField, pageField, View, fieldRecords, leafTest, readDivision}
+use Rattle.directory_word.specs.Word.{depthField, pageField}
+use Rattle.check_test.specs.Walk.{View, fieldRecords, leafTest, readDivision}
 use Rattle.check_test.specs.Walk.{recordCount, regionTest}
 use Rattle.check_test.proofs.WalkLaws.{readDivision-leaf, regionTest-leaf, readDivision-divided, recordCount-divided}
 use Rattle.check_test.proofs.WalkLaws.{regionTest-divided, greatestDepth-readDivision-le}

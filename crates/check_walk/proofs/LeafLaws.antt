@@ -18,23 +18,16 @@ use Rattle.check_test.specs.Walk.{View, fieldRecords, pageTest}
 use Rattle.check_test.proofs.CodeLaws.{pageTest-chain}
 use Rattle.check_test.proofs.ShowsLaws.{nonEmpty-recordsFrom}
 use Rattle.check_page.specs.PageTest.{pagePasses, TestedPage}
-use Rattle.check_page.proofs.PageLaws.{page-end, pagePasses-none, pageChain-pagePasses}
+use Rattle.page.proofs.PartLaws.{page-end-le, midOf-page}
+use Rattle.check_page.proofs.PageLaws.{pagePasses-none, pageChain-pagePasses}
 use Rattle.check_seen.specs.declared.Seen.{Seen}
 use Rattle.check_seen.specs.Seen.{failed, pageSeen}
 use Rattle.check_walk.specs.declared.regions.Region.{Region}
-use Rattle.check_walk.specs.Regions.{Names, RegionIn}
+use Rattle.check_walk.specs.Regions.{RegionNamed, RegionIn}
 use Rattle.check_walk.specs.Sums.{viewBy, Sees, PageAsked, Walks}
 use Rattle.check_walk.proofs.SumLaws.{sees-failed}
 
 -- ---- where it lies
-
--- as the code takes it out
-pub part-pageAt : (b g : ℕ) (bytes : List ℕ) → let start = g * pageSize b in
-    take (start + pageSize b - start) (drop start bytes) ≡ pageAt b bytes g
-part-pageAt b g bytes =
-    let start : ℕ = g * pageSize b in
-    let e : start + pageSize b - start ≡ pageSize b = omega arith in
-    ap (λ n. take n (drop start bytes)) e
 
 module _ (st : State) (ws : List ℕ) (r : Region) where
   pub pageAsked-walks : (words bytes : ℕ) → Walks st ws words bytes r → PageAsked st ws bytes r
@@ -49,7 +42,7 @@ module _ (st : State) (ws : List ℕ) (r : Region) where
   pub page-within : (bytes g : ℕ) → PageAsked st ws bytes r → g < st .limits .pages
       → g * pageSize (st .shape .capacity) + pageSize (st .shape .capacity) ≤ bytes
   page-within bytes g a h =
-      omega (arith, a .pages-lent, page-end g (st .limits .pages) (pageSize (st .shape .capacity)) h)
+      omega (arith, a .pages-lent, page-end-le (st .shape .capacity) g (st .limits .pages) h)
 
   pub pageLent-part : (bytes : List ℕ) (g : ℕ) → PageAsked st ws (length bytes) r → g < st .limits .pages
       → let b = st .shape .capacity in
@@ -60,7 +53,7 @@ module _ (st : State) (ws : List ℕ) (r : Region) where
       record {
         fit = a .fit;
         within = a .bits;
-        whole = ap length (part-pageAt b g bytes)
+        whole = ap length (midOf-page b g (g * pageSize b) (pageSize b) bytes refl refl)
             ∙ length-field bytes (g * pageSize b) (pageSize b) (page-within (length bytes) g a h);
       }
 
@@ -78,7 +71,7 @@ sub-walks st ws words bytes r w side i d l = record {
 
 -- ---- what is told of it
 
-module _ (st : State) (ws words bytes : List ℕ) (r : Region) (p : ℕ → Bool) (n : Names ws r p) (f : ℕ) where
+module _ (st : State) (ws words bytes : List ℕ) (r : Region) (p : ℕ → Bool) (n : RegionNamed ws r p) (f : ℕ) where
   abbrev v : View Record
   v = viewBy ws st words bytes
 

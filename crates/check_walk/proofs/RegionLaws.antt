@@ -15,29 +15,30 @@ use Rattle.shape.specs.Shape.{Fit}
 use Rattle.split.specs.Steps.{steps, bitValue}
 use Rattle.split.proofs.StepLaws.{length-steps}
 use Rattle.address.specs.Address.{address, addressFrom, latestStep, createdBy}
-use Rattle.address.specs.Answers.{indexList}
-use Rattle.address.specs.Pairs.{StepPair}
+use Rattle.address_formula.specs.Index.{indexList}
+use Rattle.pairs.specs.Pairs.{StepPair, StepsBefore}
 use Rattle.address.specs.Vectors.{InBox}
 use Rattle.cell.specs.Cell.{cell, cellAddress}
 use Rattle.cell.proofs.CellLaws.{cell-zero, cellAddress-lt, cellAddress-zero-bits}
 use Rattle.directory.specs.Directory.{DirectoryFits}
-use Rattle.directory.specs.Places.{StepsBefore, bitSet}
-use Rattle.directory.proofs.PlaceLaws.{stepsBefore-zero, stepsBefore-pair}
-use Rattle.directory.proofs.CellLaws.{inBox-cell}
-use Rattle.directory.proofs.RegionLaws.{cell-lower, cell-upper, getD-cell-lt}
+use Rattle.address_bits.specs.Bits.{bitSet}
+use Rattle.pairs.proofs.PlaceLaws.{stepPair-lt, stepsBefore-zero, stepsBefore-pair}
+use Rattle.cell.proofs.HalfLaws.{inBox-cell, cell-lower}
+use Rattle.directory.proofs.CellLaws.{cell-upper, getD-cell-lt}
 use Rattle.region.specs.Strings.{withBit, emptyString}
 use Rattle.region.proofs.StringLaws.{withBit-other}
 use Rattle.check_test.specs.Codes.{code}
 use Rattle.check_test.specs.Walk.{sameWords}
 use Rattle.check_test.proofs.CodeLaws.{code-lt, code-side}
+use Rattle.directory_tests.specs.Intact.{cellWord}
 use Rattle.check_walk.specs.declared.regions.Region.{Region}
 use Rattle.check_walk.specs.declared.regions.Sides.{Sides}
-use Rattle.check_walk.specs.Regions.{wholeRegion, cellWord, Names, RegionIn, SidesOf}
+use Rattle.check_walk.specs.Regions.{wholeRegion, RegionNamed, RegionIn, SidesOf}
 
 -- ---- the whole
 
 module _ (ws : List ℕ) where
-  pub names-whole : Names ws wholeRegion emptyString
+  pub names-whole : RegionNamed ws wholeRegion emptyString
   unfolding wholeRegion
   names-whole = record { vector = cell-zero ws emptyString; string = refl; zeros = λ t l. refl }
 
@@ -57,9 +58,6 @@ module _ (ws : List ℕ) (r : Region) (i : RegionIn ws r) where
       let n = i .named .1 in
       subst (λ s. s < 2 ^ r .depth) (n .string) (code-lt (r .depth) 0 (i .named .0))
 
-  pub region-inBox : Fit ws → InBox ws (indexList (r .index))
-  region-inBox fit = subst (InBox ws) (i .named .1 .vector) (inBox-cell ws fit (r .depth) (i .named .0))
-
   -- step x, at place g
   module _ (fit : Fit ws) (g : ℕ) (pair : StepPair ws (r .depth) g) where
     pub region-small : getD (indexList (r .index)) (g % 4) 0 < 2 ^ (g / 4)
@@ -70,9 +68,9 @@ module _ (ws : List ℕ) (r : Region) (i : RegionIn ws r) where
     -- the strings of the sides, by their bit
     module _ (β : Bool) (s : Region) (deeper : s .depth ≡ r .depth + 1)
         (bits : s .string ≡ 2 * r .string + bitValue β) where
-      names-side : (p : ℕ → Bool) → Names ws r p
+      names-side : (p : ℕ → Bool) → RegionNamed ws r p
           → cell ws (suc (r .depth)) (withBit p (r .depth) β) ≡ indexList (s .index)
-          → Names ws s (withBit p (r .depth) β)
+          → RegionNamed ws s (withBit p (r .depth) β)
       names-side p n v =
           let x = r .depth in
           let e : s .depth ≡ suc x = deeper ∙ add-one x in
@@ -88,12 +86,12 @@ module _ (ws : List ℕ) (r : Region) (i : RegionIn ws r) where
         (bits : h .lower .string ≡ 2 * r .string) (bits′ : h .upper .string ≡ 2 * r .string + 1)
         (same : h .lower .index ≡ r .index) (set : indexList (h .upper .index) ≡ bitSet g (indexList (r .index)))
         (at : h .lower .address ≡ r .address) (at′ : h .upper .address ≡ address ws (indexList (h .upper .index))) where
-      lower : (p : ℕ → Bool) → Names ws r p → Names ws (h .lower) (withBit p (r .depth) false)
+      lower : (p : ℕ → Bool) → RegionNamed ws r p → RegionNamed ws (h .lower) (withBit p (r .depth) false)
       lower p n =
           names-side false (h .lower) deeper (omega arith) p n
-          (cell-lower ws fit (r .depth) g pair p ∙ n .vector ∙ ap indexList (sym same))
+          (cell-lower ws fit (r .depth) (stepPair-lt ws (r .depth) g pair fit) p ∙ n .vector ∙ ap indexList (sym same))
 
-      upper : (p : ℕ → Bool) → Names ws r p → Names ws (h .upper) (withBit p (r .depth) true)
+      upper : (p : ℕ → Bool) → RegionNamed ws r p → RegionNamed ws (h .upper) (withBit p (r .depth) true)
       upper p n =
           names-side true (h .upper) deeper′ bits′ p n
           (cell-upper ws fit (r .depth) g pair p ∙ ap (bitSet g) (n .vector) ∙ sym set)
@@ -153,14 +151,14 @@ module _ (w0 w1 w2 w3 : ℕ) (r : Region) (i : RegionIn (w0 ∷ w1 ∷ w2 ∷ w3
   enough : t ≤ length (steps ws)
   enough = subst (λ n. t ≤ n) (sym (length-steps w0 w1 w2 w3 (d .fit))) (d .deep)
 
-  first-cell : (p : ℕ → Bool) → Names ws r p → cellAddress ws t p ≡ r .address
+  first-cell : (p : ℕ → Bool) → RegionNamed ws r p → cellAddress ws t p ≡ r .address
   unfolding cellAddress
   first-cell p n =
       cellAddress-zero-bits ws (d .fit) (r .depth) t within enough p (λ s l u. n .zeros s l)
       ∙ ap (address ws) (n .vector)
       ∙ sym (i .at)
 
-  pub cellWord-first : (words : List ℕ) (p : ℕ → Bool) → Names ws r p
+  pub cellWord-first : (words : List ℕ) (p : ℕ → Bool) → RegionNamed ws r p
       → cellWord ws t words p ≡ getD words (r .address) 0
   cellWord-first words p n = ap (λ a. getD words a 0) (first-cell p n)
 

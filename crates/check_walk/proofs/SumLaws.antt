@@ -18,7 +18,8 @@ use Rattle.lists.proofs.Numbers.{eq-or-ne}
 use Rattle.region.specs.Strings.{withBit}
 use Rattle.region.specs.Division.{Division, leaf}
 use Rattle.record.specs.Record.{Record}
-use Rattle.check_test.specs.Walk.{depthField, pageField, View, fieldRecords}
+use Rattle.directory_word.specs.Word.{depthField, pageField}
+use Rattle.check_test.specs.Walk.{View, fieldRecords}
 use Rattle.check_test.specs.Walk.{pageTest, sameWords, leafTest, readDivision}
 use Rattle.check_test.specs.Walk.{recordCount, regionTest}
 use Rattle.check_test.proofs.ViewLaws.{page-of-test}

@@ -13,10 +13,12 @@ use Rattle.record.specs.Record.{Record}
 use Rattle.page.specs.Page.{recordsOf, pageAt}
 use Rattle.store.specs.Store.{pagesSize}
 use Rattle.store.specs.declared.State.{State}
-use Rattle.check_test.specs.Walk.{View, fieldRecords, pageTest, leafTest, readDivision, regionTest, pageField}
+use Rattle.directory_word.specs.Word.{pageField}
+use Rattle.check_test.specs.Walk.{View, fieldRecords, pageTest, leafTest, readDivision, regionTest}
 use Rattle.check_seen.specs.declared.Seen.{Seen}
 use Rattle.check_walk.specs.declared.regions.Region.{Region}
-use Rattle.check_walk.specs.Regions.{cellWord, Names, RegionIn}
+use Rattle.directory_tests.specs.Intact.{cellWord}
+use Rattle.check_walk.specs.Regions.{RegionNamed, RegionIn}
 
 -- what words and pages show, by the widths that count
 abbrev pub viewBy : List ℕ → State → List ℕ → List ℕ → View Record
@@ -72,19 +74,19 @@ module _ (st : State) (ws : List ℕ) where
 
   -- what is told of the page of a leaf, by its word's page field
   abbrev pub PageSeen : List ℕ → Region → ℕ → Seen → Type 0
-  PageSeen bytes r f seen = (words : List ℕ) (p : ℕ → Bool) → Names ws r p → let v = viewBy ws st words bytes in
+  PageSeen bytes r f seen = (words : List ℕ) (p : ℕ → Bool) → RegionNamed ws r p → let v = viewBy ws st words bytes in
       Sees (pageTest v p (r .depth) f) (leaf (fieldRecords v f)) seen
 
   module _ (words bytes : List ℕ) (r : Region) (before : List ℕ) (seen : Seen) (after : List ℕ) where
     -- of a leaf
     abbrev pub LeafSeen : Type 0
-    LeafSeen = (p : ℕ → Bool) → Names ws r p → let v = viewBy ws st words bytes in
+    LeafSeen = (p : ℕ → Bool) → RegionNamed ws r p → let v = viewBy ws st words bytes in
         Tells (r .depth) before seen after (leafTest v (st .deepest - r .depth) p (r .depth))
         (leaf (fieldRecords v (pageField (v .word p))))
 
     -- and of a region
     abbrev pub Walked : Type 0
-    Walked = (p : ℕ → Bool) → Names ws r p → let v = viewBy ws st words bytes in
+    Walked = (p : ℕ → Bool) → RegionNamed ws r p → let v = viewBy ws st words bytes in
         Tells (r .depth) before seen after (regionTest v (st .deepest - r .depth) p (r .depth))
         (readDivision v (st .deepest - r .depth) p (r .depth))
 

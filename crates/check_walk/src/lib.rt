@@ -7,6 +7,7 @@ use check_seen::depth_of;
 use check_seen::fails;
 use check_seen::joined;
 use check_seen::page_seen;
+use page::page_size;
 use regions::Region;
 use regions::same_words;
 use regions::sides_of;
@@ -100,7 +101,7 @@ fn leaf_page(state: State, widths: Widths, region: Region, field: u32, pages: &[
         return fails();
     }
     let capacity = state.shape.capacity;
-    let size = 2 + 12 * (capacity as usize);
+    let size = page_size(capacity as usize);
     let start = (page as usize) * size;
     let end = start + size;
     page_seen(

@@ -1,8 +1,8 @@
 // Regions as the walk hands them on, and the words in a region's cells.
-use address::Index;
-use address::locate;
-use directory::places::step_from;
-use directory::vectors::with_bit;
+use address_bits::with_bit;
+use address_formula::Index;
+use address_formula::locate;
+use pairs::step_from;
 use shape::Widths;
 ghost use mathlib.Core.Path.{_≡_};
 ghost use Prim.Native.Nat.{_<_, _≤_};

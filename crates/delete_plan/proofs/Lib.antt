@@ -1,6 +1,5 @@
-pub mod ClimbLaws
+pub mod BesideLaws
 pub mod EarlyLaws
+pub mod FairLaws
 pub mod MetLaws
 pub mod PairLaws
-pub mod SiblingLaws
-pub mod SidePageLaws

@@ -1,7 +1,7 @@
 -- Laws of what the plan of a delete meets at the key's leaf: the refusals 5 and 9, and the key's record. Assumes
 -- nothing.
 use Prim.Native.Nat.{ℕ, zero, suc, _+_, _-_, _*_, _%_, _^_, _≤_, _<_}
-use mathlib.Core.Path.{_≡_, refl, sym, ap, _∙_}
+use mathlib.Core.Path.{_≡_, refl, sym, ap, _∙_, subst}
 use mathlib.Core.Bool.{Bool, true, false, cond, true≢false}
 use mathlib.Core.List.{List}
 use native.Mathlib.Nat.{le-trans}
@@ -12,17 +12,17 @@ use lib.Pow.{pow-mono}
 use borrow.Author.Tests.{eqb-true}
 use Rattle.lists.specs.Filter.{nonEmpty}
 use Rattle.shape.specs.Refusal.{refused}
-use Rattle.shape.specs.Shape.{widthsOf}
+use Rattle.shape.specs.Shape.{widthsOf, total, indexFits}
 use Rattle.shape.specs.Key.{encodings}
 use Rattle.shape.specs.declared.Shape.{Shape}
 use Rattle.shape.proofs.ShapeLaws.{capacity-bounds}
 use Rattle.split.specs.Bits.{splitBit}
-use Rattle.record.specs.Packed.{packedKey, SixteenBits}
-use Rattle.record.proofs.CodecLaws.{AreBytes, AreBytes-field}
+use Rattle.record.specs.Packed.{packedKey, unpackedKey, SixteenBits}
+use Rattle.record.proofs.ByteLaws.{AreBytes, AreBytes-field}
 use Rattle.page.specs.Page.{countOf, recordsOf, recordsFrom, pageSize, pageAt}
 use Rattle.page.specs.Fields.{keyAt}
 use Rattle.pages.specs.Pages.{PageLent}
-use Rattle.pages.proofs.PageLaws.{page-end-le}
+use Rattle.page.proofs.PartLaws.{page-end-le}
 use Rattle.page_matches.specs.KeyPlace.{keyPlace}
 use Rattle.page_matches.proofs.StoredLaws.{sameKey-absent}
 use Rattle.directory_word.specs.Word.{leafOf}
@@ -33,18 +33,23 @@ use Rattle.store.specs.Store.{Store}
 use Rattle.store.specs.Promises.{keyNumber, DeletePromise}
 use Rattle.store.proofs.ShownLaws.{wordOn}
 use Rattle.change.specs.Delete.{keyString}
-use Rattle.change.proofs.BoundLaws.{count-bounds}
 use Rattle.change.proofs.DeletePromiseLaws.{delete-unsound, delete-empty, delete-absent}
 use Rattle.refusals.specs.Limits.{limitsHold}
 use Rattle.refusals.proofs.LimitsLaws.{limits-of-sound, limits-parts}
-use Rattle.page_ends.specs.Ends.{endsBegin}
-use Rattle.leaf_word.specs.Hold.{wordHolds, ownPage, OwnAsked}
+use Rattle.page_ends.specs.Ends.{fixedBits, endsAgree}
+use Rattle.page_ends.specs.Fair.{fairCount}
+use Rattle.page_ends.proofs.FairLaws.{fair-of-count}
+use Rattle.leaf_word.specs.Hold.{wordHolds, ownPage}
 use Rattle.leaf_word.proofs.HoldLaws.{word-of-sound, held-empty, held-page}
-use Rattle.leaf_word.proofs.PageLaws.{unpackedKey-values, indexFits-packed, endsBegin-word}
+use Rattle.leaf_word.proofs.PageLaws.{unpackedKey-values, indexFits-packed, endsAgree-mask}
 use Rattle.delete_plan.specs.Plan.{LeafMet, RecordFound}
-use Rattle.delete_plan.specs.Siblings.{DirectoryLent}
-use Rattle.lookup.proofs.EarlyLaws.{Passed, passed, SixteenBits-of-keyFits}
+use Rattle.delete_plan.specs.Met.{Sought}
+use Rattle.delete_plan.specs.declared.Stored.{Stored}
+use Rattle.directory_lent.specs.Lent.{DirectoryLent}
+use Rattle.refusals.proofs.PassedLaws.{Passed, passed}
+use Rattle.model.proofs.SetLaws.{SixteenBits-of-keyFits}
 use Rattle.delete_plan.proofs.EarlyLaws.{encodings-values}
+use Rattle.delete_plan.proofs.FairLaws.{fair-of-sound}
 
 -- ---- the place of a key
 
@@ -124,8 +129,14 @@ module _ (before : Store) (values : List ℕ) where
   -- ---- at the leaf, with page g
 
   module _ (g x : ℕ) (m : LeafMet before values g x) where
+    abbrev pageOf : ℕ → List ℕ
+    pageOf h = pageAt (s .capacity) (before .memory .bytes) h
+
     abbrev page : List ℕ
-    page = pageAt (s .capacity) (before .memory .bytes) g
+    page = pageOf g
+
+    abbrev countBefore : ℕ → ℕ
+    countBefore h = countOf (pageOf h)
 
     most : P ≤ 4096
     most = limits-parts (before .state) (m .limits) .1
@@ -135,66 +146,6 @@ module _ (before : Store) (values : List ℕ) where
 
     field : wordOn before p % 2 ^ 16 ≡ g + 1
     field = ap (λ w. w % 2 ^ 16) (m .own) ∙ wordOf-page g x g-lt
-
-    -- a leaf's page has 1 to b records
-    pub refused-count : (n : ℕ) → n ≡ countOf page → (1 ≤ n → n ≤ s .capacity → ⊥)
-        → DeletePromise before values (refused 9) before
-    refused-count n e none =
-        delete-unsound before values (m .early)
-        (λ S sound. let k = count-bounds before S sound p g x g-lt (m .own) in
-        none (omega (arith, k .0)) (omega (arith, k .1)))
-
-    -- and its first and last record begin with the leaf's string
-    pub refused-ends : (n : ℕ) → n ≡ countOf page → ownPage s x (packedKey values) page n ≡ false
-        → DeletePromise before values (refused 9) before
-    refused-ends n e h =
-        delete-unsound before values (m .early)
-        (λ S sound.
-        true≢false
-        (sym
-        (ap (λ q. endsBegin (widthsOf s) x (splitBit (widthsOf s) q) page n)
-        (unpackedKey-values s values (k .shape) (k .fits) (m .four))
-        ∙ ap (endsBegin (widthsOf s) x p page) e
-        ∙ endsBegin-word before S sound p g x g-lt (m .own) p (λ t l. refl))
-        ∙ h))
-      where
-        k : Passed before values
-        k = passed before values (m .early)
-
-    module _ (are : AreBytes (before .memory .bytes)) (n : ℕ) (e : n ≡ countOf page) where
-      six : SixteenBits values
-      six =
-          let k = passed before values (m .early) in
-          SixteenBits-of-keyFits s values (k .shape) (k .fits) (m .four)
-
-      page-are : AreBytes page
-      page-are = AreBytes-field (before .memory .bytes) (g * pageSize (s .capacity)) (pageSize (s .capacity)) are
-
-      counted : recordsFrom s n 2 page ≡ recordsOf s page
-      counted = ap (λ k. recordsFrom s k 2 page) e
-
-      -- no record of the page has the key
-      pub refused-absent : (i : ℕ) → i ≡ keyPlace (packedKey values) page n 0 → i ≡ n
-          → DeletePromise before values (refused 5) before
-      refused-absent i q h =
-          delete-absent before values (m .early) g (λ S sound. rw (same (m .early) (m .four)) field)
-          (λ S sound. rw (same (m .early) (m .four))
-          (ap nonEmpty (ap (stored values) (sym counted) ∙ sameKey-absent s values six page page-are n (sym q ∙ h))))
-
-    pub recordFound : (n : ℕ) → n ≡ countOf page → n ≤ s .capacity → ownPage s x (packedKey values) page n ≡ true
-        → (i : ℕ) → i ≡ keyPlace (packedKey values) page n 0 → (i ≡ n → ⊥)
-        → RecordFound before values (record { page = g; depth = x; place = i; count = n })
-    recordFound n e few ends i q h =
-        let l : i < n = omega (arith, keyPlace-le (packedKey values) page n 0) in
-        let within : keyPlace (packedKey values) page n 0 < 0 + n = omega arith in
-        record {
-          leaf = m;
-          counted = e;
-          few = few;
-          ends = ends;
-          place-lt = l;
-          here = ap (keyAt page) q ∙ keyAt-keyPlace (packedKey values) page n 0 within;
-        }
 
     -- ---- bounds
 
@@ -219,15 +170,77 @@ module _ (before : Store) (values : List ℕ) where
           whole = le-trans (page-end-le (s .capacity) h P l) (k .pages-lent);
         }
 
-    -- what the test of the key's page asks
-    pub ownAsked : (n : ℕ) → 1 ≤ n → n ≤ s .capacity → OwnAsked s (before .memory .bytes) g n x (packedKey values)
-    ownAsked n some few =
+    -- ---- the page of the leaf
+
+    deep : x ≤ total (widthsOf s)
+    deep = omega (arith, m .deep, directoryLent .deep)
+
+    -- the key's packed form
+    values-back : unpackedKey (packedKey values) ≡ values
+    values-back =
         let k = passed before values (m .early) in
+        unpackedKey-values s values (k .shape) (k .fits) (m .four)
+
+    pub packed-fits : indexFits (widthsOf s) (unpackedKey (packedKey values)) ≡ true
+    packed-fits =
+        let k = passed before values (m .early) in
+        indexFits-packed s values (k .shape) (k .fits) (m .four)
+
+    -- a leaf's page has 1 to b records, the first and the last of which begin with the leaf's string
+    pub refused-page : (mask n : ℕ) → mask ≡ fixedBits (widthsOf s) x
+        → n ≡ fairCount (s .capacity) (endsAgree mask (packedKey values) page (countOf page)) page → n ≡ 0
+        → DeletePromise before values (refused 9) before
+    refused-page mask n fixed e none =
+        delete-unsound before values (m .early)
+        (λ S sound.
+        fair-of-sound before S sound p g x g-lt (m .own) deep mask fixed (packedKey values) packed-fits
+        (λ t l. ap (λ v. splitBit (widthsOf s) v t) values-back) (sym e ∙ none))
+
+    module _ (are : AreBytes (before .memory .bytes)) (n : ℕ) (e : n ≡ countOf page) where
+      six : SixteenBits values
+      six =
+          let k = passed before values (m .early) in
+          SixteenBits-of-keyFits s values (k .shape) (k .fits) (m .four)
+
+      page-are : AreBytes page
+      page-are = AreBytes-field (before .memory .bytes) (g * pageSize (s .capacity)) (pageSize (s .capacity)) are
+
+      counted : recordsFrom s n 2 page ≡ recordsOf s page
+      counted = ap (λ k. recordsFrom s k 2 page) e
+
+      -- no record of the page has the key
+      pub refused-absent : (i : ℕ) → i ≡ keyPlace (packedKey values) page n 0 → i ≡ n
+          → DeletePromise before values (refused 5) before
+      refused-absent i q h =
+          delete-absent before values (m .early) g (λ S sound. rw (same (m .early) (m .four)) field)
+          (λ S sound. rw (same (m .early) (m .four))
+          (ap nonEmpty (ap (stored values) (sym counted) ∙ sameKey-absent s values six page page-are n (sym q ∙ h))))
+
+    -- the record that was sought
+    pub recordFound : (mask : ℕ) → mask ≡ fixedBits (widthsOf s) x → (r : Stored)
+        → Sought (s .capacity) (packedKey values) mask page g x r → (r .count ≡ 0 → ⊥) → (r .place ≡ r .count → ⊥)
+        → RecordFound before values r
+    recordFound mask fixed r k some h =
+        let n = r .count in
+        let fair = fair-of-count (s .capacity) _ page n (k .counted) some in
+        let l : r .place < n = omega (arith, k .placed, keyPlace-le (packedKey values) page n 0) in
+        let within : keyPlace (packedKey values) page n 0 < 0 + n = omega (arith, k .placed) in
         record {
-          shape = k .shape;
-          deep = omega (arith, m .deep, directoryLent .deep);
-          fits = indexFits-packed s values (k .shape) (k .fits) (m .four);
-          lent = pageLent g (m .own-within);
-          some = some;
-          few = few;
+          leaf =
+              subst (λ h. LeafMet before values h (r .depth)) (sym (k .page-is))
+              (subst (λ y. LeafMet before values g y) (sym (k .depth-is)) m);
+          counted = fair .counted ∙ ap countBefore (sym (k .page-is));
+          few = fair .few;
+          ends =
+              subst (λ y. ownPage s y (packedKey values) (pageOf (r .page)) n ≡ true) (sym (k .depth-is))
+              (ap (λ h. ownPage s x (packedKey values) (pageOf h) n) (k .page-is)
+              ∙ sym (endsAgree-mask s (passed before values (m .early) .shape) x deep (widthsOf s) refl mask fixed
+              (packedKey values) packed-fits page n)
+              ∙ ap (endsAgree mask (packedKey values) page) (fair .counted)
+              ∙ fair .owned);
+          place-lt = l;
+          here =
+              ap (λ h. keyAt (pageOf h) (r .place)) (k .page-is)
+              ∙ ap (keyAt page) (k .placed)
+              ∙ keyAt-keyPlace (packedKey values) page n 0 within;
         }

@@ -66,8 +66,14 @@ module _ (before : Store) (values : List ℕ) where
       → AtSibling before values m (λ w. (h : ℕ) → h < P → w ≡ wordOf (Page h (suc m))
       → suc b < countBefore g + countBefore h)
 
+  -- the leaf keeps its region
+  pub record KeepPlanned (r : Stored) : Type 0 where
+    pub found : RecordFound r
+    pub alone : StaysAlone (r .page) (r .depth)
+
   -- the leaf is joined with its sibling, whose page is another one
   pub record JoinPlanned (r : Stored) (j : Join) : Type 0 where
+    pub found : RecordFound r
     pub depth-step : r .depth ≡ suc (j .step)
     pub met : JoinFound before values (r .page) (j .other) (j .step) (j .top)
     pub apart : r .page ≡ j .other → ⊥
@@ -81,5 +87,5 @@ module _ (before : Store) (values : List ℕ) where
 
   abbrev pub DeletePlanned : Plan → Type 0
   DeletePlanned (plan.Refused n) = DeletePromise before values (refused n) before
-  DeletePlanned (plan.Keep r) = RecordFound r × StaysAlone (r .page) (r .depth)
-  DeletePlanned (plan.Join r j) = RecordFound r × JoinPlanned r j
+  DeletePlanned (plan.Keep r) = KeepPlanned r
+  DeletePlanned (plan.Join r j) = JoinPlanned r j

@@ -1,34 +1,34 @@
 // The plan of a delete, made before anything is written (document 01, "Calls"): the key's record,
 // and whether its leaf stays or is joined.
-pub mod siblings;
-
+use delete_siblings::climb;
+use delete_siblings::find_sibling;
+use delete_siblings::sibling_word_holds;
+use delete_siblings::step_bit;
 use directory_word::Leaf;
 use directory_word::unpack;
 use leaf_word::key_word;
-use leaf_word::page_holds;
 use leaf_word::word_holds;
+use page::page_size;
+use page::page_start;
+use page_ends::fair_count;
+use page_ends::fixed_bits;
 use page_matches::find_key;
-use pages::count_at;
-use record::RECORD_SIZE;
 use record::pack_key;
 use refusals::limits_hold;
 use shape::Key;
 use shape::widths_of;
-use siblings::plan_join;
-use siblings::sibling_of;
-use siblings::sibling_page_holds;
-use siblings::sibling_word_holds;
 use store::State;
 use tally::tally_holds;
 ghost use mathlib.Core.Path.{_≡_};
-ghost use Prim.Native.Nat.{_<_, _≤_};
+ghost use Prim.Native.Nat.{_≤_};
+ghost use lib.ListN.{length};
 ghost use Rattle.page.specs.Page.{pageAt};
 ghost use Rattle.pages.specs.Pages.{PageLent};
 ghost use Rattle.page_matches.specs.KeyPlace.{keyPlace};
 ghost use Rattle.store.specs.Promises.{keyNumber};
 ghost use Rattle.store.specs.Store.{store};
-ghost use Rattle.delete_plan.specs.Plan.{LeafMet, RecordFound, DeletePlanned};
-ghost use Rattle.delete_plan.specs.Siblings.{SiblingMet};
+ghost use Rattle.delete_plan.specs.Plan.{LeafMet, DeletePlanned};
+ghost use Rattle.delete_plan.specs.Met.{LeafCount, Sought, LeafFound, SiblingMet, JoinAsked, JoinMade};
 
 // Where the key's record is stored: page and depth of its leaf, and its place among the records of
 // the page.
@@ -87,32 +87,46 @@ fn plan_leaf(state: State, dir: &[u32], pages: &[u8], key: Key, page: u32, depth
     ensures { λ r. ⌜ DeletePlanned (store state (now (dir .entry)) (now (pages .entry))) (key .values) r ⌝ }
 {
     let shape = state.shape;
-    let capacity = shape.capacity as usize;
-    let count = count_at(pages, capacity, page as usize);
-    if count == 0 {
-        return Plan::Refused(9);
-    }
-    if capacity < count {
-        return Plan::Refused(9);
-    }
+    let mask = fixed_bits(widths_of(shape), depth as u64);
     let packed = pack_key(key);
-    if !page_holds(shape, pages, page as usize, count, depth, packed) {
+    let found = seek(pages, shape.capacity as usize, packed, mask, page, depth);
+    if found.count == 0 {
         return Plan::Refused(9);
     }
-    let place = place_on(pages, capacity, page as usize, count, packed);
-    if place == count {
+    if found.place == found.count {
         return Plan::Refused(5);
     }
-    let found = Stored {
+    if depth == 0 {
+        return Plan::Keep(found);
+    }
+    plan_sibling(state, dir, pages, key, found, mask)
+}
+
+// Where a packed key is on the page of a leaf that fixes the bits of a mask: at place n where none of
+// its n records has it, with n = 0 for a page that cannot be the leaf's.
+fn seek(pages: &[u8], capacity: usize, key: u64, mask: u64, page: u32, depth: u32) -> Stored
+    requires { ⌜ PageLent capacity page (now pages) ⌝ }
+    ensures { λ r. ⌜ Sought capacity key mask (pageAt capacity (now (pages .entry)) page) page depth r ⌝ }
+{
+    let count = count_on(pages, capacity, page as usize, key, mask);
+    let place = place_on(pages, capacity, page as usize, count, key);
+    Stored {
         page,
         depth,
         place,
         count,
-    };
-    if depth == 0 {
-        return Plan::Keep(found);
     }
-    plan_sibling(state, dir, pages, key, found)
+}
+
+// How many records page g has, where it can be that of a leaf that fixes the bits of a mask and in
+// which a packed key falls; 0 for another page.
+fn count_on(pages: &[u8], capacity: usize, g: usize, key: u64, mask: u64) -> usize
+    requires { ⌜ PageLent capacity g (now pages) ⌝ }
+    ensures { λ r. ⌜ LeafCount capacity mask key (pageAt capacity (now (pages .entry)) g) r ⌝ }
+{
+    let start = page_start(capacity, g);
+    let end = start + page_size(capacity);
+    fair_count(&pages[start..end], capacity, key, mask)
 }
 
 // The place of the first of the n records of page g that has a packed key; n where none has.
@@ -120,21 +134,21 @@ fn place_on(pages: &[u8], capacity: usize, g: usize, n: usize, key: u64) -> usiz
     requires { ⌜ PageLent capacity g (now pages) × (n ≤ capacity) ⌝ }
     ensures { λ r. ⌜ r ≡ keyPlace key (pageAt capacity (now (pages .entry)) g) n 0 ⌝ }
 {
-    let size = 2 + RECORD_SIZE * capacity;
-    let start = g * size;
-    let end = start + size;
+    let start = page_start(capacity, g);
+    let end = start + page_size(capacity);
     find_key(&pages[start..end], n, key)
 }
 
-// The plan for a leaf below depth 0: it stays where its sibling is divided. 9 for a word of the
-// sibling that no sound store has.
-fn plan_sibling(state: State, dir: &[u32], pages: &[u8], key: Key, found: Stored) -> Plan
-    requires { ⌜ RecordFound (store state (now dir) (now pages)) (key .values) found ⌝ }
-    requires { ⌜ 0 < found .depth ⌝ }
+// The plan for a leaf below depth 0, which fixes the bits of a mask: it stays where its sibling is
+// divided. 9 for a word of the sibling that no sound store has.
+fn plan_sibling(state: State, dir: &[u32], pages: &[u8], key: Key, found: Stored, mask: u64) -> Plan
+    requires { ⌜ LeafFound (store state (now dir) (now pages)) (key .values) found mask ⌝ }
     ensures { λ r. ⌜ DeletePlanned (store state (now (dir .entry)) (now (pages .entry))) (key .values) r ⌝ }
 {
     let values = key.values;
-    let word = sibling_of(state, dir, values, found.depth - 1);
+    let packed = pack_key(key);
+    let beside = find_sibling(state, dir, values, packed, found.depth - 1);
+    let word = beside.word;
     if !sibling_word_holds(state, word, found.depth) {
         return Plan::Refused(9);
     }
@@ -145,27 +159,29 @@ fn plan_sibling(state: State, dir: &[u32], pages: &[u8], key: Key, found: Stored
     if depth != found.depth {
         return Plan::Keep(found);
     }
-    plan_pair(state, dir, pages, key, found, other)
+    plan_pair(state, dir, pages, key, found, mask, other, beside.key)
 }
 
-// The plan for a leaf and its sibling of the same depth, with page `other`: they are joined where
-// both fit one page without the record. 9 for a page, a count or a tally that no sound store has, and
-// where the first or the last record of the sibling's page is not the sibling's.
-fn plan_pair(state: State, dir: &[u32], pages: &[u8], key: Key, found: Stored, other: u32) -> Plan
-    requires { ⌜ RecordFound (store state (now dir) (now pages)) (key .values) found ⌝ }
-    requires { ⌜ SiblingMet (store state (now dir) (now pages)) (key .values) found other ⌝ }
+// The plan for a leaf and its sibling of the same depth, with page `other`, in which the packed key
+// `beside` falls: they are joined where both fit one page without the record. 9 for a page that
+// cannot be the sibling's, and for a tally that no sound store has.
+fn plan_pair(
+    state: State,
+    dir: &[u32],
+    pages: &[u8],
+    key: Key,
+    found: Stored,
+    mask: u64,
+    other: u32,
+    beside: u64,
+) -> Plan
+    requires { ⌜ SiblingMet (store state (now dir) (now pages)) (key .values) found mask other beside ⌝ }
     ensures { λ r. ⌜ DeletePlanned (store state (now (dir .entry)) (now (pages .entry))) (key .values) r ⌝ }
 {
     let shape = state.shape;
     let capacity = shape.capacity as usize;
-    if other == found.page {
-        return Plan::Refused(9);
-    }
-    let count = count_at(pages, capacity, other as usize);
+    let count = count_on(pages, capacity, other as usize, beside, mask);
     if count == 0 {
-        return Plan::Refused(9);
-    }
-    if capacity < count {
         return Plan::Refused(9);
     }
     if capacity + 1 < found.count + count {
@@ -176,17 +192,22 @@ fn plan_pair(state: State, dir: &[u32], pages: &[u8], key: Key, found: Stored, o
     }
     let values = key.values;
     let join = plan_join(state, dir, values, found.depth, other, count);
-    let packed = pack_key(key);
-    if !sibling_page_holds(
-        shape,
-        pages,
-        other as usize,
-        count,
-        join.step,
-        packed,
-        join.bit,
-    ) {
-        return Plan::Refused(9);
-    }
     Plan::Join(found, join)
+}
+
+// The join of a leaf of depth x with its sibling, which has page `other` and so many records.
+fn plan_join(state: State, dir: &[u32], values: [u32; 4], x: u32, other: u32, count: usize) -> Join
+    requires { ⌜ JoinAsked state (length (now dir)) x ⌝ }
+    ensures { λ r. ⌜ JoinMade state (now (dir .entry)) values x other count r ⌝ }
+{
+    let step = x - 1;
+    let bit = step_bit(state.shape, values, step);
+    let top = climb(state, dir, values, step);
+    Join {
+        other,
+        count,
+        step,
+        bit,
+        top,
+    }
 }

@@ -10,16 +10,18 @@ use lib.ListN.{getD, length}
 use borrow.Author.Tests.{lt-ltb, le-ltb}
 use Rattle.shape.specs.Shape.{Fit}
 use Rattle.split.specs.Steps.{steps, bitValue}
-use Rattle.address.specs.Pairs.{StepPair}
+use Rattle.pairs.specs.Pairs.{StepPair}
 use Rattle.cell.specs.Cell.{cellAddress, Agree}
 use Rattle.cell.proofs.CellLaws.{cellAddress-lt, cellAddress-same}
 use Rattle.directory.specs.Directory.{Filled}
 use Rattle.directory.specs.Blocks.{Among, MaskFilled}
-use Rattle.directory.proofs.CellLaws.{cut, agree-cut, cut-past, withBit, withBit-here, agree-withBit}
-use Rattle.directory.proofs.CellLaws.{agree-sym, agree-trans, agree-le, cellAddress-zero-bit, cellAddress-new}
-use Rattle.directory.proofs.SubsetLaws.{weighed, weighed-agree, weighed-none, weighed-split, ones}
-use Rattle.directory.proofs.SubsetLaws.{Distinct, among-weighed, weighed-of-among}
-use Rattle.directory.proofs.WeightLaws.{weights, cellAddress-weighed, weights-distinct}
+use Rattle.cell.proofs.AgreeLaws.{cut, agree-cut, cut-past, agree-withBit, agree-sym, agree-trans, agree-le}
+use Rattle.region.specs.Strings.{withBit}
+use Rattle.region.proofs.StringLaws.{withBit-same}
+use Rattle.cell.proofs.HalfLaws.{cellAddress-zero-bit, cellAddress-new}
+use Rattle.directory.proofs.SubsetLaws.{powerSum, powerSum-agree, powerSum-none, powerSum-split, everyBit}
+use Rattle.directory.proofs.SubsetLaws.{Distinct, among-powerSum, powerSum-of-among}
+use Rattle.directory.proofs.WeightLaws.{weights, cellAddress-powerSum, weights-distinct}
 
 -- ---- strings of the region
 
@@ -72,19 +74,19 @@ module _ (ws : List ℕ) (fit : Fit ws) (x y g : ℕ) (pair : StepPair ws y g) (
 
   -- the address of a string of the block
   sum : (q : ℕ → Bool) → Agree x p q → q y ≡ true
-      → cellAddress ws (suc y) q ≡ 2 ^ E y + weighed E p x + weighed E′ (from q) n
-  unfolding weighed
+      → cellAddress ws (suc y) q ≡ 2 ^ E y + powerSum E p x + powerSum E′ (from q) n
+  unfolding powerSum
   sum q a e =
       let d : y ≡ x + n = omega arith in
-      cellAddress-weighed ws fit y g pair q e
-      ∙ ap (λ β. bitValue β * 2 ^ E y + weighed E q y) e
-      ∙ ap (λ u. 1 * 2 ^ E y + u) (ap (weighed E q) d ∙ weighed-split E q x n)
-      ∙ omega (arith, weighed-agree E x p q a)
+      cellAddress-powerSum ws fit y g pair q e
+      ∙ ap (λ β. bitValue β * 2 ^ E y + powerSum E q y) e
+      ∙ ap (λ u. 1 * 2 ^ E y + u) (ap (powerSum E q) d ∙ powerSum-split E q x n)
+      ∙ omega (arith, powerSum-agree E x p q a)
 
-  cellAddress-first : cellAddress ws (suc y) (blockFirst x y p) ≡ 2 ^ E y + weighed E p x
+  cellAddress-first : cellAddress ws (suc y) (blockFirst x y p) ≡ 2 ^ E y + powerSum E p x
   cellAddress-first =
-      sum (blockFirst x y p) agrees (withBit-here (cut x p) y true)
-      ∙ omega (arith, weighed-none E′ (from (blockFirst x y p)) n zeros)
+      sum (blockFirst x y p) agrees (withBit-same (cut x p) y true)
+      ∙ omega (arith, powerSum-none E′ (from (blockFirst x y p)) n zeros)
     where
       agrees : Agree x p (blockFirst x y p)
       agrees = agree-sym x (blockFirst x y p) p
@@ -94,17 +96,17 @@ module _ (ws : List ℕ) (fit : Fit ws) (x y g : ℕ) (pair : StepPair ws y g) (
       zeros : Agree n (from (blockFirst x y p)) (λ s. false)
       zeros s l = agree-withBit (cut x p) y true (x + s) (omega arith) ∙ cut-past x p (x + s) (omega arith)
 
-  cellAddress-last : cellAddress ws (suc y) (blockLast x y p) ≡ 2 ^ E y + weighed E p x + weighed E′ ones n
+  cellAddress-last : cellAddress ws (suc y) (blockLast x y p) ≡ 2 ^ E y + powerSum E p x + powerSum E′ everyBit n
   cellAddress-last =
-      sum (blockLast x y p) agrees (withBit-here (full x p) y true)
-      ∙ ap (λ u. 2 ^ E y + weighed E p x + u) (weighed-agree E′ n (from (blockLast x y p)) ones all)
+      sum (blockLast x y p) agrees (withBit-same (full x p) y true)
+      ∙ ap (λ u. 2 ^ E y + powerSum E p x + u) (powerSum-agree E′ n (from (blockLast x y p)) everyBit all)
     where
       agrees : Agree x p (blockLast x y p)
       agrees = agree-sym x (blockLast x y p) p
           (agree-trans x (blockLast x y p) (full x p) p
           (agree-le x y (blockLast x y p) (full x p) h (agree-withBit (full x p) y true)) (agree-full x p))
 
-      all : Agree n (from (blockLast x y p)) ones
+      all : Agree n (from (blockLast x y p)) everyBit
       all s l = agree-withBit (full x p) y true (x + s) (omega arith) ∙ full-past x p (x + s) (omega arith)
 
   pub first-le-last : cellAddress ws (suc y) (blockFirst x y p) ≤ cellAddress ws (suc y) (blockLast x y p)
@@ -114,30 +116,31 @@ module _ (ws : List ℕ) (fit : Fit ws) (x y g : ℕ) (pair : StepPair ws y g) (
       (cellAddress ws (suc y) (blockLast x y p) - cellAddress ws (suc y) (blockFirst x y p))
   block = record { among = among; onto = onto }
     where
-      mask : cellAddress ws (suc y) (blockLast x y p) - cellAddress ws (suc y) (blockFirst x y p) ≡ weighed E′ ones n
+      mask : cellAddress ws (suc y) (blockLast x y p) - cellAddress ws (suc y) (blockFirst x y p)
+          ≡ powerSum E′ everyBit n
       mask = omega (arith, cellAddress-first, cellAddress-last)
 
       among : (q : ℕ → Bool) → Agree x p q → q y ≡ true → (v : ℕ)
           × (Among v (cellAddress ws (suc y) (blockLast x y p) - cellAddress ws (suc y) (blockFirst x y p)))
           × (cellAddress ws (suc y) q ≡ cellAddress ws (suc y) (blockFirst x y p) + v)
       among q a e = (
-        weighed E′ (from q) n,
-        subst (Among (weighed E′ (from q) n)) (sym mask) (among-weighed E′ (from q) n distinct),
-        sum q a e ∙ ap (λ u. u + weighed E′ (from q) n) (sym cellAddress-first),
+        powerSum E′ (from q) n,
+        subst (Among (powerSum E′ (from q) n)) (sym mask) (among-powerSum E′ (from q) n distinct),
+        sum q a e ∙ ap (λ u. u + powerSum E′ (from q) n) (sym cellAddress-first),
       )
 
       onto : (v : ℕ) → Among v (cellAddress ws (suc y) (blockLast x y p) - cellAddress ws (suc y) (blockFirst x y p))
           → (q : ℕ → Bool) × (Agree x p q) × (q y ≡ true)
           × (cellAddress ws (suc y) q ≡ cellAddress ws (suc y) (blockFirst x y p) + v)
       onto v a =
-          let r = weighed-of-among E′ n distinct v (subst (Among v) mask a) in
+          let r = powerSum-of-among E′ n distinct v (subst (Among v) mask a) in
           let q = glued x y p (r .0) in
           let end : q y ≡ true = rw (le-ltb y x h, le-ltb y y (omega arith)) refl in
           let below : Agree x p q = λ s l. rw (lt-ltb s x l) refl in
           let middle : Agree n (from q) (r .0) = λ s l.
           let back : x + s - x ≡ s = omega arith in
           rw (le-ltb (x + s) x (omega arith), lt-ltb (x + s) y (omega arith)) (ap (r .0) back) in
-          let same = weighed-agree E′ n (from q) (r .0) middle in
+          let same = powerSum-agree E′ n (from q) (r .0) middle in
           (q, below, end, sum q below end ∙ omega (arith, same, r .1, cellAddress-first))
 
 -- ---- setting the block

@@ -13,14 +13,15 @@ use Rattle.lists.proofs.Numbers.{eq-or-ne}
 use Rattle.shape.specs.Shape.{Fit}
 use Rattle.split.specs.Steps.{attributeDepth}
 use Rattle.split.proofs.StepLaws.{depthBefore}
-use Rattle.address.specs.Pairs.{StepPair, creatingPair, latestPair}
+use Rattle.pairs.specs.Pairs.{StepPair}
+use Rattle.address_formula.specs.LatestPair.{creatingPair, latestPair}
 use Rattle.address.proofs.LatestLaws.{highestBit-is, highestBit-below}
-use Rattle.address.proofs.PairLaws.{creatingPair-some, creatingPair-none}
+use Rattle.address_formula.proofs.LatestPairLaws.{creatingPair-some, creatingPair-none}
 use Rattle.address.proofs.SideLaws.{In-sides-get}
 use Rattle.cell.specs.Cell.{cell}
 use Rattle.cell.proofs.CellLaws.{In-cell, length-cell}
-use Rattle.directory.proofs.PlaceLaws.{stepsBefore-pair, attributeDepth-place}
-use Rattle.directory.proofs.VectorLaws.{getD-bitSet}
+use Rattle.pairs.proofs.PlaceLaws.{stepsBefore-pair, attributeDepth-place}
+use Rattle.address_bits.proofs.BitLaws.{getD-bitSet}
 use Rattle.directory.proofs.CellLaws.{cell-bitSet}
 
 module _ (ws : List ℕ) (fit : Fit ws) (y g : ℕ) (pair : StepPair ws y g) (q : ℕ → Bool) (e : q y ≡ true) where

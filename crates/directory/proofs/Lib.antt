@@ -1,13 +1,8 @@
 pub mod BlockLaws
 pub mod CellLaws
 pub mod DoublingLaws
-pub mod KeyLaws
 pub mod LatestLaws
 pub mod MaskLaws
-pub mod PlaceLaws
 pub mod RegionLaws
-pub mod ReverseLaws
-pub mod ShownLaws
 pub mod SubsetLaws
-pub mod VectorLaws
 pub mod WeightLaws

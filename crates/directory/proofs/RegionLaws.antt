@@ -2,7 +2,7 @@
 -- Assumes nothing.
 use Prim.Native.Nat.{ℕ, suc, _+_, _-_, _/_, _%_, _^_, _≤_, _<_}
 use mathlib.Core.Path.{_≡_, refl, sym, ap, _∙_, subst}
-use mathlib.Core.Bool.{Bool, true, false}
+use mathlib.Core.Bool.{Bool, true}
 use mathlib.Core.List.{List, [], _∷_}
 use native.Mathlib.Omega.{arith}
 use native.Mathlib.Nat.{le-trans}
@@ -13,20 +13,21 @@ use lib.Seq.{getD-set-same, getD-set-other}
 use Rattle.shape.specs.Shape.{Fit}
 use Rattle.split.specs.Steps.{steps}
 use Rattle.split.proofs.StepLaws.{length-steps}
-use Rattle.split.proofs.DepthLaws.{attributeDepth-z}
 use Rattle.address.specs.Address.{address}
-use Rattle.address.specs.Pairs.{StepPair, latestPair}
+use Rattle.pairs.specs.Pairs.{StepPair, StepsBefore}
+use Rattle.address_formula.specs.LatestPair.{latestPair}
 use Rattle.address.specs.Vectors.{InBox}
-use Rattle.address.proofs.SideLaws.{In-sides-get}
 use Rattle.cell.specs.Cell.{cell, cellAddress, Agree}
-use Rattle.cell.proofs.CellLaws.{In-cell, cell-agree, cell-zero-bits, cell-zero-bit}
+use Rattle.cell.proofs.CellLaws.{cell-agree, cell-zero-bits}
 use Rattle.cell.proofs.CellLaws.{cellAddress-lt, cellAddress-same, cellAddress-zero-bits}
 use Rattle.directory.specs.Directory.{DirectoryFits, Filled}
-use Rattle.directory.specs.Places.{StepsBefore, bitSet}
+use Rattle.address_bits.specs.Bits.{bitSet}
 use Rattle.directory.specs.Blocks.{RegionAt, BlocksFilled, BlockFits, BlockFilled}
-use Rattle.directory.proofs.PlaceLaws.{stepNumber-pair, stepPair-lt, stepsBefore-pair}
-use Rattle.directory.proofs.CellLaws.{cut, agree-cut, cut-past, withBit, withBit-here, agree-withBit, agree-sym}
-use Rattle.directory.proofs.CellLaws.{agree-trans, agree-le, agree-suc, inBox-cell, cell-bitSet}
+use Rattle.pairs.proofs.PlaceLaws.{stepPair-lt, stepsBefore-pair}
+use Rattle.cell.proofs.AgreeLaws.{cut, agree-cut, cut-past, agree-withBit, agree-sym, agree-trans, agree-le, agree-suc}
+use Rattle.region.proofs.StringLaws.{withBit-same}
+use Rattle.cell.proofs.HalfLaws.{inBox-cell}
+use Rattle.directory.proofs.CellLaws.{cell-upper, getD-cell-lt}
 use Rattle.directory.proofs.LatestLaws.{latestPair-cell}
 use Rattle.directory.proofs.BlockLaws.{full, agree-full, full-past, blockFirst, blockLast}
 use Rattle.directory.proofs.BlockLaws.{first-le-last, block, filled-block}
@@ -89,25 +90,6 @@ module _ (ws : List ℕ) (fit : Fit ws) (x t : ℕ) (h : x ≤ t) (ht : t ≤ le
 -- ---- the index vectors of a block
 
 module _ (ws : List ℕ) (fit : Fit ws) (y g : ℕ) (pair : StepPair ws y g) where
-  -- the half with bit 0
-  pub cell-lower : (p : ℕ → Bool) → cell ws (suc y) (withBit p y false) ≡ cell ws y p
-  cell-lower p =
-      cell-zero-bit ws fit y (stepPair-lt ws y g pair fit) (withBit p y false) (withBit-here p y false)
-      ∙ cell-agree ws fit y (withBit p y false) p (agree-withBit p y false)
-
-  -- the half with bit 1
-  pub cell-upper : (p : ℕ → Bool) → cell ws (suc y) (withBit p y true) ≡ bitSet g (cell ws y p)
-  cell-upper p =
-      cell-bitSet ws fit y g pair (withBit p y true) (withBit-here p y true)
-      ∙ ap (bitSet g) (cell-agree ws fit y (withBit p y true) p (agree-withBit p y true))
-
-  -- the step's bit is above those that the index has
-  pub getD-cell-lt : (p : ℕ → Bool) → getD (cell ws y p) (g % 4) 0 < 2 ^ (g / 4)
-  getD-cell-lt p =
-      subst (λ h. getD (cell ws y p) (g % 4) 0 < 2 ^ h)
-      (attributeDepth-z ws fit (g / 4) (g % 4) (omega arith) (pair .live) (stepNumber-pair ws y g pair))
-      (In-sides-get ws y (In-cell ws y p) (g % 4) (omega arith))
-
   module _ (x : ℕ) (h : x ≤ y) (p : ℕ → Bool) where
     pub cell-cut : cell ws y (cut x p) ≡ cell ws x p
     cell-cut =
@@ -115,10 +97,10 @@ module _ (ws : List ℕ) (fit : Fit ws) (y g : ℕ) (pair : StepPair ws y g) whe
         ∙ cell-agree ws fit x (cut x p) p (agree-cut x p)
 
     pub cell-blockFirst : cell ws (suc y) (blockFirst x y p) ≡ bitSet g (cell ws x p)
-    cell-blockFirst = cell-upper (cut x p) ∙ ap (bitSet g) cell-cut
+    cell-blockFirst = cell-upper ws fit y g pair (cut x p) ∙ ap (bitSet g) cell-cut
 
     pub cell-blockLast : cell ws (suc y) (blockLast x y p) ≡ bitSet g (cell ws y (full x p))
-    cell-blockLast = cell-upper (full x p)
+    cell-blockLast = cell-upper ws fit y g pair (full x p)
 
     -- the last vector of this block, for the next
     pub cell-full-suc : cell ws (suc y) (full x p) ≡ bitSet g (cell ws y (full x p))
@@ -126,7 +108,7 @@ module _ (ws : List ℕ) (fit : Fit ws) (y g : ℕ) (pair : StepPair ws y g) whe
         cell-agree ws fit (suc y) (full x p) (blockLast x y p)
         (agree-suc y (full x p) (blockLast x y p)
         (agree-sym y (blockLast x y p) (full x p) (agree-withBit (full x p) y true))
-        (full-past x p y h ∙ sym (withBit-here (full x p) y true)))
+        (full-past x p y h ∙ sym (withBit-same (full x p) y true)))
         ∙ cell-blockLast
 
 -- ---- the turns of the loop
@@ -196,10 +178,10 @@ module _ (ws is : List ℕ) (x t word start : ℕ) (before : List ℕ) (r : Regi
               last-in = subst (InBox ws) l (inBox-cell ws (r .fits .fit) (suc y) (blockLast x y p));
               first-latest =
                   subst (λ v. latestPair v ≡ s + 1) f
-                  (latestPair-cell ws (r .fits .fit) y s pair (blockFirst x y p) (withBit-here (cut x p) y true));
+                  (latestPair-cell ws (r .fits .fit) y s pair (blockFirst x y p) (withBit-same (cut x p) y true));
               last-latest =
                   subst (λ v. latestPair v ≡ s + 1) l
-                  (latestPair-cell ws (r .fits .fit) y s pair (blockLast x y p) (withBit-here (full x p) y true));
+                  (latestPair-cell ws (r .fits .fit) y s pair (blockLast x y p) (withBit-same (full x p) y true));
               order =
                   subst (λ v. address ws v ≤ address ws end) f
                   (subst (λ v. address ws (cell ws (suc y) (blockFirst x y p)) ≤ address ws v) l

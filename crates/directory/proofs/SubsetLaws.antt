@@ -14,7 +14,9 @@ use Rattle.split.specs.Steps.{bitValue}
 use Rattle.cell.specs.Cell.{Agree}
 use Rattle.cell.proofs.Strings.{bitValue-digit}
 use Rattle.directory.specs.Blocks.{Among}
-use Rattle.directory.proofs.CellLaws.{withBit, withBit-here, withBit-other, agree-withBit, agree-le}
+use Rattle.region.specs.Strings.{withBit}
+use Rattle.region.proofs.StringLaws.{withBit-same, withBit-other}
+use Rattle.cell.proofs.AgreeLaws.{agree-withBit, agree-le}
 
 -- ---- one bit of a number
 
@@ -86,100 +88,101 @@ bit-apart (suc e) v =
 -- ---- sums of powers
 
 -- the sum of 2^(E s) over those s below n whose bit is set
-unfoldable pub weighed : (ℕ → ℕ) → (ℕ → Bool) → ℕ → ℕ
-weighed E q zero = 0
-weighed E q (suc n) = bitValue (q n) * 2 ^ E n + weighed E q n
+unfoldable pub powerSum : (ℕ → ℕ) → (ℕ → Bool) → ℕ → ℕ
+powerSum E q zero = 0
+powerSum E q (suc n) = bitValue (q n) * 2 ^ E n + powerSum E q n
 
 -- no two exponents below n are equal
 abbrev pub Distinct : (ℕ → ℕ) → ℕ → Type 0
 Distinct E n = (s u : ℕ) → s < u → u < n → E s ≡ E u → ⊥
 
-abbrev pub ones : ℕ → Bool
-ones s = true
+-- the string of ones
+abbrev pub everyBit : ℕ → Bool
+everyBit s = true
 
 bitValue-le : (β : Bool) → bitValue β ≤ 1
 bitValue-le true = omega arith
 bitValue-le false = omega arith
 
-pub weighed-agree : (E : ℕ → ℕ) (n : ℕ) (p q : ℕ → Bool) → Agree n p q → weighed E p n ≡ weighed E q n
-unfolding weighed
-weighed-agree E zero p q a = refl
-weighed-agree E (suc n) p q a = cc (a n (omega arith), weighed-agree E n p q (λ s l. a s (omega arith)))
+pub powerSum-agree : (E : ℕ → ℕ) (n : ℕ) (p q : ℕ → Bool) → Agree n p q → powerSum E p n ≡ powerSum E q n
+unfolding powerSum
+powerSum-agree E zero p q a = refl
+powerSum-agree E (suc n) p q a = cc (a n (omega arith), powerSum-agree E n p q (λ s l. a s (omega arith)))
 
 -- one bit more
-pub weighed-withBit : (E : ℕ → ℕ) (q : ℕ → Bool) (n s : ℕ) → s < n → q s ≡ false
-    → weighed E (withBit q s true) n ≡ 2 ^ E s + weighed E q n
-unfolding weighed
-weighed-withBit E q zero s h e = absurd (omega arith)
-weighed-withBit E q (suc n) s h e = go (eq-or-ne s n) (weighed-withBit E q n s)
+pub powerSum-withBit : (E : ℕ → ℕ) (q : ℕ → Bool) (n s : ℕ) → s < n → q s ≡ false
+    → powerSum E (withBit q s true) n ≡ 2 ^ E s + powerSum E q n
+unfolding powerSum
+powerSum-withBit E q zero s h e = absurd (omega arith)
+powerSum-withBit E q (suc n) s h e = go (eq-or-ne s n) (powerSum-withBit E q n s)
   where
     sum : ℕ → Bool → ℕ
     sum x β = bitValue β * 2 ^ E n + x
 
-    go : (s ≡ n) ⊎ (s ≡ n → ⊥) → (s < n → q s ≡ false → weighed E (withBit q s true) n ≡ 2 ^ E s + weighed E q n)
-        → sum (weighed E (withBit q s true) n) (withBit q s true n) ≡ 2 ^ E s + sum (weighed E q n) (q n)
+    go : (s ≡ n) ⊎ (s ≡ n → ⊥) → (s < n → q s ≡ false → powerSum E (withBit q s true) n ≡ 2 ^ E s + powerSum E q n)
+        → sum (powerSum E (withBit q s true) n) (withBit q s true n) ≡ 2 ^ E s + sum (powerSum E q n) (q n)
     go (inl d) ih =
-        let here : withBit q s true n ≡ true = ap (withBit q s true) (sym d) ∙ withBit-here q s true in
+        let here : withBit q s true n ≡ true = ap (withBit q s true) (sym d) ∙ withBit-same q s true in
         let gone : q n ≡ false = ap q (sym d) ∙ e in
-        let below = weighed-agree E n (withBit q s true) q
+        let below = powerSum-agree E n (withBit q s true) q
         (agree-le n s (withBit q s true) q (omega arith) (agree-withBit q s true)) in
         rw (here, gone) (omega (arith, below, ap (λ x. 2 ^ E x) d))
     go (inr ne) ih =
         rw (withBit-other q s true n (λ d. ne (sym d))) (omega (arith, ih (omega arith) e))
 
 -- no bit
-pub weighed-none : (E : ℕ → ℕ) (q : ℕ → Bool) (n : ℕ) → Agree n q (λ s. false) → weighed E q n ≡ 0
-unfolding weighed
-weighed-none E q zero a = refl
-weighed-none E q (suc n) a = rw (a n (omega arith)) (omega (arith, weighed-none E q n (λ s l. a s (omega arith))))
+pub powerSum-none : (E : ℕ → ℕ) (q : ℕ → Bool) (n : ℕ) → Agree n q (λ s. false) → powerSum E q n ≡ 0
+unfolding powerSum
+powerSum-none E q zero a = refl
+powerSum-none E q (suc n) a = rw (a n (omega arith)) (omega (arith, powerSum-none E q n (λ s l. a s (omega arith))))
 
 -- the first x bits apart
-pub weighed-split : (E : ℕ → ℕ) (q : ℕ → Bool) (x n : ℕ)
-    → weighed E q (x + n) ≡ weighed (λ s. E (x + s)) (λ s. q (x + s)) n + weighed E q x
-unfolding weighed
-weighed-split E q x zero = let e : x + 0 ≡ x = omega arith in ap (weighed E q) e ∙ omega arith
-weighed-split E q x (suc n) =
+pub powerSum-split : (E : ℕ → ℕ) (q : ℕ → Bool) (x n : ℕ)
+    → powerSum E q (x + n) ≡ powerSum (λ s. E (x + s)) (λ s. q (x + s)) n + powerSum E q x
+unfolding powerSum
+powerSum-split E q x zero = let e : x + 0 ≡ x = omega arith in ap (powerSum E q) e ∙ omega arith
+powerSum-split E q x (suc n) =
     let e : x + suc n ≡ suc (x + n) = omega arith in
-    ap (weighed E q) e ∙ omega (arith, weighed-split E q x n)
+    ap (powerSum E q) e ∙ omega (arith, powerSum-split E q x n)
 
 -- a further exponent is no bit of the sum
-bit-weighed : (E : ℕ → ℕ) (q : ℕ → Bool) (n e : ℕ) → Distinct E n → ((s : ℕ) → s < n → e ≡ E s → ⊥)
-    → weighed E q n / 2 ^ e % 2 ≡ 0
-unfolding weighed
-bit-weighed E q zero e d ne = ap (λ x. x % 2) (zero-div (2 ^ e))
-bit-weighed E q (suc n) e d ne =
+bit-powerSum : (E : ℕ → ℕ) (q : ℕ → Bool) (n e : ℕ) → Distinct E n → ((s : ℕ) → s < n → e ≡ E s → ⊥)
+    → powerSum E q n / 2 ^ e % 2 ≡ 0
+unfolding powerSum
+bit-powerSum E q zero e d ne = ap (λ x. x % 2) (zero-div (2 ^ e))
+bit-powerSum E q (suc n) e d ne =
     let before : Distinct E n = λ s u l h. d s u l (omega arith) in
-    bit-other (E n) e (weighed E q n) (bitValue (q n))
-    (bit-weighed E q n (E n) before (λ s l x. d s n l (omega arith) (sym x))) (ne n (omega arith)) (bitValue-le (q n))
-    ∙ bit-weighed E q n e before (λ s l. ne s (omega arith))
+    bit-other (E n) e (powerSum E q n) (bitValue (q n))
+    (bit-powerSum E q n (E n) before (λ s l x. d s n l (omega arith) (sym x))) (ne n (omega arith)) (bitValue-le (q n))
+    ∙ bit-powerSum E q n e before (λ s l. ne s (omega arith))
 
 module _ (E : ℕ → ℕ) where
   -- the next exponent is new
-  fresh : (q : ℕ → Bool) (n : ℕ) → Distinct E (suc n) → weighed E q n / 2 ^ E n % 2 ≡ 0
-  fresh q n d = bit-weighed E q n (E n) (λ s u l h. d s u l (omega arith)) (λ s l x. d s n l (omega arith) (sym x))
+  fresh : (q : ℕ → Bool) (n : ℕ) → Distinct E (suc n) → powerSum E q n / 2 ^ E n % 2 ≡ 0
+  fresh q n d = bit-powerSum E q n (E n) (λ s u l h. d s u l (omega arith)) (λ s l x. d s n l (omega arith) (sym x))
 
-  pub among-weighed : (q : ℕ → Bool) (n : ℕ) → Distinct E n → Among (weighed E q n) (weighed E ones n)
-  unfolding weighed
-  among-weighed q zero d = and-zero-r 0
-  among-weighed q (suc n) d =
-      and-bit (E n) (weighed E q n) (weighed E ones n) (bitValue (q n)) (fresh q n d) (fresh ones n d)
+  pub among-powerSum : (q : ℕ → Bool) (n : ℕ) → Distinct E n → Among (powerSum E q n) (powerSum E everyBit n)
+  unfolding powerSum
+  among-powerSum q zero d = and-zero-r 0
+  among-powerSum q (suc n) d =
+      and-bit (E n) (powerSum E q n) (powerSum E everyBit n) (bitValue (q n)) (fresh q n d) (fresh everyBit n d)
       (bitValue-le (q n))
-      ∙ ap (λ x. bitValue (q n) * 2 ^ E n + x) (among-weighed q n (λ s u l h. d s u l (omega arith)))
+      ∙ ap (λ x. bitValue (q n) * 2 ^ E n + x) (among-powerSum q n (λ s u l h. d s u l (omega arith)))
 
-  pub weighed-of-among : (n : ℕ) → Distinct E n → (v : ℕ) → Among v (weighed E ones n)
-      → (q : ℕ → Bool) × (weighed E q n ≡ v)
-  unfolding weighed
-  weighed-of-among zero d v a = (ones, sym (and-zero-r v) ∙ a)
-  weighed-of-among (suc n) d v a =
+  pub powerSum-of-among : (n : ℕ) → Distinct E n → (v : ℕ) → Among v (powerSum E everyBit n)
+      → (q : ℕ → Bool) × (powerSum E q n ≡ v)
+  unfolding powerSum
+  powerSum-of-among zero d v a = (everyBit, sym (and-zero-r v) ∙ a)
+  powerSum-of-among (suc n) d v a =
       let r = bit-apart (E n) v in
-      let parts = and-bit (E n) (r .rest) (weighed E ones n) (r .bit) (r .none) (fresh ones n d) (r .le) in
-      let same : bitAnd (r .bit * 2 ^ E n + r .rest) (1 * 2 ^ E n + weighed E ones n) ≡ v =
-      ap (λ x. bitAnd x (1 * 2 ^ E n + weighed E ones n)) (r .sum) ∙ a in
-      let rest : Among (r .rest) (weighed E ones n) = omega (arith, parts, same, r .sum) in
-      let ih = weighed-of-among n (λ s u l h. d s u l (omega arith)) (r .rest) rest in
+      let parts = and-bit (E n) (r .rest) (powerSum E everyBit n) (r .bit) (r .none) (fresh everyBit n d) (r .le) in
+      let same : bitAnd (r .bit * 2 ^ E n + r .rest) (1 * 2 ^ E n + powerSum E everyBit n) ≡ v =
+      ap (λ x. bitAnd x (1 * 2 ^ E n + powerSum E everyBit n)) (r .sum) ∙ a in
+      let rest : Among (r .rest) (powerSum E everyBit n) = omega (arith, parts, same, r .sum) in
+      let ih = powerSum-of-among n (λ s u l h. d s u l (omega arith)) (r .rest) rest in
       let β = eqb (r .bit) 1 in
       let digit : bitValue β ≡ r .bit = bitValue-digit (r .bit) (omega (arith, r .le)) in
       let q = withBit (ih .0) n β in
-      let here : bitValue (q n) ≡ r .bit = ap bitValue (withBit-here (ih .0) n β) ∙ digit in
-      let below = weighed-agree E n q (ih .0) (agree-withBit (ih .0) n β) in
-      (q, ap (λ x. x * 2 ^ E n + weighed E q n) here ∙ omega (arith, below, ih .1, r .sum))
+      let here : bitValue (q n) ≡ r .bit = ap bitValue (withBit-same (ih .0) n β) ∙ digit in
+      let below = powerSum-agree E n q (ih .0) (agree-withBit (ih .0) n β) in
+      (q, ap (λ x. x * 2 ^ E n + powerSum E q n) here ∙ omega (arith, below, ih .1, r .sum))

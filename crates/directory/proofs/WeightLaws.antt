@@ -12,14 +12,16 @@ use Rattle.split.specs.Steps.{steps, step, bitValue, attributeDepth}
 use Rattle.split.proofs.DepthLaws.{step-of, step-here}
 use Rattle.address.specs.Address.{formula}
 use Rattle.address.specs.Doubling.{sides}
-use Rattle.address.specs.Pairs.{StepPair}
+use Rattle.pairs.specs.Pairs.{StepPair}
 use Rattle.address.proofs.AppendLaws.{address-new}
 use Rattle.cell.specs.Cell.{cell, cellAddress}
 use Rattle.cell.proofs.CellLaws.{In-cell, length-cell, cell-zero, cell-suc, cellAddress-same}
-use Rattle.directory.proofs.PlaceLaws.{stepNumber-pair, stepPair-lt}
-use Rattle.directory.proofs.VectorLaws.{getD-bitSet}
-use Rattle.directory.proofs.CellLaws.{withBit, withBit-here, withBit-other, cell-bitSet}
-use Rattle.directory.proofs.SubsetLaws.{weighed, weighed-withBit, Distinct}
+use Rattle.pairs.proofs.PlaceLaws.{stepNumber-pair, stepPair-lt}
+use Rattle.address_bits.proofs.BitLaws.{getD-bitSet}
+use Rattle.region.specs.Strings.{withBit}
+use Rattle.region.proofs.StringLaws.{withBit-same, withBit-other}
+use Rattle.directory.proofs.CellLaws.{cell-bitSet}
+use Rattle.directory.proofs.SubsetLaws.{powerSum, powerSum-withBit, Distinct}
 
 -- ---- the formula as a sum of shifted indices
 
@@ -77,8 +79,8 @@ exponent ws es s = step ws s .bit + getD es (step ws s .attribute) 0
 
 module _ (ws : List ℕ) (fit : Fit ws) where
   shiftedSum-cell : (es : List ℕ) → length es ≡ 4 → (q : ℕ → Bool) (n : ℕ) → n ≤ length (steps ws)
-      → shiftedSum (cell ws n q) es ≡ weighed (exponent ws es) q n
-  unfolding weighed
+      → shiftedSum (cell ws n q) es ≡ powerSum (exponent ws es) q n
+  unfolding powerSum
   shiftedSum-cell es len q zero h = ap (λ v. shiftedSum v es) (cell-zero ws q) ∙ shiftedSum-zero es
   shiftedSum-cell es len q (suc n) h =
       let j = step ws n .attribute in
@@ -99,11 +101,13 @@ module _ (ws : List ℕ) (fit : Fit ws) where
   -- step y is the pair at place g
   module _ (y g : ℕ) (pair : StepPair ws y g) where
     abbrev pub weights : ℕ → ℕ
-    weights = exponent ws (shifts (g % 4) (attributeDepth ws y 0) (attributeDepth ws y 1) (attributeDepth ws y 2) (attributeDepth ws y 3))
+    weights =
+        exponent ws
+        (shifts (g % 4) (attributeDepth ws y 0) (attributeDepth ws y 1) (attributeDepth ws y 2) (attributeDepth ws y 3))
 
-    pub cellAddress-weighed : (q : ℕ → Bool) → q y ≡ true → cellAddress ws (suc y) q ≡ weighed weights q (suc y)
+    pub cellAddress-powerSum : (q : ℕ → Bool) → q y ≡ true → cellAddress ws (suc y) q ≡ powerSum weights q (suc y)
     unfolding cellAddress sides cell
-    cellAddress-weighed q e =
+    cellAddress-powerSum q e =
         let is = cell ws (suc y) q in
         let k = g / 4 in
         let z = g % 4 in
@@ -112,20 +116,22 @@ module _ (ws : List ℕ) (fit : Fit ws) where
         let new : 2 ^ k ≤ getD is z 0 =
         subst (λ v. 2 ^ k ≤ getD v z 0) (sym set-bit) (omega (arith, getD-bitSet g (cell ws y q) room)) in
         address-new ws fit k z (omega arith) (pair .live) (stepNumber-pair ws y g pair) is (In-cell ws (suc y) q) new
-        ∙ formula-shifts z (attributeDepth ws y 0) (attributeDepth ws y 1) (attributeDepth ws y 2) (attributeDepth ws y 3) (omega arith) _ _ _ _
-        ∙ shiftedSum-cell (shifts z (attributeDepth ws y 0) (attributeDepth ws y 1) (attributeDepth ws y 2) (attributeDepth ws y 3))
+        ∙ formula-shifts z (attributeDepth ws y 0) (attributeDepth ws y 1) (attributeDepth ws y 2)
+        (attributeDepth ws y 3) (omega arith) _ _ _ _
+        ∙ shiftedSum-cell
+        (shifts z (attributeDepth ws y 0) (attributeDepth ws y 1) (attributeDepth ws y 2) (attributeDepth ws y 3))
         (length-shifts z _ _ _ _) q (suc y) (stepPair-lt ws y g pair fit)
 
     -- two equal exponents would give two strings one address
     pub weights-distinct : Distinct weights y
     weights-distinct s u l h e =
         let same = cellAddress-same ws fit (suc y) (stepPair-lt ws y g pair fit) (two s) (two u) .0
-        (cellAddress-weighed (two s) (last s (omega arith)) ∙ sum s (omega arith)
-        ∙ ap (λ x. 2 ^ x + weighed weights one (suc y)) e
-        ∙ sym (cellAddress-weighed (two u) (last u h) ∙ sum u h)) in
+        (cellAddress-powerSum (two s) (last s (omega arith)) ∙ sum s (omega arith)
+        ∙ ap (λ x. 2 ^ x + powerSum weights one (suc y)) e
+        ∙ sym (cellAddress-powerSum (two u) (last u h) ∙ sum u h)) in
         false≢true
         (sym (none s (omega arith)) ∙ sym (withBit-other one u true s (λ d. omega arith))
-        ∙ sym (same s (omega arith)) ∙ withBit-here one s true)
+        ∙ sym (same s (omega arith)) ∙ withBit-same one s true)
       where
         -- bit y alone, and with bit s
         one : ℕ → Bool
@@ -138,7 +144,7 @@ module _ (ws : List ℕ) (fit : Fit ws) where
         none s b = withBit-other (λ s. false) y true s (λ d. omega arith)
 
         last : (s : ℕ) → s < y → two s y ≡ true
-        last s b = withBit-other one s true y (λ d. omega arith) ∙ withBit-here (λ s. false) y true
+        last s b = withBit-other one s true y (λ d. omega arith) ∙ withBit-same (λ s. false) y true
 
-        sum : (s : ℕ) → s < y → weighed weights (two s) (suc y) ≡ 2 ^ weights s + weighed weights one (suc y)
-        sum s b = weighed-withBit weights one (suc y) s (omega arith) (none s b)
+        sum : (s : ℕ) → s < y → powerSum weights (two s) (suc y) ≡ 2 ^ weights s + powerSum weights one (suc y)
+        sum s b = powerSum-withBit weights one (suc y) s (omega arith) (none s b)

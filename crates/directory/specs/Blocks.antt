@@ -6,11 +6,11 @@ use mathlib.Core.List.{List}
 use lib.Bits.{bitAnd}
 use lib.ListN.{getD, length}
 use Rattle.address.specs.Address.{address}
-use Rattle.address.specs.Pairs.{latestPair}
+use Rattle.address_formula.specs.LatestPair.{latestPair}
 use Rattle.address.specs.Vectors.{InBox}
 use Rattle.cell.specs.Cell.{cell, cellAddress}
 use Rattle.directory.specs.Directory.{DirectoryFits, Filled}
-use Rattle.directory.specs.Places.{StepsBefore}
+use Rattle.pairs.specs.Pairs.{StepsBefore}
 
 -- ---- cells
 

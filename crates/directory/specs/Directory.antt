@@ -36,7 +36,3 @@ pub record Filled (ws : List ℕ) (t x : ℕ) (p : ℕ → Bool) (word : ℕ) (b
   -- "Words past the first 2^L .. are never changed"
   pub past : (a : ℕ) → 2 ^ t ≤ a → getD after a 0 ≡ getD before a 0
   pub size : length after ≡ length before
-
--- the words of a directory of depth t show f: each cell holds f of its string
-abbrev pub Shown : List ℕ → ℕ → ((ℕ → Bool) → ℕ) → List ℕ → Type 0
-Shown ws t f words = (p : ℕ → Bool) → getD words (cellAddress ws t p) 0 ≡ f p

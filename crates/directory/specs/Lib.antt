@@ -1,4 +1,2 @@
 pub mod Directory
 pub mod Blocks
-pub mod Places
-pub mod Private

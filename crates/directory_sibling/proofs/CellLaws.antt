@@ -8,19 +8,21 @@ use native.Mathlib.Omega.{arith}
 use lib.ListN.{length}
 use Rattle.shape.specs.Shape.{Fit}
 use Rattle.split.specs.Steps.{steps}
-use Rattle.address.specs.Pairs.{StepPair}
+use Rattle.pairs.specs.Pairs.{StepPair}
 use Rattle.cell.specs.Cell.{cell, cellAddress}
 use Rattle.cell.proofs.CellLaws.{cell-zero-bit, cell-agree, cellAddress-same, cellAddress-zero-bits}
-use Rattle.directory.specs.Places.{bitSet}
-use Rattle.directory.proofs.CellLaws.{cut, agree-cut, cut-past, withBit-here, agree-withBit, cell-bitSet}
-use Rattle.directory.proofs.PlaceLaws.{stepPair-lt}
+use Rattle.address_bits.specs.Bits.{bitSet}
+use Rattle.cell.proofs.AgreeLaws.{cut, agree-cut, cut-past, agree-withBit}
+use Rattle.region.proofs.StringLaws.{withBit-same}
+use Rattle.directory.proofs.CellLaws.{cell-bitSet}
+use Rattle.pairs.proofs.PlaceLaws.{stepPair-lt}
 use Rattle.region.specs.Strings.{sibling}
 
 -- ---- index vectors
 
 module _ (ws : List ℕ) (fit : Fit ws) (z g : ℕ) (pair : StepPair ws z g) (p : ℕ → Bool) where
   bit-sibling : (β : Bool) → p z ≡ β → sibling p z z ≡ not β
-  bit-sibling β e = withBit-here p z (not (p z)) ∙ ap not e
+  bit-sibling β e = withBit-same p z (not (p z)) ∙ ap not e
 
   -- both halves are of one region of z bits
   cell-sibling : cell ws z (sibling p z) ≡ cell ws z p

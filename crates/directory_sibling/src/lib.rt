@@ -1,40 +1,35 @@
 // The sibling of a key's region in the directory: the region whose last split bit is the other one.
-use address::locate;
-use address::pairs::width_at;
-use directory::cells::cell_before;
-use directory::places::step_place;
-use directory::vectors::with_bit;
+use address_bits::with_bit;
+use address_formula::locate;
+use directory_cell::cell_before;
+use pairs::step_place;
+use pairs::width_at;
 use shape::Widths;
 ghost use mathlib.Core.Path.{_≡_};
-ghost use mathlib.Core.Bool.{Bool};
-ghost use Prim.Native.Nat.{ℕ, suc, _/_, _%_, _^_, _<_, _≤_};
+ghost use Prim.Native.Nat.{_/_, _%_, _^_, _<_, _≤_};
 ghost use lib.ListN.{getD, length};
-ghost use Rattle.shape.specs.Shape.{Fit, widthList, total};
+ghost use Rattle.shape.specs.Shape.{Fit, widthList};
 ghost use Rattle.split.specs.Steps.{stepsBelow};
 ghost use Rattle.split.specs.Bits.{splitBit};
-ghost use Rattle.cell.specs.Cell.{cellAddress, Agree};
-ghost use Rattle.region.specs.Strings.{sibling};
+ghost use Rattle.directory_sibling.specs.Sibling.{StepWithin, siblingAddress, SiblingWord};
 
-// The word of a cell of the sibling of a key's region of z + 1 bits, in a directory of depth t. If
-// the sibling is a leaf or within one, all its cells have this word.
-pub fn sibling_word(widths: Widths, key: [u32; 4], z: u64, t: u64, dir: &[u32]) -> u32
-    requires { ⌜ Fit (widthList widths) × (t ≤ total (widthList widths)) × (z < t) ⌝ }
-    requires { ⌜ 2 ^ t ≤ length (now dir) ⌝ }
-    ensures { λ r. ⌜ ((q : ℕ → Bool) × Agree (suc z) (sibling (splitBit (widthList widths) key) z) q
-        × (r ≡ getD (now (dir .entry)) (cellAddress (widthList widths) t q) 0)) ⌝ }
+// The word of a cell of the sibling of a key's region that ends with the step at place g, in a
+// directory of depth t. If the sibling is a leaf or within one, all its cells have this word.
+pub fn sibling_word(widths: Widths, key: [u32; 4], g: u64, t: u64, dir: &[u32]) -> u32
+    requires { ⌜ StepWithin (widthList widths) g t × (2 ^ t ≤ length (now dir)) ⌝ }
+    ensures { λ r. ⌜ SiblingWord (widthList widths) key (length (stepsBelow (widthList widths) g)) t
+        (now (dir .entry)) r ⌝ }
 {
-    let cell = sibling_cell(widths, key, z);
+    let cell = sibling_cell(widths, key, g);
     dir[cell as usize]
 }
 
-// The address of the sibling's cell of z + 1 bits, which more bits 0 do not change. The half with
-// bit 0 has the index vector of the region of z bits; in that of the other the bit of step z is set.
-fn sibling_cell(widths: Widths, key: [u32; 4], z: u64) -> u64
-    requires { ⌜ Fit (widthList widths) × (z < total (widthList widths)) ⌝ }
-    ensures { λ r. ⌜ r
-        ≡ cellAddress (widthList widths) (suc z) (sibling (splitBit (widthList widths) key) z) ⌝ }
+// The address of the sibling's cell of as many bits, which more bits 0 do not change. The half with
+// bit 0 has the index vector of the region before the step; in that of the other its bit is set.
+fn sibling_cell(widths: Widths, key: [u32; 4], g: u64) -> u64
+    requires { ⌜ Fit (widthList widths) × (g < 64) × (g / 4 < getD (widthList widths) (g % 4) 0) ⌝ }
+    ensures { λ r. ⌜ r ≡ siblingAddress (widthList widths) key (length (stepsBelow (widthList widths) g)) ⌝ }
 {
-    let g = step_place(widths, z);
     let index = cell_before(widths, key, g);
     if bit_at(widths, key, g) {
         return locate(widths, index);

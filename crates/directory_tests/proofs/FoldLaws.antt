@@ -15,7 +15,8 @@ use Rattle.split.specs.Steps.{steps}
 use Rattle.cell.specs.Cell.{cellAddress, Agree}
 use Rattle.cell.proofs.CellLaws.{cellAddress-lt, cellAddress-same}
 use Rattle.directory.specs.Blocks.{UpperHalf}
-use Rattle.directory.proofs.CellLaws.{agree-le, cellAddress-below}
+use Rattle.cell.proofs.AgreeLaws.{agree-le}
+use Rattle.cell.proofs.HalfLaws.{cellAddress-below}
 use Rattle.directory_tests.specs.Intact.{cellWord, Folds, FoldTold}
 use Rattle.directory_tests.specs.Private.{PairTold, StepTold}
 

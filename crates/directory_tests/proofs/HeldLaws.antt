@@ -14,13 +14,13 @@ use Rattle.lists.proofs.Numbers.{lt-or-le, eq-or-ne}
 use Rattle.shape.specs.Shape.{Fit}
 use Rattle.split.specs.Steps.{steps}
 use Rattle.address.specs.Address.{address}
-use Rattle.address.specs.Pairs.{StepPair}
+use Rattle.pairs.specs.Pairs.{StepPair}
 use Rattle.cell.specs.Cell.{cellAddress, Agree}
 use Rattle.cell.proofs.CellLaws.{cellAddress-same}
 use Rattle.directory.specs.Directory.{Filled}
-use Rattle.directory.specs.Places.{bitSet}
+use Rattle.address_bits.specs.Bits.{bitSet}
 use Rattle.directory.specs.Blocks.{RegionAt, BlockFilled, Among}
-use Rattle.directory.proofs.CellLaws.{cut, agree-cut, agree-sym, agree-trans, agree-le}
+use Rattle.cell.proofs.AgreeLaws.{cut, agree-cut, agree-sym, agree-trans, agree-le}
 use Rattle.directory.proofs.MaskLaws.{among-le, among-and, among-next}
 use Rattle.directory.proofs.BlockLaws.{blockFirst, blockLast, block}
 use Rattle.directory.proofs.RegionLaws.{FilledTo, filledTo-end, cell-blockFirst, cell-blockLast}

@@ -1,7 +1,7 @@
 // Whether a directory of less depth shows the same words, but for a key's region: before T falls.
-use address::pairs::pair_of_step;
-use directory::cells::find_cell;
-use directory::doubling::whole_of;
+use directory_cell::find_cell;
+use directory_double::whole_of;
+use pairs::step_place;
 use shape::Widths;
 ghost use Prim.Native.Nat.{suc, _<_, _≤_};
 ghost use lib.ListN.{length};
@@ -35,7 +35,7 @@ fn step_folds(widths: Widths, s: u64, own: u64, dir: &[u32]) -> bool
     requires { ⌜ DirectoryFits (widthList widths) (suc s) (length (now dir)) ⌝ }
     ensures { λ r. ⌜ StepTold (widthList widths) s own (now (dir .entry)) r ⌝ }
 {
-    let g = pair_of_step(widths, s);
+    let g = step_place(widths, s);
     let size = 1u64 << s;
     let mut r: u64 = 0;
     while r < size {

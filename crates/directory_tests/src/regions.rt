@@ -1,21 +1,21 @@
-// Whether every cell of a region holds a word. The cells are those that `directory::regions::fill`
+// Whether every cell of a region holds a word. The cells are those that `directory_fill::fill`
 // sets: the region's own, and for each step y from x to t - 1 those at first + v for every v whose
 // bits are among those of a mask.
-use address::Index;
-use address::digits::address_before;
-use address::locate;
-use directory::cells::cell_before;
-use directory::places::place_of;
-use directory::places::step_from;
-use directory::places::step_place;
-use directory::vectors::with_bit;
+use address_bits::with_bit;
+use address_formula::Index;
+use address_formula::address_before;
+use address_formula::locate;
+use directory_cell::cell_before;
 use directory_sibling::bit_at;
+use pairs::place_of;
+use pairs::step_from;
+use pairs::step_place;
 use shape::Widths;
 ghost use Prim.Native.Nat.{suc, _+_, _<_, _≤_};
 ghost use lib.ListN.{length};
 ghost use Rattle.shape.specs.Shape.{widthList};
 ghost use Rattle.split.specs.Bits.{splitBit};
-ghost use Rattle.address.specs.Answers.{indexList};
+ghost use Rattle.address_formula.specs.Index.{indexList};
 ghost use Rattle.directory.specs.Directory.{DirectoryFits};
 ghost use Rattle.directory.specs.Blocks.{RegionAt, BlockFits};
 ghost use Rattle.region.specs.Strings.{sibling};

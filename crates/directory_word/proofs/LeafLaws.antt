@@ -31,7 +31,7 @@ leafOf-page word zero e n = absurd (n refl)
 leafOf-page word (suc page) e n =
     let one : page ≡ suc page - 1 = omega arith in rw e (ap (λ p. Page p (word / 2 ^ 16)) one)
 
--- ---- leaves and words read back
+-- ---- leaves and words read back: for a reader, no page number and no depth is lost
 
 pub leafOf-wordOf-empty : (depth : ℕ) → leafOf (wordOf (Empty depth)) ≡ Empty depth
 leafOf-wordOf-empty depth =
@@ -58,7 +58,7 @@ wordOf-leafOf word = wordOf-fieldLeaf (word % 2 ^ 16) (word / 2 ^ 16) ∙ omega 
 pub wordOf-of-leafOf : (word : ℕ) (leaf : Leaf) → leafOf word ≡ leaf → word ≡ wordOf leaf
 wordOf-of-leafOf word leaf e = sym (wordOf-leafOf word) ∙ ap wordOf e
 
--- ---- no word for two leaves
+-- ---- for a reader, no word for two leaves
 
 pub wordOf-page-inj : (page page′ depth depth′ : ℕ) → page + 1 < 2 ^ 16 → page′ + 1 < 2 ^ 16
     → wordOf (Page page depth) ≡ wordOf (Page page′ depth′) → (page ≡ page′) × (depth ≡ depth′)

@@ -6,14 +6,6 @@ use native.Mathlib.Omega.{arith}
 use Rattle.directory_word.specs.Word.{wordOf}
 use Rattle.directory_word.specs.declared.Leaf.the-variants.{Empty, Page}
 
--- ---- bounds
-
-pub wordOf-lt : (g x : ℕ) → g < 4096 → x < 16 → wordOf (Page g x) < 2 ^ 32
-wordOf-lt g x h k = omega arith
-
-pub wordOf-lt-empty : (x : ℕ) → x < 16 → wordOf (Empty x) < 2 ^ 32
-wordOf-lt-empty x k = omega arith
-
 -- ---- fields
 
 -- the depth stands above bit 16

@@ -5,7 +5,7 @@
 //     bits 20-31   0
 ghost use mathlib.Core.Path.{_≡_};
 ghost use Prim.Native.Nat.{_<_};
-ghost use Rattle.directory_word.specs.Word.{wordOf, leafOf};
+ghost use Rattle.directory_word.specs.Word.{wordOf, depthField, pageField, leafOf};
 ghost use Rattle.directory_word.specs.declared.Leaf.the-variants.{Empty, Page};
 
 // What a word says of its leaf: the depth of a leaf without a page, or page number and depth.
@@ -30,13 +30,27 @@ pub fn pack_page(page: u32, depth: u32) -> u32
     (depth << 16) | (page + 1)
 }
 
-// The leaf that a word names. Its depth is all of bits 16-31, so that no two words name one leaf:
-// where a bit of 20-31 is set the depth is 16 or more, which no leaf has.
+// The depth that a word names: all of bits 16-31, so that no two words name one leaf. Where a bit of
+// 20-31 is set it is 16 or more, which no leaf has.
+pub fn depth_of(word: u32) -> u32
+    ensures { λ r. ⌜ (r ≡ depthField word) × (r < 65536) ⌝ }
+{
+    word >> 16
+}
+
+// The page number plus one that a word names, 0 for no page.
+pub fn field_of(word: u32) -> u32
+    ensures { λ r. ⌜ (r ≡ pageField word) × (r < 65536) ⌝ }
+{
+    word & 0xffff
+}
+
+// The leaf that a word names.
 pub fn unpack(word: u32) -> Leaf
     ensures { λ r. ⌜ r ≡ leafOf word ⌝ }
 {
-    let field = word & 0xffff;
-    let depth = word >> 16;
+    let field = field_of(word);
+    let depth = depth_of(word);
     if field == 0 {
         return Leaf::Empty(depth);
     }

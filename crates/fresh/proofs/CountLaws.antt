@@ -1,19 +1,14 @@
--- Laws of cleared counts: where a page ends; the length; a count cleared in a part that was lent. Assumes nothing.
+-- Laws of cleared counts: a count cleared in a part that was lent. Assumes nothing.
 use Prim.Native.Nat.{ℕ, _+_, _-_, _*_, _<_, _≤_}
 use mathlib.Core.Path.{_≡_, sym, ap, _∙_}
 use mathlib.Core.List.{List}
 use native.Mathlib.Omega.{arith}
-use native.Mathlib.Nat.{mul-le-mul-right, suc-mul}
 use native.Mathlib.Numerals.{add-one}
 use lib.ListN.{length, take, drop, set, length-set}
 use lib.Seq.{take-set-le, take-set-lt, drop-set-lt, drop-set-add}
 use borrow.Rule.Slice.PartMut.{midOf, postOf, putMid, mid-len, set-mid-at}
 use Rattle.page.specs.Page.{pageSize}
 use Rattle.store.specs.Fresh.{clearedCounts}
-
--- a page before the n-th ends within n pages
-pub page-end : (n page size : ℕ) → page < n → page * size + size ≤ n * size
-page-end n page size h = rw suc-mul at (mul-le-mul-right size h)
 
 -- ---- a part with two elements set, put back
 

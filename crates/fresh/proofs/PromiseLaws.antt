@@ -16,10 +16,10 @@ use Rattle.store.specs.Fresh.{FreshPromise, freshNumber, freshState, freshMemor
 use Rattle.store.specs.Store.{memory, store}
 use Rattle.store.specs.declared.State.{State}
 use Rattle.store.specs.declared.Tally.{Tally}
-use Rattle.fresh.specs.Memory.{lacksMemory}
+use Rattle.fresh.specs.Memory.{lacksWordOrPage}
 
 -- where memory is not lacking, there is word 0
-pub word-of-lent : (s : Shape) (words bytes : ℕ) → lacksMemory s words bytes ≡ false → 0 < words
+pub word-of-lent : (s : Shape) (words bytes : ℕ) → lacksWordOrPage s words bytes ≡ false → 0 < words
 word-of-lent s zero bytes e = absurd (false≢true (sym e))
 word-of-lent s (suc words) bytes e = omega arith
 
@@ -28,19 +28,19 @@ module _ (s : Shape) (words bytes : List ℕ) where
 
   pub freshNumber-shape-out : (shapeNumber s ≡ 0 → ⊥) → freshNumber s (memory words bytes) ≡ shapeNumber s
   unfolding freshNumber
-  freshNumber-shape-out n = firstNumber-shape-out s (refusal 2 (lacksMemory s (length words) (length bytes)) ∷ []) n
+  freshNumber-shape-out n = firstNumber-shape-out s (refusal 2 (lacksWordOrPage s (length words) (length bytes)) ∷ []) n
 
   -- a shape within its bounds leaves the number to the lent memory
   freshNumber-shape : shapeNumber s ≡ 0
-      → freshNumber s (memory words bytes) ≡ cond (lacksMemory s (length words) (length bytes)) 2 0
+      → freshNumber s (memory words bytes) ≡ cond (lacksWordOrPage s (length words) (length bytes)) 2 0
   unfolding freshNumber firstNumber
-  freshNumber-shape n = firstNumber-shape s (refusal 2 (lacksMemory s (length words) (length bytes)) ∷ []) n
+  freshNumber-shape n = firstNumber-shape s (refusal 2 (lacksWordOrPage s (length words) (length bytes)) ∷ []) n
 
-  pub freshNumber-lacks : shapeNumber s ≡ 0 → lacksMemory s (length words) (length bytes) ≡ true
+  pub freshNumber-lacks : shapeNumber s ≡ 0 → lacksWordOrPage s (length words) (length bytes) ≡ true
       → freshNumber s (memory words bytes) ≡ 2
   freshNumber-lacks n e = freshNumber-shape n ∙ ap (λ β. cond β 2 0) e
 
-  pub freshNumber-none : shapeNumber s ≡ 0 → lacksMemory s (length words) (length bytes) ≡ false
+  pub freshNumber-none : shapeNumber s ≡ 0 → lacksWordOrPage s (length words) (length bytes) ≡ false
       → freshNumber s (memory words bytes) ≡ 0
   freshNumber-none n e = freshNumber-shape n ∙ ap (λ β. cond β 2 0) e
 

@@ -1,7 +1,10 @@
 // The call Fresh: a store without records in lent memory (document 01, "Lent memory", "Calls").
-use address::total_of;
+use numbers::smaller;
+use numbers::smaller_length;
+use page::page_size;
 use shape::Shape;
 use shape::shape_number;
+use shape::total_of;
 use shape::widths_of;
 use store::Change;
 use store::Changed;
@@ -10,7 +13,7 @@ use store::State;
 use store::Tally;
 ghost use mathlib.Core.Path.{_≡_};
 ghost use mathlib.Core.List.{_∷_};
-ghost use Prim.Native.Nat.{_*_, _<_, _≤_, min};
+ghost use Prim.Native.Nat.{_*_, _<_, _≤_};
 ghost use lib.ListN.{length, set, replicate};
 ghost use Rattle.shape.specs.Refusal.{refused};
 ghost use Rattle.shape.specs.Shape.{shapeNumber};
@@ -19,7 +22,7 @@ ghost use Rattle.model.specs.Limits.{logarithm, pageLimitOf, depthLimitOf, fres
 ghost use Rattle.store.specs.Answers.{changedAnswer};
 ghost use Rattle.store.specs.Fresh.{FreshPromise, clearedCounts, noState};
 ghost use Rattle.store.specs.Store.{memory, store};
-ghost use Rattle.fresh.specs.Memory.{lacksMemory};
+ghost use Rattle.fresh.specs.Memory.{lacksWordOrPage};
 
 // Makes a store without records in lent memory: the state, word 0 and the counts of the P pages.
 // Refused with 1 for a shape outside its bounds, then with 2 for no directory word or no whole
@@ -35,7 +38,7 @@ pub fn fresh(shape: Shape, dir: &mut [u32], pages: &mut [u8]) -> Change
     }
     let words = dir.len();
     let bytes = pages.len();
-    if lacks_memory(shape, words, bytes) {
+    if lacks_word_or_page(shape, words, bytes) {
         return refuse(2);
     }
     let page_count = page_limit(shape, bytes);
@@ -84,35 +87,21 @@ fn refuse(number: u32) -> Change
 }
 
 // Whether there is no directory word or no whole page.
-fn lacks_memory(shape: Shape, words: usize, bytes: usize) -> bool
-    ensures { λ r. ⌜ r ≡ lacksMemory shape words bytes ⌝ }
+fn lacks_word_or_page(shape: Shape, words: usize, bytes: usize) -> bool
+    ensures { λ r. ⌜ r ≡ lacksWordOrPage shape words bytes ⌝ }
 {
     if words == 0 {
         return true;
     }
-    bytes < page_size(shape.capacity)
-}
-
-// The bytes of a page of b records.
-fn page_size(b: u32) -> usize
-    ensures { λ r. ⌜ r ≡ pageSize b ⌝ }
-{
-    2 + 12 * (b as usize)
+    bytes < page_size(shape.capacity as usize)
 }
 
 // P: the smaller of 4,096 and the whole pages in the lent bytes.
 fn page_limit(shape: Shape, bytes: usize) -> u32
     ensures { λ r. ⌜ r ≡ pageLimitOf shape bytes ⌝ }
 {
-    let whole = bytes / page_size(shape.capacity);
-    smaller(4096, whole as u64) as u32
-}
-
-// The smaller of two numbers.
-fn smaller(a: u64, b: u64) -> u64
-    ensures { λ r. ⌜ r ≡ min a b ⌝ }
-{
-    if a < b { a } else { b }
+    let whole = bytes / page_size(shape.capacity as usize);
+    smaller_length(4096, whole) as u32
 }
 
 // L: the smallest of 12, W and the rounded-down base-2 logarithm of the directory's length.
@@ -137,7 +126,7 @@ fn clear_counts(pages: &mut [u8], b: u32, n: u32)
     requires { ⌜ n * pageSize b ≤ length (now pages) ⌝ }
     ensures { λ _. ⌜ now (pages .exit) ≡ clearedCounts b n (now (pages .entry)) ⌝ }
 {
-    let size = page_size(b);
+    let size = page_size(b as usize);
     let mut page: u32 = 0;
     let mut start: usize = 0;
     while page < n {

@@ -9,7 +9,7 @@ use Rattle.shape.specs.declared.Shape.{Shape}
 use Rattle.record.specs.Record.{Record}
 use Rattle.model.specs.Limits.{fixedBy}
 use Rattle.model.specs.Model.{Fixed, Call, insertCall, deleteCall, lookupCall, queryCall, Reply, changed, Outcome}
-use Rattle.model.specs.Model.{numberFor, outputBefore, outputAfter, outcome, next, setAfter, run, ifAccepted}
+use Rattle.model.specs.Model.{numberFor, outputBefore, outputAfter, outcome, next, setAfter, run, lastSet, ifAccepted}
 use Rattle.model.specs.Sets.{readsBound}
 use Rattle.store.specs.Store.{Store, Memory, fixedOf}
 use Rattle.store.specs.declared.State.{State}
@@ -18,7 +18,7 @@ use Rattle.store.specs.Fresh.{FreshPromise, freshNumber, freshState, freshMemor
 use Rattle.store.specs.Promises.{ChangePromise}
 use Rattle.store.proofs.FreshLaws.{fixedOf-freshState, sound-of-fresh}
 use Rattle.store.proofs.ReadLaws.{soundWhereRead-of-sound}
-use Rattle.history.specs.History.{Promised, Run, no-call, one-more, ReadsBounded, WithinBounds, lastSet, History}
+use Rattle.history.specs.History.{Promised, Run, no-call, one-more, ReadsBounded, WithinBounds, History}
 
 -- ---- one call
 

@@ -9,7 +9,7 @@ use Rattle.shape.specs.declared.Shape.{Shape}
 use Rattle.record.specs.Record.{Record}
 use Rattle.model.specs.Limits.{fixedBy}
 use Rattle.model.specs.Model.{Fixed, Call, insertCall, deleteCall, lookupCall, queryCall, changed, listed, Outcome}
-use Rattle.model.specs.Model.{next, run}
+use Rattle.model.specs.Model.{next, run, lastSet}
 use Rattle.model.specs.Sets.{readsBound}
 use Rattle.store.specs.Store.{Store, Memory}
 use Rattle.store.specs.Sound.{Sound}
@@ -50,11 +50,6 @@ abbrev pub WithinBounds : Fixed → List Record → List Call → List Outcome �
 WithinBounds f S [] os = Unit {0}
 WithinBounds f S (c ∷ cs) [] = ⊥
 WithinBounds f S (c ∷ cs) (o ∷ os) = ReadsBounded f S c o × WithinBounds f (next f S c) cs os
-
--- the model's set after a list of calls
-abbrev pub lastSet : Fixed → List Record → List Call → List Record
-lastSet f S [] = S
-lastSet f S (c ∷ cs) = lastSet f (next f S c) cs
 
 -- ---- demand 3
 

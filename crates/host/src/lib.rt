@@ -1,6 +1,6 @@
 // The C interface: what Rust or C links. Each call is that of `host_map`, `host_reads` or `host_changes`, with
 // its contract, exported.
-use address::Index;
+use address_formula::Index;
 use host_changes::delete_in_words;
 use host_changes::fresh_in_words;
 use host_changes::insert_in_words;
@@ -8,24 +8,26 @@ use host_map::AddressResult;
 use host_map::IndexResult;
 use host_map::address_result;
 use host_map::index_result;
-use host_reads::CheckResult;
-use host_reads::HostQuery;
-use host_reads::LookupResult;
-use host_reads::QueryResult;
 use host_reads::check_result;
 use host_reads::lookup_result;
 use host_reads::query_result;
+use host_results::CheckResult;
+use host_results::HostQuery;
+use host_results::LookupResult;
+use host_results::QueryResult;
 use shape::Key;
 use shape::Shape;
 ghost use mathlib.Core.List.{[], _∷_};
-ghost use Rattle.address.specs.Answers.{indexList, addressAnswer, indexAnswer};
-ghost use Rattle.host_map.specs.Result.{Reports};
+ghost use Rattle.address_formula.specs.Index.{indexList};
+ghost use Rattle.address_calls.specs.Answers.{addressAnswer, indexAnswer};
+ghost use Rattle.host_results.specs.Result.{Reports};
 ghost use Prim.Native.Nat.{_≤_};
 ghost use Rattle.model.specs.Model.{found, listed};
 ghost use Rattle.store.specs.Store.{store, memory};
 ghost use Rattle.store.specs.Promises.{LookupPromise, QueryPromise, CheckPromise, InsertPromise, DeletePromise};
 ghost use Rattle.host_state.specs.Image.{stateIn};
-ghost use Rattle.host_reads.specs.Result.{Keeps, isYes, wantedOf};
+ghost use Rattle.host_results.specs.Result.{Reports, Keeps, isYes};
+ghost use Rattle.host_results.specs.Wanted.{wantedOf};
 ghost use Rattle.host_changes.specs.Changes.{LentChangePromise};
 ghost use Rattle.host_changes.specs.Fresh.{LentFreshPromise};
 

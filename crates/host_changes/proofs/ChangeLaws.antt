@@ -20,22 +20,17 @@ use Rattle.store.specs.declared.Change.{Change}
 use Rattle.store.specs.declared.Changed.{Changed}
 use Rattle.store.specs.declared.Changed.the-variants.{Done, Refused}
 use Rattle.store.specs.declared.State.{State}
-use Rattle.host_state.specs.Image.{stateSize, stateIn, statePut}
-use Rattle.host_state.proofs.ImageLaws.{stateIn-short, drop-statePut, stateIn-statePut}
+use Rattle.host_state.specs.Image.{stateSize, stateIn}
+use Rattle.host_state.proofs.ImageLaws.{stateIn-short}
 use Rattle.host_changes.specs.Changes.{LentChangePromise}
-use Rattle.host_changes.specs.Private.{Settled}
+use Rattle.host_results.specs.Settled.{Settled}
+use Rattle.host_results.proofs.SettledLaws.{accepted-refused, refused-same}
 
 -- ---- numbers
 
 pub keyNumber-noState : (ds bs values : List ℕ) → keyNumber (store noState ds bs) values ≡ 1
 unfolding keyNumber firstNumber lentConditions shapeConditions inBounds noState
 keyNumber-noState ds bs values = refl
-
-accepted-refused : (n : ℕ) → _≡_ {A = Answer Reply} (accepted changed) (refused n) → ⊥
-accepted-refused n e = let z : false ≡ true = cc in false≢true z
-
-refused-same : (n m : ℕ) → _≡_ {A = Answer Reply} (refused n) (refused m) → n ≡ m
-refused-same n m e = cc
 
 -- 0 is none of an insert's numbers, and none of a delete's
 pub insert-not-zero : Member {A = ℕ} 0 (4 ∷ 6 ∷ 7 ∷ 9 ∷ []) → ⊥
@@ -59,33 +54,6 @@ change-not-zero c values early numbers before after none p = go early refl
     go (suc n) e =
         let z : 0 ≡ suc n = refused-same 0 (suc n) (p .early-refused n e) in
         omega arith
-
--- ---- the words after a change
-
-module _ (change : Change) (words : List ℕ) where
-  pub settled-done : changedAnswer (change .answer) ≡ accepted changed
-      → length (change .state .shape .widths) ≡ 4 → length (change .state .tally .leaves) ≡ 13
-      → (words′ : List ℕ) → words′ ≡ statePut (change .state) words → Settled change words 0 words′
-  settled-done done four thirteen words′ e =
-      record {
-        number-done = λ _. refl;
-        words-done = λ _. e;
-        state-done = λ _. ap stateIn e ∙ stateIn-statePut (change .state) words four thirteen;
-        past-done = λ _. ap (drop stateSize) e ∙ drop-statePut (change .state) words;
-        number-refused = λ n f. absurd (accepted-refused n (sym done ∙ f));
-        words-refused = λ n f. absurd (accepted-refused n (sym done ∙ f));
-      }
-
-  pub settled-refused : (n : ℕ) → changedAnswer (change .answer) ≡ refused n → Settled change words n words
-  settled-refused n e =
-      record {
-        number-done = λ f. absurd (accepted-refused n (sym f ∙ e));
-        words-done = λ f. absurd (accepted-refused n (sym f ∙ e));
-        state-done = λ f. absurd (accepted-refused n (sym f ∙ e));
-        past-done = λ f. absurd (accepted-refused n (sym f ∙ e));
-        number-refused = λ m f. refused-same n m (sym e ∙ f);
-        words-refused = λ _ _. refl;
-      }
 
 -- ---- a call on the state that the words show
 

@@ -19,12 +19,12 @@ use Rattle.store.specs.declared.Change.{Change}
 use Rattle.store.specs.declared.Changed.{Changed}
 use Rattle.store.specs.declared.Changed.the-variants.{Done, Refused}
 use Rattle.store.specs.declared.State.{State}
-use Rattle.fresh.specs.Memory.{lacksMemory}
+use Rattle.fresh.specs.Memory.{lacksWordOrPage}
 use Rattle.fresh.proofs.PromiseLaws.{freshNumber-shape-out, freshNumber-lacks, freshNumber-none}
 use Rattle.host_state.specs.Image.{stateSize, stateIn, statePut}
 use Rattle.host_state.proofs.ImageLaws.{stateIn-statePut}
 use Rattle.host_changes.specs.Fresh.{lentFreshNumber, LentFreshPromise}
-use Rattle.host_changes.specs.Private.{Settled}
+use Rattle.host_results.specs.Settled.{Settled}
 
 module _ (s : Shape) (words ds bs : List ℕ) where
   abbrev m : Memory
@@ -46,9 +46,9 @@ module _ (s : Shape) (words ds bs : List ℕ) where
       go (suc n) e = number-of (suc n) (freshNumber-shape-out s ds bs ne ∙ e) ∙ sym e
 
   pub number-short : shapeNumber s ≡ 0 → length words < stateSize → lentFreshNumber s words m ≡ 2
-  number-short e h = go (lacksMemory s (length ds) (length bs)) refl
+  number-short e h = go (lacksWordOrPage s (length ds) (length bs)) refl
     where
-      go : (b : Bool) → lacksMemory s (length ds) (length bs) ≡ b → lentFreshNumber s words m ≡ 2
+      go : (b : Bool) → lacksWordOrPage s (length ds) (length bs) ≡ b → lentFreshNumber s words m ≡ 2
       go true l = number-of 2 (freshNumber-lacks s ds bs e l)
       go false l =
           number-of 0 (freshNumber-none s ds bs e l) ∙ ap (λ b. cond b 2 0) (lt-ltb (length words) stateSize h)

@@ -1,3 +1,2 @@
 pub mod Changes
 pub mod Fresh
-pub mod Private

@@ -3,27 +3,18 @@
 // insert and delete are refused with 1.
 use delete::delete;
 use fresh::fresh;
+use host_results::settle;
 use host_state::STATE_SIZE;
-use host_state::put_state;
 use host_state::state_in;
 use insert::insert;
 use record::Content;
 use shape::Key;
 use shape::Shape;
 use shape::shape_number;
-use store::Change;
-use store::Changed;
-ghost use mathlib.Core.Path.{_≡_};
-ghost use Prim.Native.Nat.{_≤_};
-ghost use lib.ListN.{length};
-ghost use Rattle.shape.specs.Refusal.{accepted};
-ghost use Rattle.model.specs.Model.{changed};
-ghost use Rattle.store.specs.Answers.{changedAnswer};
 ghost use Rattle.store.specs.Store.{memory, store};
 ghost use Rattle.store.specs.Promises.{InsertPromise, DeletePromise};
 ghost use Rattle.host_changes.specs.Changes.{LentChangePromise};
 ghost use Rattle.host_changes.specs.Fresh.{LentFreshPromise};
-ghost use Rattle.host_changes.specs.Private.{Settled};
 
 // Makes a store without records in lent memory: the first 22 state words, word 0 and the counts of
 // the P pages. Refused with 1 for a shape outside its bounds, then with 2 for fewer than 22 state
@@ -70,19 +61,4 @@ pub fn delete_in_words(state: &mut [u32], dir: &mut [u32], pages: &mut [u8], key
 {
     let deleted = delete(state_in(state), dir, pages, key);
     settle(state, deleted)
-}
-
-// Writes the state of an accepted change into its words, and returns the number of the change.
-fn settle(words: &mut [u32], change: Change) -> u32
-    requires { ⌜ (changedAnswer (change .answer) ≡ accepted changed → 22 ≤ length (now words)) ⌝ }
-    ensures { λ r. ⌜ Settled change (now (words .entry)) r (now (words .exit)) ⌝ }
-{
-    let answer = change.answer;
-    match answer {
-        Changed::Done => {
-            put_state(words, change.state);
-            0
-        }
-        Changed::Refused(number) => number,
-    }
 }

@@ -1,14 +1,15 @@
 // The address map for hosts: an answer as a struct of numbers. A number of 0 stands for an accepted call;
 // any other is the refusal's (document 01, "Refused calls"), and the values beside it are 0.
-use address::AddressAnswer;
-use address::Index;
-use address::IndexAnswer;
-use address::address_of;
-use address::index_at;
+use address_calls::AddressAnswer;
+use address_calls::IndexAnswer;
+use address_calls::address_of;
+use address_calls::index_at;
+use address_formula::Index;
 use shape::Shape;
 ghost use mathlib.Core.List.{[], _∷_};
-ghost use Rattle.address.specs.Answers.{indexList, addressAnswer, indexAnswer};
-ghost use Rattle.host_map.specs.Result.{Reports};
+ghost use Rattle.address_formula.specs.Index.{indexList};
+ghost use Rattle.address_calls.specs.Answers.{addressAnswer, indexAnswer};
+ghost use Rattle.host_results.specs.Result.{Reports};
 
 // The address of an index vector.
 #[repr(C)]

@@ -43,10 +43,6 @@ stateIn-long words h =
 
 -- ---- the state written
 
-pub length-statePut : (s : State) (words : List ℕ) → stateSize ≤ length words → length (statePut s words) ≡ length words
-unfolding statePut stateWords
-length-statePut s words h = omega (arith, length-drop 22 words)
-
 -- the words past the first 22 stay
 pub drop-statePut : (s : State) (words : List ℕ) → drop stateSize (statePut s words) ≡ drop stateSize words
 unfolding statePut stateWords

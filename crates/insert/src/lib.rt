@@ -1,23 +1,20 @@
-// The call Insert: a record joins the store (document 01, "Calls"). A plan is found without a write,
-// and tested; then it is carried out by steps that cannot fail.
-use change_guard::insert_keeps;
-use directory::regions::fill;
-use directory_word::pack_page;
-use insert_plan::Plan;
+// The call Insert: a record joins the store (document 01, "Calls"). A plan is found without a write;
+// then it is carried out by steps that cannot fail.
+use insert_done::divide_leaf;
+use insert_done::give_page;
+use insert_pages::insert_record;
 use insert_plan::plan_insert;
-use insert_steps::divide_pages;
-use insert_steps::divide_words;
-use insert_steps::insert_record;
+use insert_planned::Plan;
 use record::Content;
 use record::pack_key;
 use refusals::key_number;
 use shape::Key;
-use shape::widths_of;
 use store::Change;
 use store::Changed;
 use store::State;
+ghost use mathlib.Core.Path.{_≡_};
 ghost use Rattle.store.specs.Answers.{changedAnswer};
-ghost use Rattle.store.specs.Promises.{InsertPromise};
+ghost use Rattle.store.specs.Promises.{keyNumber, InsertPromise};
 ghost use Rattle.store.specs.Store.{store};
 
 // Adds a record; a full leaf is divided until no leaf has more than b. Refused with 1, 2, 3, 4, 6,
@@ -32,17 +29,25 @@ pub fn insert(state: State, dir: &mut [u32], pages: &mut [u8], key: Key, content
         let answer = Changed::Refused(number);
         return Change { answer, state };
     }
-    let step = plan_insert(state, dir, pages, key);
-    let values = key.values;
-    let packed = pack_key(key);
-    let shape = state.shape;
-    let capacity = shape.capacity as usize;
-    match step {
+    add(state, dir, pages, key, content)
+}
+
+// After 1, 2 and 3: the key's leaf is found, and a page for a leaf that newly gets one; then words,
+// tally and pages are changed.
+fn add(state: State, dir: &mut [u32], pages: &mut [u8], key: Key, content: Content) -> Change
+    requires { ⌜ keyNumber (store state (now dir) (now pages)) (key .values) ≡ 0 ⌝ }
+    ensures { λ r. ⌜ InsertPromise (store state (now (dir .entry)) (now (pages .entry))) (key .values) content
+        (changedAnswer (r .answer)) (store (r .state) (now (dir .exit)) (now (pages .exit))) ⌝ }
+{
+    let plan = plan_insert(state, dir, pages, key);
+    match plan {
         Plan::Refused(n) => {
             let answer = Changed::Refused(n);
             return Change { answer, state };
         }
         Plan::Take(page, place, count) => {
+            let packed = pack_key(key);
+            let capacity = state.shape.capacity as usize;
             insert_record(
                 pages,
                 capacity,
@@ -56,43 +61,10 @@ pub fn insert(state: State, dir: &mut [u32], pages: &mut [u8], key: Key, content
             return Change { answer, state };
         }
         Plan::Get(page, depth) => {
-            if !insert_keeps(state, dir, values, Plan::Get(page, depth)) {
-                let answer = Changed::Refused(9);
-                return Change { answer, state };
-            }
-            insert_record(pages, capacity, page as usize, 0, 0, packed, content);
-            let word = pack_page(page, depth);
-            fill(
-                widths_of(shape),
-                values,
-                depth as u64,
-                state.deepest as u64,
-                word,
-                dir,
-            );
-            let answer = Changed::Done;
-            return Change { answer, state };
+            return give_page(state, dir, pages, key, content, page, depth);
         }
         Plan::Divide(split, cut, free) => {
-            if !insert_keeps(state, dir, values, Plan::Divide(split, cut, free)) {
-                let answer = Changed::Refused(9);
-                return Change { answer, state };
-            }
-            let divided = divide_words(state, dir, values, split, cut.bit, free);
-            divide_pages(
-                pages,
-                capacity,
-                split.page as usize,
-                free as usize,
-                cut,
-                packed,
-                content,
-            );
-            let answer = Changed::Done;
-            return Change {
-                answer,
-                state: divided,
-            };
+            return divide_leaf(state, dir, pages, key, content, split, cut, free);
         }
     }
 }

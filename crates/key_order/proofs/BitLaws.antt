@@ -21,9 +21,6 @@ bit-mod w v i h =
     ∙ ap (λ k. v / 2 ^ i % 2 ^ k % 2) f
     ∙ mod-mod-pow (v / 2 ^ i) (w - suc i) 1
 
-pub bitOf-mod : (w v k : ℕ) → k < w → bitOf w (v % 2 ^ w) k ≡ bitOf w v k
-bitOf-mod w v k h = ap (λ x. eqb x 1) (bit-mod w v (w - suc k) (omega arith))
-
 -- ---- of a packed key
 
 pub bit-packedValue : (key j i : ℕ) → i < 16 → packedValue key j / 2 ^ i % 2 ≡ key / 2 ^ (16 * j + i) % 2

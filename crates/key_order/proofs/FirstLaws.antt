@@ -1,15 +1,15 @@
 -- Laws of the first split step in which two keys differ: the bits before it and at it; the same bits and split order by
--- it; three keys in split order. Assumes nothing.
+-- it. Assumes nothing.
 use Prim.Native.Nat.{ℕ, zero, suc, _+_, _≤_, _<_}
 use mathlib.Core.Path.{_≡_, refl, sym, ap, _∙_, subst}
 use mathlib.Core.Bool.{Bool, true, false, _&&_, cond, Bool·beq, false≢true, true≢false}
 use mathlib.Core.List.{List}
 use mathlib.Core.Logic.{_⊎_, inl, inr}
 use native.Mathlib.Omega.{arith}
-use native.Mathlib.Nat.{zero-add, le-refl}
+use native.Mathlib.Nat.{zero-add}
 use lib.Dec.{leb}
 use borrow.Author.Tests.{le-leb, leb-true}
-use Rattle.lists.proofs.Bools.{eq-of-beq, beq-comm, eq-of-iff}
+use Rattle.lists.proofs.Bools.{eq-of-beq, eq-of-iff}
 use Rattle.lists.proofs.Numbers.{lt-or-le, eq-or-ne}
 use Rattle.shape.specs.Shape.{total}
 use Rattle.split.specs.Bits.{splitBit}
@@ -34,18 +34,6 @@ module _ (p q : ℕ → Bool) where
 
   common-here : (n t : ℕ) → (p t ≡ q t → ⊥) → commonBits p q (suc n) t ≡ 0
   common-here n t d = rw (beq-ne (p t) (q t) d)
-
-  pub commonBits-comm : (n t : ℕ) → commonBits p q n t ≡ commonBits q p n t
-  commonBits-comm zero t = refl
-  commonBits-comm (suc n) t = cc (beq-comm (p t) (q t), commonBits-comm n (suc t))
-
-  pub commonBits-le : (n t : ℕ) → commonBits p q n t ≤ n
-  commonBits-le zero t = omega arith
-  commonBits-le (suc n) t = go (bit-cases (p t) (q t)) (commonBits-le n (suc t))
-    where
-      go : (p t ≡ q t) ⊎ (p t ≡ q t → ⊥) → commonBits p q n (suc t) ≤ n → commonBits p q (suc n) t ≤ suc n
-      go (inl e) ih = rw (common-next n t e) (omega arith)
-      go (inr d) ih = rw (common-here n t d) (omega arith)
 
   -- the bits in common, and the one that differs
   pub bit-common : (n t s : ℕ) → t ≤ s → s < t + commonBits p q n t → p s ≡ q s
@@ -119,10 +107,6 @@ sameBits-between bit (suc m) (suc n) t x y z h a b e =
 -- ---- keys
 
 module _ (ws x y : List ℕ) where
-  pub firstStep-le : firstStep ws x y ≤ total ws
-  unfolding firstStep
-  firstStep-le = commonBits-le (splitBit ws x) (splitBit ws y) (total ws) 0
-
   pub splitBit-before : (t : ℕ) → t < firstStep ws x y → splitBit ws x t ≡ splitBit ws y t
   unfolding firstStep
   splitBit-before t l = bit-common (splitBit ws x) (splitBit ws y) (total ws) 0 t (omega arith) (omega arith)
@@ -148,17 +132,3 @@ module _ (ws x y : List ℕ) where
       (λ u h. splitBit-before (0 + u) (omega arith))
       (λ e. splitBit-differs l (subst (λ s. splitBit ws x s ≡ splitBit ws y s) (zero-add _) e))
       ∙ ap (splitBit ws y) (zero-add _)
-
-pub firstStep-comm : (ws x y : List ℕ) → firstStep ws x y ≡ firstStep ws y x
-unfolding firstStep
-firstStep-comm ws x y = commonBits-comm (splitBit ws x) (splitBit ws y) (total ws) 0
-
--- a key between two differs from the first in no earlier step than these do
-pub firstStep-between : (ws x y z : List ℕ) → before (splitBit ws) (total ws) 0 x y ≡ true
-    → before (splitBit ws) (total ws) 0 y z ≡ true → firstStep ws x z ≤ firstStep ws x y
-firstStep-between ws x y z a b =
-    let whole = firstStep-le ws x z in
-    leb-true _ _
-    (sym (sameBits-firstStep ws x y (firstStep ws x z) whole)
-    ∙ sameBits-between (splitBit ws) (firstStep ws x z) (total ws) 0 x y z whole a b
-    (sameBits-firstStep ws x z (firstStep ws x z) whole ∙ le-leb _ _ (le-refl (firstStep ws x z))))

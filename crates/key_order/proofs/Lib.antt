@@ -5,4 +5,3 @@ pub mod FirstLaws
 pub mod LeadingLaws
 pub mod PairLaws
 pub mod StepLaws
-pub mod WidthLaws

@@ -15,7 +15,8 @@ use Rattle.lists.proofs.Numbers.{lt-or-le}
 use Rattle.split.specs.Bits.{bitOf}
 use Rattle.record.specs.Packed.{packedValue, unpackedKey}
 use Rattle.record.proofs.PackedLaws.{getD-unpackedKey}
-use Rattle.key_order.specs.Order.{pairBit, FirstPair}
+use Rattle.pairs.specs.Pairs.{IsStep, pairBit}
+use Rattle.key_order.specs.Order.{FirstPair}
 use Rattle.key_order.specs.Private.{FirstBit}
 use Rattle.key_order.proofs.BitLaws.{bit-packedValue, bitOf-xor}
 use Rattle.key_order.proofs.CommonLaws.{beq-eq}
@@ -58,7 +59,7 @@ module _ (ws : List ℕ) (x y : ℕ) where
       ∙ sym (λ i. not (Bool·beq (pairBit-unpackedKey ws x g i) (pairBit-unpackedKey ws y g i)))
 
   module _ (f : ℕ → ℕ) (bits : (r : ℕ) → r < 4 → FirstBit (getD ws r 0) (packedValue (bitXor x y) r) r (f r)) where
-    zero-below : (h : ℕ) → h < least f → h / 4 < getD ws (h % 4) 0
+    zero-below : (h : ℕ) → h < least f → IsStep ws h
         → bitOf (getD ws (h % 4) 0) (packedValue (bitXor x y) (h % 4)) (h / 4) ≡ false
     zero-below h l k =
         let r = h % 4 in

@@ -1,9 +1,9 @@
 -- Laws from the first pair in which two keys differ to split steps: the number of that step, and how the keys stand
 -- to each other. Assumes nothing.
-use Prim.Native.Nat.{ℕ, _+_, _*_, _/_, _%_, _-_, _≤_, _<_, min}
+use Prim.Native.Nat.{ℕ, _+_, _*_, _/_, _%_, _≤_, _<_}
 use mathlib.Core.Path.{_≡_, sym, ap, _∙_, subst}
 use mathlib.Core.Bool.{cond}
-use mathlib.Core.List.{List, [], _∷_}
+use mathlib.Core.List.{List}
 use mathlib.Core.Logic.{_⊎_, inl, inr}
 use native.Mathlib.Nat.{zero-add}
 use native.Mathlib.Omega.{arith}
@@ -12,31 +12,15 @@ use Rattle.lists.proofs.Numbers.{lt-or-le}
 use Rattle.shape.specs.Shape.{Fit, total}
 use Rattle.split.specs.Steps.{stepsBelow, steps, stepNumber}
 use Rattle.split.specs.Bits.{splitBit}
-use Rattle.split.proofs.StepLaws.{depthBefore, stepNumber-onto, length-stepsBelow}
-use Rattle.split.proofs.DepthLaws.{stepNumber-below}
-use Rattle.split.proofs.BitLaws.{splitBit-stepNumber}
-use Rattle.key_order.specs.Order.{commonBits, firstStep, compared, pairBit, FirstPair}
+use Rattle.split.proofs.StepLaws.{stepNumber-onto}
+use Rattle.key_order.specs.Order.{commonBits, firstStep, compared, FirstPair}
+use Rattle.pairs.specs.Pairs.{IsStep, pairBit}
+use Rattle.pairs.proofs.PlaceLaws.{splitBit-place, stepsBelow-lt}
 use Rattle.key_order.specs.declared.Order.the-variants.{Same, Before, After}
 use Rattle.key_order.proofs.CommonLaws.{AgreeFrom, DifferAt, commonBits-all, commonBits-differ}
 use Rattle.key_order.proofs.CommonLaws.{sameBits-all, sameBits-differ, before-differ}
 
 module _ (ws : List ℕ) (fit : Fit ws) where
-  -- ---- a place and its step
-
-  pub stepNumber-place : (g : ℕ) → stepNumber ws (g / 4) (g % 4) ≡ length (stepsBelow ws g)
-  unfolding stepNumber
-  stepNumber-place g = let e : 4 * (g / 4) + g % 4 ≡ g = omega arith in ap (λ p. length (stepsBelow ws p)) e
-
-  -- the split bit of a key at the step of a place
-  pub splitBit-place : (key : List ℕ) (g : ℕ) → g / 4 < getD ws (g % 4) 0
-      → splitBit ws key (length (stepsBelow ws g)) ≡ pairBit ws key g
-  splitBit-place key g h =
-      ap (splitBit ws key) (sym (stepNumber-place g)) ∙ splitBit-stepNumber ws fit key (g / 4) (g % 4) (omega arith) h
-
-  pub stepsBelow-lt : (g : ℕ) → g / 4 < getD ws (g % 4) 0 → length (stepsBelow ws g) < length (steps ws)
-  stepsBelow-lt g h =
-      subst (λ t. t < length (steps ws)) (stepNumber-place g) (stepNumber-below ws fit (g / 4) (g % 4) (omega arith) h)
-
   module _ (x y : List ℕ) (g : ℕ) (d : FirstPair ws x y g) where
     abbrev t : ℕ
     t = length (stepsBelow ws g)
@@ -50,22 +34,22 @@ module _ (ws : List ℕ) (fit : Fit ws) where
         let here : length (stepsBelow ws h) ≡ 0 + u = s .4 ∙ sym (zero-add u) in
         let bit : s .0 ≡ h / 4 = omega (arith, s .2) in
         let attribute : s .1 ≡ h % 4 = omega (arith, s .2) in
-        let live : h / 4 < getD ws (h % 4) 0 =
+        let live : IsStep ws h =
         subst (λ k. k < getD ws (h % 4) 0) bit (subst (λ j. s .0 < getD ws j 0) attribute (s .3)) in
         subst (λ v. splitBit ws x v ≡ splitBit ws y v) here
-        (splitBit-place x h live ∙ d .same-before h (s .5) live ∙ sym (splitBit-place y h live))
+        (splitBit-place ws fit x h live ∙ d .same-before h (s .5) live ∙ sym (splitBit-place ws fit y h live))
 
     pub differ-here : g < 64 → DifferAt (splitBit ws x) (splitBit ws y) (0 + t)
     differ-here l e =
         let live = d .step-there l in
         d .differ-there l
-        (sym (splitBit-place x g live)
+        (sym (splitBit-place ws fit x g live)
         ∙ subst (λ v. splitBit ws x v ≡ splitBit ws y v) (zero-add t) e
-        ∙ splitBit-place y g live)
+        ∙ splitBit-place ws fit y g live)
 
     module _ (all : length (steps ws) ≡ total ws) where
       pub t-lt : g < 64 → t < total ws
-      t-lt l = omega (arith, all, stepsBelow-lt g (d .step-there l))
+      t-lt l = omega (arith, all, stepsBelow-lt ws fit g (d .step-there l))
 
       t-all : 64 ≤ g → t ≡ total ws
       unfolding steps
@@ -98,17 +82,5 @@ module _ (ws : List ℕ) (fit : Fit ws) where
             sameBits-differ (splitBit ws x) (splitBit ws y) (total ws) 0 t (t-lt l) (differ-here l),
             before-differ (splitBit ws) x y (total ws) 0 t (t-lt l) agree-before (differ-here l),
           )
-          (ap (λ β. cond β Before After) (ap (splitBit ws y) (zero-add t) ∙ splitBit-place y g (d .step-there l)))
-
--- ---- the number of a step, from the depths just before its place
-
-pub depth-le : (d w m : ℕ) → d ≡ min w m → w ≤ 16 → d ≤ 16
-depth-le d w m e h = omega arith
-
-pub length-stepsBelow-depths : (w0 w1 w2 w3 g d0 d1 d2 d3 : ℕ) → d0 ≡ min w0 ((g + 3 - 0) / 4)
-    → d1 ≡ min w1 ((g + 3 - 1) / 4)
-    → d2 ≡ min w2 ((g + 3 - 2) / 4) → d3 ≡ min w3 ((g + 3 - 3) / 4)
-    → d0 + d1 + d2 + d3 ≡ length (stepsBelow (w0 ∷ w1 ∷ w2 ∷ w3 ∷ []) g)
-unfolding depthBefore
-length-stepsBelow-depths w0 w1 w2 w3 g d0 d1 d2 d3 e0 e1 e2 e3 =
-    (λ i. e0 i + e1 i + e2 i + e3 i) ∙ sym (length-stepsBelow (w0 ∷ w1 ∷ w2 ∷ w3 ∷ []) g)
+          (ap (λ β. cond β Before After)
+          (ap (splitBit ws y) (zero-add t) ∙ splitBit-place ws fit y g (d .step-there l)))

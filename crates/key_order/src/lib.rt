@@ -3,13 +3,16 @@
 // value past its width are never looked at.
 //
 // A pair (bit k, attribute j) is handed on as its place 4k + j among all pairs; 64 stands for none.
+use numbers::smaller;
+use pairs::steps_before;
+use pairs::width_at;
 use shape::Widths;
 ghost use mathlib.Core.Path.{_≡_};
-ghost use Prim.Native.Nat.{_+_, _-_, _*_, _/_, _%_, _^_, _<_, _≤_, min};
-ghost use lib.ListN.{getD, length};
+ghost use Prim.Native.Nat.{_/_, _%_, _<_, _≤_};
+ghost use lib.ListN.{getD};
 ghost use Rattle.shape.specs.Shape.{Fit, widthList};
-ghost use Rattle.split.specs.Steps.{stepsBelow};
 ghost use Rattle.split.specs.Bits.{bitOf};
+ghost use Rattle.pairs.specs.Pairs.{IsStep};
 ghost use Rattle.record.specs.Packed.{packedValue, unpackedKey};
 ghost use Rattle.key_order.specs.Order.{firstStep, compared, FirstPair};
 ghost use Rattle.key_order.specs.Private.{FirstBit};
@@ -26,7 +29,7 @@ pub fn first_step(widths: Widths, x: u64, y: u64) -> u64
     requires { ⌜ Fit (widthList widths) ⌝ }
     ensures { λ r. ⌜ r ≡ firstStep (widthList widths) (unpackedKey x) (unpackedKey y) ⌝ }
 {
-    step_number(widths, first_pair(widths, x, y))
+    steps_before(widths, first_pair(widths, x, y))
 }
 
 // How x stands to y.
@@ -59,24 +62,12 @@ pub fn first_pair(widths: Widths, x: u64, y: u64) -> u64
 
 // The bit of a key at the place of a split step.
 pub fn pair_bit(widths: Widths, key: u64, g: u64) -> bool
-    requires { ⌜ Fit (widthList widths) × (g < 64) × (g / 4 < getD (widthList widths) (g % 4) 0) ⌝ }
+    requires { ⌜ Fit (widthList widths) × (g < 64) × IsStep (widthList widths) g ⌝ }
     ensures { λ r. ⌜ r ≡ bitOf (getD (widthList widths) (g % 4) 0) (packedValue key (g % 4)) (g / 4) ⌝ }
 {
     let j = g % 4;
     let low = 16 * j + width_at(widths, j) - 1 - g / 4;
     (key >> low) & 1 == 1
-}
-
-// How many split steps stand before a place: the number of the step there.
-pub fn step_number(widths: Widths, g: u64) -> u64
-    requires { ⌜ Fit (widthList widths) × (g ≤ 64) ⌝ }
-    ensures { λ r. ⌜ r ≡ length (stepsBelow (widthList widths) g) ⌝ }
-{
-    let h0 = depth_before(widths.w0, g, 0);
-    let h1 = depth_before(widths.w1, g, 1);
-    let h2 = depth_before(widths.w2, g, 2);
-    let h3 = depth_before(widths.w3, g, 3);
-    h0 + h1 + h2 + h3
 }
 
 // The place of the first bit that is 1 in the value of attribute j; 64 or more where there is none.
@@ -87,28 +78,4 @@ fn first_bit(z: u64, w: u64, j: u64) -> u64
 {
     let top = ((z >> (16 * j)) << 48) << (16 - w);
     4 * (u64::leading_zeros(top) as u64) + j
-}
-
-// The smaller of two numbers.
-fn smaller(a: u64, b: u64) -> u64
-    ensures { λ r. ⌜ r ≡ min a b ⌝ }
-{
-    if a < b { a } else { b }
-}
-
-// The width of attribute j, from all four in one number: no jump that a random j makes unforeseeable.
-fn width_at(widths: Widths, j: u64) -> u64
-    requires { ⌜ Fit (widthList widths) × (j < 4) ⌝ }
-    ensures { λ r. ⌜ r ≡ getD (widthList widths) j 0 ⌝ }
-{
-    let all = widths.w0 + widths.w1 * 0x100 + widths.w2 * 0x10000 + widths.w3 * 0x1000000;
-    (all >> (8 * j)) & 0xff
-}
-
-// The depth of an attribute j of w bits just before the pair at place g.
-fn depth_before(w: u64, g: u64, j: u64) -> u64
-    requires { ⌜ (g ≤ 64) × (j < 4) ⌝ }
-    ensures { λ r. ⌜ r ≡ min w ((g + 3 - j) / 4) ⌝ }
-{
-    smaller(w, (g + 3 - j) / 4)
 }

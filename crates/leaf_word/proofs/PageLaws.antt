@@ -8,24 +8,22 @@ use lib.ListN.{length}
 use Rattle.shape.specs.Shape.{Fit, widthsOf, total, indexFits, shapeNumber}
 use Rattle.shape.specs.Key.{keyFits, encodings}
 use Rattle.shape.specs.declared.Shape.{Shape}
-use Rattle.shape.proofs.ShapeLaws.{widthsOf-fit}
+use Rattle.shape.proofs.ShapeLaws.{widthsOf-fit, widths-fit}
 use Rattle.split.specs.Bits.{splitBit}
-use Rattle.address.proofs.AnswerLaws.{widths-fit}
 use Rattle.cell.specs.Cell.{Agree}
 use Rattle.region.specs.Division.{leafDepth}
 use Rattle.record.specs.Record.{Record}
 use Rattle.record.specs.Packed.{packedKey, unpackedKey, SixteenBits}
 use Rattle.record.proofs.ByteLaws.{perAttribute-getD}
-use Rattle.record.proofs.KeyLaws.{key-below-bytes}
 use Rattle.record.proofs.PackedLaws.{unpackedKey-packedKey}
 use Rattle.page.specs.Page.{countOf, pageAt}
 use Rattle.directory_word.specs.Word.{wordOf}
 use Rattle.directory_word.specs.declared.Leaf.the-variants.{Page}
 use Rattle.directory_word.proofs.WordLaws.{wordOf-depth, wordOf-page}
-use Rattle.model.proofs.SetLaws.{length-encodings, indexFits-encodings}
+use Rattle.model.proofs.SetLaws.{indexFits-encodings, SixteenBits-of-keyFits}
 use Rattle.store.specs.Store.{Store}
 use Rattle.store.specs.Sound.{Sound}
-use Rattle.store.proofs.ShownLaws.{wordOn, divisionOn, wordOn-depth, shape-of-Sound}
+use Rattle.store.proofs.ShownLaws.{wordOn, divisionOn, wordOn-depth}
 use Rattle.page_ends.specs.Ends.{endsBegin, fixedBits, endsAgree}
 use Rattle.page_ends.proofs.AgreeLaws.{endsBegin-agree, endsAgree-endsBegin}
 use Rattle.page_ends.proofs.SoundLaws.{endsBegin-sound}
@@ -51,10 +49,7 @@ module _ (s : Shape) (good : shapeNumber s ≡ 0) (x : ℕ) (deep : x ≤ total 
 module _ (s : Shape) (values : List ℕ) (good : shapeNumber s ≡ 0) (fits : keyFits s values ≡ true)
     (four : length values ≡ 4) where
   sixteen : SixteenBits values
-  unfolding encodings
-  sixteen =
-      subst SixteenBits (perAttribute-getD values four)
-      (key-below-bytes s good (encodings s values) (length-encodings s values) (indexFits-encodings s values ∙ fits))
+  sixteen = SixteenBits-of-keyFits s values good fits four
 
   pub unpackedKey-values : unpackedKey (packedKey values) ≡ values
   unpackedKey-values = unpackedKey-packedKey values sixteen ∙ perAttribute-getD values four

@@ -1,25 +1,29 @@
 // The word at a key's cell and the page of its leaf, and whether a sound store can have them: how
 // lookup, insert and delete begin (document 01, "Lent memory").
-use directory::cells::find_cell;
+use directory_cell::find_cell;
+use directory_word::depth_of;
+use directory_word::field_of;
+use page::page_size;
+use page::page_start;
 use page_ends::ends_agree;
+use page_ends::fair_count;
 use page_ends::fixed_bits;
-use record::RECORD_SIZE;
 use shape::Shape;
 use shape::Widths;
 use shape::widths_of;
 use store::State;
 ghost use mathlib.Core.Path.{_≡_};
-ghost use Prim.Native.Nat.{_^_, _≤_};
+ghost use Prim.Native.Nat.{_≤_};
 ghost use lib.ListN.{getD, length};
-ghost use Rattle.shape.specs.Shape.{Fit, widthList, total};
+ghost use Rattle.shape.specs.Shape.{widthList};
 ghost use Rattle.split.specs.Bits.{splitBit};
 ghost use Rattle.cell.specs.Cell.{cellAddress};
 ghost use Rattle.page.specs.Page.{pageAt};
-ghost use Rattle.leaf_word.specs.Hold.{wordHolds, ownPage, OwnAsked};
+ghost use Rattle.leaf_word.specs.Hold.{CellAsked, wordHolds, ownPage, ownCount, LeafAsked, OwnAsked};
 
 // The word at the cell of a key, in a directory of depth t.
 pub fn key_word(widths: Widths, t: u64, dir: &[u32], values: [u32; 4]) -> u32
-    requires { ⌜ Fit (widthList widths) × (t ≤ total (widthList widths)) × (2 ^ t ≤ length (now dir)) ⌝ }
+    requires { ⌜ CellAsked (widthList widths) t (length (now dir)) ⌝ }
     ensures { λ r. ⌜ r ≡ getD (now (dir .entry))
         (cellAddress (widthList widths) t (splitBit (widthList widths) values)) 0 ⌝ }
 {
@@ -33,7 +37,7 @@ pub fn word_holds(state: State, word: u32) -> bool
     requires { ⌜ state .deepest ≤ 12 ⌝ }
     ensures { λ r. ⌜ r ≡ wordHolds state word ⌝ }
 {
-    let depth = word >> 16;
+    let depth = depth_of(word);
     if state.deepest < depth {
         return false;
     }
@@ -43,7 +47,7 @@ pub fn word_holds(state: State, word: u32) -> bool
         return false;
     }
     let limits = state.limits;
-    (word & 0xffff) <= limits.pages
+    field_of(word) <= limits.pages
 }
 
 // Whether page g, of n records, can be that of the leaf of a depth in which a packed key falls: its
@@ -53,8 +57,22 @@ pub fn page_holds(shape: Shape, pages: &[u8], g: usize, n: usize, depth: u32, ke
     ensures { λ r. ⌜ r ≡ ownPage shape depth key (pageAt (shape .capacity) (now (pages .entry)) g) n ⌝ }
 {
     let mask = fixed_bits(widths_of(shape), depth as u64);
-    let size = 2 + RECORD_SIZE * (shape.capacity as usize);
-    let start = g * size;
-    let end = start + size;
+    let capacity = shape.capacity as usize;
+    let start = page_start(capacity, g);
+    let end = start + page_size(capacity);
     ends_agree(&pages[start..end], n, key, mask)
+}
+
+// How many records page g has, where it can be that of the leaf of a depth in which a packed key
+// falls: 1 to b, the first and the last of them with values in bounds and the leaf's string at their
+// beginning. 0 for another page.
+pub fn own_count(shape: Shape, pages: &[u8], g: usize, depth: u32, key: u64) -> usize
+    requires { ⌜ LeafAsked shape (now pages) g depth key ⌝ }
+    ensures { λ r. ⌜ r ≡ ownCount shape depth key (pageAt (shape .capacity) (now (pages .entry)) g) ⌝ }
+{
+    let mask = fixed_bits(widths_of(shape), depth as u64);
+    let capacity = shape.capacity as usize;
+    let start = page_start(capacity, g);
+    let end = start + page_size(capacity);
+    fair_count(&pages[start..end], capacity, key, mask)
 }

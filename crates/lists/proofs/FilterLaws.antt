@@ -1,8 +1,8 @@
 -- Laws of lists by a test: filters of sums and of filters, filters that keep all or nothing, tests on all elements,
 -- lengths. Assumes nothing.
-use Prim.Native.Nat.{_+_, _≤_}
+use Prim.Native.Nat.{suc, _+_, _≤_, _<_}
 use mathlib.Core.Path.{_≡_, refl, sym, ap, _∙_}
-use mathlib.Core.Bool.{Bool, true, false, not, _&&_, cond, and-comm}
+use mathlib.Core.Bool.{Bool, true, false, not, _&&_, cond, and-comm, true≢false}
 use mathlib.Core.List.{List, [], _∷_, _++_, map, append-assoc, append-nil}
 use native.Mathlib.Omega.{arith}
 use lib.ListN.{length}
@@ -144,6 +144,16 @@ module _ {A : Type 0} where
   length-filter-le f [] = omega arith
   length-filter-le f (x ∷ xs) =
       omega (arith, length-cond (f x) x (filter f xs), length-filter-le f xs, cond-le-one (f x))
+
+  -- an element that fails is left out
+  pub length-filter-lt : (f : A → Bool) (xs : List A) → all f xs ≡ false → length (filter f xs) < length xs
+  length-filter-lt f [] e = absurd (true≢false e)
+  length-filter-lt f (x ∷ xs) e = by-test (f x) refl (length-filter-lt f xs)
+    where
+      by-test : (β : Bool) → f x ≡ β → (all f xs ≡ false → length (filter f xs) < length xs)
+          → length (cond β (x ∷ []) [] ++ filter f xs) < suc (length xs)
+      by-test true d ih = let k = ih (rw d at e) in omega arith
+      by-test false d ih = omega (arith, length-filter-le f xs)
 
   -- a test that passes where another does
   pub filter-filter-imp : (f g : A → Bool) → ((x : A) → f x ≡ true → g x ≡ true) → (xs : List A)

@@ -38,11 +38,6 @@ module _ {A : Type 0} where
 
   -- ---- sums
 
-  pub Member-append-left : (x : A) (xs ys : List A) → Member x xs → Member x (xs ++ ys)
-  Member-append-left x [] ys m = absurd m
-  Member-append-left x (y ∷ xs) ys (inl e) = inl e
-  Member-append-left x (y ∷ xs) ys (inr m) = inr (Member-append-left x xs ys m)
-
   pub Member-append-right : (x : A) (xs ys : List A) → Member x ys → Member x (xs ++ ys)
   Member-append-right x [] ys m = m
   Member-append-right x (y ∷ xs) ys m = inr (Member-append-right x xs ys m)

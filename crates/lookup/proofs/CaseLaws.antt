@@ -1,16 +1,17 @@
 -- Laws of lookup's answer by case, one for each way that a step of it ends. Assumes nothing.
-use Prim.Native.Nat.{ℕ, _≤_, _<_}
+use Prim.Native.Nat.{ℕ, _<_}
 use mathlib.Core.Path.{_≡_}
-use mathlib.Core.Bool.{Bool, true, false}
+use mathlib.Core.Bool.{true, false}
 use mathlib.Core.List.{List}
 use native.Mathlib.Omega.{arith}
-use borrow.Author.Tests.{le-leb, lt-leb, lt-ltb, le-ltb}
+use borrow.Author.Tests.{lt-ltb, le-ltb}
 use Rattle.shape.specs.Refusal.{accepted, refused}
 use Rattle.shape.specs.Shape.{widthsOf}
 use Rattle.split.specs.Bits.{splitBit}
 use Rattle.record.specs.Packed.{packedKey}
-use Rattle.page.specs.Page.{countOf, pageAt}
+use Rattle.page.specs.Page.{pageAt}
 use Rattle.page.specs.Fields.{contentAt}
+use Rattle.page_matches.specs.KeyPlace.{keyPlace}
 use Rattle.directory_word.specs.Word.{leafOf}
 use Rattle.directory_word.specs.declared.Leaf.the-variants.{Empty, Page}
 use Rattle.model.specs.Model.{found}
@@ -18,39 +19,28 @@ use Rattle.store.specs.Store.{Store}
 use Rattle.store.specs.declared.State.{State}
 use Rattle.store.proofs.ShownLaws.{wordOn}
 use Rattle.refusals.specs.Limits.{limitsHold}
-use Rattle.leaf_word.specs.Hold.{wordHolds, ownPage}
-use Rattle.lookup.specs.Private.{keyPlace, placeAnswer, pageAnswer, leafAnswer, wordAnswer, soughtAnswer}
+use Rattle.leaf_word.specs.Hold.{wordHolds}
+use Rattle.lookup.specs.Private.{placeAnswer, countAnswer, pageAnswer, leafAnswer, wordAnswer, soughtAnswer}
 
 -- ---- a page with n records
 
-module _ (b key : ℕ) (own : Bool) (page : List ℕ) (n : ℕ) (e : n ≡ countOf page) where
-  pub pageAnswer-none : n ≡ 0 → refused 9 ≡ pageAnswer b own page key
-  unfolding pageAnswer
-  pageAnswer-none z = rw (← e, z)
+module _ (page : List ℕ) (n : ℕ) where
+  pub placeAnswer-absent : (i : ℕ) → i ≡ n → refused 5 ≡ placeAnswer page n i
+  unfolding placeAnswer
+  placeAnswer-absent i h = rw (le-ltb i n (omega arith))
 
-  pub pageAnswer-many : b < n → refused 9 ≡ pageAnswer b own page key
-  unfolding pageAnswer
-  pageAnswer-many h = rw (← e, le-leb 1 n (omega arith), lt-leb n b h)
+  pub placeAnswer-found : (i : ℕ) → i < n → accepted (found (contentAt page i) 1) ≡ placeAnswer page n i
+  unfolding placeAnswer
+  placeAnswer-found i h = rw (lt-ltb i n h)
 
-  module _ (some : n ≡ 0 → ⊥) (few : n ≤ b) where
-    -- the page of another leaf
-    pub pageAnswer-other : own ≡ false → refused 9 ≡ pageAnswer b own page key
-    unfolding pageAnswer
-    pageAnswer-other o = rw (← e, le-leb 1 n (omega arith), le-leb n b few, o)
+  module _ (key : ℕ) where
+    pub countAnswer-none : n ≡ 0 → refused 9 ≡ countAnswer n page key
+    unfolding countAnswer
+    countAnswer-none z = rw z
 
-    module _ (o : own ≡ true) where
-      pub pageAnswer-place : pageAnswer b own page key ≡ placeAnswer page n (keyPlace page key n 0)
-      unfolding pageAnswer
-      pageAnswer-place = rw (← e, le-leb 1 n (omega arith), le-leb n b few, o)
-
-      pub pageAnswer-absent : (i : ℕ) → i ≡ keyPlace page key n 0 → i ≡ n → refused 5 ≡ pageAnswer b own page key
-      unfolding placeAnswer
-      pageAnswer-absent i p h = rw (pageAnswer-place, ← p, le-ltb i n (omega arith))
-
-      pub pageAnswer-found : (i : ℕ) → i ≡ keyPlace page key n 0 → i < n
-          → accepted (found (contentAt page i) 1) ≡ pageAnswer b own page key
-      unfolding placeAnswer
-      pageAnswer-found i p h = rw (pageAnswer-place, ← p, lt-ltb i n h)
+    pub countAnswer-some : (n ≡ 0 → ⊥) → placeAnswer page n (keyPlace key page n 0) ≡ countAnswer n page key
+    unfolding countAnswer
+    countAnswer-some h = rw (lt-ltb 0 n (omega arith))
 
 -- ---- a leaf, as a word names it
 
@@ -65,9 +55,7 @@ module _ (st : State) (bytes : List ℕ) (key word : ℕ) where
     wordAnswer-empty x e = rw (holds, e)
 
     pub wordAnswer-page : (g x : ℕ) → leafOf word ≡ Page g x
-        → let page = pageAt (st .shape .capacity) bytes g in
-        pageAnswer (st .shape .capacity) (ownPage (st .shape) x key page (countOf page)) page key
-        ≡ wordAnswer st bytes key word
+        → pageAnswer (st .shape) x key (pageAt (st .shape .capacity) bytes g) ≡ wordAnswer st bytes key word
     unfolding wordAnswer leafAnswer
     wordAnswer-page g x e = rw (holds, e)
 

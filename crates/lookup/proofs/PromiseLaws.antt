@@ -1,21 +1,22 @@
 -- Lookup's promise: kept by the number of an early refusal, and by the answer of the store otherwise. Assumes nothing.
 use Prim.Native.Nat.{ℕ}
 use mathlib.Core.Path.{_≡_, refl, sym, ap, subst, _∙_}
-use mathlib.Core.Bool.{Bool, true, false, not, _&&_, cond}
+use mathlib.Core.Bool.{Bool, true, false, not, cond}
 use mathlib.Core.List.{List}
 use mathlib.Core.Logic.{_⊎_, inl, inr}
 use native.Mathlib.Omega.{arith}
 use lib.Dec.{ltb}
 use Rattle.shape.specs.Refusal.{Answer, accepted, refused}
-use Rattle.shape.specs.Shape.{within, widthsOf}
+use Rattle.shape.specs.Shape.{widthsOf}
 use Rattle.shape.specs.Key.{keyFits}
 use Rattle.shape.specs.declared.Shape.{Shape}
 use Rattle.split.specs.Bits.{splitBit}
 use Rattle.record.specs.declared.Content.{Content}
 use Rattle.record.specs.Record.{Record}
 use Rattle.record.specs.Packed.{packedKey}
-use Rattle.page.specs.Page.{countOf, pageAt}
+use Rattle.page.specs.Page.{pageAt}
 use Rattle.page.specs.Fields.{contentAt}
+use Rattle.page_matches.specs.KeyPlace.{keyPlace}
 use Rattle.directory_word.specs.Word.{leafOf}
 use Rattle.directory_word.specs.declared.Leaf.{Leaf}
 use Rattle.directory_word.specs.declared.Leaf.the-variants.{Empty, Page}
@@ -25,9 +26,9 @@ use Rattle.store.specs.Promises.{keyNumber, LookupPromise}
 use Rattle.store.specs.declared.State.{State}
 use Rattle.store.proofs.ShownLaws.{wordOn}
 use Rattle.refusals.specs.Limits.{limitsHold}
-use Rattle.leaf_word.specs.Hold.{wordHolds, ownPage}
-use Rattle.lookup.specs.Private.{keyPlace, placeAnswer, pageAnswer, leafAnswer, wordAnswer, soughtAnswer}
-use Rattle.lookup.proofs.EarlyLaws.{passed}
+use Rattle.refusals.proofs.PassedLaws.{passed}
+use Rattle.leaf_word.specs.Hold.{wordHolds, ownCount}
+use Rattle.lookup.specs.Private.{placeAnswer, countAnswer, leafAnswer, wordAnswer, soughtAnswer}
 use Rattle.lookup.proofs.SoughtLaws.{keyNumber-read, soughtAnswer-stored}
 use Rattle.lookup.proofs.StoredLaws.{lookup-unfit, lookup-stored}
 
@@ -49,19 +50,18 @@ placeAnswer-ordinary page n i = go (ltb i n)
     go true = inl (contentAt page i, refl)
     go false = inr (inl refl)
 
-pageAnswer-ordinary : (b key : ℕ) (own : Bool) (page : List ℕ) → Ordinary (pageAnswer b own page key)
-unfolding pageAnswer
-pageAnswer-ordinary b key own page =
-    let n = countOf page in
-    let i = keyPlace page key n 0 in
-    ordinary-or-nine (within 1 b n && own) (placeAnswer page n i) (placeAnswer-ordinary page n i)
+countAnswer-ordinary : (n : ℕ) (page : List ℕ) (key : ℕ) → Ordinary (countAnswer n page key)
+unfolding countAnswer
+countAnswer-ordinary n page key =
+    let i = keyPlace key page n 0 in
+    ordinary-or-nine (ltb 0 n) (placeAnswer page n i) (placeAnswer-ordinary page n i)
 
 leafAnswer-ordinary : (s : Shape) (key : ℕ) (bytes : List ℕ) (leaf : Leaf) → Ordinary (leafAnswer s bytes key leaf)
 unfolding leafAnswer
 leafAnswer-ordinary s key bytes (Empty depth) = inr (inl refl)
 leafAnswer-ordinary s key bytes (Page g depth) =
     let page = pageAt (s .capacity) bytes g in
-    pageAnswer-ordinary (s .capacity) key (ownPage s depth key page (countOf page)) page
+    countAnswer-ordinary (ownCount s depth key page) page key
 
 wordAnswer-ordinary : (st : State) (bytes : List ℕ) (key word : ℕ) → Ordinary (wordAnswer st bytes key word)
 unfolding wordAnswer

@@ -17,14 +17,13 @@ use Rattle.region.specs.Strings.{sameBits}
 use Rattle.region.specs.Division.{leafDepth, leafRecords}
 use Rattle.record.specs.Record.{Record, recordBit}
 use Rattle.record.specs.Packed.{packedKey, unpackedKey, SixteenBits}
-use Rattle.record.proofs.KeyLaws.{key-below-bytes}
 use Rattle.page.specs.Page.{countOf, recordsOf, pageAt}
 use Rattle.page.proofs.FieldLaws.{length-recordsFrom}
 use Rattle.directory_word.specs.Word.{leafOf, wordOf}
 use Rattle.directory_word.specs.declared.Leaf.the-variants.{Page}
 use Rattle.directory_word.proofs.LeafLaws.{leafOf-empty}
 use Rattle.model.specs.Sets.{inShape, isSet, stored, divisionOf}
-use Rattle.model.proofs.SetLaws.{length-encodings, indexFits-encodings, inShape-of-isSet}
+use Rattle.model.proofs.SetLaws.{SixteenBits-encodings, inShape-of-isSet}
 use Rattle.store.specs.Store.{Store}
 use Rattle.store.specs.Sound.{Sound}
 use Rattle.store.specs.Promises.{keyNumber, keyQuery, withBytes, SoundWhereRead}
@@ -33,14 +32,16 @@ use Rattle.store.proofs.ShownLaws.{wordOn, wordOn-depth, shape-of-Sound, depth-
 use Rattle.store.proofs.SetLaws.{length-leafRecords}
 use Rattle.store.proofs.DividedLaws.{leafDepth-le-total, leafRecords-divisionOf}
 use Rattle.store.proofs.KeyLaws.{keyWord, stored-no-page, stored-page}
+use Rattle.refusals.proofs.LentLaws.{lentNumberBy-none, keyNumberBy-key, keyNumber-by}
 use Rattle.refusals.proofs.LimitsLaws.{limits-of-sound}
 use Rattle.leaf_word.specs.Hold.{ownPage}
 use Rattle.leaf_word.proofs.HoldLaws.{word-of-sound}
 use Rattle.page_ends.specs.Ends.{endsBegin}
+use Rattle.page_ends.specs.Fair.{fairCount}
+use Rattle.page_ends.proofs.FairLaws.{fairCount-own}
 use Rattle.page_ends.proofs.SoundLaws.{endsBegin-shown}
-use Rattle.lookup.specs.Private.{pageAnswer, wordAnswer, soughtAnswer}
-use Rattle.lookup.proofs.CaseLaws.{pageAnswer-place, wordAnswer-empty, wordAnswer-page, soughtAnswer-word}
-use Rattle.lookup.proofs.EarlyLaws.{keyNumber-lent}
+use Rattle.lookup.specs.Private.{countAnswer, pageAnswer, wordAnswer, soughtAnswer}
+use Rattle.lookup.proofs.CaseLaws.{countAnswer-some, wordAnswer-empty, wordAnswer-page, soughtAnswer-word}
 use Rattle.lookup.proofs.KeyBitLaws.{packedKey-encodings, unpackedKey-encodings}
 use Rattle.lookup.proofs.KeyBitLaws.{Agree-encodings, agrees-keyQuery}
 use Rattle.lookup.proofs.StoredLaws.{storedAnswer, placeAnswer-stored}
@@ -59,13 +60,15 @@ module _ (s : Shape) (good : shapeNumber s ≡ 0) (S : List Record) (set : isSet
       (all-filter (inShape s) (λ r. sameBits p (recordBit s r) x 0) (inShape s) (λ r f e. f) S
       (inShape-of-isSet s S set))
 
-  pub pageAnswer-stored : (b : ℕ) (own : Bool) (key page : List ℕ) → own ≡ true → SixteenBits key
+  pub countAnswer-stored : (b : ℕ) (own : Bool) (key page : List ℕ) → own ≡ true → SixteenBits key
       → recordsOf s page ≡ records → nonEmpty records ≡ true → length records ≤ b
-      → pageAnswer b own page (packedKey key) ≡ storedAnswer (stored key (recordsOf s page))
-  pageAnswer-stored b own key page o k e h l =
+      → countAnswer (fairCount b own page) page (packedKey key) ≡ storedAnswer (stored key (recordsOf s page))
+  countAnswer-stored b own key page o k e h l =
       let n = countOf page in
       let count : n ≡ length records = sym (length-recordsFrom s n 2 page) ∙ ap length e in
-      pageAnswer-place b (packedKey key) own page n refl (λ z. some records h (sym count ∙ z)) (omega arith) o
+      let not-zero : n ≡ 0 → ⊥ = λ z. some records h (sym count ∙ z) in
+      ap (λ m. countAnswer m page (packedKey key)) (sym (fairCount-own b own page n refl not-zero (omega arith) o))
+      ∙ sym (countAnswer-some page n (packedKey key) not-zero)
       ∙ placeAnswer-stored s good key page k n n 0 (omega arith) (ap (all (inShape s)) e ∙ all-inShape)
     where
       some : (rs : List Record) → nonEmpty rs ≡ true → length rs ≡ 0 → ⊥
@@ -103,7 +106,17 @@ module _ (store : Store) (values : List ℕ) (S : List Record)
   -- 1 and 2 do not hold
   pub keyNumber-read : keyNumber store values ≡ cond (not (keyFits s values)) 3 0
   keyNumber-read =
-      keyNumber-lent store values (sound .shape) (sound .words-lent) (omega (arith, sound .pages-lent, w .2))
+      let st = store .state in
+      let words = store .memory .words in
+      let bytes = store .memory .bytes in
+      keyNumber-by st words bytes values
+      ∙ keyNumberBy-key st (length words) (length bytes) values
+      (lentNumberBy-none st (length words) (length bytes)
+      (record {
+        shape = good;
+        words-lent = sound .words-lent;
+        pages-lent = omega (arith, sound .pages-lent, w .2);
+      }))
 
   -- the cell of the values is the cell of the key
   word-key : keyWord whole key ≡ wordOn store (splitBit (widthsOf s) values)
@@ -123,10 +136,9 @@ module _ (store : Store) (values : List ℕ) (S : List Record)
   wordAnswer-sound f (suc g) e =
       sym (wordAnswer-page (store .state) (store .memory .bytes) (packedKey values) (keyWord whole key)
       (word-of-sound whole S sound bits) g _ (leafOf-suc (keyWord whole key) g e))
-      ∙ ap (λ page.
-      pageAnswer (s .capacity) (ownPage s depth (packedKey values) page (countOf page)) page (packedKey values)) read
-      ∙ ap (pageAnswer (s .capacity) _ page) (packedKey-encodings s values)
-      ∙ pageAnswer-stored s good S (sound .set) bits (s .capacity) _ key page own sixteen (leaf .2) (leaf .3)
+      ∙ ap (pageAnswer s depth (packedKey values)) read
+      ∙ ap (countAnswer _ page) (packedKey-encodings s values)
+      ∙ countAnswer-stored s good S (sound .set) bits (s .capacity) _ key page own sixteen (leaf .2) (leaf .3)
       (length-leafRecords s S (sound .set) (sound .shape) bits)
       ∙ ap storedAnswer (sym (stored-page whole S sound key g plus .1))
     where
@@ -143,7 +155,7 @@ module _ (store : Store) (values : List ℕ) (S : List Record)
       leaf = leafRecords-page whole S sound bits g plus
 
       sixteen : SixteenBits key
-      sixteen = key-below-bytes s good key (length-encodings s values) (indexFits-encodings s values ∙ f)
+      sixteen = SixteenBits-encodings s values good f
 
       -- the leaf's depth, and the key back from its packed form
       depth : ℕ

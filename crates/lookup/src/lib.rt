@@ -3,17 +3,17 @@
 use directory_word::Leaf;
 use directory_word::unpack;
 use leaf_word::key_word;
+use leaf_word::own_count;
 use leaf_word::word_holds;
 use page::content_at;
-use page::count;
-use page::key_at;
-use page_ends::ends_agree;
-use page_ends::fixed_bits;
-use record::RECORD_SIZE;
+use page::page_size;
+use page::page_start;
+use page_matches::find_key;
 use record::pack_key;
 use refusals::key_number;
 use refusals::limits_hold;
 use shape::Key;
+use shape::Shape;
 use shape::widths_of;
 use store::Found;
 use store::State;
@@ -21,12 +21,13 @@ ghost use mathlib.Core.Path.{_≡_};
 ghost use Prim.Native.Nat.{_≤_};
 ghost use lib.ListN.{length};
 ghost use Rattle.page.specs.Fields.{recordOffset};
-ghost use Rattle.page.specs.Page.{pageSize, pageAt};
-ghost use Rattle.pages.specs.Pages.{PageLent};
+ghost use Rattle.page.specs.Page.{pageAt};
+ghost use Rattle.page_matches.specs.KeyPlace.{keyPlace};
 ghost use Rattle.store.specs.Answers.{foundAnswer};
 ghost use Rattle.store.specs.Promises.{keyNumber, LookupPromise};
 ghost use Rattle.store.specs.Store.{store};
-ghost use Rattle.lookup.specs.Private.{keyPlace, maskedAnswer, wordAnswer, soughtAnswer, KeyPassed};
+ghost use Rattle.leaf_word.specs.Hold.{LeafAsked};
+ghost use Rattle.lookup.specs.Private.{placeAnswer, pageAnswer, wordAnswer, soughtAnswer, KeyPassed};
 
 // The content of a key's record, and the pages read: 1. Refused with 1, 2, 3, 5 or 9, the first that
 // holds in this order. Writes nothing.
@@ -69,57 +70,34 @@ fn seek_by_word(state: State, pages: &[u8], word: u32, key: u64) -> Found
     let Leaf::Page(page, depth) = found else {
         return Found::Refused(5);
     };
-    let shape = state.shape;
-    let mask = fixed_bits(widths_of(shape), depth as u64);
-    seek_at(pages, shape.capacity as usize, page as usize, key, mask)
+    seek_at(state.shape, pages, page as usize, depth, key)
 }
 
-// The record of a packed key on page p, which is read, in a leaf that fixes the bits of a mask.
-fn seek_at(pages: &[u8], capacity: usize, p: usize, key: u64, mask: u64) -> Found
-    requires { ⌜ PageLent capacity p (now pages) ⌝ }
-    ensures { λ r. ⌜ foundAnswer r
-        ≡ maskedAnswer capacity mask (pageAt capacity (now (pages .entry)) p) key ⌝ }
+// The record of a packed key on page g, which is read, of the key's leaf: 9 for a page that a leaf of
+// this depth cannot have.
+fn seek_at(shape: Shape, pages: &[u8], g: usize, depth: u32, key: u64) -> Found
+    requires { ⌜ LeafAsked shape (now pages) g depth key ⌝ }
+    ensures { λ r. ⌜ foundAnswer r ≡ pageAnswer shape depth key (pageAt (shape .capacity) (now (pages .entry)) g) ⌝ }
 {
-    let size = 2 + RECORD_SIZE * capacity;
-    let start = p * size;
-    let end = start + size;
-    seek_in_page(&pages[start..end], capacity, key, mask)
-}
-
-// The record of a packed key on a page: 5 where it is not there, 9 for a count of 0 or above b, and
-// where the first or the last record does not agree with the key in the bits of the mask.
-fn seek_in_page(page: &[u8], capacity: usize, key: u64, mask: u64) -> Found
-    requires { ⌜ (capacity ≤ 16) × (pageSize capacity ≤ length (now page)) ⌝ }
-    ensures { λ r. ⌜ foundAnswer r ≡ maskedAnswer capacity mask (now (page .entry)) key ⌝ }
-{
-    let n = count(page);
+    let n = own_count(shape, pages, g, depth, key);
     if n == 0 {
         return Found::Refused(9);
     }
-    if capacity < n {
-        return Found::Refused(9);
-    }
-    if !ends_agree(page, n, key, mask) {
-        return Found::Refused(9);
-    }
+    let capacity = shape.capacity as usize;
+    let start = page_start(capacity, g);
+    let end = start + page_size(capacity);
+    seek_in_page(&pages[start..end], n, key)
+}
+
+// The record of a packed key among the n of a page: 5 where it is not there.
+fn seek_in_page(page: &[u8], n: usize, key: u64) -> Found
+    requires { ⌜ (n ≤ 16) × (recordOffset n ≤ length (now page)) ⌝ }
+    ensures { λ r. ⌜ foundAnswer r
+        ≡ placeAnswer (now (page .entry)) n (keyPlace key (now (page .entry)) n 0) ⌝ }
+{
     let i = find_key(page, n, key);
     if i == n {
         return Found::Refused(5);
     }
     Found::Content(content_at(page, i), 1)
-}
-
-// The first place with a packed key among the first n records of a page; n where none has it.
-pub fn find_key(page: &[u8], n: usize, key: u64) -> usize
-    requires { ⌜ (n ≤ 16) × (recordOffset n ≤ length (now page)) ⌝ }
-    ensures { λ r. ⌜ r ≡ keyPlace (now (page .entry)) key n 0 ⌝ }
-{
-    let mut i: usize = 0;
-    while i < n {
-        if key_at(page, i) == key {
-            return i;
-        }
-        i += 1;
-    }
-    i
 }

@@ -153,3 +153,8 @@ next f S c = ifAccepted (numberFor f S c) (setAfter f S c) S
 unfoldable pub run : Fixed → List Record → List Call → List Outcome
 run f S [] = []
 run f S (c ∷ cs) = outcome f S c ∷ run f (next f S c) cs
+
+-- the set after them
+abbrev pub lastSet : Fixed → List Record → List Call → List Record
+lastSet f S [] = S
+lastSet f S (c ∷ cs) = lastSet f (next f S c) cs

@@ -6,7 +6,7 @@ use mathlib.Core.List.{List, [], _∷_, _++_, append-assoc}
 use native.Mathlib.Omega.{arith}
 use lib.ListN.{length, take, drop, getD, set}
 use lib.Seq.{paste, take-paste, drop-paste, length-take-le, getD-take, getD-drop, take-take, drop-drop, take-nil}
-use lib.Seq.{take-at, drop-at, take-append-add, append-snoc, set-append-left, take-set-lt, take-suc-set}
+use lib.Seq.{take-at, drop-at, take-add, take-append-add, append-snoc, set-append-left, take-set-lt, take-suc-set}
 
 module _ {A : Type 0} where
   -- ---- windows
@@ -112,3 +112,23 @@ module _ {A : Type 0} where
       take-whole : (l : List A) → take (length l) l ≡ l
       take-whole [] = refl
       take-whole (x ∷ l) = ap (λ k. x ∷ k) (take-whole l)
+
+  -- a run put on with its next part, which may begin before the run's end
+  pub paste-over : (d : List A) (at : ℕ) (s : List A) (k m j : ℕ) → m ≤ k → k ≤ m + j → m + j ≤ length s
+      → at + (m + j) ≤ length d → paste (paste d at s k) (at + m) (drop m s) j ≡ paste d at s (m + j)
+  paste-over d at s k m j hm hk hs hd =
+      let whole = paste d at s k in
+      let l : at ≤ length d = omega arith in
+      let r : k ≤ length s = omega arith in
+      let first : at + 0 ≡ at = omega arith in
+      let same : at + m + j ≡ at + (m + j) = omega arith in
+      let run : take m (drop at whole) ≡ take m s =
+      ap (λ o. take m (drop o whole)) (sym first) ∙ window-paste-in d at s k l r 0 m (omega arith) in
+      let head : take (at + m) whole ≡ take at d ++ take m s =
+      take-add at m whole ∙ (λ i. take-before-paste d at s k l r i ++ run i) in
+      ap (λ l. (l ++ take j (drop m s)) ++ drop (at + m + j) whole) head
+      ∙ ap (λ l. ((take at d ++ take m s) ++ take j (drop m s)) ++ l)
+      (drop-paste-past d at s k l r (at + m + j) (omega arith))
+      ∙ ap (λ l. l ++ drop (at + m + j) d) (append-assoc (take at d) (take m s) (take j (drop m s)))
+      ∙ ap (λ l. (take at d ++ l) ++ drop (at + m + j) d) (sym (take-add m j s))
+      ∙ ap (λ o. (take at d ++ take (m + j) s) ++ drop o d) same

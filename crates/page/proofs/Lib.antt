@@ -1,4 +1,5 @@
 pub mod ChangeLaws
 pub mod FieldLaws
 pub mod PageLaws
+pub mod PartLaws
 pub mod PlaceLaws

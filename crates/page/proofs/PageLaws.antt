@@ -9,8 +9,8 @@ use Rattle.lists.specs.Members.{All}
 use Rattle.shape.specs.declared.Shape.{Shape}
 use Rattle.record.specs.Record.{Record}
 use Rattle.record.specs.Bytes.{recordSize, field, recordBytes, recordOf, recordsBytes}
-use Rattle.record.proofs.ByteLaws.{Bytes, FitsBytes, bytes-field, length-field, field-append-field, length-recordBytes}
-use Rattle.record.proofs.ByteLaws.{recordOf-recordBytes, recordBytes-recordOf, fitsBytes-recordOf}
+use Rattle.record.proofs.ByteLaws.{AreBytes, FitsBytes, AreBytes-field, length-field, field-append-field}
+use Rattle.record.proofs.ByteLaws.{length-recordBytes, recordOf-recordBytes, recordBytes-recordOf, fitsBytes-recordOf}
 use Rattle.page.specs.Page.{recordsFrom}
 
 module _ (s : Shape) where
@@ -55,11 +55,11 @@ module _ (s : Shape) where
 
   -- ---- written back
 
-  module _ (bytes : List ℕ) (b : Bytes bytes) where
+  module _ (bytes : List ℕ) (b : AreBytes bytes) where
     pub All-recordsFrom : (n offset : ℕ) → All FitsBytes (recordsFrom s n offset bytes)
     All-recordsFrom zero offset = tt
     All-recordsFrom (suc n) offset = (
-      fitsBytes-recordOf s (field bytes offset recordSize) (bytes-field bytes offset recordSize b),
+      fitsBytes-recordOf s (field bytes offset recordSize) (AreBytes-field bytes offset recordSize b),
       All-recordsFrom n (offset + recordSize),
     )
 
@@ -69,7 +69,7 @@ module _ (s : Shape) where
     recordsBytes-recordsFrom (suc n) offset h =
         let size : recordSize + recordSize * n ≡ recordSize * suc n = omega arith in
         ap (λ ys. ys ++ recordsBytes s (recordsFrom s n (offset + recordSize) bytes))
-        (recordBytes-recordOf s (field bytes offset recordSize) (bytes-field bytes offset recordSize b)
+        (recordBytes-recordOf s (field bytes offset recordSize) (AreBytes-field bytes offset recordSize b)
         (length-field bytes offset recordSize (omega arith)))
         ∙ ap (λ ys. field bytes offset recordSize ++ ys)
         (recordsBytes-recordsFrom n (offset + recordSize) (omega arith))

@@ -7,8 +7,9 @@ use record::numbers::write16;
 use record::read_content;
 use record::read_key;
 use record::write_record;
+use record_copy::copy_records;
 ghost use mathlib.Core.Path.{_≡_};
-ghost use Prim.Native.Nat.{_+_, _*_, _<_, _≤_};
+ghost use Prim.Native.Nat.{_+_, _*_, _^_, _<_, _≤_};
 ghost use lib.ListN.{length};
 ghost use Rattle.record.specs.Packed.{packedBytes};
 ghost use Rattle.record.specs.Bytes.{recordSize};
@@ -16,12 +17,20 @@ ghost use Rattle.page.specs.Page.{pageSize, countOf};
 ghost use Rattle.page.specs.Fields.{recordOffset, keyAt, contentAt};
 ghost use Rattle.page.specs.Changes.{countedPage, insertedPage, removedPage, appendedPage};
 
-// The bytes of a page with room for so many records.
+// The bytes of a page that holds so many records.
 pub fn page_size(capacity: usize) -> usize
-    requires { ⌜ capacity < 4294967296 ⌝ }
+    requires { ⌜ capacity < 2 ^ 32 ⌝ }
     ensures { λ r. ⌜ r ≡ pageSize capacity ⌝ }
 {
     2 + RECORD_SIZE * capacity
+}
+
+// Where page g begins in the lent bytes.
+pub fn page_start(capacity: usize, g: usize) -> usize
+    requires { ⌜ (capacity < 2 ^ 16) × (g < 2 ^ 32) ⌝ }
+    ensures { λ r. ⌜ r ≡ g * pageSize capacity ⌝ }
+{
+    g * page_size(capacity)
 }
 
 // How many records the page has, as its count says.
@@ -84,6 +93,6 @@ pub fn append(page: &mut [u8], n: usize, source: &[u8], k: usize)
     requires { ⌜ (recordOffset (n + k) ≤ length (now page)) × (recordSize * k ≤ length (now source)) ⌝ }
     ensures { λ _. ⌜ now (page .exit) ≡ appendedPage n k (now (source .entry)) (now (page .entry)) ⌝ }
 {
-    moves::copy(source, 0, page, 2 + RECORD_SIZE * n, RECORD_SIZE * k);
+    copy_records(source, 0, page, 2 + RECORD_SIZE * n, k);
     write16(page, 0, (n + k) as u64);
 }

@@ -9,7 +9,7 @@ use lib.Pow.{pow-mono, pow-pos, shl-exact}
 use Rattle.shape.specs.Shape.{total}
 use Rattle.split.specs.Steps.{stepsBelow}
 use Rattle.split.proofs.StepLaws.{depthBefore}
-use Rattle.directory.proofs.PlaceLaws.{attributeDepth-place, stepsBefore-depths}
+use Rattle.pairs.proofs.PlaceLaws.{attributeDepth-place, stepsBefore-depths}
 use Rattle.record.specs.Packed.{packedKey}
 use Rattle.page_ends.specs.Ends.{fixedBits}
 

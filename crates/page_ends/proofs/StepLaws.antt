@@ -55,5 +55,6 @@ fixedBits-suc ws fit k z hz hk x number =
     (λ j. 2 ^ 16 - 2 ^ (getD ws j 0 - attributeDepth ws (suc x) j)) (2 ^ (getD ws z 0 - suc k))
     (ap (λ h. 2 ^ 16 - 2 ^ (getD ws z 0 - h)) (attributeDepth-next ws fit k z hz hk number)
     ∙ fixed-next (getD ws z 0) k hk (fit z)
-    ∙ ap (λ h. 2 ^ 16 - 2 ^ (getD ws z 0 - h) + 2 ^ (getD ws z 0 - suc k)) (sym (attributeDepth-z ws fit k z hz hk number)))
+    ∙ ap (λ h. 2 ^ 16 - 2 ^ (getD ws z 0 - h) + 2 ^ (getD ws z 0 - suc k))
+    (sym (attributeDepth-z ws fit k z hz hk number)))
     (λ j l ne. ap (λ h. 2 ^ 16 - 2 ^ (getD ws j 0 - h)) (attributeDepth-next-other ws fit k z hz hk number j l ne))

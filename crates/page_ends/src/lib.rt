@@ -1,21 +1,24 @@
 // Whether a page is its leaf's, by the first and the last of its records (document 01, "Regions of
 // a set"): under a mask of the bits that the leaf fixes both agree with a key of the leaf.
-use address::pairs::depth_before;
-use address::total_of;
-use directory::places::early_place;
-use directory::places::place_of;
+use page::count;
 use page::key_at;
+use pairs::depth_before;
+use pairs::early_place;
+use pairs::place_of;
 use shape::Widths;
+use shape::total_of;
 ghost use mathlib.Core.Path.{_≡_};
 ghost use Prim.Native.Nat.{_+_, _-_, _/_, _^_, _<_, _≤_, min};
 ghost use lib.ListN.{length};
 ghost use Rattle.shape.specs.Shape.{Fit, widthList, total};
 ghost use Rattle.split.specs.Steps.{stepsBelow};
 ghost use Rattle.page.specs.Fields.{recordOffset};
+ghost use Rattle.page.specs.Page.{pageSize, countOf};
 ghost use Rattle.page_ends.specs.Ends.{fixedBits, endsAgree};
+ghost use Rattle.page_ends.specs.Fair.{fairCount};
 
-// The bits of a packed key that are fixed in a leaf of depth x. Most often the place of its steps is
-// the one tried first.
+// The bits of a packed key that are fixed in a leaf of depth x. Most often the place of its steps
+// is the one tried first.
 pub fn fixed_bits(widths: Widths, x: u64) -> u64
     requires { ⌜ Fit (widthList widths) × (x ≤ total (widthList widths)) ⌝ }
     ensures { λ r. ⌜ r ≡ fixedBits (widthList widths) x ⌝ }
@@ -37,6 +40,24 @@ pub fn fixed_bits_before(widths: Widths, g: u64) -> u64
     let m2 = fixed_before(widths.w2, g, 2);
     let m3 = fixed_before(widths.w3, g, 3);
     m0 + (m1 << 16) + (m2 << 32) + (m3 << 48)
+}
+
+// How many records a page has, where it can be the page of a leaf that fixes the bits of a mask: 1 to
+// b, the first and the last of them in agreement with a packed key of the leaf in these bits. 0 for
+// another page.
+pub fn fair_count(page: &[u8], capacity: usize, key: u64, mask: u64) -> usize
+    requires { ⌜ (capacity ≤ 16) × (pageSize capacity ≤ length (now page)) ⌝ }
+    ensures { λ r. ⌜ r ≡ fairCount capacity (endsAgree mask key (now (page .entry)) (countOf (now (page .entry))))
+        (now (page .entry)) ⌝ }
+{
+    let n = count(page);
+    if n == 0 {
+        return 0;
+    }
+    if capacity < n {
+        return 0;
+    }
+    if ends_agree(page, n, key, mask) { n } else { 0 }
 }
 
 // Whether the first and the last of the n records of a page agree with a packed key in the bits of

@@ -13,10 +13,10 @@ use Rattle.moves.proofs.PasteLaws.{paste-paste}
 use Rattle.shape.specs.declared.Shape.{Shape}
 use Rattle.record.specs.Record.{Record}
 use Rattle.record.specs.Bytes.{recordSize, recordOf, recordBytes, recordsBytes}
-use Rattle.record.proofs.CodecLaws.{AreBytes, recordBytes-recordOf}
+use Rattle.record.proofs.ByteLaws.{AreBytes, recordBytes-recordOf}
 use Rattle.page.proofs.PlaceLaws.{map-take}
 use Rattle.page_matches.specs.Output.{emitOne, emit}
-use Rattle.page_matches.proofs.MatchLaws.{length-emitOne}
+use Rattle.page_matches.proofs.PutLaws.{length-emitOne}
 
 -- ---- records as their bytes
 
@@ -25,7 +25,7 @@ abbrev pub IsField : List ℕ → Type 0
 IsField bytes = (length bytes ≡ recordSize) × AreBytes bytes
 
 -- one after the other
-abbrev joined : List (List ℕ) → List ℕ
+abbrev pub joined : List (List ℕ) → List ℕ
 joined [] = []
 joined (bytes ∷ rest) = bytes ++ joined rest
 
@@ -62,7 +62,7 @@ length-emit out i (f ∷ fs) h = length-emit (emitOne i f out) (suc i) fs (h .1)
 -- ---- what the output holds
 
 -- from record i on, as many of the records as fit
-emit-joined : (fs : List (List ℕ)) (out : List ℕ) (i : ℕ) → All IsField fs
+pub emit-joined : (fs : List (List ℕ)) (out : List ℕ) (i : ℕ) → All IsField fs
     → emit out i fs
     ≡ paste out (recordSize * i) (joined (take (length out / recordSize - i) fs))
     (recordSize * length (take (length out / recordSize - i) fs))
@@ -112,7 +112,7 @@ emit-joined (f ∷ fs) out i h =
         ∙ ap (λ n. paste out (recordSize * i) (joined (take n (f ∷ fs))) (recordSize * length (take n (f ∷ fs))))
         (sym none)
 
-take-min : {A : Type 0} (xs : List A) (n : ℕ) → take n xs ≡ take (min (length xs) n) xs
+pub take-min : {A : Type 0} (xs : List A) (n : ℕ) → take n xs ≡ take (min (length xs) n) xs
 take-min xs n = go (decLe n (length xs))
   where
     go : Dec (n ≤ length xs) → take n xs ≡ take (min (length xs) n) xs

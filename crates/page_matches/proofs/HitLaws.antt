@@ -1,29 +1,32 @@
--- Laws of the records of a page that match a pattern: they are whole records, and those that match the query.
--- Assumes nothing.
-use Prim.Native.Nat.{ℕ, zero, suc, _+_, _*_, _≤_}
+-- Laws of the records of a page that match a pattern: they are whole records, those that match the query, and all where
+-- nothing is given; all written at once. Assumes nothing.
+use Prim.Native.Nat.{ℕ, zero, suc, _+_, _-_, _*_, _/_, _≤_, min}
 use mathlib.Core.Path.{_≡_, refl, sym, ap, _∙_}
-use mathlib.Core.Bool.{Bool}
-use mathlib.Core.List.{List, [], _∷_, map}
+use mathlib.Core.Bool.{Bool, true}
+use mathlib.Core.List.{List, [], _∷_, _++_, map}
 use mathlib.Core.Option.{Option}
 use native.Mathlib.Omega.{arith}
-use lib.ListN.{length, drop, length-drop}
-use lib.Seq.{length-take-le}
+use lib.Bits.{bitAnd, bitOr, and-zero-r, and-le-l, and-le-r, or-add-and}
+use lib.Dec.{eqb}
+use lib.ListN.{length, take, drop, length-drop}
+use lib.Seq.{paste, paste-zero, take-take, length-take-le}
 use Rattle.lists.specs.Filter.{filter}
 use Rattle.lists.specs.Members.{All}
-use Rattle.lists.proofs.FilterLaws.{filter-map, length-filter-le}
+use Rattle.lists.proofs.FilterLaws.{filter-ext, filter-true, filter-map, length-filter-le}
 use Rattle.lists.proofs.MemberLaws.{All-imp, All-filter}
 use Rattle.shape.specs.declared.Shape.{Shape}
 use Rattle.record.specs.Record.{matches}
-use Rattle.record.specs.Bytes.{recordSize, recordOf}
-use Rattle.record.proofs.CodecLaws.{AreBytes, AreBytes-field}
+use Rattle.record.specs.Bytes.{recordSize, field, recordOf}
+use Rattle.record.specs.Packed.{keyIn}
+use Rattle.record.proofs.ByteLaws.{AreBytes, AreBytes-field, field-append-field}
 use Rattle.page.specs.Page.{recordsFrom}
 use Rattle.page.specs.Fields.{recordOffset, fieldsFrom}
-use Rattle.page.proofs.FieldLaws.{recordsFrom-fields, length-fieldsFrom}
+use Rattle.page.proofs.FieldLaws.{recordsFrom-fields, length-fieldsFrom, take-fieldsFrom}
 use Rattle.page_matches.specs.declared.Pattern.{Pattern}
 use Rattle.page_matches.specs.Pattern.{GivenSixteenBits, patternOf, passes}
-use Rattle.page_matches.specs.Output.{hits}
+use Rattle.page_matches.specs.Output.{hits, emit}
 use Rattle.page_matches.proofs.PatternLaws.{passes-matches}
-use Rattle.page_matches.proofs.EmitLaws.{IsField}
+use Rattle.page_matches.proofs.EmitLaws.{IsField, joined, emit-joined, take-min}
 
 -- ---- whole records
 
@@ -68,3 +71,65 @@ map-hits s q n page g b h =
     (All-imp IsField _ (λ f k. passes-matches s q f g (k .1)) fields (IsField-fieldsFrom n 2 page b h)))
     ∙ sym (filter-map (matches s q) (recordOf s) fields)
     ∙ ap (filter (matches s q)) (sym (recordsFrom-fields s n 2 page))
+
+-- ---- all records
+
+-- a pattern that gives nothing
+pub hits-all : (p : Pattern) (n : ℕ) (page : List ℕ) → bitOr (p .mask) (p .value) ≡ 0
+    → hits p n page ≡ fieldsFrom n 2 page
+unfolding hits passes
+hits-all p n page e =
+    let sum = or-add-and (p .mask) (p .value) in
+    let mask : p .mask ≡ 0 = omega (arith, sum, and-le-r (p .mask) (p .value)) in
+    let value : p .value ≡ 0 = omega (arith, sum, and-le-l (p .mask) (p .value)) in
+    filter-ext (passes p) (λ f. true)
+    (λ f. (λ i. eqb (bitAnd (keyIn f) (mask i)) (value i)) ∙ ap (λ k. eqb k 0) (and-zero-r (keyIn f)))
+    (fieldsFrom n 2 page)
+    ∙ filter-true (fieldsFrom n 2 page)
+
+joined-fieldsFrom : (n offset : ℕ) (page : List ℕ)
+    → joined (fieldsFrom n offset page) ≡ field page offset (recordSize * n)
+joined-fieldsFrom zero offset page = refl
+joined-fieldsFrom (suc n) offset page =
+    let size : recordSize + recordSize * n ≡ recordSize * suc n = omega arith in
+    ap (λ l. field page offset recordSize ++ l) (joined-fieldsFrom n (offset + recordSize) page)
+    ∙ field-append-field page offset recordSize (recordSize * n)
+    ∙ ap (field page offset) size
+
+module _ (page out : List ℕ) (n i : ℕ) (are : AreBytes page) (h : recordOffset n ≤ length page) where
+  abbrev room : ℕ
+  room = length out / recordSize - i
+
+  whole : emit out i (fieldsFrom n 2 page)
+      ≡ paste out (recordSize * i) (joined (take room (fieldsFrom n 2 page)))
+      (recordSize * length (take room (fieldsFrom n 2 page)))
+  whole = emit-joined (fieldsFrom n 2 page) out i (IsField-fieldsFrom n 2 page are h)
+
+  pub emit-none : length out / recordSize ≤ i → emit out i (fieldsFrom n 2 page) ≡ out
+  emit-none l =
+      let none : room ≡ 0 = omega arith in
+      whole
+      ∙ ap (λ k. paste out (recordSize * i) (joined (take k (fieldsFrom n 2 page)))
+      (recordSize * length (take k (fieldsFrom n 2 page)))) none
+      ∙ sym (paste-zero out (recordSize * i) [])
+
+  -- as many as fit, in one move
+  pub emit-all : (fit : ℕ) → fit ≡ min n room → (after : List ℕ)
+      → after ≡ paste out (recordSize * i) (drop 2 page) (recordSize * fit) → after ≡ emit out i (fieldsFrom n 2 page)
+  emit-all fit e after w =
+      let fields = fieldsFrom n 2 page in
+      let size = recordSize * fit in
+      let to = recordSize * i in
+      let least : fit ≤ n = omega arith in
+      let cut : take room fields ≡ fieldsFrom fit 2 page =
+      take-min fields room
+      ∙ ap (λ k. take (min k room) fields) (length-fieldsFrom n 2 page)
+      ∙ ap (λ k. take k fields) (sym e)
+      ∙ take-fieldsFrom fit n 2 page least in
+      w
+      ∙ ap (λ l. take to out ++ l ++ drop (to + size) out)
+      (sym (take-take size size (drop 2 page) (omega arith)))
+      ∙ ap (λ l. paste out to l size) (sym (joined-fieldsFrom fit 2 page))
+      ∙ ap (λ k. paste out to (joined (fieldsFrom fit 2 page)) (recordSize * k)) (sym (length-fieldsFrom fit 2 page))
+      ∙ ap (λ l. paste out to (joined l) (recordSize * length l)) (sym cut)
+      ∙ sym whole

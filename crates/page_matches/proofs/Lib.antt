@@ -1,6 +1,9 @@
+pub mod BitLaws
 pub mod EmitLaws
 pub mod HitLaws
 pub mod KeyPlaceLaws
-pub mod MatchLaws
+pub mod MaskLaws
 pub mod PatternLaws
+pub mod PlaceLaws
+pub mod PutLaws
 pub mod StoredLaws

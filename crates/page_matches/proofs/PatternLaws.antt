@@ -19,7 +19,8 @@ use Rattle.record.specs.Record.{matches}
 use Rattle.record.specs.Bytes.{numberOf, field, recordOf}
 use Rattle.record.specs.Packed.{packedKey, SixteenBits}
 use Rattle.record.proofs.PackedLaws.{packedKey-bytes}
-use Rattle.record.proofs.CodecLaws.{AreBytes, SixteenBits-recordOf}
+use Rattle.record.proofs.ByteLaws.{AreBytes}
+use Rattle.record.proofs.CodecLaws.{SixteenBits-recordOf}
 use Rattle.page_matches.specs.Pattern.{wantedMask, wantedBits, masksOf, bitsOf}
 use Rattle.page_matches.specs.Pattern.{GivenSixteenBits, patternOf, passes}
 

@@ -27,7 +27,8 @@ use Rattle.region.proofs.OrderLaws.{sameBits-before}
 use Rattle.record.specs.Record.{Record, recordBit, sameKey}
 use Rattle.record.specs.Bytes.{recordSize, recordOf}
 use Rattle.record.specs.Packed.{packedKey, SixteenBits, keyIn}
-use Rattle.record.proofs.CodecLaws.{AreBytes, AreBytes-field, SixteenBits-recordOf, packedKey-recordOf}
+use Rattle.record.proofs.ByteLaws.{AreBytes, AreBytes-field}
+use Rattle.record.proofs.CodecLaws.{SixteenBits-recordOf, packedKey-recordOf}
 use Rattle.page.specs.Page.{recordsFrom}
 use Rattle.page.specs.Fields.{recordOffset, recordField}
 use Rattle.page.specs.Changes.{removeAt}
@@ -180,20 +181,3 @@ module _ (s : Shape) (key : List ℕ) (six : SixteenBits key) where
           (l : place < n) where
         first-lt : firstPlace (sameKey key) (recordsFrom s n 2 page) < length (recordsFrom s n 2 page)
         first-lt = omega (arith, place-first, length-recordsFrom s n 2 page)
-
-        -- one has, at the place found
-        pub sameKey-found : filter (sameKey key) (recordsFrom s n 2 page) ≡ recordOf s (recordField page place) ∷ []
-        sameKey-found =
-            let r = recordOf s [] in
-            filter-found (recordBit s) (total (widthsOf s)) 0 (sameKey key) (apart-sameKey s fit key)
-            (recordsFrom s n 2 page) r o first-lt
-            ∙ ap (λ i. getD (recordsFrom s n 2 page) i r ∷ []) (sym place-first)
-            ∙ ap (λ x. x ∷ []) (getD-recordsFrom s n place 2 page r l)
-
-        -- and the others are those without that place
-        pub sameKey-others : filter (λ r. not (sameKey key r)) (recordsFrom s n 2 page)
-            ≡ removeAt place (recordsFrom s n 2 page)
-        sameKey-others =
-            filter-others (recordBit s) (total (widthsOf s)) 0 (sameKey key) (apart-sameKey s fit key)
-            (recordsFrom s n 2 page) o first-lt
-            ∙ ap (λ i. removeAt i (recordsFrom s n 2 page)) (sym place-first)

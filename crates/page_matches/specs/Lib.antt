@@ -1,3 +1,4 @@
 pub mod KeyPlace
+pub mod Mask
 pub mod Output
 pub mod Pattern

@@ -25,10 +25,3 @@ emitOne i bytes out =
 unfoldable pub emit : List ℕ → ℕ → List (List ℕ) → List ℕ
 emit out i [] = out
 emit out i (bytes ∷ rest) = emit (emitOne i bytes out) (suc i) rest
-
--- one record that may match: how many match, and the output
-unfoldable pub afterMatch : Pattern → List ℕ → ℕ → ℕ
-afterMatch p bytes total = cond (passes p bytes) (suc total) total
-
-unfoldable pub emitMatch : Pattern → List ℕ → ℕ → List ℕ → List ℕ
-emitMatch p bytes total out = cond (passes p bytes) (emitOne total bytes out) out

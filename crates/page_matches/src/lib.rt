@@ -1,11 +1,11 @@
 // The records of a page that match a query, written into the output (document 01, "Calls"), and the
 // record with a key. The four values of a record are compared at once, as its packed key.
+use page::content_at;
 use page::key_at;
 use record::RECORD_SIZE;
 use record::pack_key;
-use record::read_content;
-use record::read_key;
 use record::write_record;
+use record_copy::copy_records;
 use shape::Key;
 use shape::Query;
 use shape::Wanted;
@@ -14,10 +14,11 @@ ghost use mathlib.Core.Option.{none};
 ghost use Prim.Native.Nat.{_+_, _*_, _^_, _<_, _≤_};
 ghost use lib.ListN.{getD, length};
 ghost use Rattle.shape.specs.Key.{wantedValues};
-ghost use Rattle.record.specs.Bytes.{recordSize, field};
-ghost use Rattle.page.specs.Fields.{recordOffset};
+ghost use Rattle.record.specs.Bytes.{recordSize};
+ghost use Rattle.page.specs.Fields.{recordOffset, recordField, fieldsFrom};
 ghost use Rattle.page_matches.specs.Pattern.{GivenSixteenBits, wantedMask, wantedBits, patternOf};
-ghost use Rattle.page_matches.specs.Output.{hits, emit, afterMatch, emitMatch};
+ghost use Rattle.page_matches.specs.Mask.{matchMask};
+ghost use Rattle.page_matches.specs.Output.{hits, emitOne, emit};
 ghost use Rattle.page_matches.specs.KeyPlace.{keyPlace};
 
 // A query for packed keys: the bits that it gives, and what they are.
@@ -53,53 +54,86 @@ pub fn pattern_of(query: Query) -> Pattern
 }
 
 // Writes the records that match, of the n of a page, into the output from its record `total` on,
-// while whole ones fit. Returns how many match, with the `total` before.
+// while whole ones fit. Returns how many match, with the `total` before. A pattern that gives
+// nothing matches all.
 pub fn put_matches(page: &[u8], n: usize, pattern: Pattern, out: &mut [u8], total: usize) -> usize
-    requires { ⌜ (recordOffset n ≤ length (now page)) × (total + n ≤ 2 ^ 32) ⌝ }
+    requires { ⌜ (n < 64) × (recordOffset n ≤ length (now page)) × (total + n ≤ 2 ^ 32) ⌝ }
     ensures { λ r. ⌜ r ≡ total + length (hits pattern n (now (page .entry))) ⌝ }
     ensures { λ _. ⌜ now (out .exit) ≡ emit (now (out .entry)) total (hits pattern n (now (page .entry))) ⌝ }
 {
+    if pattern.mask | pattern.value == 0 {
+        return put_all(page, n, out, total);
+    }
+    let mut left = match_mask(page, n, pattern);
     let mut found = total;
-    let mut i = 0;
-    while i < n {
-        found = put_match(page, 2 + RECORD_SIZE * i, pattern, out, found);
-        i += 1;
+    while left != 0 {
+        put_record(page, u64::trailing_zeros(left) as usize, out, found);
+        found += 1;
+        left = left & (left - 1);
     }
     found
 }
 
 // The place of the first of the n records of a page that has a packed key; n where none has.
 pub fn find_key(page: &[u8], n: usize, key: u64) -> usize
-    requires { ⌜ recordOffset n ≤ length (now page) ⌝ }
+    requires { ⌜ (n < 64) × (recordOffset n ≤ length (now page)) ⌝ }
     ensures { λ r. ⌜ r ≡ keyPlace key (now (page .entry)) n 0 ⌝ }
 {
-    let mut i = 0;
-    while i < n {
-        if key_at(page, i) == key {
-            return i;
-        }
-        i += 1;
-    }
-    i
+    let pattern = Pattern {
+        mask: 0xffff_ffff_ffff_ffff,
+        value: key,
+    };
+    u64::trailing_zeros(match_mask(page, n, pattern) | (1u64 << n)) as usize
 }
 
-// Writes the record at an offset of a page into the output as its record `total`, if it matches
-// and fits. Returns how many match, with the `total` before.
-fn put_match(page: &[u8], at: usize, pattern: Pattern, out: &mut [u8], total: usize) -> usize
-    requires { ⌜ (at + recordSize ≤ length (now page)) × (total < 2 ^ 32) ⌝ }
-    ensures { λ r. ⌜ r ≡ afterMatch pattern (field (now (page .entry)) at recordSize) total ⌝ }
-    ensures { λ _. ⌜ now (out .exit)
-        ≡ emitMatch pattern (field (now (page .entry)) at recordSize) total (now (out .entry)) ⌝ }
+// The n records of a page that match, bit i for record i. All the records that the page has room
+// for are compared, so that no jump depends on its bytes or on n.
+fn match_mask(page: &[u8], n: usize, pattern: Pattern) -> u64
+    requires { ⌜ (n < 64) × (recordOffset n ≤ length (now page)) ⌝ }
+    ensures { λ r. ⌜ r ≡ matchMask pattern (now (page .entry)) n 0 ⌝ }
 {
-    let key = read_key(page, at);
-    if key & pattern.mask != pattern.value {
-        return total;
+    let mut mask: u64 = 0;
+    let mut i = (page.len() - 2) / RECORD_SIZE;
+    while 0 < i {
+        i -= 1;
+        let matched = key_at(page, i) & pattern.mask == pattern.value;
+        mask = (mask << 1) | (matched as u64);
     }
-    if out.len() / RECORD_SIZE <= total {
-        return total + 1;
+    mask & ((1u64 << n) - 1)
+}
+
+// Writes record i of a page into the output as its record `place`, if it fits.
+fn put_record(page: &[u8], i: usize, out: &mut [u8], place: usize)
+    requires { ⌜ (recordOffset i + recordSize ≤ length (now page)) × (place < 2 ^ 32) ⌝ }
+    ensures { λ _. ⌜ now (out .exit) ≡ emitOne place (recordField (now (page .entry)) i) (now (out .entry)) ⌝ }
+{
+    if place < out.len() / RECORD_SIZE {
+        write_record(
+            out,
+            RECORD_SIZE * place,
+            key_at(page, i),
+            content_at(page, i),
+        );
     }
-    write_record(out, RECORD_SIZE * total, key, read_content(page, at));
-    total + 1
+}
+
+// Writes the n records of a page into the output from its record `total` on, while whole ones fit,
+// in one move. Returns `total` and n.
+fn put_all(page: &[u8], n: usize, out: &mut [u8], total: usize) -> usize
+    requires { ⌜ (recordOffset n ≤ length (now page)) × (total + n ≤ 2 ^ 32) ⌝ }
+    ensures { λ r. ⌜ r ≡ total + n ⌝ }
+    ensures { λ _. ⌜ now (out .exit) ≡ emit (now (out .entry)) total (fieldsFrom n 2 (now (page .entry))) ⌝ }
+{
+    let room = out.len() / RECORD_SIZE;
+    if room <= total {
+        return total + n;
+    }
+    let mut fit = room - total;
+    if n < fit {
+        fit = n;
+    }
+    copy_records(page, 2, out, RECORD_SIZE * total, fit);
+    total + n
 }
 
 // The bits of a value that a query gives: all 16 or none.

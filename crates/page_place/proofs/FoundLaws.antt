@@ -16,7 +16,8 @@ use Rattle.region.proofs.OrderLaws.{before-swap}
 use Rattle.record.specs.Record.{Record, recordBit}
 use Rattle.record.specs.Bytes.{recordSize, recordOf}
 use Rattle.record.specs.Packed.{unpackedKey}
-use Rattle.record.proofs.CodecLaws.{AreBytes, AreBytes-field, unpackedKey-keyIn}
+use Rattle.record.proofs.ByteLaws.{AreBytes, AreBytes-field}
+use Rattle.record.proofs.CodecLaws.{unpackedKey-keyIn}
 use Rattle.page.specs.Page.{recordsFrom}
 use Rattle.page.specs.Fields.{recordOffset, recordField, keyAt}
 use Rattle.page.specs.Changes.{insertAt, removeAt}
@@ -126,12 +127,6 @@ module _ (s : Shape) (r : Record) (key : ℕ) (e : r .key ≡ unpackedKey key) (
   same-there : (i : ℕ) → Placed ws (unpackedKey key) page n (At i)
       → sameBits (recordBit s r) (recordBit s (getD rs i r)) (total ws) 0 ≡ true
   same-there i p = same-of-compared ws (r .key) (getD rs i r .key) (sym (order-at i (p .0)) ∙ p .1)
-
-  pub removeAt-placed : (i : ℕ) → Placed ws (unpackedKey key) page n (At i)
-      → removeAt i (recordsFrom s n 2 page) ≡ remove (recordBit s) (total ws) 0 r (recordsFrom s n 2 page)
-  removeAt-placed i p =
-      removeAt-same (recordBit s) (total ws) 0 r r rs i o (omega (arith, p .0, length-recordsFrom s n 2 page))
-      (same-there i p)
 
   pub withPrefix-placed : (i : ℕ) → Placed ws (unpackedKey key) page n (At i)
       → withPrefix (recordBit s) (recordBit s r) (total ws) 0 (recordsFrom s n 2 page)

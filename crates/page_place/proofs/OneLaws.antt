@@ -22,12 +22,13 @@ use Rattle.region.proofs.OrderLaws.{side-append-side}
 use Rattle.record.specs.Record.{Record, recordBit}
 use Rattle.record.specs.Bytes.{recordSize, recordOf}
 use Rattle.record.specs.Packed.{packedValue, unpackedKey}
-use Rattle.record.proofs.CodecLaws.{AreBytes, AreBytes-field, unpackedKey-keyIn}
+use Rattle.record.proofs.ByteLaws.{AreBytes, AreBytes-field}
+use Rattle.record.proofs.CodecLaws.{unpackedKey-keyIn}
 use Rattle.page.specs.Page.{recordsFrom}
 use Rattle.page.specs.Fields.{recordOffset, recordField, keyAt}
-use Rattle.key_order.specs.Order.{pairBit}
+use Rattle.pairs.specs.Pairs.{pairBit}
 use Rattle.key_order.proofs.PairLaws.{pairBit-unpackedKey}
-use Rattle.key_order.proofs.StepLaws.{splitBit-place}
+use Rattle.pairs.proofs.PlaceLaws.{splitBit-place}
 use Rattle.page_place.specs.Find.{firstOne}
 
 -- ---- at record i of n

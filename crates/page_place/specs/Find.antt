@@ -6,7 +6,8 @@ use mathlib.Core.Bool.{cond}
 use mathlib.Core.List.{List}
 use Rattle.record.specs.Packed.{unpackedKey}
 use Rattle.page.specs.Fields.{keyAt}
-use Rattle.key_order.specs.Order.{compared, pairBit}
+use Rattle.key_order.specs.Order.{compared}
+use Rattle.pairs.specs.Pairs.{pairBit}
 use Rattle.key_order.specs.declared.Order.{Order}
 use Rattle.key_order.specs.declared.Order.the-variants as order
 use Rattle.page_place.specs.declared.Place.{Place}

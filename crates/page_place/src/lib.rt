@@ -1,5 +1,5 @@
-// Places in a page whose records are in split order: that of a key, by halving, and that of the first
-// record with bit 1 at a split step, where the page is divided.
+// Places in a page whose records are in split order: that of a key, by halving, and that of the
+// first record with bit 1 at a split step, where the page is divided.
 use key_order::Order;
 use key_order::compare;
 use key_order::pair_bit;

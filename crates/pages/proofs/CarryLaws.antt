@@ -17,8 +17,9 @@ use Rattle.page.proofs.ChangeLaws.{length-countedPage, recordsOf-countedPage}
 use Rattle.page.proofs.ChangeLaws.{length-appendedPage, recordsOf-appendedPage}
 use Rattle.page.proofs.FieldLaws.{drop-recordsFrom, recordsFrom-window}
 use Rattle.pages.specs.Pages.{PageLent, withPage, carriedPages}
-use Rattle.pages.proofs.PageLaws.{midOf-page, putMid-change, length-pageAt, page-end-le, length-withPage}
-use Rattle.pages.proofs.PageLaws.{pageAt-withPage-same, drop-withPage, pageAt-withPage-other}
+use Rattle.page.proofs.PartLaws.{midOf-page, length-pageAt, page-end-le}
+use Rattle.pages.proofs.PutLaws.{putMid-change}
+use Rattle.pages.proofs.PageLaws.{length-withPage, pageAt-withPage-same, drop-withPage, pageAt-withPage-other}
 
 -- of a source only the records count
 appendedPage-source : (n k : ℕ) (source source′ page : List ℕ)
@@ -67,29 +68,28 @@ module _ (b p m n q j : ℕ) (bytes : List ℕ) (lp : PageLent b p bytes) (lq : 
 
   -- ---- by way of a buffer
 
-  module _ (buffer copied counted grown : List ℕ)
-      (e-copied : copied ≡ paste buffer 0
-      (drop (recordOffset m) (midOf (p * pageSize b) (p * pageSize b + pageSize b - p * pageSize b) bytes))
+  module _ (from to size : ℕ) (at-p : from ≡ p * pageSize b) (at-q : to ≡ q * pageSize b) (wide : size ≡ pageSize b)
+      (buffer copied counted grown : List ℕ)
+      (e-copied : copied ≡ paste buffer 0 (drop (recordOffset m) (midOf from (from + size - from) bytes))
       (recordSize * (n - m)))
-      (e-counted : counted ≡ countedPage m
-      (midOf (p * pageSize b) (p * pageSize b + pageSize b - p * pageSize b) bytes))
+      (e-counted : counted ≡ countedPage m (midOf from (from + size - from) bytes))
       (e-grown : grown ≡ appendedPage j (n - m) copied
-      (midOf (q * pageSize b) (q * pageSize b + pageSize b - q * pageSize b)
-      (putMid (p * pageSize b) (p * pageSize b + pageSize b - p * pageSize b) bytes counted))) where
-    pub putMid-carried : putMid (q * pageSize b) (q * pageSize b + pageSize b - q * pageSize b)
-        (putMid (p * pageSize b) (p * pageSize b + pageSize b - p * pageSize b) bytes counted) grown
+      (midOf to (to + size - to) (putMid from (from + size - from) bytes counted))) where
+    pub putMid-carried : putMid to (to + size - to) (putMid from (from + size - from) bytes counted) grown
         ≡ carriedPages b p m n q j bytes
     unfolding carriedPages
     putMid-carried =
-        let first : putMid (p * pageSize b) (p * pageSize b + pageSize b - p * pageSize b) bytes counted ≡ kept =
-        putMid-change b p bytes (countedPage m) counted e-counted length-counted in
+        let first : putMid from (from + size - from) bytes counted ≡ kept =
+        putMid-change b p from size bytes at-p wide (countedPage m) counted e-counted length-counted in
         let took : take (recordSize * (n - m)) copied ≡ take (recordSize * (n - m)) run =
         ap (take (recordSize * (n - m)))
-        (e-copied ∙ ap (λ l. paste buffer 0 (drop (recordOffset m) l) (recordSize * (n - m))) (midOf-page b p bytes))
+        (e-copied
+        ∙ ap (λ l. paste buffer 0 (drop (recordOffset m) l) (recordSize * (n - m)))
+        (midOf-page b p from size bytes at-p wide))
         ∙ take-buffer buffer run (recordSize * (n - m)) run-long in
-        let mid = midOf (q * pageSize b) (q * pageSize b + pageSize b - q * pageSize b) in
-        ap (λ l. putMid (q * pageSize b) (q * pageSize b + pageSize b - q * pageSize b) l grown) first
-        ∙ putMid-change b q kept appended grown
+        let mid = midOf to (to + size - to) in
+        ap (λ l. putMid to (to + size - to) l grown) first
+        ∙ putMid-change b q to size kept at-q wide appended grown
         (e-grown
         ∙ ap (λ l. appendedPage j (n - m) copied (mid l)) first
         ∙ appendedPage-source j (n - m) copied run (mid kept) took)

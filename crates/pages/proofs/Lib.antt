@@ -1,3 +1,4 @@
 pub mod CarryLaws
 pub mod FreeLaws
 pub mod PageLaws
+pub mod PutLaws

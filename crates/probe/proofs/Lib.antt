@@ -1,2 +1,1 @@
-pub mod AskedLaws
 pub mod ReplayLaws

@@ -1,9 +1,5 @@
 -- Enums as the numbers that cross the C interface. Assumes nothing.
 use Prim.Native.Nat.{ℕ, zero, suc}
-use mathlib.Core.List.{List}
-use mathlib.Core.Option.{Option, none, some}
-use lib.ListN.{getD}
-use Rattle.shape.specs.Key.{perAttribute}
 use Rattle.store.specs.declared.Changed.{Changed}
 use Rattle.store.specs.declared.Changed.the-variants as change
 use Rattle.directory_word.specs.declared.Leaf.{Leaf}
@@ -14,7 +10,6 @@ use Rattle.page_place.specs.declared.Place.{Place}
 use Rattle.page_place.specs.declared.Place.the-variants.{Before, At}
 use Rattle.probe.specs.declared.words.LeafFields.{LeafFields}
 use Rattle.probe.specs.declared.keys.PlaceFields.{PlaceFields}
-use Rattle.probe.specs.declared.matching.Asked.{Asked}
 
 -- a leaf: 1 and its page, or 0 and 0 without one; and its depth
 abbrev pub leafFields : Leaf → LeafFields
@@ -39,11 +34,3 @@ numberedPlace (suc found) i = At i
 
 abbrev pub placeOf : PlaceFields → Place
 placeOf f = numberedPlace (f .found) (f .place)
-
--- what a query says of an attribute: nothing for 0, the value for any other number
-abbrev pub askedValue : ℕ → ℕ → Option ℕ
-askedValue zero value = none
-askedValue (suc given) value = some value
-
-unfoldable pub askedValues : Asked → List (Option ℕ)
-askedValues a = perAttribute (λ j. askedValue (getD (a .given) j 0) (getD (a .values) j 0))

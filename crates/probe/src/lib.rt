@@ -9,9 +9,9 @@ pub mod matching;
 pub mod records;
 pub mod words;
 
-use directory::cells::find_cell;
-use directory::doubling::double;
-use directory::regions::fill;
+use directory_cell::find_cell;
+use directory_double::double;
+use directory_fill::fill;
 use shape::Key;
 use shape::Widths;
 ghost use mathlib.Core.Path.{_≡_};

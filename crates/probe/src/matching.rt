@@ -1,33 +1,24 @@
 // The steps that match the records of a page against a query.
+use host_results::HostQuery;
+use host_results::store_query;
 use page_matches::Pattern;
 use page_matches::pattern_of;
 use page_matches::put_matches;
-use shape::Attribute;
-use shape::Query;
-use shape::Wanted;
 ghost use mathlib.Core.Path.{_≡_};
 ghost use Prim.Native.Nat.{_+_, _^_, _<_, _≤_};
-ghost use lib.ListN.{getD, length};
-ghost use Rattle.shape.specs.Key.{wantedValue, wantedValues};
+ghost use lib.ListN.{length};
 ghost use Rattle.page.specs.Fields.{recordOffset};
 ghost use Rattle.page_matches.specs.Pattern.{GivenSixteenBits, patternOf};
 ghost use Rattle.page_matches.specs.Output.{hits, emit};
-ghost use Rattle.probe.specs.Fields.{askedValue, askedValues};
-
-// A query as numbers: attribute j is free where given[j] is 0, else it has the value values[j].
-#[repr(C)]
-pub struct Asked {
-    pub given: [u32; 4],
-    pub values: [u32; 4],
-}
+ghost use Rattle.host_results.specs.Wanted.{wantedOf};
 
 // The pattern of a query whose given values have 16 bits.
 #[no_mangle]
-pub extern "C" fn probe_pattern_of(asked: Asked) -> Pattern
-    requires { ⌜ GivenSixteenBits (askedValues asked) ⌝ }
-    ensures { λ r. ⌜ r ≡ patternOf (askedValues asked) ⌝ }
+pub extern "C" fn probe_pattern_of(wanted: HostQuery) -> Pattern
+    requires { ⌜ GivenSixteenBits (wantedOf (wanted .given) (wanted .values)) ⌝ }
+    ensures { λ r. ⌜ r ≡ patternOf (wantedOf (wanted .given) (wanted .values)) ⌝ }
 {
-    pattern_of(query_of(asked))
+    pattern_of(store_query(wanted))
 }
 
 // Writes the records that match, of the n of a page, into the output from its record `total` on,
@@ -40,39 +31,9 @@ pub extern "C" fn probe_put_matches(
     out: &mut [u8],
     total: usize,
 ) -> usize
-    requires { ⌜ (recordOffset n ≤ length (now page)) × (total + n ≤ 2 ^ 32) ⌝ }
+    requires { ⌜ (n < 64) × (recordOffset n ≤ length (now page)) × (total + n ≤ 2 ^ 32) ⌝ }
     ensures { λ r. ⌜ r ≡ total + length (hits pattern n (now (page .entry))) ⌝ }
     ensures { λ _. ⌜ now (out .exit) ≡ emit (now (out .entry)) total (hits pattern n (now (page .entry))) ⌝ }
 {
     put_matches(page, n, pattern, out, total)
-}
-
-// The query that the numbers say.
-fn query_of(asked: Asked) -> Query
-    ensures { λ r. ⌜ wantedValues r ≡ askedValues asked ⌝ }
-{
-    let a0 = attribute_at(asked, 0);
-    let a1 = attribute_at(asked, 1);
-    let a2 = attribute_at(asked, 2);
-    let a3 = attribute_at(asked, 3);
-    Query {
-        attributes: [a0, a1, a2, a3],
-    }
-}
-
-// What they say of attribute j.
-fn attribute_at(asked: Asked, j: usize) -> Attribute
-    requires { ⌜ j < 4 ⌝ }
-    ensures { λ r. ⌜ wantedValue (r .wanted) ≡ askedValue (getD (asked .given) j 0) (getD (asked .values) j 0) ⌝ }
-{
-    let given = asked.given;
-    let values = asked.values;
-    if given[j] == 0 {
-        return Attribute {
-            wanted: Wanted::Free,
-        };
-    }
-    Attribute {
-        wanted: Wanted::Given(values[j]),
-    }
 }

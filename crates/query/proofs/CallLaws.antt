@@ -9,13 +9,13 @@ use lib.ListN.{length, getD, take}
 use lib.Pow.{pow-mono}
 use Rattle.lists.specs.Filter.{filter}
 use Rattle.lists.specs.Members.{All}
-use Rattle.shape.specs.Shape.{shapeNumber, inBounds, widthsOf, total}
+use Rattle.shape.specs.Shape.{shapeNumber}
 use Rattle.shape.specs.Refusal.{accepted, refused}
 use Rattle.shape.specs.Key.{queryFits}
 use Rattle.shape.proofs.ShapeLaws.{inBounds-of, capacity-bounds}
 use Rattle.record.specs.Record.{Record, matches}
 use Rattle.record.specs.Bytes.{recordSize, recordOf}
-use Rattle.record.proofs.CodecLaws.{AreBytes}
+use Rattle.record.proofs.ByteLaws.{AreBytes}
 use Rattle.record.proofs.KeyLaws.{key-below-bytes}
 use Rattle.model.specs.Model.{listed}
 use Rattle.model.specs.Sets.{queryBits, readsOf}
@@ -24,22 +24,23 @@ use Rattle.page.specs.Page.{pageAt, recordsOf}
 use Rattle.page_matches.specs.Pattern.{GivenSixteenBits, bitsOf, patternOf}
 use Rattle.page_matches.specs.Output.{emit}
 use Rattle.store.specs.declared.State.{State}
-use Rattle.store.specs.Store.{store, pagesSize}
+use Rattle.store.specs.Store.{store}
 use Rattle.store.specs.Promises.{QueryPromise, SoundWhereRead, withBytes}
 use Rattle.refusals.specs.Limits.{limitsHold}
 use Rattle.refusals.specs.Lengths.{lentNumberBy}
-use Rattle.refusals.proofs.LentLaws.{shape-of-lentNumberBy}
+use Rattle.refusals.proofs.LentLaws.{memoryLent}
 use Rattle.refusals.proofs.LimitsLaws.{limits-parts, limits-of-sound}
 use Rattle.query_walk.specs.declared.Noted.{Noted}
 use Rattle.query_walk.specs.declared.Noted.the-variants.{Pages, Damaged}
-use Rattle.query_walk.specs.Rows.{Table, mostPages}
-use Rattle.query_walk.specs.Seen.{walkSeen, Put, Walkable}
-use Rattle.query_walk.proofs.BoundLaws.{mostPages-le}
-use Rattle.query_walk.proofs.StartLaws.{length-walkSeen-le}
+use Rattle.query_rows.specs.Rows.{Table, mostPages}
+use Rattle.query_rows.proofs.MostLaws.{mostPages-le}
+use Rattle.query_seen.specs.Seen.{walkSeen}
+use Rattle.query_walk.specs.Noting.{Put, Walkable}
 use Rattle.query_walk.proofs.NotedLaws.{length-noted, noted-le, noted-readable, noted-reads, noted-records}
-use Rattle.query.specs.Private.{queryNumberBy, PagesListed, listHits}
-use Rattle.query.proofs.EarlyLaws.{parts-of-queryNumberBy, lent-of-lentNumberBy, indexFits-query}
-use Rattle.query.proofs.NotedLaws.{Lent, Lent-readable, All-take-of, IsField-listHits, map-listHits}
+use Rattle.query_walk.proofs.StartLaws.{length-walkSeen-le}
+use Rattle.query.specs.Private.{queryNumberBy, LimitsLent, PageWithin, PagesListed, listHits}
+use Rattle.query.proofs.EarlyLaws.{indexFits-query, parts-of-queryNumberBy, lent-of-lentNumberBy}
+use Rattle.query.proofs.NotedLaws.{PageWithin-readable, All-take-of, IsField-listHits, map-listHits}
 use Rattle.query.proofs.PromiseLaws.{promise-nine, promise-listed}
 
 abbrev isPages : Noted → Bool
@@ -56,7 +57,7 @@ module _ (st : State) (words bytes : List ℕ) (q : List (Option ℕ))
   lent = parts-of-queryNumberBy st (length words) (length bytes) q none .0
 
   pub shape-of-none : shapeNumber (st .shape) ≡ 0
-  shape-of-none = shape-of-lentNumberBy st (length words) (length bytes) lent
+  shape-of-none = memoryLent st (length words) (length bytes) lent .shape
 
   fits : queryFits (st .shape) q ≡ true
   fits = parts-of-queryNumberBy st (length words) (length bytes) q none .1
@@ -72,36 +73,36 @@ module _ (st : State) (words bytes : List ℕ) (q : List (Option ℕ))
 
   module _ (can : limitsHold st ≡ true) where
     -- what the walk asks besides its table
-    pub limits-walk : (inBounds (st .shape) ≡ true) × (st .deepest ≤ 12) × (st .deepest ≤ total (widthsOf (st .shape)))
-        × (2 ^ st .deepest ≤ length words) × (st .limits .pages ≤ 4096) × (pagesSize st ≤ length bytes)
-    limits-walk =
+    pub limits-lent : LimitsLent st (length words) (length bytes)
+    limits-lent =
         let b = limits-parts st can in
         let l = lent-of-lentNumberBy st (length words) (length bytes) q lent in
-        let p : 2 ^ st .deepest ≤ 2 ^ st .limits .depth = pow-mono {i = st .deepest} {j = st .limits .depth} (b .4) in (
-          inBounds-of (st .shape) shape-of-none,
-          omega (arith, b .4, b .2),
-          omega (arith, b .4, b .3),
-          omega (arith, l .0, p),
-          b .1,
-          l .1,
-        )
+        let p : 2 ^ st .deepest ≤ 2 ^ st .limits .depth = pow-mono {i = st .deepest} {j = st .limits .depth} (b .4) in
+        record {
+          shape = inBounds-of (st .shape) shape-of-none;
+          depth-twelve = omega (arith, b .4, b .2);
+          depth-bits = omega (arith, b .4, b .3);
+          words-lent = omega (arith, l .0, p);
+          most-pages = b .1;
+          pages-lent = l .1;
+        }
 
     -- no walk notes more pages than the longer list has room for
     pub rows-few : (rows : List ℕ) → mostPages rows (st .deepest) 0 ≤ 4096
     rows-few rows =
-        let p : 2 ^ st .deepest ≤ 2 ^ 12 = pow-mono {i = st .deepest} {j = 12} (limits-walk .1) in
+        let p : 2 ^ st .deepest ≤ 2 ^ 12 = pow-mono {i = st .deepest} {j = 12} (limits-lent .depth-twelve) in
         omega (arith, p, mostPages-le rows (st .deepest) 0)
 
     pub walkable : (rows : List ℕ) (room : ℕ)
         → Table st (queryBits (st .shape) q) rows → mostPages rows (st .deepest) 0 ≤ room
         → Walkable st rows (length words) (length bytes) room
     walkable rows room t l = record {
-      shape = limits-walk .0;
-      depth-twelve = limits-walk .1;
-      depth-bits = limits-walk .2;
-      words-lent = limits-walk .3;
-      most-pages = limits-walk .4;
-      pages-lent = limits-walk .5;
+      shape = limits-lent .shape;
+      depth-twelve = limits-lent .depth-twelve;
+      depth-bits = limits-lent .depth-bits;
+      words-lent = limits-lent .words-lent;
+      most-pages = limits-lent .most-pages;
+      pages-lent = limits-lent .pages-lent;
       query = queryBits (st .shape) q;
       table = t;
       list-lent = l;
@@ -127,34 +128,37 @@ module _ (st : State) (words bytes : List ℕ) (q : List (Option ℕ))
       module _ (n : ℕ) (e : r ≡ Pages n) where
         few : n ≤ 4096
         few =
-            let b = limits-parts st can in
-            let p : 2 ^ st .deepest ≤ 2 ^ 12 = pow-mono {i = st .deepest} {j = 12} (omega (arith, b .4, b .2)) in
+            let p : 2 ^ st .deepest ≤ 2 ^ 12 = pow-mono {i = st .deepest} {j = 12} (limits-lent .depth-twelve) in
             omega (arith, p, noted-le st words bytes (queryBits (st .shape) q) list r later o n e)
 
         within : n ≤ length list
         within =
             omega (arith, room, length-noted st words bytes (queryBits (st .shape) q) list r later o n e)
 
-        each-lent : (i : ℕ) → i < n → Lent (st .shape .capacity) bytes (getD later i 0)
-        each-lent i l =
-            Lent-readable (st .shape .capacity) (st .limits .pages) bytes (getD later i 0) (limits-walk .5)
+        each-within : (i : ℕ) → i < n → PageWithin (st .shape .capacity) bytes (getD later i 0)
+        each-within i l =
+            PageWithin-readable (st .shape .capacity) (st .limits .pages) bytes (getD later i 0)
+            (limits-lent .most-pages) (limits-lent .pages-lent)
             (noted-readable st words bytes (queryBits (st .shape) q) list r later o n e within i l)
+
+        capacity-le : st .shape .capacity ≤ 16
+        capacity-le = capacity-bounds (st .shape) shape-of-none .1
 
         pub pages-listed : PagesListed (st .shape .capacity) bytes n later
         pages-listed = record {
-          capacity = capacity-bounds (st .shape) shape-of-none .1;
+          capacity = capacity-le;
           few = few;
           within = omega (arith, within, long);
-          lent = λ i l. each-lent i l .0;
-          counted = λ i l. each-lent i l .1;
+          each = each-within;
         }
 
         module _ (are : AreBytes bytes) (out : List ℕ) where
           abbrev fs : List (List ℕ)
           fs = listHits (patternOf q) (st .shape .capacity) bytes (take n later)
 
-          all-lent : All (Lent (st .shape .capacity) bytes) (take n later)
-          all-lent = All-take-of (Lent (st .shape .capacity) bytes) later n (omega (arith, within, long)) each-lent
+          all-within : All (PageWithin (st .shape .capacity) bytes) (take n later)
+          all-within =
+              All-take-of (PageWithin (st .shape .capacity) bytes) later n (omega (arith, within, long)) each-within
 
           -- the matching records of the first k pages noted
           abbrev gathered : ℕ → List Record
@@ -169,7 +173,8 @@ module _ (st : State) (words bytes : List ℕ) (q : List (Option ℕ))
               let reads : n ≡ readsOf (st .shape) q S =
               ap pagesIn (sym e ∙ noted-reads (store st words bytes) q S h list r later o) in (
                 reads,
-                map-listHits (st .shape .capacity) bytes are (st .shape) q six-of-none (take n later) all-lent
+                map-listHits (st .shape .capacity) capacity-le bytes are (st .shape) q six-of-none
+                    (take n later) all-within
                     ∙ subst (λ k. _≡_ (gathered k) (filter (matches (st .shape) q) S)) (sym reads)
                     (noted-records (store st words bytes) q S h list r later o (omega (arith, within, reads))
                     (λ x f. matches-agrees (st .shape) shape-of-none q x f fits)),
@@ -184,7 +189,8 @@ module _ (st : State) (words bytes : List ℕ) (q : List (Option ℕ))
               → Promised written total out′
           promise-of-pages written total out′ t w d =
               let found = promise-listed st words bytes q out (sym none) fs
-              (IsField-listHits (st .shape .capacity) bytes are (patternOf q) (take n later) all-lent) n as-model in
+              (IsField-listHits (st .shape .capacity) capacity-le bytes are (patternOf q)
+              (take n later) all-within) n as-model in
               let w′ : written ≡ min (length fs) (length out / recordSize) =
               w ∙ ap (λ k. min k (length out / recordSize)) t in
               subst (λ x. Promised written total x) (sym d)

@@ -8,7 +8,6 @@ use mathlib.Core.Option.{Option}
 use native.Mathlib.Omega.{arith}
 use lib.ListN.{length, take, drop, length-append, length-map}
 use lib.Seq.{drop-at, length-take-le}
-use borrow.Author.Tests.{le-ltb}
 use Rattle.lists.specs.Filter.{filter}
 use Rattle.lists.specs.Members.{All}
 use Rattle.shape.specs.Refusal.{Answer, accepted, refused, answered}
@@ -25,7 +24,7 @@ use Rattle.model.proofs.ReadsLaws.{readsOf-le}
 use Rattle.page_matches.specs.Output.{emit}
 use Rattle.page_matches.proofs.EmitLaws.{IsField, length-emit, emit-records}
 use Rattle.store.specs.declared.State.{State}
-use Rattle.store.specs.Store.{Store, store, fixedOf, pagesSize}
+use Rattle.store.specs.Store.{Store, store, fixedOf}
 use Rattle.store.specs.Promises.{QueryPromise, SoundWhereRead, queryNumber}
 use Rattle.refusals.specs.Lengths.{lentNumberBy}
 use Rattle.refusals.proofs.LentLaws.{lentNumberBy-none}
@@ -65,9 +64,12 @@ module _ (st : State) (words bytes : List ℕ) (q : List (Option ℕ)) (out : Li
 
     lent-sound : lentNumberBy st (length words) (length bytes) ≡ 0
     lent-sound =
-        sym (lentNumberBy-none st (length words) (length bytes) shape-sound
-        (le-ltb (length words) (2 ^ st .limits .depth) (h .1 .words-lent))
-        (le-ltb (length bytes) (pagesSize st) (omega (arith, h .1 .pages-lent, h .2))))
+        lentNumberBy-none st (length words) (length bytes)
+        (record {
+          shape = shape-sound;
+          words-lent = h .1 .words-lent;
+          pages-lent = omega (arith, h .1 .pages-lent, h .2);
+        })
 
     model-number : number ≡ numberFor (fixedOf st) S (queryCall q out)
     unfolding numberFor
@@ -177,5 +179,6 @@ module _ (st : State) (words bytes : List ℕ) (q : List (Option ℕ)) (out : Li
         output-length = length-emit out 0 fs whole;
         answered-as = λ S h. listed-as S h;
         bounded = λ S h w t r d.
-            subst (λ n. n ≤ 2 ^ (st .deepest - givenDepths (st .shape) q (st .deepest))) (ap readsIn d) (reads-bounded S h);
+            subst (λ n. n ≤ 2 ^ (st .deepest - givenDepths (st .shape) q (st .deepest))) (ap readsIn d)
+            (reads-bounded S h);
       }

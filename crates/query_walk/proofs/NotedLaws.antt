@@ -23,12 +23,13 @@ use Rattle.store.specs.Store.{Store, wordAt}
 use Rattle.store.specs.Promises.{SoundWhereRead}
 use Rattle.query_walk.specs.declared.Noted.{Noted}
 use Rattle.query_walk.specs.declared.Noted.the-variants.{Pages, Damaged}
-use Rattle.query_walk.specs.Seen.{Seen, fairPage, leafSeen, walkSeen, answerOf, Put}
-use Rattle.query_walk.specs.Rows.{emit}
-use Rattle.query_walk.specs.Pages.{readPages}
-use Rattle.query_walk.proofs.SeenLaws.{getD-emit, take-emit}
-use Rattle.query_walk.proofs.BoundLaws.{length-noted-le, length-seen-le, Readable, All-noted, All-seen}
-use Rattle.query_walk.proofs.StoreLaws.{walkSeen-sound, length-readPages, records-readPages}
+use lib.Seq.{sets}
+use Rattle.query_rows.proofs.StoreRunLaws.{getD-sets, take-sets}
+use Rattle.query_seen.specs.Pages.{readPages}
+use Rattle.query_seen.specs.Seen.{Seen, fairPage, leafSeen, walkSeen}
+use Rattle.query_seen.proofs.BoundLaws.{length-noted-le, length-seen-le, Readable, All-noted, All-seen}
+use Rattle.query_seen.proofs.StoreLaws.{walkSeen-sound, length-readPages, records-readPages}
+use Rattle.query_walk.specs.Noting.{answerOf, Put}
 
 All-getD : (P : ℕ → Type 0) (xs : List ℕ) → All P xs → (i : ℕ) → i < length xs → P (getD xs i 0)
 All-getD P [] h i l = absurd (omega arith)
@@ -67,7 +68,7 @@ module _ (st : State) (words bytes : List ℕ) (q : ℕ → QueryBit) (list : Li
         let all : n ≡ 0 + length (s .pages) = omega (arith, length-noted) in
         ap (λ k. take k later) all
         ∙ ap (take (0 + length (s .pages))) (o .lines)
-        ∙ take-emit list 0 (s .pages) (omega (arith, length-noted))
+        ∙ take-sets list 0 (s .pages) (omega (arith, length-noted))
 
     -- each is one of the P pages, and its count is 1 to b
     pub noted-readable : (i : ℕ) → i < n
@@ -78,8 +79,8 @@ module _ (st : State) (words bytes : List ℕ) (q : ℕ → QueryBit) (list : Li
         let T = st .deepest in
         let here : getD (s .pages) i 0 ≡ getD later i 0 =
         sym (ap (λ xs. getD xs i 0) (o .lines)
-        ∙ ap (λ k. getD (emit list 0 (s .pages)) k 0) (sym (zero-add i))
-        ∙ getD-emit list 0 (s .pages) i (omega (arith, length-noted)) (omega (arith, length-noted))) in
+        ∙ ap (λ k. getD (sets list 0 (s .pages)) k 0) (sym (zero-add i))
+        ∙ getD-sets list 0 (s .pages) i (omega (arith, length-noted)) (omega (arith, length-noted))) in
         subst Q here
         (All-getD Q (s .pages)
         (All-seen Q (λ x p. wordAt (st .shape) x words p) (leafSeen st bytes)

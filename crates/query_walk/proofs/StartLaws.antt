@@ -22,18 +22,23 @@ use Rattle.page.specs.Page.{countOf, pageAt}
 use Rattle.store.specs.declared.State.{State}
 use Rattle.shape.proofs.ShapeLaws.{shapeNumber-true, capacity-bounds}
 use Rattle.query_walk.specs.declared.Noted.the-variants.{Pages, Damaged}
-use Rattle.query_walk.specs.Seen.{Seen, nothing, damaged, after, fairPage, tallied, noted, leafSeen, met, seen}
-use Rattle.query_walk.specs.Seen.{walkSeen, Put, Walkable}
-use Rattle.query_walk.specs.Rows.{wantedNumber, valueBit, stepRow, Rows, capacityIn, depthIn, depthsIn, Table}
-use Rattle.query_walk.specs.Rows.{mostPages}
-use Rattle.query_walk.specs.Private.{packed, weighed, hasDepth, fairBy, leafBy}
-use Rattle.query_walk.specs.Private.{Corner, sides, seenBy, Wrote, Turn}
-use Rattle.query_walk.proofs.SeenLaws.{after-nothing, nothing-after, sound-of-next, damaged-of-next}
-use Rattle.query_walk.proofs.BoundLaws.{OnePage-leafBy, length-seenBy-le, mostPages-le}
-use Rattle.query_walk.proofs.CornerLaws.{Corner-zero, Corner-lower, Corner-upper, endsAgree-corner}
-use Rattle.query_walk.proofs.DepthLaws.{hasDepth-depthsOf}
-use Rattle.query_walk.proofs.RowLaws.{fit-steps}
-use Rattle.query_walk.proofs.VectorLaws.{cell-lower, packed-upper, weighed-cell}
+use Rattle.query_rows.specs.Corners.{Corner}
+use Rattle.query_rows.specs.Rows.{wantedNumber, valueBit, stepRow, Rows, capacityIn, deepestIn, talliedIn, hasDepth}
+use Rattle.query_rows.specs.Rows.{Table, mostPages}
+use Rattle.query_rows.specs.Vectors.{packed, rowAddress}
+use Rattle.query_rows.proofs.CornerLaws.{Corner-lower, Corner-upper, Corner-zero, endsAgree-corner}
+use Rattle.query_rows.proofs.DepthLaws.{hasDepth-talliedDepths}
+use Rattle.query_rows.proofs.MostLaws.{mostPages-le}
+use Rattle.query_rows.proofs.TableLaws.{fit-steps}
+use Rattle.cell.proofs.HalfLaws.{cell-lower}
+use Rattle.query_rows.proofs.VectorLaws.{packed-upper, rowAddress-cell}
+use Rattle.query_seen.specs.Seen.{Seen, nothing, damaged, after, fairPage, tallied, noted, leafSeen, met, seen}
+use Rattle.query_seen.specs.Seen.{walkSeen}
+use Rattle.query_seen.proofs.SeenLaws.{after-nothing, nothing-after}
+use Rattle.query_walk.specs.Noting.{Put, Walkable}
+use Rattle.query_walk.specs.Private.{fairBy, leafBy, wantedSides, seenBy, Wrote, Turn}
+use Rattle.query_walk.proofs.BoundLaws.{OnePage-leafBy, length-seenBy-le}
+use Rattle.query_walk.proofs.WroteLaws.{sound-of-next, damaged-of-next}
 
 -- ---- by rows and over strings
 
@@ -48,19 +53,19 @@ module _ (ws : List ℕ) (fit : Fit ws) (q : ℕ → QueryBit) (T : ℕ) (bits :
   over = seen wordOver leaf (queryEnters q) T
 
   -- the sides that the row's number lets in are those that the query agrees with
-  sides-after : (x : ℕ) (p : ℕ → Bool) → x < T → agrees q p x 0 ≡ true → (s u s′ u′ : Seen)
+  wantedSides-after : (x : ℕ) (p : ℕ → Bool) → x < T → agrees q p x 0 ≡ true → (s u s′ u′ : Seen)
       → (queryEnters q (suc x) (withBit p x false) ≡ true → s ≡ s′)
       → (queryEnters q (suc x) (withBit p x true) ≡ true → u ≡ u′)
-      → sides (getD rows (x * 8 + 5) 0) s u
+      → wantedSides (getD rows (x * 8 + 5) 0) s u
       ≡ after (cond (queryEnters q (suc x) (withBit p x false)) s′ nothing)
       (cond (queryEnters q (suc x) (withBit p x true)) u′ nothing)
-  unfolding sides stepRow
-  sides-after x p l e s u s′ u′ hs hu =
+  unfolding wantedSides stepRow
+  wantedSides-after x p l e s u s′ u′ hs hu =
       rw (table .row x 5 l (omega arith), queryEnters-side q p x false e, queryEnters-side q p x true e)
       (by-bit (q x) (λ d. hs (queryEnters-side q p x false e ∙ d)) (λ d. hu (queryEnters-side q p x true e ∙ d)))
     where
       by-bit : (w : QueryBit) → (bitAgrees w false ≡ true → s ≡ s′) → (bitAgrees w true ≡ true → u ≡ u′)
-          → sides (wantedNumber w) s u
+          → wantedSides (wantedNumber w) s u
           ≡ after (cond (bitAgrees w false) s′ nothing) (cond (bitAgrees w true) u′ nothing)
       by-bit free h k = rw (h refl, k refl)
       by-bit (given false) h k = h refl ∙ sym (after-nothing s′)
@@ -73,7 +78,7 @@ module _ (ws : List ℕ) (fit : Fit ws) (q : ℕ → QueryBit) (T : ℕ) (bits :
       ap (λ s. met T x (wordOver x p) s damaged) (alike x p k (wordOver x p) (omega arith) c)
   seenBy-seen (suc f) x p k e a c =
       λ i. met T x (wordOver x p) (alike x p k (wordOver x p) (omega arith) c i)
-      (sides-after x p inner a _ _ _ _
+      (wantedSides-after x p inner a _ _ _ _
       (λ d. lower
       ∙ seenBy-seen f (suc x) (withBit p x false) k (omega arith) d (Corner-lower ws fit x step-lt p k c))
       (λ d. upper
@@ -105,7 +110,7 @@ module _ (ws : List ℕ) (fit : Fit ws) (q : ℕ → QueryBit) (T : ℕ) (bits :
 
       -- the 1-side of depth y with this vector and the bit b in its corner
       upperBy : ℕ → ℕ → ℕ → Seen
-      upperBy y v b = by y v (k + b) (getD words (weighed rows (x * 8) v) 0)
+      upperBy y v b = by y v (k + b) (getD words (rowAddress rows (x * 8) v) 0)
 
       upper : upperBy (x + 1) (packed (cell ws x p) + getD rows (x * 8 + 4) 0) (getD rows (x * 8 + 6) 0)
           ≡ by (suc x) upperVector (k + valueBit ws x) (wordOver (suc x) (withBit p x true))
@@ -114,7 +119,7 @@ module _ (ws : List ℕ) (fit : Fit ws) (q : ℕ → QueryBit) (T : ℕ) (bits :
           ∙ ap (λ v. upperBy (suc x) v (getD rows (x * 8 + 6) 0)) vector
           ∙ ap (upperBy (suc x) upperVector) (table .row x 6 inner (omega arith))
           ∙ ap (λ a. by (suc x) upperVector (k + valueBit ws x) (getD words a 0))
-          (weighed-cell ws fit x step-lt (withBit p x true) q T rows table inner (withBit-same p x true))
+          (rowAddress-cell ws fit x step-lt (withBit p x true) q T rows table inner (withBit-same p x true))
 
 -- ---- from the empty string
 
@@ -131,7 +136,7 @@ module _ (st : State) (rows words bytes : List ℕ) (room : ℕ)
   Turn-start =
       let t = h .table in
       let most = pow-mono {j = 12} (h .depth-twelve) in
-      let all : depthIn rows - 0 ≡ st .deepest = omega (arith, t .depth-of) in
+      let all : deepestIn rows - 0 ≡ st .deepest = omega (arith, t .depth-of) in
       record {
         lent = record {
           most-pages = rw (t .pages) (h .most-pages);
@@ -161,7 +166,8 @@ module _ (st : State) (rows words bytes : List ℕ) (room : ℕ)
   length-byRows-le =
       let all : st .deepest - 0 ≡ st .deepest = omega arith in
       let most = pow-mono {j = 12} (h .depth-twelve) in
-      let l = length-seenBy-le rows words (leafBy rows bytes) (st .deepest) (OnePage-leafBy rows bytes) (st .deepest - 0)
+      let l = length-seenBy-le rows words (leafBy rows bytes) (st .deepest) (OnePage-leafBy rows bytes)
+      (st .deepest - 0)
       0 0 0 (getD words 0 0) in
       let e = ap (λ f. mostPages rows f 0) all in (
         omega (arith, l, e, h .list-lent),
@@ -187,11 +193,11 @@ module _ (st : State) (rows words bytes : List ℕ) (room : ℕ)
         → leafBy rows bytes x k w ≡ leafSeen st bytes x p w
     unfolding tallied
     leaf-alike x p k w l c =
-        let has : hasDepth (depthsIn rows) x ≡ tallied (st .tally) x =
-        ap (λ d. hasDepth d x) (table .depths) ∙ hasDepth-depthsOf (st .tally .leaves) x in
+        let has : hasDepth (talliedIn rows) x ≡ tallied (st .tally) x =
+        ap (λ d. hasDepth d x) (table .depths) ∙ hasDepth-talliedDepths (st .tally .leaves) x in
         λ i. noted (table .pages i) (has i) (λ g. fair-alike x p k l c g i) w
 
-    byRows-walkSeen : byRows (depthIn rows) ≡ walkSeen st words bytes q
+    byRows-walkSeen : byRows (deepestIn rows) ≡ walkSeen st words bytes q
     unfolding walkSeen cellAddress
     byRows-walkSeen =
         let T = st .deepest in
@@ -212,7 +218,7 @@ module _ (st : State) (rows words bytes : List ℕ) (room : ℕ)
         subst (λ s. (length (s .pages) ≤ room) × (length (s .pages) ≤ 4096))
         (ap byRows (sym (table .depth-of)) ∙ byRows-walkSeen) length-byRows-le
 
-    module _ (list later : List ℕ) (r : ℕ) (o : Wrote list 0 (byRows (depthIn rows)) r later) where
+    module _ (list later : List ℕ) (r : ℕ) (o : Wrote list 0 (byRows (deepestIn rows)) r later) where
       here : Wrote list 0 (walkSeen st words bytes q) r later
       here = subst (λ s. Wrote list 0 s r later) byRows-walkSeen o
 

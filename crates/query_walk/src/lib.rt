@@ -1,17 +1,19 @@
 // The query's walk over the regions: the pages of the agreeing leaves, noted in order before any of
 // their records is read (document 01, "Calls").
-pub mod steps;
-
-use page_ends::ends_agree;
+use directory_word::depth_of;
+use directory_word::field_of;
+use page::page_size;
+use page::page_start;
+use page_ends::fair_count;
+use query_rows::address_by;
 use store::State;
 ghost use mathlib.Core.Path.{_≡_};
-ghost use Prim.Native.Nat.{_-_, _<_, _≤_};
+ghost use Prim.Native.Nat.{_-_};
 ghost use lib.ListN.{length};
-ghost use Rattle.page.specs.Page.{pageSize};
-ghost use Rattle.query_walk.specs.Rows.{pagesIn, capacityIn, depthIn};
-ghost use Rattle.query_walk.specs.Seen.{Noting, Walkable, fieldOf};
-ghost use Rattle.query_walk.specs.Private.{Wrote, Lent, Turn, seenBy, leafBy, fairBy};
-ghost use Rattle.query_walk.specs.Private.{Weighable, weighed};
+ghost use Rattle.query_rows.specs.Rows.{deepestIn};
+ghost use Rattle.query_walk.specs.Noting.{Noting, Walkable};
+ghost use Rattle.query_walk.specs.Private.{Wrote, NoteAsked, PageAsked, Turn, seenBy, leafBy, pageFair};
+ghost use Rattle.query_walk.specs.Private.{givenSide};
 
 // No store has more pages, so that no walk notes more.
 const MOST_PAGES: usize = 4096;
@@ -51,7 +53,8 @@ pub fn note_pages(
 
 // Notes the pages below the region of depth x with this index vector and low corner, whose own cell
 // holds the word, from place n on, and returns the next place, or DAMAGED. The 0-side has the same
-// cell and corner, so that only the 1-side's address is computed and its word read.
+// cell and corner, so that only the 1-side's address is computed and its word read. Which side a
+// given bit leads to is chosen without a jump, which could not be foretold.
 fn walk(
     rows: &[u64; 108],
     dir: &[u32],
@@ -66,10 +69,10 @@ fn walk(
     requires { ⌜ Turn (now rows) (now dir) (length (now pages)) (length (now list)) index corner x n ⌝ }
     ensures { λ r. ⌜ Wrote (now (list .entry)) n
         (seenBy (now (rows .entry)) (now (dir .entry)) (leafBy (now (rows .entry)) (now (pages .entry)))
-        (depthIn (now (rows .entry))) (depthIn (now (rows .entry)) - x) x index corner word)
+        (deepestIn (now (rows .entry))) (deepestIn (now (rows .entry)) - x) x index corner word)
         r (now (list .exit)) ⌝ }
 {
-    let depth = (word >> 16) as usize;
+    let depth = depth_of(word) as usize;
     if depth == x {
         return note(rows, pages, list, corner, word, x, n);
     }
@@ -82,14 +85,14 @@ fn walk(
     }
     let at = x * 8;
     let wanted = rows[at + 5];
-    if wanted == 0 {
-        return walk(rows, dir, pages, list, index, corner, word, x + 1, n);
-    }
     let upper = index + rows[at + 4];
     let high = corner + rows[at + 6];
     let other = dir[address_by(rows, at, upper)];
-    if wanted == 1 {
-        return walk(rows, dir, pages, list, upper, high, other, x + 1, n);
+    if wanted < 2 {
+        let side = given_side(wanted, index, upper);
+        let low = given_side(wanted, corner, high);
+        let own = given_word(wanted, word, other);
+        return walk(rows, dir, pages, list, side, low, own, x + 1, n);
     }
     let m = walk(rows, dir, pages, list, index, corner, word, x + 1, n);
     if MOST_PAGES < m {
@@ -109,8 +112,7 @@ fn note(
     x: usize,
     n: usize,
 ) -> usize
-    requires { ⌜ (x ≤ 12) × ((n < 4096) × (n < length (now list)))
-        × Lent (length (now pages)) (pagesIn (now rows)) (capacityIn (now rows)) ⌝ }
+    requires { ⌜ NoteAsked (now rows) (length (now pages)) (length (now list)) x n ⌝ }
     ensures { λ r. ⌜ Wrote (now (list .entry)) n
         (leafBy (now (rows .entry)) (now (pages .entry)) x corner word)
         r (now (list .exit)) ⌝ }
@@ -119,7 +121,7 @@ fn note(
     if (depths >> x) & 1 == 0 {
         return DAMAGED;
     }
-    let field = field_of(word);
+    let field = field_of(word) as usize;
     if field == 0 {
         return n;
     }
@@ -127,57 +129,40 @@ fn note(
     if p < field {
         return DAMAGED;
     }
-    let b = rows[105] as usize;
-    let fixed = rows[x * 8 + 7];
     let page = field - 1;
-    let size = 2 + 12 * b;
-    let start = page * size;
-    let end = start + size;
-    if !fair_page(&pages[start..end], b, corner, fixed) {
+    if !page_fair(rows, pages, page, corner, x) {
         return DAMAGED;
     }
     list[n] = page as u32;
     n + 1
 }
 
-// The page number plus one of a word, 0 for no page.
-fn field_of(word: u32) -> usize
-    ensures { λ r. ⌜ (r ≡ fieldOf word) × (r < 65536) ⌝ }
+// Whether a page can be that of the leaf of depth x with this corner: its count is 1 to b, and its
+// first and last record agree with the corner in the bits that are fixed at this depth.
+fn page_fair(rows: &[u64; 108], pages: &[u8], page: usize, corner: u64, x: usize) -> bool
+    requires { ⌜ PageAsked (now rows) (length (now pages)) page x ⌝ }
+    ensures { λ r. ⌜ r ≡ pageFair (now (rows .entry)) (now (pages .entry)) x corner page ⌝ }
 {
-    (word & 0xffff) as usize
-}
-
-// Whether the page's count is 1 to b, and its first and last record agree with a key in the bits of a
-// mask.
-fn fair_page(page: &[u8], b: usize, key: u64, mask: u64) -> bool
-    requires { ⌜ (b ≤ 16) × (pageSize b ≤ length (now page)) ⌝ }
-    ensures { λ r. ⌜ r ≡ fairBy b mask key (now (page .entry)) ⌝ }
-{
-    let count = wide(page[0]) + 256 * wide(page[1]);
-    if count < 1 {
+    let b = rows[105] as usize;
+    let fixed = rows[x * 8 + 7];
+    let start = page_start(b, page);
+    let end = start + page_size(b);
+    if fair_count(&pages[start..end], b, corner, fixed) == 0 {
         return false;
     }
-    if b < count {
-        return false;
-    }
-    ends_agree(page, count, key, mask)
+    true
 }
 
-// The byte, widened.
-fn wide(x: u8) -> usize
-    ensures { λ r. ⌜ (r ≡ x) × (r < 256) ⌝ }
+// The lower of two numbers of a region's sides where the query wants bit 0, else the upper.
+fn given_side(wanted: u64, lower: u64, upper: u64) -> u64
+    ensures { λ r. ⌜ r ≡ givenSide wanted lower upper ⌝ }
 {
-    x as usize
+    if wanted == 0 { lower } else { upper }
 }
 
-// The address of a cell of this index vector that the step of the row at this place appended.
-fn address_by(rows: &[u64; 108], at: usize, index: u64) -> usize
-    requires { ⌜ Weighable (now rows) at index ⌝ }
-    ensures { λ r. ⌜ r ≡ weighed (now (rows .entry)) at index ⌝ }
+// The same of two words.
+fn given_word(wanted: u64, lower: u32, upper: u32) -> u32
+    ensures { λ r. ⌜ r ≡ givenSide wanted lower upper ⌝ }
 {
-    let a0 = (index & 0xffff) << rows[at];
-    let a1 = ((index >> 16) & 0xffff) << rows[at + 1];
-    let a2 = ((index >> 32) & 0xffff) << rows[at + 2];
-    let a3 = ((index >> 48) & 0xffff) << rows[at + 3];
-    (a0 + a1 + a2 + a3) as usize
+    if wanted == 0 { lower } else { upper }
 }

@@ -11,21 +11,21 @@ use Rattle.shape.specs.declared.Shape.{Shape}
 use Rattle.record.specs.Record.{Record}
 use Rattle.record.specs.Bytes.{recordSize, littleEndian, numberOf, field, recordBytes, recordOf, recordsBytes}
 
--- numbers of 8 bits
-abbrev pub Bytes : List ℕ → Type 0
-Bytes xs = (i : ℕ) → getD xs i 0 < 256
+-- what a slice of bytes holds
+abbrev pub AreBytes : List ℕ → Type 0
+AreBytes xs = (i : ℕ) → getD xs i 0 < 256
 
-bytes-take : (n : ℕ) (xs : List ℕ) → Bytes xs → Bytes (take n xs)
-bytes-take zero xs h i = omega arith
-bytes-take (suc n) [] h i = omega arith
-bytes-take (suc n) (x ∷ xs) h zero = h 0
-bytes-take (suc n) (x ∷ xs) h (suc i) = bytes-take n xs (λ m. h (suc m)) i
+AreBytes-take : (n : ℕ) (xs : List ℕ) → AreBytes xs → AreBytes (take n xs)
+AreBytes-take zero xs h i = omega arith
+AreBytes-take (suc n) [] h i = omega arith
+AreBytes-take (suc n) (x ∷ xs) h zero = h 0
+AreBytes-take (suc n) (x ∷ xs) h (suc i) = AreBytes-take n xs (λ m. h (suc m)) i
 
-bytes-drop : (n : ℕ) (xs : List ℕ) → Bytes xs → Bytes (drop n xs)
-bytes-drop n xs h i = rw (getD-drop n xs i 0) (h (n + i))
+AreBytes-drop : (n : ℕ) (xs : List ℕ) → AreBytes xs → AreBytes (drop n xs)
+AreBytes-drop n xs h i = rw (getD-drop n xs i 0) (h (n + i))
 
-pub bytes-field : (xs : List ℕ) (offset n : ℕ) → Bytes xs → Bytes (field xs offset n)
-bytes-field xs offset n h = bytes-take n (drop offset xs) (bytes-drop offset xs h)
+pub AreBytes-field : (xs : List ℕ) (offset n : ℕ) → AreBytes xs → AreBytes (field xs offset n)
+AreBytes-field xs offset n h = AreBytes-take n (drop offset xs) (AreBytes-drop offset xs h)
 
 -- ---- numbers
 
@@ -44,13 +44,13 @@ low x y h = omega arith
 high : (x y : ℕ) → x < 256 → (x + 256 * y) / 256 ≡ y
 high x y h = omega arith
 
-pub littleEndian-numberOf : (xs : List ℕ) → Bytes xs → littleEndian (length xs) (numberOf xs) ≡ xs
+pub littleEndian-numberOf : (xs : List ℕ) → AreBytes xs → littleEndian (length xs) (numberOf xs) ≡ xs
 littleEndian-numberOf [] h = refl
 littleEndian-numberOf (x ∷ xs) h =
     rw (low x (numberOf xs) (h 0), high x (numberOf xs) (h 0))
     (ap (λ ys. x ∷ ys) (littleEndian-numberOf xs (λ i. h (suc i))))
 
-numberOf-take-lt : (n : ℕ) (xs : List ℕ) → Bytes xs → numberOf (take n xs) < 256 ^ n
+numberOf-take-lt : (n : ℕ) (xs : List ℕ) → AreBytes xs → numberOf (take n xs) < 256 ^ n
 numberOf-take-lt zero xs h = omega (arith, pow-zero 256)
 numberOf-take-lt (suc n) [] h = one-le-pow (suc n) 256 (omega arith)
 numberOf-take-lt (suc n) (x ∷ xs) h = omega (arith, h 0, numberOf-take-lt n xs (λ i. h (suc i)), pow-succ' 256 n)
@@ -61,14 +61,14 @@ module _ (xs : List ℕ) where
   pub length-field : (offset n : ℕ) → offset + n ≤ length xs → length (field xs offset n) ≡ n
   length-field offset n h = length-take-le n (drop offset xs) (omega (arith, length-drop offset xs))
 
-  pub littleEndian-numberOf-field : Bytes xs → (offset n : ℕ) → offset + n ≤ length xs
+  pub littleEndian-numberOf-field : AreBytes xs → (offset n : ℕ) → offset + n ≤ length xs
       → littleEndian n (numberOf (field xs offset n)) ≡ field xs offset n
   littleEndian-numberOf-field b offset n h =
       ap (λ m. littleEndian m (numberOf (field xs offset n))) (sym (length-field offset n h))
-      ∙ littleEndian-numberOf (field xs offset n) (bytes-field xs offset n b)
+      ∙ littleEndian-numberOf (field xs offset n) (AreBytes-field xs offset n b)
 
-  pub numberOf-field-lt : Bytes xs → (offset n : ℕ) → numberOf (field xs offset n) < 256 ^ n
-  numberOf-field-lt b offset n = numberOf-take-lt n (drop offset xs) (bytes-drop offset xs b)
+  pub numberOf-field-lt : AreBytes xs → (offset n : ℕ) → numberOf (field xs offset n) < 256 ^ n
+  numberOf-field-lt b offset n = numberOf-take-lt n (drop offset xs) (AreBytes-drop offset xs b)
 
   -- a field and the one behind it
   pub field-append-field : (offset n m : ℕ) → field xs offset n ++ field xs (offset + n) m ≡ field xs offset (n + m)
@@ -112,11 +112,11 @@ module _ (s : Shape) where
       })
       ∙ ap (λ key. record { key = key; content = r .content }) (perAttribute-getD (r .key) (f .numbers))
 
-  pub recordBytes-recordOf : (bytes : List ℕ) → Bytes bytes → length bytes ≡ recordSize
+  pub recordBytes-recordOf : (bytes : List ℕ) → AreBytes bytes → length bytes ≡ recordSize
       → recordBytes s (recordOf s bytes) ≡ bytes
   unfolding recordOf recordBytes
   recordBytes-recordOf bytes b e =
-      let back : (offset n : ℕ) → offset + n ≤ 12
+      let back : (offset n : ℕ) → offset + n ≤ recordSize
       → littleEndian n (numberOf (field bytes offset n)) ≡ field bytes offset n =
       λ offset n h. littleEndian-numberOf-field bytes b offset n (omega arith) in
       let last : field bytes 6 2 ++ field bytes 8 4 ≡ field bytes 6 6 = field-append-field bytes 6 2 4 in
@@ -130,10 +130,10 @@ module _ (s : Shape) where
       ∙ ap (λ ys. field bytes 0 2 ++ (field bytes 2 2 ++ ys)) from-4
       ∙ ap (λ ys. field bytes 0 2 ++ ys) from-2
       ∙ field-append-field bytes 0 2 10
-      ∙ take-all 12 bytes (omega arith)
+      ∙ take-all recordSize bytes (omega arith)
 
   -- what is read fits again
-  pub fitsBytes-recordOf : (bytes : List ℕ) → Bytes bytes → FitsBytes (recordOf s bytes)
+  pub fitsBytes-recordOf : (bytes : List ℕ) → AreBytes bytes → FitsBytes (recordOf s bytes)
   unfolding recordOf
   fitsBytes-recordOf bytes b = record {
     numbers = refl;

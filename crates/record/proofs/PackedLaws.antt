@@ -9,7 +9,7 @@ use lib.ListN.{take, drop, getD}
 use lib.Seq.{drop-drop, take-take}
 use Rattle.moves.proofs.PasteLaws.{window-of-take}
 use Rattle.shape.specs.Key.{perAttribute}
-use Rattle.record.specs.Bytes.{numberOf, field}
+use Rattle.record.specs.Bytes.{recordSize, numberOf, field}
 use Rattle.record.specs.Packed.{packedKey, SixteenBits, packedValue, unpackedKey, keyIn}
 use Rattle.record.proofs.NumberLaws.{or-above, numberOf-take-two}
 
@@ -95,10 +95,10 @@ field-field bytes at n i k h =
     window-of-take n i k (take n (drop at bytes)) (drop at bytes) (take-take n n (drop at bytes) (omega arith)) h
     ∙ ap (take k) (drop-drop i at bytes)
 
-pub keyIn-field : (bytes : List ℕ) (at : ℕ) → keyIn (field bytes at 12) ≡ numberOf (field bytes at 8)
+pub keyIn-field : (bytes : List ℕ) (at : ℕ) → keyIn (field bytes at recordSize) ≡ numberOf (field bytes at 8)
 keyIn-field bytes at =
     let e : at + 0 ≡ at = omega arith in
-    ap numberOf (field-field bytes at 12 0 8 (omega arith) ∙ ap (λ i. field bytes i 8) e)
+    ap numberOf (field-field bytes at recordSize 0 8 (omega arith) ∙ ap (λ i. field bytes i 8) e)
 
 -- the four values, packed
 pub packedKey-bytes : (bytes : List ℕ) → packedKey (perAttribute (λ j. numberOf (field bytes (2 * j) 2))) ≡ keyIn bytes

@@ -11,7 +11,7 @@ ghost use mathlib.Core.Path.{_≡_};
 ghost use Prim.Native.Nat.{_+_, _≤_};
 ghost use lib.ListN.{length};
 ghost use lib.Seq.{paste};
-ghost use Rattle.record.specs.Bytes.{numberOf, field};
+ghost use Rattle.record.specs.Bytes.{recordSize, numberOf, field};
 ghost use Rattle.record.specs.Packed.{SixteenBits, packedKey, contentIn, packedBytes};
 
 // The bytes of one record.
@@ -44,8 +44,8 @@ pub fn read_key(bytes: &[u8], at: usize) -> u64
 
 // The content of the record at an offset.
 pub fn read_content(bytes: &[u8], at: usize) -> Content
-    requires { ⌜ at + 12 ≤ length (now bytes) ⌝ }
-    ensures { λ r. ⌜ r ≡ contentIn (field (now (bytes .entry)) at 12) ⌝ }
+    requires { ⌜ at + recordSize ≤ length (now bytes) ⌝ }
+    ensures { λ r. ⌜ r ≡ contentIn (field (now (bytes .entry)) at recordSize) ⌝ }
 {
     Content {
         payload: read32(bytes, at + 8) as u32,
@@ -54,8 +54,8 @@ pub fn read_content(bytes: &[u8], at: usize) -> Content
 
 // Writes a record at an offset.
 pub fn write_record(bytes: &mut [u8], at: usize, key: u64, content: Content)
-    requires { ⌜ at + 12 ≤ length (now bytes) ⌝ }
-    ensures { λ _. ⌜ now (bytes .exit) ≡ paste (now (bytes .entry)) at (packedBytes key content) 12 ⌝ }
+    requires { ⌜ at + recordSize ≤ length (now bytes) ⌝ }
+    ensures { λ _. ⌜ now (bytes .exit) ≡ paste (now (bytes .entry)) at (packedBytes key content) recordSize ⌝ }
 {
     write64(bytes, at, key);
     write32(bytes, at + 8, content.payload as u64);

@@ -1,98 +1,114 @@
--- Laws of the early refusals, one for each way that the tests end; the same numbers in the words of the promises.
--- Assumes nothing.
-use Prim.Native.Nat.{ℕ, _*_, _+_, _^_, _≤_, _<_}
+-- Laws of the early refusals, one for each way that the tests end; what they leave; the same numbers in the words of
+-- the promises. Assumes nothing.
+use Prim.Native.Nat.{ℕ, _^_}
 use mathlib.Core.Path.{_≡_, refl, sym, ap, _∙_}
 use mathlib.Core.Bool.{Bool, true, false, not, cond, _||_}
-use mathlib.Core.List.{List, [], _∷_}
+use mathlib.Core.List.{List, [], _∷_, _++_}
 use native.Mathlib.Omega.{arith}
-use native.Mathlib.Nat.{mul-le-mul-left}
-use lib.Dec.{ltb}
 use lib.ListN.{length}
-use Rattle.shape.specs.Refusal.{firstNumber, refusal}
+use borrow.Author.Tests.{le-ltb, ltb-false, not-false}
+use Rattle.shape.specs.Refusal.{Condition, firstNumber, refusal}
 use Rattle.shape.specs.Shape.{shapeConditions, shapeNumber, inBounds}
 use Rattle.shape.specs.Key.{keyFits}
 use Rattle.shape.proofs.RefusalLaws.{firstNumber-shape, firstNumber-shape-out}
+use Rattle.shape.proofs.ShapeLaws.{shapeNumber-true}
 use Rattle.model.specs.Model.{keyConditions}
+use Rattle.model.proofs.SetLaws.{firstNumber-zero}
 use Rattle.store.specs.Store.{store, lentConditions, pagesSize}
 use Rattle.store.specs.Promises.{lentNumber, keyNumber}
 use Rattle.store.specs.declared.State.{State}
-use Rattle.refusals.specs.Lengths.{lentBy, lentNumberBy, keyNumberBy}
+use Rattle.refusals.specs.Lengths.{lacksMemory, lentBy, MemoryLent, lentNumberBy, keyNumberBy}
+
+two-none : (a b : Bool) (n : ℕ) → _≡_ {A = ℕ} (cond a 1 (cond b 2 0)) 0 → cond a 1 (cond b 2 n) ≡ n
+two-none true b n e = absurd (omega arith)
+two-none false true n e = absurd (omega arith)
+two-none false false n e = refl
+
+two-some : (a b : Bool) (n : ℕ) → (_≡_ {A = ℕ} (cond a 1 (cond b 2 0)) 0 → ⊥)
+    → cond a 1 (cond b 2 n) ≡ cond a 1 (cond b 2 0)
+two-some true b n e = refl
+two-some false true n e = refl
+two-some false false n e = absurd (e refl)
+
+or-split : (a b : Bool) → (a || b) ≡ false → (a ≡ false) × (b ≡ false)
+or-split false b e = (refl, e)
+or-split true b e = absurd (let z : _≡_ {A = ℕ} 0 1 = cc in omega arith)
 
 module _ (st : State) (words bytes : ℕ) where
-  abbrev lacksWords : Bool
-  lacksWords = ltb words (2 ^ st .limits .depth)
-
-  abbrev lacksPages : Bool
-  lacksPages = ltb bytes (pagesSize st)
-
   -- ---- 1 and 2
 
   pub lentNumberBy-shape-out : (shapeNumber (st .shape) ≡ 0 → ⊥) → shapeNumber (st .shape) ≡ lentNumberBy st words bytes
   unfolding lentNumberBy lentBy
-  lentNumberBy-shape-out n = sym (firstNumber-shape-out (st .shape) (refusal 2 (lacksWords || lacksPages) ∷ []) n)
+  lentNumberBy-shape-out n = sym (firstNumber-shape-out (st .shape) (refusal 2 (lacksMemory st words bytes) ∷ []) n)
 
-  -- within its bounds: 2 if a test holds, 0 otherwise
-  lentNumberBy-shape : shapeNumber (st .shape) ≡ 0 → lentNumberBy st words bytes ≡ cond (lacksWords || lacksPages) 2 0
-  unfolding lentNumberBy lentBy firstNumber
-  lentNumberBy-shape n = firstNumber-shape (st .shape) (refusal 2 (lacksWords || lacksPages) ∷ []) n
+  module _ (n : shapeNumber (st .shape) ≡ 0) where
+    -- within its bounds: 2 if memory is lacking, 0 otherwise
+    lentNumberBy-shape : lentNumberBy st words bytes ≡ cond (lacksMemory st words bytes) 2 0
+    unfolding lentNumberBy lentBy firstNumber
+    lentNumberBy-shape = firstNumber-shape (st .shape) (refusal 2 (lacksMemory st words bytes) ∷ []) n
 
-  pub lentNumberBy-words : shapeNumber (st .shape) ≡ 0 → lacksWords ≡ true → 2 ≡ lentNumberBy st words bytes
-  lentNumberBy-words n w = sym (lentNumberBy-shape n ∙ ap (λ b. cond (b || lacksPages) 2 0) w)
+    pub lentNumberBy-lacks : lacksMemory st words bytes ≡ true → 2 ≡ lentNumberBy st words bytes
+    lentNumberBy-lacks l = sym (lentNumberBy-shape ∙ ap (λ b. cond b 2 0) l)
 
-  pub lentNumberBy-pages : shapeNumber (st .shape) ≡ 0 → lacksWords ≡ false → lacksPages ≡ true
-      → 2 ≡ lentNumberBy st words bytes
-  lentNumberBy-pages n w p =
-      sym (lentNumberBy-shape n ∙ ap (λ b. cond (b || lacksPages) 2 0) w ∙ ap (λ b. cond b 2 0) p)
+    pub lentNumberBy-enough : lacksMemory st words bytes ≡ false → 0 ≡ lentNumberBy st words bytes
+    lentNumberBy-enough l = sym (lentNumberBy-shape ∙ ap (λ b. cond b 2 0) l)
 
-  pub lentNumberBy-none : shapeNumber (st .shape) ≡ 0 → lacksWords ≡ false → lacksPages ≡ false
-      → 0 ≡ lentNumberBy st words bytes
-  lentNumberBy-none n w p =
-      sym (lentNumberBy-shape n ∙ ap (λ b. cond (b || lacksPages) 2 0) w ∙ ap (λ b. cond b 2 0) p)
+  pub lentNumberBy-none : MemoryLent st words bytes → lentNumberBy st words bytes ≡ 0
+  lentNumberBy-none m =
+      sym (lentNumberBy-enough (m .shape)
+      (rw (le-ltb words (2 ^ st .limits .depth) (m .words-lent), le-ltb bytes (pagesSize st) (m .pages-lent)) refl))
+
+  -- ---- 1 and 2 before other conditions
+
+  module _ (others : List Condition) where
+    pub firstNumber-lent : (lentNumberBy st words bytes ≡ 0 → ⊥)
+        → firstNumber (lentBy st words bytes ++ others) ≡ lentNumberBy st words bytes
+    unfolding lentNumberBy lentBy shapeConditions firstNumber
+    firstNumber-lent n = two-some (not (inBounds (st .shape))) (lacksMemory st words bytes) (firstNumber others) n
+
+    pub firstNumber-others : lentNumberBy st words bytes ≡ 0
+        → firstNumber (lentBy st words bytes ++ others) ≡ firstNumber others
+    unfolding lentNumberBy lentBy shapeConditions firstNumber
+    firstNumber-others n = two-none (not (inBounds (st .shape))) (lacksMemory st words bytes) (firstNumber others) n
+
+    -- none of all holds
+    pub memoryLent-before : firstNumber (lentBy st words bytes ++ others) ≡ 0
+        → MemoryLent st words bytes × (firstNumber others ≡ 0)
+    unfolding lentBy shapeConditions
+    memoryLent-before e =
+        let one = firstNumber-zero 0 _ _ e in
+        let two = firstNumber-zero 1 _ _ (one .1) in
+        let lent = or-split _ _ (two .0) in (
+          record {
+            shape = shapeNumber-true (st .shape) (not-false (inBounds (st .shape)) (one .0));
+            words-lent = ltb-false words (2 ^ st .limits .depth) (lent .0);
+            pages-lent = ltb-false bytes (pagesSize st) (lent .1);
+          },
+          two .1,
+        )
+
+  pub memoryLent : lentNumberBy st words bytes ≡ 0 → MemoryLent st words bytes
+  unfolding lentNumberBy lentBy shapeConditions
+  memoryLent e = memoryLent-before [] e .0
 
   -- ---- 3
-
-  two-none : (a b : Bool) (n : ℕ) → _≡_ {A = ℕ} (cond a 1 (cond b 2 0)) 0 → cond a 1 (cond b 2 n) ≡ n
-  two-none true b n e = absurd (omega arith)
-  two-none false true n e = absurd (omega arith)
-  two-none false false n e = refl
-
-  two-some : (a b : Bool) (n : ℕ) → (_≡_ {A = ℕ} (cond a 1 (cond b 2 0)) 0 → ⊥)
-      → cond a 1 (cond b 2 n) ≡ cond a 1 (cond b 2 0)
-  two-some true b n e = refl
-  two-some false true n e = refl
-  two-some false false n e = absurd (e refl)
 
   module _ (values : List ℕ) where
     pub keyNumberBy-lent : (lentNumberBy st words bytes ≡ 0 → ⊥)
         → lentNumberBy st words bytes ≡ keyNumberBy st words bytes values
-    unfolding lentNumberBy keyNumberBy lentBy shapeConditions firstNumber
-    keyNumberBy-lent n =
-        sym (two-some (not (inBounds (st .shape))) (lacksWords || lacksPages)
-        (firstNumber (keyConditions (st .shape) values)) n)
+    unfolding keyNumberBy
+    keyNumberBy-lent n = sym (firstNumber-lent (keyConditions (st .shape) values) n)
 
-    keyNumberBy-key : lentNumberBy st words bytes ≡ 0
-        → keyNumberBy st words bytes values ≡ cond (not (keyFits (st .shape) values)) 3 0
-    unfolding lentNumberBy keyNumberBy lentBy shapeConditions firstNumber
-    keyNumberBy-key n =
-        two-none (not (inBounds (st .shape))) (lacksWords || lacksPages)
-        (firstNumber (keyConditions (st .shape) values)) n
+    module _ (n : lentNumberBy st words bytes ≡ 0) where
+      pub keyNumberBy-key : keyNumberBy st words bytes values ≡ cond (not (keyFits (st .shape) values)) 3 0
+      unfolding keyNumberBy firstNumber
+      keyNumberBy-key = firstNumber-others (keyConditions (st .shape) values) n
 
-    pub keyNumberBy-fits : lentNumberBy st words bytes ≡ 0 → keyFits (st .shape) values ≡ true
-        → 0 ≡ keyNumberBy st words bytes values
-    keyNumberBy-fits n f = sym (keyNumberBy-key n ∙ ap (λ b. cond (not b) 3 0) f)
+      pub keyNumberBy-fits : keyFits (st .shape) values ≡ true → 0 ≡ keyNumberBy st words bytes values
+      keyNumberBy-fits f = sym (keyNumberBy-key ∙ ap (λ b. cond (not b) 3 0) f)
 
-    pub keyNumberBy-out : lentNumberBy st words bytes ≡ 0 → keyFits (st .shape) values ≡ false
-        → 3 ≡ keyNumberBy st words bytes values
-    keyNumberBy-out n f = sym (keyNumberBy-key n ∙ ap (λ b. cond (not b) 3 0) f)
-
-  -- no refusal 1 among the early ones: the shape is within its bounds
-  pub shape-of-lentNumberBy : lentNumberBy st words bytes ≡ 0 → shapeNumber (st .shape) ≡ 0
-  unfolding lentNumberBy lentBy shapeNumber shapeConditions firstNumber
-  shape-of-lentNumberBy = go (not (inBounds (st .shape))) (lacksWords || lacksPages)
-    where
-      go : (a b : Bool) → _≡_ {A = ℕ} (cond a 1 (cond b 2 0)) 0 → _≡_ {A = ℕ} (cond a 1 0) 0
-      go true b e = absurd (omega arith)
-      go false b e = refl
+      pub keyNumberBy-out : keyFits (st .shape) values ≡ false → 3 ≡ keyNumberBy st words bytes values
+      keyNumberBy-out f = sym (keyNumberBy-key ∙ ap (λ b. cond (not b) 3 0) f)
 
 -- ---- in the words of the promises
 
@@ -105,12 +121,3 @@ pub keyNumber-by : (st : State) (words bytes values : List ℕ)
     → keyNumber (store st words bytes) values ≡ keyNumberBy st (length words) (length bytes) values
 unfolding keyNumber lentConditions keyNumberBy lentBy
 keyNumber-by st words bytes values = refl
-
--- ---- sizes
-
--- so many pages have fewer bytes than 64 bits count
-pub pages-fit : (pages capacity : ℕ) → pages < 2 ^ 32 → capacity ≤ 16 → pages * (2 + 12 * capacity) < 2 ^ 64
-pages-fit pages capacity p c =
-    let size : 2 + 12 * capacity ≤ 194 = omega arith in
-    let most : pages * (2 + 12 * capacity) ≤ pages * 194 = mul-le-mul-left pages size in
-    omega (arith, most)

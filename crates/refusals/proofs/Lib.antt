@@ -1,3 +1,4 @@
+pub mod FitLaws
 pub mod LentLaws
 pub mod LimitsLaws
 pub mod PassedLaws

@@ -50,21 +50,36 @@ module _ (st : State) where
 
   -- ---- what the test leaves
 
-  pub limits-parts : limitsHold st ≡ true
-      → (1 ≤ P) × (P ≤ 4096) × (L ≤ 12) × (L ≤ W) × (st .deepest ≤ L)
+  -- under the names that `Sound` has for them
+  pub record Limited : Type 0 where
+    pub some-page : 1 ≤ P
+    pub most-pages : P ≤ 4096
+    pub depth-limit : L ≤ 12
+    pub depth-bits : L ≤ W
+    pub depth-within : st .deepest ≤ L
+
+  pub limited : limitsHold st ≡ true → Limited
   unfolding limitsHold
-  limits-parts e =
+  limited e =
       let T = st .deepest in
       let pages = and-split (within 1 4096 P) (leb L 12 && (leb L W && leb T L)) e in
       let some = and-split (leb 1 P) (leb P 4096) (pages .0) in
       let depth = and-split (leb L 12) (leb L W && leb T L) (pages .1) in
-      let last = and-split (leb L W) (leb T L) (depth .1) in (
-        leb-true 1 P (some .0),
-        leb-true P 4096 (some .1),
-        leb-true L 12 (depth .0),
-        leb-true L W (last .0),
-        leb-true T L (last .1),
-      )
+      let last = and-split (leb L W) (leb T L) (depth .1) in
+      record {
+        some-page = leb-true 1 P (some .0);
+        most-pages = leb-true P 4096 (some .1);
+        depth-limit = leb-true L 12 (depth .0);
+        depth-bits = leb-true L W (last .0);
+        depth-within = leb-true T L (last .1);
+      }
+
+  -- the same by place
+  pub limits-parts : limitsHold st ≡ true
+      → (1 ≤ P) × (P ≤ 4096) × (L ≤ 12) × (L ≤ W) × (st .deepest ≤ L)
+  limits-parts e =
+      let l = limited e in
+      (l .some-page, l .most-pages, l .depth-limit, l .depth-bits, l .depth-within)
 
 -- ---- a sound store
 

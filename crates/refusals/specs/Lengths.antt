@@ -1,18 +1,28 @@
 -- The early refusals by the lengths of the lent slices: what the code computes with. Assumes nothing.
-use Prim.Native.Nat.{ℕ, _^_}
-use mathlib.Core.Bool.{_||_}
+use Prim.Native.Nat.{ℕ, _^_, _≤_}
+use mathlib.Core.Path.{_≡_}
+use mathlib.Core.Bool.{Bool, _||_}
 use mathlib.Core.List.{List, [], _∷_, _++_}
 use lib.Dec.{ltb}
 use Rattle.shape.specs.Refusal.{Condition, refusal, firstNumber}
-use Rattle.shape.specs.Shape.{shapeConditions}
+use Rattle.shape.specs.Shape.{shapeConditions, shapeNumber}
 use Rattle.model.specs.Model.{keyConditions}
 use Rattle.store.specs.Store.{pagesSize}
 use Rattle.store.specs.declared.State.{State}
 
+-- "fewer than 2^L words or P pages"
+abbrev pub lacksMemory : State → ℕ → ℕ → Bool
+lacksMemory st words bytes = ltb words (2 ^ st .limits .depth) || ltb bytes (pagesSize st)
+
 -- the conditions 1 and 2 of a state with so many words and bytes lent
 unfoldable pub lentBy : State → ℕ → ℕ → List Condition
-lentBy st words bytes =
-    shapeConditions (st .shape) ++ refusal 2 (ltb words (2 ^ st .limits .depth) || ltb bytes (pagesSize st)) ∷ []
+lentBy st words bytes = shapeConditions (st .shape) ++ refusal 2 (lacksMemory st words bytes) ∷ []
+
+-- where neither holds: a shape within its bounds, 2^L words and P pages
+pub record MemoryLent (st : State) (words bytes : ℕ) : Type 0 where
+  pub shape : shapeNumber (st .shape) ≡ 0
+  pub words-lent : 2 ^ st .limits .depth ≤ words
+  pub pages-lent : pagesSize st ≤ bytes
 
 -- 1, 2
 unfoldable pub lentNumberBy : State → ℕ → ℕ → ℕ

@@ -7,8 +7,8 @@ use Rattle.shape.specs.Shape.{inBounds, shapeConditions, widthsOf}
 use Rattle.split.specs.Steps.{stepsBelow, steps, step, stepNumber, stepsOf, attributeDepth}
 use Rattle.address.specs.Address.{highestBit, createdBy, latestStep, formula, addressFrom, address}
 use Rattle.address.specs.Doubling.{sides}
-use Rattle.address.specs.Answers.{addressNumber, addressAnswer, addressAnswerOf}
-use Rattle.address.specs.declared.AddressAnswer.{AddressAnswer}
+use Rattle.address_calls.specs.Answers.{addressNumber, addressAnswer, addressAnswerOf}
+use Rattle.address_calls.specs.declared.AddressAnswer.{AddressAnswer}
 use Rattle.table.specs.Table.{twoTwo, key}
 
 record Addresses : Type 0 where

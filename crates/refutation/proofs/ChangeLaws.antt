@@ -16,7 +16,7 @@ use Rattle.directory_word.specs.declared.Leaf.the-variants.{Page}
 use Rattle.model.specs.Model.{Call, Reply, found, listed, next}
 use Rattle.model.specs.Sets.{divisionOf}
 use Rattle.store.specs.Store.{Store, fixedOf, wordAt}
-use Rattle.store.specs.Sound.{Sound, Shows, tallies}
+use Rattle.store.specs.Sound.{Sound, Shows}
 use Rattle.store.specs.Promises.{ChangePromise}
 
 -- ---- answers
@@ -55,9 +55,6 @@ module _ {c : Call} {early : ℕ} {values numbers : List ℕ} {before after : St
     (leaves : divisionOf (before .state .shape) (next (fixedOf (before .state)) S c) ≡ D) where
   pub depth-after : after .state .deepest ≡ greatestDepth D
   depth-after = rw (p .shape-kept, leaves) at (p .shown S sound .deepest)
-
-  pub tally-after : after .state .tally .leaves ≡ tallies D 0 13
-  tally-after = rw (p .shape-kept, leaves) at (p .shown S sound .tallied)
 
   pub shows-after : Shows (before .state .shape) (before .state .limits .pages) (greatestDepth D) (after .memory) D
   shows-after = rw (depth-after, p .shape-kept, p .limits-kept, leaves) at (p .shown S sound .shown)

@@ -22,7 +22,7 @@ use Rattle.table.specs.Table.{twoTwo}
 use Rattle.refutation.specs.Stores.{noRecord, wrongTally, wordPastPages, pageNotFree}
 use Rattle.refutation.proofs.ChangeLaws.{refused-not-accepted}
 use Rattle.refutation.proofs.ComputedLaws.{cells}
-use Rattle.refutation.proofs.SoundLaws.{noRecord-sound}
+use Rattle.refutation.proofs.OneLeafSound.{noRecord-sound}
 
 -- ---- unsound stores
 

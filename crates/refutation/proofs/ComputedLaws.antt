@@ -162,8 +162,6 @@ reads out =
 pub record Cells (words : List ℕ) : Type 0 where
   -- T = 0
   pub root : (p : ℕ → Bool) → wordAt twoTwo 0 words p ≡ getD words 0 0
-  -- T = 1
-  pub zero-side : wordAt twoTwo 1 words emptyString ≡ getD words 0 0
   -- T = 3, index vectors (0,0), (0,1), (2,0), (3,0)
   pub at-0 : wordAt twoTwo 3 words emptyString ≡ getD words 0 0
   pub at-2 : wordAt twoTwo 3 words (listBit (false ∷ true ∷ false ∷ [])) ≡ getD words 2 0
@@ -177,7 +175,6 @@ unfolding
 cells words =
     record {
       root = λ p. refl;
-      zero-side = refl;
       at-0 = refl;
       at-2 = refl;
       at-4 = refl;

@@ -2,89 +2,23 @@
 use Prim.Native.Nat.{ℕ, zero, suc, _<_}
 use mathlib.Core.Path.{_≡_, refl, sym, ap, _∙_}
 use mathlib.Core.Bool.{Bool, true, false, true≢false}
-use mathlib.Core.List.{List, [], _∷_}
+use mathlib.Core.List.{List, []}
 use mathlib.Core.Logic.{⊎-elim}
 use native.Mathlib.Omega.{arith}
 use lib.ListN.{getD}
 use Rattle.shape.specs.Refusal.{Answer}
-use Rattle.shape.specs.Shape.{widthsOf}
-use Rattle.shape.specs.Key.{encodings}
-use Rattle.split.specs.Steps.{stepsBelow, steps, step, stepNumber, stepsOf, attributeDepth}
-use Rattle.split.specs.Bits.{splitBit}
-use Rattle.address.specs.Address.{highestBit, createdBy, latestStep, formula, addressFrom, address}
-use Rattle.address.specs.Doubling.{sides}
-use Rattle.cell.specs.Cell.{sumBits, cell, cellAddress}
-use Rattle.region.specs.Strings.{emptyString, listBit}
+use Rattle.region.specs.Strings.{emptyString}
 use Rattle.record.specs.declared.Content.{Content}
-use Rattle.record.specs.Bytes.{recordBytes}
 use Rattle.page.specs.Page.{countOf, pageAt}
-use Rattle.directory_word.specs.Word.{wordOf}
+use Rattle.directory_word.specs.Word.{wordOf, depthField}
 use Rattle.directory_word.specs.declared.Leaf.the-variants.{Page}
 use Rattle.model.specs.Model.{Reply}
 use Rattle.store.specs.Store.{Store, wordAt}
-use Rattle.store.specs.Contained.{depthNamed, Names, JoinedWith, GivesWay, Written}
+use Rattle.store.specs.Contained.{Names, JoinedWith, GivesWay, Written}
 use Rattle.store.specs.Promises.{InsertPromise, DeletePromise}
 use Rattle.table.specs.Table.{twoTwo, key}
 use Rattle.refutation.specs.Stores.{zeroedWord, lowTally}
-
--- ---- what is computed
-
-abbrev keyString : List ℕ → ℕ → Bool
-keyString values = splitBit (widthsOf twoTwo) (encodings twoTwo values)
-
--- the strings 100 and 101
-abbrev lower : ℕ → Bool
-lower = listBit (true ∷ false ∷ false ∷ [])
-
-abbrev upper : ℕ → Bool
-upper = listBit (true ∷ false ∷ true ∷ [])
-
-pub record Computed (words : List ℕ) : Type 0 where
-  -- the word of (2,2) at T = 3, and the first bits of two keys
-  pub own : wordAt twoTwo 3 (zeroedWord .memory .words) (keyString (key 2 2)) ≡ 0
-  pub one : keyString (key 2 2) 0 ≡ true
-  pub zero : keyString (key 0 0) 0 ≡ false
-  -- words of other leaves before
-  pub first : wordAt twoTwo 3 (zeroedWord .memory .words) emptyString ≡ wordOf (Page 0 1)
-  pub low : wordAt twoTwo 3 (lowTally .memory .words) lower ≡ wordOf (Page 1 3)
-  pub high : wordAt twoTwo 3 (lowTally .memory .words) upper ≡ wordOf (Page 2 3)
-  -- the cell of the string 0 at T = 3, and of 10 at T = 2
-  pub at-0 : wordAt twoTwo 3 words emptyString ≡ getD words 0 0
-  pub low-at-1 : wordAt twoTwo 2 words lower ≡ getD words 1 0
-  pub high-at-1 : wordAt twoTwo 2 words upper ≡ getD words 1 0
-  -- the word of the leaf 0 before, and the third bit of (3,0)
-  pub first-low : wordAt twoTwo 3 (lowTally .memory .words) emptyString ≡ wordOf (Page 0 1)
-  pub third : keyString (key 3 0) 2 ≡ true
-  -- the word of (3,1) at T = 3, its first two bits, the cell of the string 100 and the records of its page
-  pub sibling-own : wordAt twoTwo 3 (lowTally .memory .words) (keyString (key 3 1)) ≡ wordOf (Page 2 3)
-  pub sibling-one : keyString (key 3 1) 0 ≡ true
-  pub sibling-zero : keyString (key 3 1) 1 ≡ false
-  pub low-at-3 : wordAt twoTwo 3 words lower ≡ getD words 1 0
-  pub low-count : countOf (pageAt 2 (lowTally .memory .bytes) 1) ≡ 2
-
-computed : (words : List ℕ) → Computed words
-unfolding
-    widthsOf encodings stepsBelow steps step stepNumber stepsOf attributeDepth splitBit
-    highestBit createdBy latestStep formula addressFrom address sides sumBits cell cellAddress recordBytes
-computed words =
-    record {
-      own = refl;
-      one = refl;
-      zero = refl;
-      first = refl;
-      low = refl;
-      high = refl;
-      at-0 = refl;
-      low-at-1 = refl;
-      high-at-1 = refl;
-      first-low = refl;
-      third = refl;
-      sibling-own = refl;
-      sibling-one = refl;
-      sibling-zero = refl;
-      low-at-3 = refl;
-      low-count = refl;
-    }
+use Rattle.refutation.proofs.ContainedComputed.{keyString, lower, upper, computed}
 
 -- ---- inserts
 
@@ -109,8 +43,8 @@ module _ (content : Content) (answer : Answer Reply) (after : Store) where
           omega (arith, word)
 
       gives : GivesWay false (wordAt twoTwo 3 (zeroedWord .memory .words))
-          (wordAt (after .state .shape) (after .state .deepest) (after .memory .words)) (keyString (key 2 2)) emptyString
-          → ⊥
+          (wordAt (after .state .shape) (after .state .deepest) (after .memory .words)) (keyString (key 2 2))
+          emptyString → ⊥
       gives way =
           ⊎-elim (λ a. true≢false (sym (computed [] .one) ∙ sym (a 0 (omega (arith, computed [] .first)))))
           (none-joined _ _ _ emptyString) (way .1)
@@ -220,9 +154,9 @@ clears-sibling answer after p e left none = ⊎-elim same written (p .contained 
     joined q j names =
         ⊎-elim
         (λ nearest.
-        let low : depthNamed (new k) < 3 = omega (arith, j .within, nearest, computed [] .sibling-own) in
+        let low : depthField (new k) < 3 = omega (arith, j .within, nearest, computed [] .sibling-own) in
         let one : new lower ≡ new k = j .one-leaf lower (λ i l. near i (omega (arith, low))) in
-        let three : depthNamed (new k) ≡ 3 = ap depthNamed (sym one ∙ low-now) in
+        let three : depthField (new k) ≡ 3 = ap depthField (sym one ∙ low-now) in
         omega (arith, low, three))
         (λ empty. omega (arith, empty, names .1)) (j .nearest-or-empty)
 

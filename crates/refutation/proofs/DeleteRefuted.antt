@@ -18,7 +18,8 @@ use Rattle.refutation.specs.Stores.{recordAt, noRecord, oneRecord, setOf
 use Rattle.refutation.specs.Stores.{setOfFour}
 use Rattle.refutation.proofs.ChangeLaws.{refused-not-accepted, depth-after, shows-after, kept-after}
 use Rattle.refutation.proofs.ComputedLaws.{leaf-of-two, deletes, cells}
-use Rattle.refutation.proofs.SoundLaws.{noRecord-sound, oneRecord-sound, twoRecords-sound, fourRecords-sound}
+use Rattle.refutation.proofs.OneLeafSound.{noRecord-sound, oneRecord-sound, twoRecords-sound}
+use Rattle.refutation.proofs.FourLeavesSound.{fourRecords-sound}
 
 module _ (after : Store) where
   -- 5 "delete on a fresh store"

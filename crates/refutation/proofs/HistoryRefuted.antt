@@ -1,7 +1,7 @@
 -- Wrong programs of document 01's review, steps 3 and 4, against demand 3's own statement: `History` leaves no run from
 -- a fresh store that has their outcomes, whatever the outcomes of the calls before. Assumes nothing.
 use Prim.Native.Nat.{ℕ, min, _/_}
-use mathlib.Core.Path.{_≡_, refl, sym, ap, _∙_}
+use mathlib.Core.Path.{_≡_, refl, ap, _∙_}
 use mathlib.Core.List.{List, [], _∷_, _++_}
 use native.Mathlib.Omega.{arith}
 use lib.ListN.{length, getD}
@@ -20,7 +20,7 @@ use Rattle.model.specs.Sets.{divisionOf, queryBits, readsOf}
 use Rattle.store.specs.Store.{Store}
 use Rattle.store.specs.Fresh.{FreshPromise}
 use Rattle.history.specs.History.{Run, History}
-use Rattle.table.specs.Table.{twoTwo, key, four}
+use Rattle.table.specs.Table.{twoTwo, key, fourInserts}
 use Rattle.refutation.specs.Stores.{ones, allFree, givenSecond}
 use Rattle.refutation.proofs.ChangeLaws.{refused-not-accepted, listed-total, listed-reads}
 
@@ -36,11 +36,11 @@ modelAnswer calls i = answerAt i (run (fixedBy twoTwo (length (ones .words)) (le
 record ModelAnswers (content : Content) (out : List ℕ) : Type 0 where
   -- of a key that was inserted just before, and after the table's four
   found-first : modelAnswer (insertCall (key 0 0) content ∷ lookupCall (key 0 0) ∷ []) 1 ≡ accepted (found content 1)
-  found-third : modelAnswer (four ++ lookupCall (key 3 1) ∷ []) 4 ≡ accepted (found (record { payload = 12 }) 1)
+  found-third : modelAnswer (fourInserts ++ lookupCall (key 3 1) ∷ []) 4 ≡ accepted (found (record { payload = 12 }) 1)
   -- of queries
   listed-first : modelAnswer (insertCall (key 0 0) content ∷ queryCall allFree out ∷ []) 1
       ≡ accepted (listed (min 1 (length out / recordSize)) 1 1)
-  listed-four : modelAnswer (four ++ queryCall (givenSecond 1) out ∷ []) 4
+  listed-four : modelAnswer (fourInserts ++ queryCall (givenSecond 1) out ∷ []) 4
       ≡ accepted (listed (min 2 (length out / recordSize)) 2 3)
 
 model-answers : (content : Content) (out : List ℕ) → ModelAnswers content out
@@ -78,13 +78,13 @@ module _ (demand : History) (fresh after : Store) (p : FreshPromise twoTwo ones 
   module _ (a b c d : Outcome) (output : List ℕ) where
     -- "one that divides correctly the first time and later only sets T" (review, 3): after the fourth insert the cell
     -- of (3,1) has no page
-    pub only-sets-depth : Run fresh (four ++ lookupCall (key 3 1) ∷ [])
+    pub only-sets-depth : Run fresh (fourInserts ++ lookupCall (key 3 1) ∷ [])
         (a ∷ b ∷ c ∷ d ∷ record { answer = refused 5; output = output } ∷ []) after → ⊥
     only-sets-depth r =
         refused-not-accepted _ 5 (as-model 4 r ∙ model-answers (record { payload = 0 }) [] .found-third)
 
     module _ (out : List ℕ) (written total n : ℕ)
-        (r : Run fresh (four ++ queryCall (givenSecond 1) out ∷ [])
+        (r : Run fresh (fourInserts ++ queryCall (givenSecond 1) out ∷ [])
         (a ∷ b ∷ c ∷ d ∷ record { answer = accepted (listed written total n); output = output } ∷ []) after) where
       reads-three : n ≡ 3
       reads-three = listed-reads (as-model 4 r ∙ model-answers (record { payload = 0 }) out .listed-four)

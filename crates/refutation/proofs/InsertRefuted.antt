@@ -22,8 +22,9 @@ use Rattle.refutation.specs.Stores.{recordAt, noRecord, oneRecord, setOf
 use Rattle.refutation.specs.Stores.{setOfThree}
 use Rattle.refutation.proofs.ChangeLaws.{refused-not-accepted, depth-after, shows-after, kept-after, taken-after}
 use Rattle.refutation.proofs.ComputedLaws.{first-leaf, leaves-of-three, inserts, cells}
-use Rattle.refutation.proofs.SoundLaws.{wordOfThree, wordAt-three, noRecord-sound, oneRecord-sound}
-use Rattle.refutation.proofs.SoundLaws.{twoRecords-sound, threeRecords-sound-2, threeRecords-sound-3}
+use Rattle.refutation.proofs.OneLeafSound.{noRecord-sound, oneRecord-sound, twoRecords-sound}
+use Rattle.refutation.proofs.TwoLeavesSound.{wordOfThree, wordAt-three}
+use Rattle.refutation.proofs.TwoLeavesSound.{threeRecords-sound-2, threeRecords-sound-3}
 
 -- ---- refused where it has to be accepted
 

@@ -2,12 +2,15 @@ pub mod AddressRefuted
 pub mod ChangeLaws
 pub mod CheckRefuted
 pub mod ComputedLaws
+pub mod ContainedComputed
 pub mod ContainedRefuted
 pub mod DeleteRefuted
+pub mod FourLeavesSound
 pub mod FreshRefuted
 pub mod HistoryRefuted
 pub mod InsertRefuted
 pub mod LookupRefuted
+pub mod OneLeafSound
 pub mod QueryRefuted
-pub mod SoundLaws
 pub mod TableStoreLaws
+pub mod TwoLeavesSound

@@ -12,7 +12,7 @@ use Rattle.table.specs.Table.{key}
 use Rattle.refutation.specs.Stores.{oneRecord, setOfOne}
 use Rattle.refutation.proofs.ChangeLaws.{refused-not-accepted, found-content, found-reads}
 use Rattle.refutation.proofs.ComputedLaws.{reads}
-use Rattle.refutation.proofs.SoundLaws.{oneRecord-sound}
+use Rattle.refutation.proofs.OneLeafSound.{oneRecord-sound}
 
 -- a key that is stored
 module _ (answer : Answer Reply) (p : LookupPromise oneRecord (key 0 0) answer) where

@@ -29,8 +29,9 @@ use Rattle.refutation.specs.Stores.{outcomeOn}
 use Rattle.refutation.proofs.ChangeLaws.{refused-not-accepted, refused-number, listed-written, listed-total}
 use Rattle.refutation.proofs.ChangeLaws.{listed-reads}
 use Rattle.refutation.proofs.ComputedLaws.{reads, leaves-of-three}
-use Rattle.refutation.proofs.SoundLaws.{wordOfThree, wordAt-three, noRecord-sound, oneRecord-sound}
-use Rattle.refutation.proofs.SoundLaws.{threeRecords-sound-2, fourRecords-sound}
+use Rattle.refutation.proofs.OneLeafSound.{noRecord-sound, oneRecord-sound}
+use Rattle.refutation.proofs.TwoLeavesSound.{wordOfThree, wordAt-three, threeRecords-sound-2}
+use Rattle.refutation.proofs.FourLeavesSound.{fourRecords-sound}
 
 -- the model's answer, on a sound store
 model-answer : {store : Store} {S : List Record} {q : List (Option ℕ)} {out out′ : List ℕ} {answer : Answer Reply}

@@ -10,20 +10,20 @@ use Rattle.address.specs.Address.{highestBit, createdBy, latestStep, formula, a
 use Rattle.address.specs.Doubling.{sides}
 use Rattle.cell.specs.Cell.{sumBits, cell, cellAddress}
 use Rattle.model.specs.Limits.{logarithm, pageLimitOf, depthLimitOf, freshShape, fixedBy}
-use Rattle.model.specs.Model.{numberFor, setAfter, next}
+use Rattle.model.specs.Model.{numberFor, setAfter, next, lastSet}
 use Rattle.model.specs.Sets.{divisionOf}
-use Rattle.table.specs.Table.{four, wide, setAfterAll, divisionAfter, directoryWords}
+use Rattle.table.specs.Table.{fourInserts, fixedAmply, divisionAfter, directoryWords}
 use Rattle.refutation.specs.Stores.{fourRecords, setOfFour}
 use Rattle.refutation.specs.TableStore.{TableStore}
-use Rattle.refutation.proofs.SoundLaws.{fourRecords-sound}
+use Rattle.refutation.proofs.FourLeavesSound.{fourRecords-sound}
 
-setAfterAll-four : setAfterAll wide [] four ≡ setOfFour
+lastSet-four : lastSet fixedAmply [] fourInserts ≡ setOfFour
 unfolding
     firstNumber widthsOf keyFits encodings stepsBelow steps step splitBit
     logarithm pageLimitOf depthLimitOf freshShape fixedBy numberFor setAfter next divisionOf
-setAfterAll-four = refl
+lastSet-four = refl
 
-directoryWords-four : fourRecords .memory .words ≡ directoryWords (divisionAfter four)
+directoryWords-four : fourRecords .memory .words ≡ directoryWords (divisionAfter fourInserts)
 unfolding
     firstNumber widthsOf keyFits encodings stepsBelow steps step stepNumber stepsOf attributeDepth splitBit
     highestBit createdBy latestStep formula addressFrom address sides sumBits cell cellAddress
@@ -31,4 +31,4 @@ unfolding
 directoryWords-four = refl
 
 pub table-store : TableStore
-table-store = record { set = setAfterAll-four; sound = fourRecords-sound; words = directoryWords-four }
+table-store = record { set = lastSet-four; sound = fourRecords-sound; words = directoryWords-four }

@@ -2,14 +2,15 @@
 -- Assumes nothing.
 use mathlib.Core.Path.{_≡_}
 use mathlib.Core.List.{[]}
+use Rattle.model.specs.Model.{lastSet}
 use Rattle.store.specs.Sound.{Sound}
-use Rattle.table.specs.Table.{four, wide, setAfterAll, divisionAfter, directoryWords}
+use Rattle.table.specs.Table.{fourInserts, fixedAmply, divisionAfter, directoryWords}
 use Rattle.refutation.specs.Stores.{fourRecords, setOfFour}
 
 pub record TableStore : Type 0 where
   -- the set after the four inserts, ..
-  pub set : setAfterAll wide [] four ≡ setOfFour
+  pub set : lastSet fixedAmply [] fourInserts ≡ setOfFour
   -- .. a sound store that shows it, ..
   pub sound : Sound fourRecords setOfFour
   -- .. and its words
-  pub words : fourRecords .memory .words ≡ directoryWords (divisionAfter four)
+  pub words : fourRecords .memory .words ≡ directoryWords (divisionAfter fourInserts)

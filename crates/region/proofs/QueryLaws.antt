@@ -3,7 +3,7 @@
 use Prim.Native.Nat.{ℕ, zero, suc, _+_, _-_, _^_, _≤_, _<_}
 use mathlib.Core.Path.{_≡_, refl, sym, _∙_}
 use mathlib.Core.Bool.{Bool, true, false, _&&_, cond, and-true, and-assoc, false≢true}
-use mathlib.Core.List.{List, [], _∷_, flatMap}
+use mathlib.Core.List.{List, [], _∷_}
 use native.Mathlib.Omega.{arith}
 use native.Mathlib.Nat.{add-zero, zero-add, suc-add, add-suc, two-pow-succ, add-comm}
 use native.Mathlib.Numerals.{add-one}
@@ -12,7 +12,6 @@ use lib.Pow.{pow-pos}
 use Rattle.lists.specs.Filter.{filter, all, nonEmpty}
 use Rattle.lists.proofs.Bools.{and-split, and-both}
 use Rattle.lists.proofs.FilterLaws.{all-imp, cond-le-one}
-use Rattle.lists.proofs.Sequences.{flatMap-ext}
 use Rattle.region.specs.Strings.{sameBits, withBit, emptyString}
 use Rattle.region.specs.Sets.{sorted}
 use Rattle.region.specs.Division.{Division, leaf, divided, divide, greatestDepth, depth, stringBit, leaves}
@@ -20,7 +19,7 @@ use Rattle.region.specs.Query.{QueryBit, free, given, bitAgrees, agrees,
 use Rattle.region.specs.Query.{walkRecords, walkReads, queryEnters, walkFound, reads}
 use Rattle.region.proofs.StringLaws.{bit-of-sameBits, withBit-same, withBit-other}
 use Rattle.region.proofs.WalkLaws.{goodIn, walkRecords-divide}
-use Rattle.region.proofs.LeafWalkLaws.{walkReads-leaves, walkRecords-leaves}
+use Rattle.region.proofs.LeafWalkLaws.{walkReads-leaves}
 
 -- ---- agreement
 
@@ -103,19 +102,6 @@ module _ {R : Type 0} (q : ℕ → QueryBit) (D : Division R) where
       walkReads-leaves (queryEnters q) (λ x p p′ e. agrees-same q p p′ x 0 e)
       (λ x p e. agrees-le q p x (suc x) 0 (omega arith) e)
       nonEmpty emptyString D refl
-
-  -- what is found are the matching records of the agreeing leaves, one leaf after the other
-  pub walkFound-leaves : (matches : R → Bool) → walkFound q matches D
-      ≡ flatMap (λ l. filter matches (l .records)) (filter (λ l. agrees q (stringBit l) (depth l) 0) (leaves D))
-  walkFound-leaves matches =
-      walkRecords-leaves (queryEnters q) (λ x p p′ e. agrees-same q p p′ x 0 e)
-      (λ x p e. agrees-le q p x (suc x) 0 (omega arith) e)
-      nonEmpty matches emptyString D refl
-      ∙ flatMap-ext _ _ (λ l. all-taken (l .records)) (filter (λ l. agrees q (stringBit l) (depth l) 0) (leaves D))
-    where
-      all-taken : (rs : List R) → cond (nonEmpty rs) (filter matches rs) [] ≡ filter matches rs
-      all-taken [] = refl
-      all-taken (x ∷ xs) = refl
 
 -- ---- the bound
 

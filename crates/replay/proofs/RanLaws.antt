@@ -12,15 +12,15 @@ use Rattle.history.specs.History.{Promised, no-call}
 use Rattle.history.proofs.HistoryLaws.{run-more}
 use Rattle.replay_encoding.specs.declared.Request.{Request}
 use Rattle.replay_encoding.specs.Encoding.{requestAt, callOf, callAt, requestSize}
-use Rattle.replay_encoding.specs.Encoding.{outputSize, outputStart, outputAt, callsIn}
+use Rattle.replay_encoding.specs.Encoding.{outputSizeAt, outputStart, outputAt, callsIn}
 use Rattle.replay_encoding.specs.Encoding.{answerSize, answerWords, answersOf, outputsOf}
 use Rattle.replay_encoding.specs.Words.{fourAt}
 use Rattle.replay_encoding.proofs.EncodingLaws.{fourAt-answer, answersOf-more, outputsOf-more}
-use Rattle.replay_call.specs.Promise.{Kept}
-use Rattle.replay.specs.Private.{Ran}
+use Rattle.replay_call.specs.Promise.{CallKept}
+use Rattle.replay.specs.Private.{CallsRan}
 use Rattle.replay.proofs.PartLaws.{part-came, putMid-done, put-done}
 
-pub ran-none : (store : Store) (words answers out : List ℕ) → Ran store words answers out 0 store answers out
+pub ran-none : (store : Store) (words answers out : List ℕ) → CallsRan store words answers out 0 store answers out
 unfolding callsIn answersOf outputsOf outputStart
 ran-none store words answers out =
     record {
@@ -34,11 +34,11 @@ ran-none store words answers out =
 
 module _ (before between after : Store) (words answers out answers₁ out₁ ws part : List ℕ) (i start end : ℕ)
     (request : Request)
-    (so-far : Ran before words answers out i between answers₁ out₁)
+    (so-far : CallsRan before words answers out i between answers₁ out₁)
     (read : request ≡ requestAt words i)
     (e-start : start ≡ outputStart words (length out) i)
     (e-end : end ≡ start + requestSize request (length out - start))
-    (kept : Kept between (callOf request (midOf start (end - start) out₁)) ws part after)
+    (kept : CallKept between (callOf request (midOf start (end - start) out₁)) ws part after)
     (whole : length part ≡ end - start) where
   abbrev o : Outcome
   o = kept .outcome
@@ -47,7 +47,7 @@ module _ (before between after : Store) (words answers out answers₁ out₁ ws 
   os = so-far .outcomes
 
   abbrev size : ℕ
-  size = outputSize words i (length out - outputStart words (length out) i)
+  size = outputSizeAt words i (length out - outputStart words (length out) i)
 
   e-size : end - start ≡ size
   e-size =
@@ -115,7 +115,7 @@ module _ (before between after : Store) (words answers out answers₁ out₁ ws 
 
   ran-suc : (answers₂ : List ℕ)
       → answers₂ ≡ take (answerSize * i) answers₁ ++ fourAt ws 0 ++ drop (answerSize * i + answerSize) answers₁
-      → Ran before words answers out (suc i) after answers₂ (putMid start (end - start) out₁ part)
+      → CallsRan before words answers out (suc i) after answers₂ (putMid start (end - start) out₁ part)
   unfolding callsIn
   ran-suc answers₂ e =
       record {
@@ -131,9 +131,9 @@ module _ (before between after : Store) (words answers out answers₁ out₁ ws 
   pub ran-more : (answers₂ : List ℕ)
       → answers₂ ≡ take (answerSize * i) answers₁ ++ fourAt ws 0 ++ drop (answerSize * i + answerSize) answers₁
       → (end ≡ outputStart words (length out) (i + 1))
-      × Ran before words answers out (i + 1) after answers₂ (putMid start (end - start) out₁ part)
+      × CallsRan before words answers out (i + 1) after answers₂ (putMid start (end - start) out₁ part)
   ran-more answers₂ e = (
     sym end-as ∙ ap (outputStart words (length out)) (sym (add-one i)),
-    subst (λ (k : ℕ). Ran before words answers out k after answers₂ (putMid start (end - start) out₁ part))
+    subst (λ (k : ℕ). CallsRan before words answers out k after answers₂ (putMid start (end - start) out₁ part))
         (sym (add-one i)) (ran-suc answers₂ e),
   )

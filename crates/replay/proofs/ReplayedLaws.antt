@@ -12,7 +12,7 @@ use Rattle.store.specs.Fresh.{FreshPromise, freshNumber}
 use Rattle.history.specs.History.{WithinBounds}
 use Rattle.history.proofs.HistoryLaws.{history}
 use Rattle.replay_encoding.specs.Encoding.{callCount, answerSize, answersOf, outputsOf, outputStart}
-use Rattle.replay.specs.Private.{Ran}
+use Rattle.replay.specs.Private.{CallsRan}
 use Rattle.replay.specs.Replayed.{modelFixed, modelCalls, Replayed}
 
 -- an accepted answer is no refused one
@@ -39,7 +39,7 @@ module _ (s : Shape) (m : Memory) (words answers out : List ℕ) (answer : Answe
       }
 
   pub replayed-accepted : (fresh after : Store) (answers′ out′ : List ℕ) → answer ≡ accepted changed
-      → FreshPromise s m answer fresh → Ran fresh words answers out (callCount words answers) after answers′ out′
+      → FreshPromise s m answer fresh → CallsRan fresh words answers out (callCount words answers) after answers′ out′
       → Replayed s m words answers out (accepted changed) after answers′ out′
   replayed-accepted fresh after answers′ out′ e-accepted p r =
       let f = modelFixed s m in

@@ -10,7 +10,7 @@ use Rattle.replay_encoding.specs.Encoding.{callsIn, answerSize, answersOf, outp
 
 -- the first k calls kept their promises, each on the store that the one before left; their answers and outputs stand
 -- first
-pub record Ran (before : Store) (words answers out : List ℕ) (k : ℕ) (after : Store)
+pub record CallsRan (before : Store) (words answers out : List ℕ) (k : ℕ) (after : Store)
     (answers′ out′ : List ℕ) : Type 0 where
   pub outcomes : List Outcome
   pub ran : Run before (callsIn words out k) outcomes after

@@ -6,11 +6,11 @@ use lib.ListN.{length, drop}
 use Rattle.shape.specs.Refusal.{Answer, accepted, refused}
 use Rattle.shape.specs.declared.Shape.{Shape}
 use Rattle.model.specs.Limits.{fixedBy}
-use Rattle.model.specs.Model.{Fixed, Call, Reply, changed, Outcome, run}
+use Rattle.model.specs.Model.{Fixed, Call, Reply, changed, Outcome, run, lastSet}
 use Rattle.store.specs.Store.{Store, Memory}
 use Rattle.store.specs.Sound.{Sound}
 use Rattle.store.specs.Fresh.{freshNumber}
-use Rattle.history.specs.History.{WithinBounds, lastSet}
+use Rattle.history.specs.History.{WithinBounds}
 use Rattle.replay_encoding.specs.Encoding.{callsIn, callCount, answerSize, answersOf, outputsOf, outputStart}
 
 -- "The plain model is given that Fresh's shape and slice lengths, which set P and L"

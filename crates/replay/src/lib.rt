@@ -2,13 +2,13 @@
 // lent memory, and the answers and outputs are those of the plain model (document 01, "The plain
 // model of demand 3").
 use fresh::fresh;
+use numbers::smaller_length;
 use replay_call::run_call;
 use replay_encoding::ANSWER_SIZE;
 use replay_encoding::CALL_SIZE;
 use replay_encoding::put_answer;
 use replay_encoding::read_request;
 use replay_encoding::request_size;
-use replay_encoding::smaller;
 use shape::Shape;
 use store::Change;
 use store::Changed;
@@ -16,7 +16,7 @@ use store::State;
 ghost use Rattle.store.specs.Store.{memory, store};
 ghost use Rattle.store.specs.Answers.{changedAnswer};
 ghost use Rattle.replay_encoding.specs.Encoding.{callCount};
-ghost use Rattle.replay.specs.Private.{Ran};
+ghost use Rattle.replay.specs.Private.{CallsRan};
 ghost use Rattle.replay.specs.Replayed.{Replayed};
 
 // Makes a store in lent memory and runs the calls on it, as many as there are whole ones and as many
@@ -55,12 +55,12 @@ fn run_calls(
     answers: &mut [u64],
     out: &mut [u8],
 ) -> State
-    ensures { λ r. ⌜ Ran (store state (now (dir .entry)) (now (pages .entry)))
+    ensures { λ r. ⌜ CallsRan (store state (now (dir .entry)) (now (pages .entry)))
         (now (calls .entry)) (now (answers .entry)) (now (out .entry))
         (callCount (now (calls .entry)) (now (answers .entry)))
         (store r (now (dir .exit)) (now (pages .exit))) (now (answers .exit)) (now (out .exit)) ⌝ }
 {
-    let n = smaller(calls.len() / CALL_SIZE, answers.len() / ANSWER_SIZE);
+    let n = smaller_length(calls.len() / CALL_SIZE, answers.len() / ANSWER_SIZE);
     let mut current = state;
     let mut start: usize = 0;
     let mut i: usize = 0;

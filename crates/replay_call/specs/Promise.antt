@@ -8,7 +8,7 @@ use Rattle.history.specs.History.{Promised}
 use Rattle.replay_encoding.specs.Encoding.{answerWords}
 
 -- a call kept its promise, with the outcome that these words and this output give
-pub record Kept (before : Store) (c : Call) (words output : List ℕ) (after : Store) : Type 0 where
+pub record CallKept (before : Store) (c : Call) (words output : List ℕ) (after : Store) : Type 0 where
   pub outcome : Outcome
   pub promised : Promised before c outcome after
   pub words-as : words ≡ answerWords (outcome .answer)

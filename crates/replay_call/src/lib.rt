@@ -17,7 +17,7 @@ ghost use lib.ListN.{length};
 ghost use Rattle.store.specs.Store.{store};
 ghost use Rattle.store.specs.Answers.{changedAnswer};
 ghost use Rattle.replay_encoding.specs.Encoding.{callOf, requestSize, answerWords};
-ghost use Rattle.replay_call.specs.Promise.{Kept};
+ghost use Rattle.replay_call.specs.Promise.{CallKept};
 
 // The state after a call, and the words of its answer.
 pub struct Step {
@@ -34,7 +34,7 @@ pub fn run_call(
     out: &mut [u8],
 ) -> Step
     requires { ⌜ length (now out) ≡ requestSize request (length (now out)) ⌝ }
-    ensures { λ r. ⌜ Kept (store state (now (dir .entry)) (now (pages .entry)))
+    ensures { λ r. ⌜ CallKept (store state (now (dir .entry)) (now (pages .entry)))
         (callOf request (now (out .entry))) (r .words) (now (out .exit))
         (store (r .state) (now (dir .exit)) (now (pages .exit))) ⌝ }
 {

@@ -14,7 +14,7 @@ use Rattle.model.specs.Model.{Call, insertCall, deleteCall, lookupCall, queryCa
 use Rattle.replay_encoding.specs.declared.Request.{Request}
 use Rattle.replay_encoding.specs.Encoding.{callSize, requestAt, valueIf, wantedIn}
 use Rattle.replay_encoding.specs.Encoding.{callOf, requestSize, outputStart}
-use Rattle.replay_encoding.specs.Encoding.{outputSize, outputAt, callsIn, callCount, answerSize}
+use Rattle.replay_encoding.specs.Encoding.{outputSizeAt, outputAt, callsIn, callCount, answerSize}
 use Rattle.replay_encoding.specs.Encoded.{givenValue, givenMark, FourWords, Encodable, keyRequest, requestOf}
 use Rattle.replay_encoding.specs.Encoded.{requestWords, encoded, outputsBefore, EveryList}
 
@@ -133,7 +133,7 @@ module _ (before after : List Call) (c : Call) (words out : List ℕ) (ew : word
         length-append (outputBefore c) (outputsBefore after),
       )
 
-  size : outputSize words (length before) (length out - outputStart words (length out) (length before))
+  size : outputSizeAt words (length before) (length out - outputStart words (length out) (length before))
       ≡ length (outputBefore c)
   size =
       ap (λ r. requestSize r (length out - outputStart words (length out) (length before))) asked

@@ -76,19 +76,19 @@ sizeOfKind (suc (suc (suc n))) size room = min size room
 unfoldable pub requestSize : Request → ℕ → ℕ
 requestSize r room = sizeOfKind (r .kind) (r .size) room
 
-abbrev pub outputSize : List ℕ → ℕ → ℕ → ℕ
-outputSize words i room = requestSize (requestAt words i) room
+abbrev pub outputSizeAt : List ℕ → ℕ → ℕ → ℕ
+outputSizeAt words i room = requestSize (requestAt words i) room
 
 -- where the output of call i begins in n bytes
 unfoldable pub outputStart : List ℕ → ℕ → ℕ → ℕ
 outputStart words n zero = 0
-outputStart words n (suc i) = outputStart words n i + outputSize words i (n - outputStart words n i)
+outputStart words n (suc i) = outputStart words n i + outputSizeAt words i (n - outputStart words n i)
 
 -- the output of call i as it came
 abbrev pub outputAt : List ℕ → List ℕ → ℕ → List ℕ
 outputAt words out i =
     let start = outputStart words (length out) i in
-    take (outputSize words i (length out - start)) (drop start out)
+    take (outputSizeAt words i (length out - start)) (drop start out)
 
 -- the first k calls
 unfoldable pub callsIn : List ℕ → List ℕ → ℕ → List Call

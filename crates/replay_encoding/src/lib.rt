@@ -1,5 +1,6 @@
 // Calls and answers as numbers, as a replay takes and gives them (document 01, "The plain model of
 // demand 3").
+use numbers::smaller_length;
 use shape::Attribute;
 use shape::Query;
 use shape::Wanted;
@@ -8,7 +9,7 @@ use store::Found;
 use store::Listed;
 ghost use mathlib.Core.Path.{_≡_};
 ghost use mathlib.Core.List.{_++_};
-ghost use Prim.Native.Nat.{_+_, _*_, _≤_, min};
+ghost use Prim.Native.Nat.{_+_, _*_, _≤_};
 ghost use lib.ListN.{length, take, drop};
 ghost use Rattle.shape.specs.Key.{wantedValues, wantedValue};
 ghost use Rattle.store.specs.Answers.{changedAnswer, foundAnswer, listedAnswer};
@@ -54,7 +55,7 @@ pub fn request_size(request: Request, room: usize) -> usize
     if request.kind < 3 {
         return 0;
     }
-    smaller(request.size as usize, room)
+    smaller_length(request.size as usize, room)
 }
 
 // The query that a call asks.
@@ -113,13 +114,6 @@ pub fn put_answer(answers: &mut [u64], i: usize, words: [u64; 4])
     answers[at + 1] = words[1];
     answers[at + 2] = words[2];
     answers[at + 3] = words[3];
-}
-
-// The smaller of two numbers.
-pub fn smaller(a: usize, b: usize) -> usize
-    ensures { λ r. ⌜ r ≡ min a b ⌝ }
-{
-    if a < b { a } else { b }
 }
 
 // The four words from a place on.

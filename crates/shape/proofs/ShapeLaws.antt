@@ -43,13 +43,6 @@ module _ (s : Shape) where
   pub shapeNumber-out : (shapeNumber s ≡ 0 → ⊥) → shapeNumber s ≡ 1
   shapeNumber-out n = shapeNumber-false (inBounds-out n)
 
-  pub shapeNumber-le : shapeNumber s ≤ 1
-  shapeNumber-le = go (inBounds s) refl
-    where
-      go : (b : Bool) → inBounds s ≡ b → shapeNumber s ≤ 1
-      go true e = omega (arith, shapeNumber-true e)
-      go false e = omega (arith, shapeNumber-false e)
-
 -- ---- widths
 
 module _ (s : Shape) where
@@ -77,6 +70,10 @@ module _ (s : Shape) where
   widthsOf-fit n (suc (suc zero)) = widthOf-le (inBounds-of s n) 2
   widthsOf-fit n (suc (suc (suc zero))) = widthOf-le (inBounds-of s n) 3
   widthsOf-fit n (suc (suc (suc (suc j)))) = omega arith
+
+  -- the widths that the code works with
+  pub widths-fit : (ws : List ℕ) → shapeNumber s ≡ 0 → ws ≡ widthsOf s → Fit ws
+  widths-fit ws n same = rw same (widthsOf-fit n)
 
 total-le-length : (ws : List ℕ) → Fit ws → total ws ≤ length ws * 16
 total-le-length [] fit = omega arith

@@ -1,7 +1,7 @@
 // Shapes of a store, keys and queries (document 01, "Shape and split steps", "Calls").
 ghost use mathlib.Core.Path.{_≡_};
 ghost use Prim.Native.Nat.{_<_, _≤_};
-ghost use Rattle.shape.specs.Shape.{within, inBounds, shapeNumber, widthOf, widthsOf, widthList};
+ghost use Rattle.shape.specs.Shape.{within, inBounds, shapeNumber, widthOf, widthsOf, widthList, Fit, total};
 
 // The attribute count d, a width in bits for each attribute, and the page capacity b in records.
 // Widths past d are ignored.
@@ -58,6 +58,14 @@ pub fn widths_of(shape: Shape) -> Widths
     let w2 = width_of(shape, 2);
     let w3 = width_of(shape, 3);
     Widths { w0, w1, w2, w3 }
+}
+
+// W: the sum of the widths.
+pub fn total_of(widths: Widths) -> u64
+    requires { ⌜ Fit (widthList widths) ⌝ }
+    ensures { λ r. ⌜ (r ≡ total (widthList widths)) × (r ≤ 64) ⌝ }
+{
+    widths.w0 + widths.w1 + widths.w2 + widths.w3
 }
 
 // Whether d is 1 to 4, each width in use 1 to 16, and the capacity 1 to 16.

@@ -14,7 +14,8 @@ use Rattle.lists.proofs.Numbers.{lt-or-le}
 use Rattle.shape.specs.Shape.{Fit}
 use Rattle.split.specs.Steps.{Step, pair, stepsBelow, steps, step, stepNumber, bitValue, stepsOf, attributeDepth}
 use Rattle.split.proofs.StepLaws.{depthBefore, stepsOf-append, stepsOf-stepsBelow, length-stepsBelow}
-use Rattle.split.proofs.StepLaws.{step-stepNumber, attributeDepth-stepNumber, stepNumber-lt, StepBelow, stepNumber-onto}
+use Rattle.split.proofs.StepLaws.{step-stepNumber, attributeDepth-stepNumber, stepNumber-lt}
+use Rattle.split.proofs.StepLaws.{StepBelow, stepNumber-onto}
 
 -- ---- just before a place
 
@@ -76,7 +77,8 @@ attributeDepth-width ws j t h =
     )
 
 -- after all steps each attribute has its whole width
-pub attributeDepth-all : (ws : List ℕ) → Fit ws → (j : ℕ) → j < 4 → attributeDepth ws (length (steps ws)) j ≡ getD ws j 0
+pub attributeDepth-all : (ws : List ℕ) → Fit ws → (j : ℕ) → j < 4
+    → attributeDepth ws (length (steps ws)) j ≡ getD ws j 0
 unfolding attributeDepth steps depthBefore
 attributeDepth-all ws fit j h =
     ap (stepsOf j) (take-length (stepsBelow ws 64)) ∙ stepsOf-stepsBelow ws j h 64 ∙ omega (arith, fit j)
@@ -109,7 +111,8 @@ module _ (ws : List ℕ) (fit : Fit ws) (k z : ℕ) (hz : z < 4) (hk : k < getD 
     attributeDepth-z = attributeDepth-here z hz ∙ omega arith
 
     -- the depths add up to the number of steps
-    pub attributeDepth-sum : attributeDepth ws t 0 + attributeDepth ws t 1 + attributeDepth ws t 2 + attributeDepth ws t 3 ≡ t
+    pub attributeDepth-sum :
+        attributeDepth ws t 0 + attributeDepth ws t 1 + attributeDepth ws t 2 + attributeDepth ws t 3 ≡ t
     unfolding stepNumber
     attributeDepth-sum =
         cc (
@@ -137,7 +140,12 @@ module _ (ws : List ℕ) (fit : Fit ws) (k z : ℕ) (hz : z < 4) (hk : k < getD 
 
 module _ (ws : List ℕ) (fit : Fit ws) (t k j : ℕ) (hj : j < 4) where
   pub lt-attributeDepth : k < getD ws j 0 → stepNumber ws k j < t → k < attributeDepth ws t j
-  lt-attributeDepth hk h = omega (arith, attributeDepth-next ws fit k j hj hk refl, attributeDepth-mono ws j (suc (stepNumber ws k j)) t h)
+  lt-attributeDepth hk h =
+      omega (
+        arith,
+        attributeDepth-next ws fit k j hj hk refl,
+        attributeDepth-mono ws j (suc (stepNumber ws k j)) t h,
+      )
 
   pub stepNumber-lt-attributeDepth : k < attributeDepth ws t j → stepNumber ws k j < t
   stepNumber-lt-attributeDepth h = go (lt-or-le (stepNumber ws k j) t)
@@ -146,4 +154,5 @@ module _ (ws : List ℕ) (fit : Fit ws) (t k j : ℕ) (hj : j < 4) where
       go (inl l) = l
       go (inr l) =
           let hk : k < getD ws j 0 = le-trans h (attributeDepth-width ws j t hj) in
-          absurd (omega (arith, attributeDepth-z ws fit k j hj hk refl, attributeDepth-mono ws j t (stepNumber ws k j) l))
+          let here = attributeDepth-z ws fit k j hj hk refl in
+          absurd (omega (arith, here, attributeDepth-mono ws j t (stepNumber ws k j) l))

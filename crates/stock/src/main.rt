@@ -8,18 +8,19 @@ use stock_input::printed;
 use stock_input::run;
 use stock_input::start;
 use stock_input::step;
+use stock_replies::OUTPUT_SIZE;
 ghost use Prim.Native.Nat.{_≤_};
 ghost use lib.ListN.{length};
 ghost use Rattle.stock_replies.specs.Replies.{replySize};
 ghost use Rattle.stock.specs.Lends.{Lends};
 
-// Lends 4,096 words, 32,768 page bytes, 256 output records of 12 bytes, and a text.
+// Lends 4,096 words, 32,768 page bytes, 256 output records, and a text.
 fn main() {
     let mut piece = io::large_buffer();
     let mut text = io::large_buffer();
     let mut dir = [0u32; 4096];
     let mut pages = [0u8; 32768];
-    let mut out = [0u8; 3072];
+    let mut out = [0u8; OUTPUT_SIZE];
     serve(&mut piece, &mut dir, &mut pages, &mut out, &mut text);
 }
 

@@ -23,9 +23,9 @@ use Rattle.stock_line.specs.declared.Line.{Line}
 use Rattle.stock_text.specs.Text.{Grown}
 use Rattle.stock_command.specs.Asked.{Asked, put, cut, list, valuesFrom, itemsOf, contentIn, asked}
 use Rattle.stock_command.specs.declared.session.Session.{Session}
-use Rattle.stock_replies.specs.Replies.{changedText, listedText}
+use Rattle.stock_replies.specs.Replies.{outputRecords, outputSize, changedText, listedText}
 use Rattle.stock_replies.specs.Printed.{Printable}
-use Rattle.stock_console.specs.Console.{Lent, lent, ReplyPromise}
+use Rattle.stock_console.specs.Console.{StockMemory, stockMemory, ReplyPromise}
 use Rattle.stock_console.specs.declared.Next.{Next}
 
 -- ---- the promise of a reply
@@ -45,8 +45,8 @@ module _ (session : Session) (line : Line) (words bytes text : List ℕ) (at : �
       (e : values ≡ valuesFrom line d 0) (grown : Grown text at (changedText answer) text′ end) where
     pub reply-put : (content : Content) → content ≡ contentIn line d
         → InsertPromise (store state words bytes) values content answer (store after words′ bytes′) → (out : List ℕ)
-        → ReplyPromise (put (valuesFrom line d 0) (contentIn line d)) session (lent words bytes out) text at
-        (changedNext after) (lent words′ bytes′ out) text′
+        → ReplyPromise (put (valuesFrom line d 0) (contentIn line d)) session (stockMemory words bytes out) text at
+        (changedNext after) (stockMemory words′ bytes′ out) text′
     reply-put content f promise out =
         record {
           bytes = changedText answer;
@@ -55,15 +55,15 @@ module _ (session : Session) (line : Line) (words bytes text : List ℕ) (at : �
         }
 
     pub reply-cut : DeletePromise (store state words bytes) values answer (store after words′ bytes′) → (out : List ℕ)
-        → ReplyPromise (cut (valuesFrom line d 0)) session (lent words bytes out) text at (changedNext after)
-        (lent words′ bytes′ out) text′
+        → ReplyPromise (cut (valuesFrom line d 0)) session (stockMemory words bytes out) text at (changedNext after)
+        (stockMemory words′ bytes′ out) text′
     reply-cut promise out =
         record { bytes = changedText answer; grown = grown; replied = (answer, rw (← e) promise, refl, refl, refl) }
 
   pub reply-list : (answer : Answer Reply) (q : List (Option ℕ)) (out out′ : List ℕ) → q ≡ itemsOf line d
       → QueryPromise (store state words bytes) q out answer out′ → Grown text at (listedText d answer out′) text′ end
-      → ReplyPromise (list (itemsOf line d)) session (lent words bytes out) text at
-      (record { session = session; end = end }) (lent words bytes out′) text′
+      → ReplyPromise (list (itemsOf line d)) session (stockMemory words bytes out) text at
+      (record { session = session; end = end }) (stockMemory words bytes out′) text′
   reply-list answer q out out′ e promise grown =
       record {
         bytes = listedText d answer out′;
@@ -72,7 +72,7 @@ module _ (session : Session) (line : Line) (words bytes text : List ℕ) (at : �
       }
 
 -- the line asks what the reply answers
-pub reply-asked : (session : Session) (line : Line) (m m′ : Lent) (text text′ : List ℕ) (at : ℕ) (next : Next)
+pub reply-asked : (session : Session) (line : Line) (m m′ : StockMemory) (text text′ : List ℕ) (at : ℕ) (next : Next)
     (asks : Asked) → asks ≡ asked session line → ReplyPromise asks session m text at next m′ text′
     → ReplyPromise (asked session line) session m text at next m′ text′
 reply-asked session line m m′ text text′ at next asks e promise = rw (← e) promise
@@ -93,7 +93,7 @@ module _ (state : State) (words bytes : List ℕ) (q : List (Option ℕ)) where
       go true n h = refl
       go false n h = absurd (omega arith)
 
-  module _ (out out′ : List ℕ) (short : length out ≤ 3072) where
+  module _ (out out′ : List ℕ) (short : length out ≤ outputSize) where
     -- how many records an answer wrote
     abbrev writtenIn : Answer Reply → ℕ
     writtenIn (refused n) = 0
@@ -113,7 +113,7 @@ module _ (state : State) (words bytes : List ℕ) (q : List (Option ℕ)) where
     printable (accepted (listed written total reads)) promise = by-number (queryNumber (store state words bytes) q) refl
       where
         by-number : (n : ℕ) → queryNumber (store state words bytes) q ≡ n
-            → (state .shape .attributes ≤ 4) × (written ≤ 256) × (recordSize * written ≤ length out′)
+            → (state .shape .attributes ≤ 4) × (written ≤ outputRecords) × (recordSize * written ≤ length out′)
         by-number (suc n) e =
             let z : false ≡ true = ap isRefused (promise .early-refused n e) in absurd (false≢true z)
         by-number zero e =

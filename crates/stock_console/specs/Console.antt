@@ -17,16 +17,16 @@ use Rattle.stock_replies.specs.Replies.{changedText, listedText}
 use Rattle.stock_console.specs.declared.Next.{Next}
 
 -- the memory that the program lends: words, pages, output
-pub record Lent : Type 0 where
+pub record StockMemory : Type 0 where
   pub words : List ℕ
   pub bytes : List ℕ
   pub output : List ℕ
 
-abbrev pub lent : List ℕ → List ℕ → List ℕ → Lent
-lent words bytes output = record { words = words; bytes = bytes; output = output }
+abbrev pub stockMemory : List ℕ → List ℕ → List ℕ → StockMemory
+stockMemory words bytes output = record { words = words; bytes = bytes; output = output }
 
 -- what a line asked was done, and replied to with a text
-abbrev pub Replied : Asked → Session → Lent → List ℕ → Session → Lent → Type 0
+abbrev pub Replied : Asked → Session → StockMemory → List ℕ → Session → StockMemory → Type 0
 Replied nothing before m text after m′ = (text ≡ badText) × (after ≡ before) × (m′ ≡ m)
 Replied noShape before m text after m′ = (text ≡ refusedText 1) × (after ≡ before) × (m′ ≡ m)
 Replied (newShape s) before m text after m′ =
@@ -50,8 +50,8 @@ Replied (list q) before m text after m′ =
     × (m′ .words ≡ m .words) × (m′ .bytes ≡ m .bytes)
 
 -- the reply was written into a text from offset `at` on
-pub record ReplyPromise (asks : Asked) (before : Session) (m : Lent) (text : List ℕ) (at : ℕ) (next : Next) (m′ : Lent)
-    (text′ : List ℕ) : Type 0 where
+pub record ReplyPromise (asks : Asked) (before : Session) (m : StockMemory) (text : List ℕ) (at : ℕ) (next : Next)
+    (m′ : StockMemory) (text′ : List ℕ) : Type 0 where
   pub bytes : List ℕ
   pub grown : Grown text at bytes text′ (next .end)
   pub replied : Replied asks before m bytes (next .session) m′

@@ -24,8 +24,8 @@ ghost use lib.ListN.{length};
 ghost use Rattle.stock_command.specs.Asked.{asked, nothing, noShape, newShape};
 ghost use Rattle.stock_command.specs.Commands.{askedAs};
 ghost use Rattle.stock_command.specs.declared.Command.the-variants as command;
-ghost use Rattle.stock_replies.specs.Replies.{replySize};
-ghost use Rattle.stock_console.specs.Console.{Lent, ReplyPromise, lent};
+ghost use Rattle.stock_replies.specs.Replies.{outputSize, replySize};
+ghost use Rattle.stock_console.specs.Console.{StockMemory, ReplyPromise, stockMemory};
 
 // The session to go on with, and the end of the text.
 pub struct Next {
@@ -43,11 +43,11 @@ pub fn reply(
     text: &mut [u8],
     at: usize,
 ) -> Next
-    requires { ⌜ (at + replySize ≤ length (now text)) × (length (now out) ≤ 3072) ⌝ }
+    requires { ⌜ (at + replySize ≤ length (now text)) × (length (now out) ≤ outputSize) ⌝ }
     ensures { λ r. ⌜ ReplyPromise (asked session line) session
-        (lent (now (dir .entry)) (now (pages .entry)) (now (out .entry)))
+        (stockMemory (now (dir .entry)) (now (pages .entry)) (now (out .entry)))
         (now (text .entry)) at r
-        (lent (now (dir .exit)) (now (pages .exit)) (now (out .exit)))
+        (stockMemory (now (dir .exit)) (now (pages .exit)) (now (out .exit)))
         (now (text .exit)) ⌝ }
 {
     let command = command_of(session, line);
@@ -64,7 +64,8 @@ pub fn reply(
 // The reply to a line that asks nothing.
 fn reply_bad(session: Session, text: &mut [u8], at: usize) -> Next
     requires { ⌜ at + replySize ≤ length (now text) ⌝ }
-    ensures { λ r. ⌜ ((m : Lent) → ReplyPromise nothing session m (now (text .entry)) at r m (now (text .exit))) ⌝ }
+    ensures { λ r. ⌜ ((m : StockMemory)
+        → ReplyPromise nothing session m (now (text .entry)) at r m (now (text .exit))) ⌝ }
 {
     let end = put_bad(text, at);
     Next { session, end }
@@ -73,7 +74,8 @@ fn reply_bad(session: Session, text: &mut [u8], at: usize) -> Next
 // The reply to a shape with d outside 1 to 4.
 fn reply_outside(session: Session, text: &mut [u8], at: usize) -> Next
     requires { ⌜ at + replySize ≤ length (now text) ⌝ }
-    ensures { λ r. ⌜ ((m : Lent) → ReplyPromise noShape session m (now (text .entry)) at r m (now (text .exit))) ⌝ }
+    ensures { λ r. ⌜ ((m : StockMemory)
+        → ReplyPromise noShape session m (now (text .entry)) at r m (now (text .exit))) ⌝ }
 {
     let end = put_refused(text, at, 1);
     Next { session, end }
@@ -90,9 +92,9 @@ fn reply_shape(
 ) -> Next
     requires { ⌜ at + replySize ≤ length (now text) ⌝ }
     ensures { λ r. ⌜ ((out : List ℕ) → ReplyPromise (newShape shape) session
-        (lent (now (dir .entry)) (now (pages .entry)) out)
+        (stockMemory (now (dir .entry)) (now (pages .entry)) out)
         (now (text .entry)) at r
-        (lent (now (dir .exit)) (now (pages .exit)) out)
+        (stockMemory (now (dir .exit)) (now (pages .exit)) out)
         (now (text .exit))) ⌝ }
 {
     let change = fresh(shape, dir, pages);
@@ -117,9 +119,9 @@ fn reply_put(
     requires { ⌜ at + replySize ≤ length (now text) ⌝ }
     ensures { λ r. ⌜ ((out : List ℕ)
         → ReplyPromise (askedAs line (session .state .shape .attributes) command.Put) session
-        (lent (now (dir .entry)) (now (pages .entry)) out)
+        (stockMemory (now (dir .entry)) (now (pages .entry)) out)
         (now (text .entry)) at r
-        (lent (now (dir .exit)) (now (pages .exit)) out)
+        (stockMemory (now (dir .exit)) (now (pages .exit)) out)
         (now (text .exit))) ⌝ }
 {
     let state = session.state;
@@ -153,9 +155,9 @@ fn reply_cut(
     requires { ⌜ at + replySize ≤ length (now text) ⌝ }
     ensures { λ r. ⌜ ((out : List ℕ)
         → ReplyPromise (askedAs line (session .state .shape .attributes) command.Cut) session
-        (lent (now (dir .entry)) (now (pages .entry)) out)
+        (stockMemory (now (dir .entry)) (now (pages .entry)) out)
         (now (text .entry)) at r
-        (lent (now (dir .exit)) (now (pages .exit)) out)
+        (stockMemory (now (dir .exit)) (now (pages .exit)) out)
         (now (text .exit))) ⌝ }
 {
     let state = session.state;
@@ -186,11 +188,11 @@ fn reply_list(
     text: &mut [u8],
     at: usize,
 ) -> Next
-    requires { ⌜ (at + replySize ≤ length (now text)) × (length (now out) ≤ 3072) ⌝ }
+    requires { ⌜ (at + replySize ≤ length (now text)) × (length (now out) ≤ outputSize) ⌝ }
     ensures { λ r. ⌜ ReplyPromise (askedAs line (session .state .shape .attributes) command.List) session
-        (lent (now (dir .entry)) (now (pages .entry)) (now (out .entry)))
+        (stockMemory (now (dir .entry)) (now (pages .entry)) (now (out .entry)))
         (now (text .entry)) at r
-        (lent (now (dir .entry)) (now (pages .entry)) (now (out .exit)))
+        (stockMemory (now (dir .entry)) (now (pages .entry)) (now (out .exit)))
         (now (text .exit)) ⌝ }
 {
     let state = session.state;

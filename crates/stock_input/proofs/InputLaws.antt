@@ -13,7 +13,7 @@ use Rattle.stock_line.specs.declared.Reading.{Reading}
 use Rattle.stock_text.specs.Text.{Grown}
 use Rattle.stock_command.specs.Asked.{asked}
 use Rattle.stock_replies.specs.Replies.{replySize}
-use Rattle.stock_console.specs.Console.{Lent, ReplyPromise}
+use Rattle.stock_console.specs.Console.{StockMemory, ReplyPromise}
 use Rattle.stock_console.specs.declared.Next.{Next}
 use Rattle.stock_input.specs.Input.{standing, LineEnded, ByteRead, Stepped, Ran, Standable, RunPromise}
 use Rattle.stock_input.specs.declared.Progress.{Progress}
@@ -53,12 +53,13 @@ Grown-within entry exit bytes at end h g =
     let both : length (take end exit) ≡ length (take at entry ++ bytes) = ap length (g .text-is) in
     omega (arith, both, g .end-is, length-append (take at entry) bytes, length-take end exit, length-take at entry)
 
-module _ (p : Progress) (m : Lent) (text : List ℕ) where
+module _ (p : Progress) (m : StockMemory) (text : List ℕ) where
   -- the progress behind a line
   abbrev lineNext : Next → Reading → Progress
   lineNext next reading = record { session = next .session; reading = reading; end = next .end }
 
-  module _ (m′ : Lent) (text′ : List ℕ) (line : Line) (next : Next) (reading : Reading) (e : line ≡ ended (p .reading))
+  module _ (m′ : StockMemory) (text′ : List ℕ) (line : Line) (next : Next) (reading : Reading)
+      (e : line ≡ ended (p .reading))
       (f : reading ≡ start)
       (promise : ReplyPromise (asked (p .session) line) (p .session) m text (p .end) next m′ text′) where
     pub line-ended : LineEnded (standing p m text) (standing (lineNext next reading) m′ text′)
@@ -93,8 +94,8 @@ byte-stands p text c reading e h k = record { counted = rw e (fed-fields (p .rea
 -- ---- a run
 
 -- what holds behind some bytes of a piece
-pub record Running (piece : List ℕ) (from : ℕ) (p : Progress) (m : Lent) (text : List ℕ) (next : ℕ) (p′ : Progress)
-    (m′ : Lent) (text′ : List ℕ) : Type 0 where
+pub record Running (piece : List ℕ) (from : ℕ) (p : Progress) (m : StockMemory) (text : List ℕ) (next : ℕ)
+    (p′ : Progress) (m′ : StockMemory) (text′ : List ℕ) : Type 0 where
   pub count : ℕ
   pub next-is : next ≡ from + count
   pub next-within : next ≤ length piece
@@ -103,7 +104,7 @@ pub record Running (piece : List ℕ) (from : ℕ) (p : Progress) (m : Lent) (te
   pub same-length : length text′ ≡ length text
   pub first : count ≡ 0 → p′ .end ≡ p .end
 
-module _ (piece : List ℕ) (from : ℕ) (p : Progress) (m : Lent) (text : List ℕ) where
+module _ (piece : List ℕ) (from : ℕ) (p : Progress) (m : StockMemory) (text : List ℕ) where
   pub running-start : from ≤ length piece → Standable p text → Running piece from p m text from p m text
   running-start h s =
       record {
@@ -116,9 +117,9 @@ module _ (piece : List ℕ) (from : ℕ) (p : Progress) (m : Lent) (text : List 
         first = λ e. refl;
       }
 
-  module _ (next : ℕ) (p′ : Progress) (m′ : Lent) (text′ : List ℕ)
+  module _ (next : ℕ) (p′ : Progress) (m′ : StockMemory) (text′ : List ℕ)
       (r : Running piece from p m text next p′ m′ text′) where
-    pub running-step : (p″ : Progress) (m″ : Lent) (text″ : List ℕ) → next < length piece
+    pub running-step : (p″ : Progress) (m″ : StockMemory) (text″ : List ℕ) → next < length piece
         → Stepped (getD piece next 0) (standing p′ m′ text′) (standing p″ m″ text″) → Standable p″ text″
         → length text″ ≡ length text′ → Running piece from p m text (next + 1) p″ m″ text″
     running-step p″ m″ text″ h stepped s e =

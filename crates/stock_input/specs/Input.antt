@@ -12,18 +12,18 @@ use Rattle.stock_line.specs.declared.Reading.{Reading}
 use Rattle.stock_command.specs.Asked.{asked}
 use Rattle.stock_command.specs.declared.session.Session.{Session}
 use Rattle.stock_replies.specs.Replies.{replySize}
-use Rattle.stock_console.specs.Console.{Lent, Replied}
+use Rattle.stock_console.specs.Console.{StockMemory, Replied}
 use Rattle.stock_input.specs.declared.Progress.{Progress}
 
 -- what was read of the line that has not ended, the session, the memory, and the text that is to be printed
 pub record Standing : Type 0 where
   pub reading : Reading
   pub session : Session
-  pub memory : Lent
+  pub memory : StockMemory
   pub text : List ℕ
 
 -- the same of a progress, with the memory and the text that are lent
-abbrev pub standing : Progress → Lent → List ℕ → Standing
+abbrev pub standing : Progress → StockMemory → List ℕ → Standing
 standing p m text = record { reading = p .reading; session = p .session; memory = m; text = take (p .end) text }
 
 -- a newline ends the line: what it asks is done, and the reply stands behind the text
@@ -61,8 +61,8 @@ pub record Standable (p : Progress) (text : List ℕ) : Type 0 where
 
 -- a run over a piece came from one place to another; it stops before the end only where less than one longest reply is
 -- free, and reads a byte where there is room
-pub record RunPromise (piece : List ℕ) (from : ℕ) (p : Progress) (m : Lent) (text : List ℕ) (next : ℕ) (p′ : Progress)
-    (m′ : Lent) (text′ : List ℕ) : Type 0 where
+pub record RunPromise (piece : List ℕ) (from : ℕ) (p : Progress) (m : StockMemory) (text : List ℕ) (next : ℕ)
+    (p′ : Progress) (m′ : StockMemory) (text′ : List ℕ) : Type 0 where
   pub count : ℕ
   pub next-is : next ≡ from + count
   pub next-within : next ≤ length piece

@@ -9,13 +9,13 @@ use Rattle.stock_line.specs.Line.{LineShown}
 use Rattle.stock_line.specs.declared.Line.{Line}
 use Rattle.stock_command.specs.Asked.{asked}
 use Rattle.stock_command.specs.declared.session.Session.{Session}
-use Rattle.stock_console.specs.Console.{Lent, Replied}
+use Rattle.stock_console.specs.Console.{StockMemory, Replied}
 
 -- the bytes of the line that has not ended, the session, the memory, and the text that is to be printed
 pub record Printed : Type 0 where
   pub part : List ℕ
   pub session : Session
-  pub memory : Lent
+  pub memory : StockMemory
   pub text : List ℕ
 
 -- a newline ends the line: what its bytes show is done, and the reply stands behind the text

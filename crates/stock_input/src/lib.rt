@@ -16,8 +16,8 @@ ghost use mathlib.Core.Bool.{false};
 ghost use Prim.Native.Nat.{_+_, _≤_};
 ghost use lib.ListN.{length};
 ghost use Rattle.stock_line.specs.LineBytes.{start};
-ghost use Rattle.stock_replies.specs.Replies.{replySize};
-ghost use Rattle.stock_console.specs.Console.{lent};
+ghost use Rattle.stock_replies.specs.Replies.{outputSize, replySize};
+ghost use Rattle.stock_console.specs.Console.{stockMemory};
 ghost use Rattle.stock_input.specs.Input.{standing, Stepped, Standable, RunPromise, nothingRead};
 
 const NEWLINE: u8 = 10;
@@ -77,11 +77,11 @@ pub fn run(
     out: &mut [u8],
     text: &mut [u8],
 ) -> Reach
-    requires { ⌜ Standable progress (now text) × (from ≤ length (now piece)) × (length (now out) ≤ 3072) ⌝ }
+    requires { ⌜ Standable progress (now text) × (from ≤ length (now piece)) × (length (now out) ≤ outputSize) ⌝ }
     ensures { λ r. ⌜ RunPromise (now (piece .entry)) from progress
-        (lent (now (dir .entry)) (now (pages .entry)) (now (out .entry)))
+        (stockMemory (now (dir .entry)) (now (pages .entry)) (now (out .entry)))
         (now (text .entry)) (r .next) (r .progress)
-        (lent (now (dir .exit)) (now (pages .exit)) (now (out .exit)))
+        (stockMemory (now (dir .exit)) (now (pages .exit)) (now (out .exit)))
         (now (text .exit)) ⌝ }
 {
     let mut here = progress;
@@ -112,10 +112,10 @@ pub fn step(
     text: &mut [u8],
 ) -> Progress
     requires { ⌜ (progress .reading .fields ≤ 7) × (progress .end + replySize ≤ length (now text))
-        × (length (now out) ≤ 3072) ⌝ }
+        × (length (now out) ≤ outputSize) ⌝ }
     ensures { λ r. ⌜ Stepped byte
-        (standing progress (lent (now (dir .entry)) (now (pages .entry)) (now (out .entry))) (now (text .entry)))
-        (standing r (lent (now (dir .exit)) (now (pages .exit)) (now (out .exit))) (now (text .exit))) ⌝ }
+        (standing progress (stockMemory (now (dir .entry)) (now (pages .entry)) (now (out .entry))) (now (text .entry)))
+        (standing r (stockMemory (now (dir .exit)) (now (pages .exit)) (now (out .exit))) (now (text .exit))) ⌝ }
     ensures { λ r. ⌜ Standable r (now (text .exit)) ⌝ }
 {
     let session = progress.session;

@@ -88,7 +88,7 @@ hasStar (none ∷ items) = true
 hasStar (some v ∷ items) = hasStar items
 
 -- the command, how many fields it has, at most 7, whether one is `*`, and the codes of the first six
-pub record Shows (word : List ℕ) (items : List (Option ℕ)) (line : Line) : Type 0 where
+pub record LineShows (word : List ℕ) (items : List (Option ℕ)) (line : Line) : Type 0 where
   pub kind : line .kind ≡ kindIn word
   pub count : line .count ≡ min 7 (length items)
   pub star : line .star ≡ hasStar items
@@ -98,7 +98,7 @@ pub record Shows (word : List ℕ) (items : List (Option ℕ)) (line : Line) : T
 abbrev pub ShowsFields : List (List ℕ) → Option (List (Option ℕ)) → Line → Type 0
 ShowsFields [] items line = ⊥
 ShowsFields (word ∷ fields) none line = line .kind ≡ Bad
-ShowsFields (word ∷ fields) (some items) line = Shows word items line
+ShowsFields (word ∷ fields) (some items) line = LineShows word items line
 
 abbrev pub rest : List (List ℕ) → List (List ℕ)
 rest [] = []

@@ -5,6 +5,7 @@ use lib.ListN.{length}
 use Rattle.shape.specs.Refusal.{Answer, accepted, refused}
 use Rattle.record.specs.Bytes.{recordSize}
 use Rattle.model.specs.Model.{Reply, changed, found, listed}
+use Rattle.stock_replies.specs.Replies.{outputRecords}
 
 -- the records that were written are within the output, and at most 256
 abbrev pub Printable : ℕ → Answer Reply → List ℕ → Type 0
@@ -12,4 +13,4 @@ Printable d (refused n) out = Unit {0}
 Printable d (accepted changed) out = Unit {0}
 Printable d (accepted (found content reads)) out = Unit {0}
 Printable d (accepted (listed written total reads)) out =
-    (d ≤ 4) × (written ≤ 256) × (recordSize * written ≤ length out)
+    (d ≤ 4) × (written ≤ outputRecords) × (recordSize * written ≤ length out)

@@ -1,13 +1,22 @@
 -- The replies to the store's answers (document 01, "Proof table and the printed run"). Assumes nothing.
-use Prim.Native.Nat.{ℕ}
+use Prim.Native.Nat.{ℕ, _+_, _*_}
 use mathlib.Core.List.{List, _++_}
 use Rattle.shape.specs.Refusal.{Answer, accepted, refused}
 use Rattle.model.specs.Model.{Reply, changed, found, listed}
-use Rattle.stock_text.specs.Text.{okText, refusedText, recordsText, sumText}
+use Rattle.record.specs.Bytes.{recordSize}
+use Rattle.stock_text.specs.Text.{lineSize, okText, refusedText, recordsText, sumText}
 
--- the bytes that the longest reply needs: 256 records of at most 48, and the sum
+-- "It lends .. 256 output records."
+abbrev pub outputRecords : ℕ
+outputRecords = 256
+
+-- the bytes of that output
+abbrev pub outputSize : ℕ
+outputSize = outputRecords * recordSize
+
+-- the bytes that the longest reply is given: a line for each of the records, and one for the sum
 abbrev pub replySize : ℕ
-replySize = 12352
+replySize = (outputRecords + 1) * lineSize
 
 -- "It prints `ok`, `no` and the number"
 abbrev pub changedText : Answer Reply → List ℕ

@@ -1,4 +1,6 @@
 // The replies to the store's answers (document 01, "Proof table and the printed run").
+use record::RECORD_SIZE;
+use stock_text::LINE_SIZE;
 use stock_text::put_ok;
 use stock_text::put_records;
 use stock_text::put_refused;
@@ -12,11 +14,17 @@ ghost use lib.ListN.{length};
 ghost use Rattle.record.specs.Bytes.{recordSize};
 ghost use Rattle.store.specs.Answers.{changedAnswer, listedAnswer};
 ghost use Rattle.stock_text.specs.Text.{Grown, recordsText, sumText};
-ghost use Rattle.stock_replies.specs.Replies.{replySize, changedText, listedText};
+ghost use Rattle.stock_replies.specs.Replies.{outputRecords, replySize, changedText, listedText};
 ghost use Rattle.stock_replies.specs.Printed.{Printable};
 
-// The bytes that the longest reply needs: 256 records and the sum.
-pub const REPLY_SIZE: usize = 12352;
+// The records that the output of a list holds.
+pub const OUTPUT_RECORDS: usize = 256;
+
+// The bytes of that output.
+pub const OUTPUT_SIZE: usize = OUTPUT_RECORDS * RECORD_SIZE;
+
+// The bytes that the longest reply is given: a line for each of these records, and one for the sum.
+pub const REPLY_SIZE: usize = (OUTPUT_RECORDS + 1) * LINE_SIZE;
 
 // Writes `ok`, or `no` and the number.
 pub fn put_changed(text: &mut [u8], at: usize, answer: Changed) -> usize
@@ -43,7 +51,7 @@ pub fn put_listed(text: &mut [u8], at: usize, out: &[u8], listed: Listed, d: usi
 
 // Writes the records and the sum.
 fn put_found(text: &mut [u8], at: usize, out: &[u8], counts: Counts, d: usize) -> usize
-    requires { ⌜ (at + replySize ≤ length (now text)) × (d ≤ 4) × (counts .written ≤ 256)
+    requires { ⌜ (at + replySize ≤ length (now text)) × (d ≤ 4) × (counts .written ≤ outputRecords)
         × (recordSize * counts .written ≤ length (now out)) ⌝ }
     ensures { λ r. ⌜ Grown (now (text .entry)) at
         (recordsText d (counts .written) (now (out .entry)) ++ sumText (counts .total) (counts .reads))

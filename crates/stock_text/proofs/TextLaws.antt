@@ -10,7 +10,8 @@ use lib.Seq.{drop-drop, take-at, drop-at}
 use Rattle.shape.specs.declared.Shape.{Shape}
 use Rattle.record.specs.Record.{Record}
 use Rattle.record.specs.Bytes.{recordSize, numberOf, field, recordBytes, recordsBytes}
-use Rattle.record.proofs.ByteLaws.{Bytes, bytes-field, numberOf-field-lt, length-recordBytes}
+use Rattle.record.proofs.ByteLaws.{AreBytes, AreBytes-field, numberOf-field-lt, length-recordBytes}
+use Rattle.record.specs.Packed.{contentIn}
 use Rattle.record.proofs.PackedLaws.{field-field}
 use Rattle.stock_text.specs.Text.{space, newline, decimal, fieldText, refusedText, sumText}
 use Rattle.stock_text.specs.Text.{valuesText, recordText, recordsText, Grown}
@@ -31,13 +32,13 @@ module _ (entry text exit out : List ℕ) (at between end : ℕ) where
       (Grown-then entry text exit at between end _ _ g h)
 
   -- the payload, read where the record stands
-  pub Grown-payload : (start d v : ℕ) → v ≡ numberOf (field out (start + 8) 4)
+  pub Grown-payload : (start d v : ℕ) → v ≡ contentIn (field out start recordSize) .payload
       → Grown entry at (valuesText d (field out start recordSize)) text between
       → Grown text between (fieldText v newline) exit end
       → Grown entry at (recordText d (field out start recordSize)) exit end
   unfolding recordText
   Grown-payload start d v e g h =
-      rw (field-field out start recordSize 8 4 (omega arith), ← e) (Grown-then entry text exit at between end _ _ g h)
+      rw (← e) (Grown-then entry text exit at between end _ _ g h)
 
   pub Grown-record : (d i : ℕ) → Grown entry at (recordsText d i out) text between
       → Grown text between (recordText d (field out (recordSize * i) recordSize)) exit end
@@ -108,7 +109,7 @@ length-sumText-le total reads h k =
       length-fieldText-le 19 reads newline (omega arith),
     )
 
-pub length-valuesText-le : (d : ℕ) (bytes : List ℕ) → Bytes bytes → length (valuesText d bytes) ≤ 6 * d
+pub length-valuesText-le : (d : ℕ) (bytes : List ℕ) → AreBytes bytes → length (valuesText d bytes) ≤ 6 * d
 unfolding valuesText
 length-valuesText-le zero bytes b = omega arith
 length-valuesText-le (suc j) bytes b =
@@ -120,7 +121,7 @@ length-valuesText-le (suc j) bytes b =
       length-fieldText-le 4 v space (omega (arith, numberOf-field-lt bytes b (2 * j) 2)),
     )
 
-pub length-recordText-le : (d : ℕ) (bytes : List ℕ) → Bytes bytes → length (recordText d bytes) ≤ 6 * d + 11
+pub length-recordText-le : (d : ℕ) (bytes : List ℕ) → AreBytes bytes → length (recordText d bytes) ≤ 6 * d + 11
 unfolding recordText
 length-recordText-le d bytes b =
     let v = numberOf (field bytes 8 4) in
@@ -131,7 +132,8 @@ length-recordText-le d bytes b =
       length-fieldText-le 9 v newline (omega (arith, numberOf-field-lt bytes b 8 4)),
     )
 
-pub length-recordsText-le : (d n : ℕ) (bytes : List ℕ) → d ≤ 4 → Bytes bytes → length (recordsText d n bytes) ≤ 35 * n
+pub length-recordsText-le : (d n : ℕ) (bytes : List ℕ) → d ≤ 4 → AreBytes bytes
+    → length (recordsText d n bytes) ≤ 35 * n
 unfolding recordsText
 length-recordsText-le d zero bytes h b = omega arith
 length-recordsText-le d (suc i) bytes h b =
@@ -140,5 +142,5 @@ length-recordsText-le d (suc i) bytes h b =
       arith,
       length-append (recordsText d i bytes) (recordText d piece),
       length-recordsText-le d i bytes h b,
-      length-recordText-le d piece (bytes-field bytes (recordSize * i) recordSize b),
+      length-recordText-le d piece (AreBytes-field bytes (recordSize * i) recordSize b),
     )

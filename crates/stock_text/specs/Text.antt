@@ -8,6 +8,7 @@ use mathlib.Core.List.{List, [], _∷_, _++_}
 use lib.Dec.{ltb}
 use lib.ListN.{length, take}
 use Rattle.record.specs.Bytes.{recordSize, numberOf, field}
+use Rattle.record.specs.Packed.{contentIn}
 
 -- ---- numbers
 
@@ -61,9 +62,9 @@ unfoldable pub valuesText : ℕ → List ℕ → List ℕ
 valuesText zero bytes = []
 valuesText (suc j) bytes = valuesText j bytes ++ fieldText (numberOf (field bytes (2 * j) 2)) space
 
--- "(values, payload)" of the record that 12 bytes hold
+-- "(values, payload)" of the record that bytes hold
 unfoldable pub recordText : ℕ → List ℕ → List ℕ
-recordText d bytes = valuesText d bytes ++ fieldText (numberOf (field bytes 8 4)) newline
+recordText d bytes = valuesText d bytes ++ fieldText (contentIn bytes .payload) newline
 
 -- the first n records of an output, one after the other
 unfoldable pub recordsText : ℕ → ℕ → List ℕ → List ℕ
@@ -73,6 +74,11 @@ recordsText d (suc i) bytes = recordsText d i bytes ++ recordText d (field bytes
 -- "`=`, total, reads"
 unfoldable pub sumText : ℕ → ℕ → List ℕ
 sumText total reads = (61 ∷ space ∷ []) ++ (fieldText total space ++ fieldText reads newline)
+
+-- the bytes that a line of a list is given: of a record it has at most 35 (four values of up to 5 digits, a payload of
+-- up to 10, a byte behind each), of the sum at most 44 (`=`, two numbers of up to 20 digits, a byte behind each)
+abbrev pub lineSize : ℕ
+lineSize = 48
 
 -- ---- a text that grows
 

@@ -3,13 +3,16 @@
 // Bytes before the first offset stay, those past the second are free.
 use record::RECORD_SIZE;
 use record::numbers::read16;
-use record::numbers::read32;
+use record::read_content;
 ghost use mathlib.Core.List.{[], _∷_};
 ghost use Prim.Native.Nat.{_+_, _*_, _≤_};
 ghost use lib.ListN.{length};
 ghost use Rattle.record.specs.Bytes.{recordSize, field};
-ghost use Rattle.stock_text.specs.Text.{Grown, decimal, fieldText, okText, badText, refusedText};
+ghost use Rattle.stock_text.specs.Text.{Grown, lineSize, decimal, fieldText, okText, badText, refusedText};
 ghost use Rattle.stock_text.specs.Text.{valuesText, recordText, recordsText, sumText};
+
+// The bytes that a line of a list is given.
+pub const LINE_SIZE: usize = 48;
 
 const SPACE: u8 = 32;
 
@@ -42,7 +45,7 @@ pub fn put_refused(text: &mut [u8], at: usize, number: u32) -> usize
 
 // Writes the first n records of a query's output, each as put_record does.
 pub fn put_records(text: &mut [u8], at: usize, out: &[u8], n: usize, d: usize) -> usize
-    requires { ⌜ (d ≤ 4) × (n ≤ 256) × (at + 48 * n ≤ length (now text)) × (recordSize * n ≤ length (now out)) ⌝ }
+    requires { ⌜ (d ≤ 4) × (n ≤ 256) × (at + lineSize * n ≤ length (now text)) × (recordSize * n ≤ length (now out)) ⌝ }
     ensures { λ r. ⌜ Grown (now (text .entry)) at (recordsText d n (now (out .entry))) (now (text .exit)) r ⌝ }
     ensures { λ r. ⌜ r ≤ at + 35 * n ⌝ }
 {
@@ -57,7 +60,7 @@ pub fn put_records(text: &mut [u8], at: usize, out: &[u8], n: usize, d: usize) -
 
 // Writes record i of a query's output: the values of its d attributes, then its payload.
 pub fn put_record(text: &mut [u8], at: usize, out: &[u8], i: usize, d: usize) -> usize
-    requires { ⌜ (d ≤ 4) × (at + 48 ≤ length (now text)) × (recordSize * i + recordSize ≤ length (now out)) ⌝ }
+    requires { ⌜ (d ≤ 4) × (at + lineSize ≤ length (now text)) × (recordSize * i + recordSize ≤ length (now out)) ⌝ }
     ensures { λ r. ⌜ Grown (now (text .entry)) at
         (recordText d (field (now (out .entry)) (recordSize * i) recordSize))
         (now (text .exit)) r ⌝ }
@@ -65,7 +68,8 @@ pub fn put_record(text: &mut [u8], at: usize, out: &[u8], i: usize, d: usize) ->
 {
     let start = RECORD_SIZE * i;
     let end = put_values(text, at, out, start, d);
-    put_field(text, end, read32(out, start + 8), NEWLINE)
+    let content = read_content(out, start);
+    put_field(text, end, content.payload as u64, NEWLINE)
 }
 
 // Writes `=`, and how many records match and how many pages were read.
@@ -113,7 +117,7 @@ fn put_bytes(text: &mut [u8], at: usize, bytes: &[u8]) -> usize
 // Writes the values of the first d attributes of the record at an offset of the output, with a space
 // behind each.
 fn put_values(text: &mut [u8], at: usize, out: &[u8], start: usize, d: usize) -> usize
-    requires { ⌜ (d ≤ 4) × (at + 48 ≤ length (now text)) × (start + recordSize ≤ length (now out)) ⌝ }
+    requires { ⌜ (d ≤ 4) × (at + lineSize ≤ length (now text)) × (start + recordSize ≤ length (now out)) ⌝ }
     ensures { λ r. ⌜ Grown (now (text .entry)) at
         (valuesText d (field (now (out .entry)) start recordSize))
         (now (text .exit)) r ⌝ }

@@ -1,17 +1,17 @@
 -- The proof table holds, by computing each entry from the definitions. Assumes nothing.
 use mathlib.Core.Path.{refl}
+use mathlib.Core.List.{flatten}
 use Rattle.shape.specs.Refusal.{firstNumber}
 use Rattle.shape.specs.Shape.{inBounds, shapeConditions, widthsOf}
 use Rattle.shape.specs.Key.{keyFits, encodings, namesUnused, queryFits}
 use Rattle.split.specs.Steps.{stepsBelow, steps, step, stepNumber, stepsOf, attributeDepth}
 use Rattle.split.specs.Bits.{splitBit}
 use Rattle.address.specs.Address.{highestBit, createdBy, latestStep, formula, addressFrom, address}
-use Rattle.address.specs.Answers.{addressNumber, addressAnswer, indexNumber, indexAnswer}
+use Rattle.address_calls.specs.Answers.{addressNumber, addressAnswer, indexNumber, indexAnswer}
 use Rattle.address.specs.Doubling.{layers, box, sides, appended, doublingArray}
 use Rattle.cell.specs.Cell.{sumBits, cell, cellAddress}
 use Rattle.record.specs.Record.{matches}
 use Rattle.record.specs.Bytes.{recordBytes}
-use Rattle.directory_word.specs.Word.{leafOf}
 use Rattle.model.specs.Limits.{logarithm, pageLimitOf, depthLimitOf, freshShape, fixedBy}
 use Rattle.model.specs.Model.{numberFor, replyTo, setAfter, outputOf, outputAfter, outcome, next, run}
 use Rattle.model.specs.Sets.{divisionOf, queryBits, readsOf, givenDepths, readsBound}
@@ -22,7 +22,7 @@ unfolding
     firstNumber inBounds shapeConditions widthsOf keyFits encodings namesUnused queryFits
     stepsBelow steps step stepNumber stepsOf attributeDepth splitBit
     highestBit createdBy latestStep formula addressFrom address addressNumber addressAnswer indexNumber indexAnswer
-    layers box sides appended doublingArray sumBits cell cellAddress matches recordBytes leafOf
+    layers box sides appended doublingArray sumBits cell cellAddress matches recordBytes flatten
     logarithm pageLimitOf depthLimitOf freshShape fixedBy
     numberFor replyTo setAfter outputOf outputAfter outcome next run
     divisionOf queryBits readsOf givenDepths readsBound

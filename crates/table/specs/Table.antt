@@ -3,7 +3,7 @@
 use Prim.Native.Nat.{ℕ, zero, suc, _+_, _*_, _^_}
 use mathlib.Core.Path.{_≡_}
 use mathlib.Core.Bool.{Bool, true, false, cond, _&&_}
-use mathlib.Core.List.{List, [], _∷_, _++_, map}
+use mathlib.Core.List.{List, [], _∷_, _++_, map, flatten}
 use mathlib.Core.Option.{Option, none, some}
 use lib.Dec.{eqb}
 use lib.ListN.{length, replicate}
@@ -14,20 +14,19 @@ use Rattle.shape.specs.Key.{encodings}
 use Rattle.shape.specs.declared.Shape.{Shape}
 use Rattle.split.specs.Steps.{bitValue}
 use Rattle.split.specs.Bits.{splitBit}
-use Rattle.address.specs.Answers.{addressAnswer, indexAnswer}
+use Rattle.address_calls.specs.Answers.{addressAnswer, indexAnswer}
 use Rattle.cell.specs.Cell.{cellAddress}
 use Rattle.region.specs.Strings.{listBit}
 use Rattle.region.specs.Division.{Division, leaf, divided, greatestDepth, nonEmptyLeaves, leafDepth, leafRecords}
 use Rattle.record.specs.Record.{Record}
 use Rattle.record.specs.Bytes.{recordSize}
 use Rattle.page.specs.Page.{pageSize}
-use Rattle.directory_word.specs.Word.{wordOf, leafOf}
-use Rattle.directory_word.specs.declared.Leaf.{Leaf}
+use Rattle.directory_word.specs.Word.{wordOf, depthField, pageField}
 use Rattle.directory_word.specs.declared.Leaf.the-variants.{Empty, Page}
 use Rattle.model.specs.Sets.{divisionOf, readsBound}
 use Rattle.model.specs.Limits.{fixedBy}
-use Rattle.model.specs.Model.{Fixed, Call, insertCall, deleteCall, queryCall, Reply, changed, found, listed, next}
-use Rattle.model.specs.Model.{outcome, run}
+use Rattle.model.specs.Model.{Fixed, Call, insertCall, deleteCall, queryCall, Reply, changed, found, listed}
+use Rattle.model.specs.Model.{outcome, run, lastSet}
 
 -- ---- tests
 
@@ -37,13 +36,13 @@ sameNumbers [] (y ∷ ys) = false
 sameNumbers (x ∷ xs) [] = false
 sameNumbers (x ∷ xs) (y ∷ ys) = eqb x y && sameNumbers xs ys
 
-abbrev pub answers : {A : Type 0} → (A → Bool) → Answer A → Bool
-answers test (accepted x) = test x
-answers test (refused n) = false
+abbrev pub acceptedAs : {A : Type 0} → (A → Bool) → Answer A → Bool
+acceptedAs test (accepted x) = test x
+acceptedAs test (refused n) = false
 
-abbrev pub numberIn : Answer Reply → ℕ
-numberIn (accepted x) = 0
-numberIn (refused n) = n
+abbrev pub numberOfAnswer : Answer Reply → ℕ
+numberOfAnswer (accepted x) = 0
+numberOfAnswer (refused n) = n
 
 -- written, total and reads of an accepted query
 abbrev pub countsIn : Answer Reply → List ℕ
@@ -66,38 +65,33 @@ abbrev pub key : ℕ → ℕ → List ℕ
 key x y = x ∷ y ∷ 0 ∷ 0 ∷ []
 
 -- an insert with the payload of the printed run
-abbrev pub put : ℕ → ℕ → ℕ → Call
-put x y payload = insertCall (key x y) (record { payload = payload })
+abbrev pub insertOf : ℕ → ℕ → ℕ → Call
+insertOf x y payload = insertCall (key x y) (record { payload = payload })
 
 -- "inserting keys (0,0), (2,0), (3,1)", and the fourth, "(2,1)"
-abbrev pub three : List Call
-three = put 0 0 10 ∷ put 2 0 11 ∷ put 3 1 12 ∷ []
+abbrev pub threeInserts : List Call
+threeInserts = insertOf 0 0 10 ∷ insertOf 2 0 11 ∷ insertOf 3 1 12 ∷ []
 
-abbrev pub four : List Call
-four = three ++ put 2 1 13 ∷ []
+abbrev pub fourInserts : List Call
+fourInserts = threeInserts ++ insertOf 2 1 13 ∷ []
 
 -- what Fresh fixes with so many words and pages
-abbrev pub lent : ℕ → ℕ → Fixed
-lent words pages = fixedBy twoTwo words (pages * pageSize 2)
+abbrev pub fixedWith : ℕ → ℕ → Fixed
+fixedWith words pages = fixedBy twoTwo words (pages * pageSize 2)
 
 -- enough for every call of the table
-abbrev pub wide : Fixed
-wide = lent 4096 64
-
--- the model's set after some calls
-abbrev pub setAfterAll : Fixed → List Record → List Call → List Record
-setAfterAll f S [] = S
-setAfterAll f S (c ∷ cs) = setAfterAll f (next f S c) cs
+abbrev pub fixedAmply : Fixed
+fixedAmply = fixedWith 4096 64
 
 abbrev pub divisionAfter : List Call → Division Record
-divisionAfter cs = divisionOf twoTwo (setAfterAll wide [] cs)
+divisionAfter cs = divisionOf twoTwo (lastSet fixedAmply [] cs)
 
 -- ---- the directory by addresses
 
 -- the strings of n bits
-abbrev pub strings : ℕ → List (List Bool)
-strings zero = [] ∷ []
-strings (suc n) = map (λ bits. false ∷ bits) (strings n) ++ map (λ bits. true ∷ bits) (strings n)
+abbrev pub bitStrings : ℕ → List (List Bool)
+bitStrings zero = [] ∷ []
+bitStrings (suc n) = map (λ bits. false ∷ bits) (bitStrings n) ++ map (λ bits. true ∷ bits) (bitStrings n)
 
 -- f of the string whose cell stands at address a, among those given
 abbrev pub atAddress : ℕ → (List Bool → ℕ) → ℕ → List (List Bool) → ℕ
@@ -111,7 +105,7 @@ upTo (suc n) = upTo n ++ n ∷ []
 
 -- f of each cell of a directory of depth T, by address
 abbrev pub byAddress : ℕ → (List Bool → ℕ) → List ℕ
-byAddress T f = map (λ a. atAddress T f a (strings T)) (upTo (2 ^ T))
+byAddress T f = map (λ a. atAddress T f a (bitStrings T)) (upTo (2 ^ T))
 
 -- the number of the page of the leaf that a string leads to. Which page a leaf takes is left free: here they are
 -- numbered in the order of the leaves, "bit 0 before bit 1"
@@ -121,30 +115,21 @@ pageNumber p t (divided l u) =
     cond (p t) (nonEmptyLeaves l + pageNumber p (suc t) u) (pageNumber p (suc t) l)
 
 -- "A leaf is empty or has one page": what the cell of a string holds
-abbrev pub cellWord : Division Record → (ℕ → Bool) → ℕ
-cellWord D p =
+abbrev pub heldWord : Division Record → (ℕ → Bool) → ℕ
+heldWord D p =
     let x = leafDepth p 0 D in
     cond (nonEmpty (leafRecords p 0 D)) (wordOf (Page (pageNumber p 0 D) x)) (wordOf (Empty x))
 
 -- the directory's words 0 to 2^T − 1: of (a) 0x10001, 0x30002, 0x10001, 0x20000, 0x10001, 0x10001, 0x30003, 0x20000
 abbrev pub directoryWords : Division Record → List ℕ
-directoryWords D = byAddress (greatestDepth D) (λ bits. cellWord D (listBit bits))
-
--- the depth that a word has in bits 16–19, and its page number plus one in bits 0–15, 0 for no page
-abbrev pub depthIn : Leaf → ℕ
-depthIn (Empty x) = x
-depthIn (Page g x) = x
-
-abbrev pub pageIn : Leaf → ℕ
-pageIn (Empty x) = 0
-pageIn (Page g x) = g + 1
+directoryWords D = byAddress (greatestDepth D) (λ bits. heldWord D (listBit bits))
 
 -- ---- entries
 
 -- the 12 bytes of a record of two attributes, values and payload below 256: "little-endian .. four 16-bit values ..
 -- and a 32-bit payload"
-abbrev pub written : ℕ → ℕ → ℕ → List ℕ
-written x y payload = x ∷ 0 ∷ y ∷ 0 ∷ 0 ∷ 0 ∷ 0 ∷ 0 ∷ payload ∷ 0 ∷ 0 ∷ 0 ∷ []
+abbrev pub recordWritten : ℕ → ℕ → ℕ → List ℕ
+recordWritten x y payload = x ∷ 0 ∷ y ∷ 0 ∷ 0 ∷ 0 ∷ 0 ∷ 0 ∷ payload ∷ 0 ∷ 0 ∷ 0 ∷ []
 
 pub data Entry : Type 0 where
   -- "index (3,1) at 7": the call gives the address, and the inverse call the index
@@ -163,28 +148,24 @@ pub data Entry : Type 0 where
   -- an entry of two parts
   both : Entry → Entry → Entry
 
-abbrev pub joined : List (List ℕ) → List ℕ
-joined [] = []
-joined (xs ∷ xss) = xs ++ joined xss
-
-abbrev pub holds : Entry → Bool
-holds (located s is a) = answers (eqb a) (addressAnswer s is) && answers (sameNumbers is) (indexAnswer s a)
-holds (bits values expected) =
+abbrev pub entryHolds : Entry → Bool
+entryHolds (located s is a) = acceptedAs (eqb a) (addressAnswer s is) && acceptedAs (sameNumbers is) (indexAnswer s a)
+entryHolds (bits values expected) =
     sameNumbers (map (λ t. bitValue (splitBit (widthsOf twoTwo) (encodings twoTwo values) t)) (upTo 4)) expected
-holds (leavesAfter cs T pages) =
+entryHolds (leavesAfter cs T pages) =
     eqb (greatestDepth (divisionAfter cs)) T && eqb (nonEmptyLeaves (divisionAfter cs)) pages
-holds (wordsAfter cs depths pages) =
-    let named = map leafOf (directoryWords (divisionAfter cs)) in
-    sameNumbers (map depthIn named) depths && sameNumbers (map pageIn named) pages
-holds (lists cs q records reads bound) =
-    let S = setAfterAll wide [] cs in
+entryHolds (wordsAfter cs depths pages) =
+    let words = directoryWords (divisionAfter cs) in
+    sameNumbers (map depthField words) depths && sameNumbers (map pageField words) pages
+entryHolds (lists cs q records reads bound) =
+    let S = lastSet fixedAmply [] cs in
     let n = length records in
-    let o = outcome wide S (queryCall q (replicate (recordSize * n + 3) 255)) in
-    sameNumbers (o .output) (joined records ++ replicate 3 255)
+    let o = outcome fixedAmply S (queryCall q (replicate (recordSize * n + 3) 255)) in
+    sameNumbers (o .output) (flatten records ++ replicate 3 255)
     && (sameNumbers (countsIn (o .answer)) (n ∷ n ∷ reads ∷ []) && eqb (readsBound twoTwo q S) bound)
-holds (numbers words pages expected) =
-    sameNumbers (map (λ o. numberIn (o .answer)) (run (lent words pages) [] four)) expected
-holds (both e e′) = holds e && holds e′
+entryHolds (numbers words pages expected) =
+    sameNumbers (map (λ o. numberOfAnswer (o .answer)) (run (fixedWith words pages) [] fourInserts)) expected
+entryHolds (both e e′) = entryHolds e && entryHolds e′
 
 -- "Twelve entries make up the table"
 abbrev pub table : List Entry
@@ -201,12 +182,12 @@ table =
     ∷ both
     (both (both (bits (key 0 0) (0 ∷ 0 ∷ 0 ∷ 0 ∷ [])) (bits (key 2 0) (1 ∷ 0 ∷ 0 ∷ 0 ∷ [])))
     (both (bits (key 3 1) (1 ∷ 0 ∷ 1 ∷ 1 ∷ [])) (bits (key 2 1) (1 ∷ 0 ∷ 0 ∷ 1 ∷ []))))
-    (both (both (leavesAfter three 1 2) (leavesAfter four 3 3))
-    (wordsAfter four (1 ∷ 3 ∷ 1 ∷ 2 ∷ 1 ∷ 1 ∷ 3 ∷ 2 ∷ []) (1 ∷ 2 ∷ 1 ∷ 0 ∷ 1 ∷ 1 ∷ 3 ∷ 0 ∷ [])))
+    (both (both (leavesAfter threeInserts 1 2) (leavesAfter fourInserts 3 3))
+    (wordsAfter fourInserts (1 ∷ 3 ∷ 1 ∷ 2 ∷ 1 ∷ 1 ∷ 3 ∷ 2 ∷ []) (1 ∷ 2 ∷ 1 ∷ 0 ∷ 1 ∷ 1 ∷ 3 ∷ 0 ∷ [])))
     -- (b)
-    ∷ lists four (none ∷ some 1 ∷ none ∷ none ∷ []) (written 2 1 13 ∷ written 3 1 12 ∷ []) 3 4
+    ∷ lists fourInserts (none ∷ some 1 ∷ none ∷ none ∷ []) (recordWritten 2 1 13 ∷ recordWritten 3 1 12 ∷ []) 3 4
     -- (c)
-    ∷ leavesAfter (four ++ deleteCall (key 2 1) ∷ []) 1 2
+    ∷ leavesAfter (fourInserts ++ deleteCall (key 2 1) ∷ []) 1 2
     -- (d) and (e)
     ∷ both
     (both (numbers 4 64 (0 ∷ 0 ∷ 0 ∷ 6 ∷ []))
@@ -216,4 +197,4 @@ table =
 
 -- "the checker establishes them together, from the definitions, by a theorem over the whole table"
 abbrev pub TableHolds : Type 0
-TableHolds = (all holds table ≡ true) × (length table ≡ 12)
+TableHolds = (all entryHolds table ≡ true) × (length table ≡ 12)

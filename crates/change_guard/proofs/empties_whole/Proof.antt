@@ -14,22 +14,22 @@ abbrev μ-loop : tie.MeasureT-loop
 μ-loop state dir values m y z₀ z = m - z
 
 loop-holds : tie.Need-loop-holds Inv-loop μ-loop
-loop-holds c = emptyTo-start _ _ _ _ _ (c .before .pre .2)
+loop-holds c = emptyTo-start _ _ _ _ _ (c .before .pre .above)
 
 add-pack-empty : tie.Need-add-pack-empty Inv-loop μ-loop
 add-pack-empty c =
     let s = c .before .before .before in
-    record { fits = omega (arith, c .loop-test .taken, s .pre .1, s .pre .0 .short) }
+    record { fits = omega (arith, c .loop-test .taken, s .pre .below, s .pre .lent .short) }
 
 pack-empty-requires : tie.Need-pack-empty-requires Inv-loop μ-loop
 pack-empty-requires c κs =
     let s = c .before .before .before in
-    omega (arith, c .loop-test .taken, s .pre .1, s .pre .0 .short)
+    omega (arith, c .loop-test .taken, s .pre .below, s .pre .lent .short)
 
 sibling-whole-requires : tie.Need-sibling-whole-requires Inv-loop μ-loop
 sibling-whole-requires c κs =
     let s = c .before .before .before .before in
-    (s .pre .0, omega (arith, c .before .loop-test .taken, s .pre .1))
+    (s .pre .lent, omega (arith, c .before .loop-test .taken, s .pre .below))
 
 returns : tie.Need-returns Inv-loop μ-loop
 returns c =
@@ -41,7 +41,7 @@ add-z : tie.Need-add-z Inv-loop μ-loop
 add-z c =
     let turn = c .before .before .before in
     let s = turn .before .before .before in
-    record { fits = omega (arith, turn .loop-test .taken, s .pre .1, s .pre .0 .short) }
+    record { fits = omega (arith, turn .loop-test .taken, s .pre .below, s .pre .lent .short) }
 
 loop-less : tie.Need-loop-less Inv-loop μ-loop
 loop-less c = omega (arith, c .before .before .before .loop-test .taken)

@@ -17,7 +17,7 @@ returns c =
     let own = c .before in
     let s = own .before .before .before in
     deleteTold-join _ _ _ _ _ _
-    (joinTold-own _ _ _ (s .args .found) (s .args .join) (s .pre .0 .1 .depth-step) _
+    (joinTold-own _ _ _ (s .args .found) (s .args .join) (s .pre .leaves .depth-step) _
     (own .before .pack-page .ensures) _ (own .leaf-whole .ensures)
     (not-true _ (c .if1 .taken)))
 
@@ -34,7 +34,7 @@ returns-2 c =
     let own = whole .before in
     let s = own .before .before .before in
     deleteTold-join _ _ _ _ _ _
-    (joinTold-other _ _ _ (s .args .found) (s .args .join) (s .pre .0 .1 .depth-step) _
+    (joinTold-other _ _ _ (s .args .found) (s .args .join) (s .pre .leaves .depth-step) _
     (own .before .pack-page .ensures) _ (own .leaf-whole .ensures)
     (not-false _ (whole .if1 .left)) _ (other .before .pack-page2 .ensures) _ (other .sibling-whole .ensures)
     (not-true _ (c .if2 .taken)))
@@ -51,7 +51,7 @@ returns-3 c =
     let own = whole .before in
     let s = own .before .before .before in
     deleteTold-join _ _ _ _ _ _
-    (joinTold-empties _ _ _ (s .args .found) (s .args .join) (s .pre .0 .1 .depth-step) _
+    (joinTold-empties _ _ _ (s .args .found) (s .args .join) (s .pre .leaves .depth-step) _
     (own .before .pack-page .ensures) _ (own .leaf-whole .ensures) (not-false _ (whole .if1 .left)) _
     (other .before .pack-page2 .ensures) _ (other .sibling-whole .ensures) (not-false _ (both .if2 .left)) _
     (empties .empties-whole .ensures) (not-true _ (c .if3 .taken)))
@@ -72,11 +72,11 @@ returns-4 c =
     let own = whole .before in
     let s = own .before .before .before in
     deleteTold-join _ _ _ _ _ _
-    (joinTold-folds _ _ _ (s .args .found) (s .args .join) (s .pre .0 .1 .depth-step) _
+    (joinTold-folds _ _ _ (s .args .found) (s .args .join) (s .pre .leaves .depth-step) _
     (own .before .pack-page .ensures) _ (own .leaf-whole .ensures) (not-false _ (whole .if1 .left)) _
     (other .before .pack-page2 .ensures) _ (other .sibling-whole .ensures) (not-false _ (both .if2 .left)) _
     (empties .empties-whole .ensures) (not-false _ (all .if3 .left)) _
-    (c .before .joined-depth .ensures .0) _ (c .halving-whole .ensures))
+    (c .before .joined-depth .ensures .is) _ (c .halving-whole .ensures))
 
 pub join-keeps-spec : {M : Type 1} → statement M
 join-keeps-spec =

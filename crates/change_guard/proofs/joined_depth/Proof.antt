@@ -52,7 +52,7 @@ cast-result : tie.Need-cast-result
 cast-result c = omega (arith, depth-le c, c .before .before .before .before .before .before .pre .0)
 
 returns : tie.Need-returns
-returns c = (depth-is c, depth-le c)
+returns c = record { is = depth-is c; at-most = depth-le c }
 
 pub joined-depth-spec : {M : Type 1} → statement M
 joined-depth-spec =

@@ -5,7 +5,7 @@ use native.Mathlib.Omega.{arith}
 use borrow.Author.Needs.{needs}
 use Rattle.shape.specs.Shape.{widthList}
 use Rattle.split.specs.Bits.{splitBit}
-use Rattle.delete_steps.proofs.StepLaws.{directoryFits}
+use Rattle.directory_lent.proofs.FitLaws.{directoryFits}
 use Rattle.directory_tests.specs.Intact.{RegionTold}
 use Rattle.change_guard.proofs.DeleteLaws.{deleteTold-many, deleteTold-one}
 use Rattle.change_guard.proofs.removal_keeps.Statement.{statement}
@@ -30,8 +30,8 @@ region-holds-requires : tie.Need-region-holds-requires
 region-holds-requires c κs =
     let s = c .before .before .before .before .before .before .before in
     let w = c .before .before .widths-of in (
-      directoryFits (s .args .state) (widthList (w .result)) (w .ensures) _ _ (s .pre .0) (omega arith),
-      s .pre .1,
+      directoryFits (s .args .state) (widthList (w .result)) (w .ensures) _ _ (s .pre .lent) (omega arith),
+      s .pre .deep,
     )
 
 returns-2 : tie.Need-returns-2

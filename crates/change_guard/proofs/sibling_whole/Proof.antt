@@ -5,7 +5,7 @@ use borrow.Author.Needs.{needs}
 use Rattle.shape.specs.Shape.{widthList}
 use Rattle.split.specs.Bits.{splitBit}
 use Rattle.region.specs.Strings.{sibling}
-use Rattle.delete_steps.proofs.StepLaws.{directoryFits}
+use Rattle.directory_lent.proofs.FitLaws.{directoryFits}
 use Rattle.directory_tests.specs.Intact.{RegionTold}
 use native.Mathlib.Omega.{arith}
 use Rattle.change_guard.proofs.sibling_whole.Statement.{statement}

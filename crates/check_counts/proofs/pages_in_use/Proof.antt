@@ -11,7 +11,7 @@ use lib.ListN.{length}
 use Rattle.record.specs.Bytes.{numberOf, field}
 use Rattle.page.specs.Page.{pageSize}
 use Rattle.check_counts.specs.Counts.{usedPages}
-use Rattle.check_page.proofs.PageLaws.{page-end}
+use Rattle.page.proofs.PartLaws.{page-end-le}
 use Rattle.check_counts.proofs.CountLaws.{countOf-pageAt, usedPages-free, usedPages-used, usedPages-le}
 use Rattle.check_counts.proofs.pages_in_use.Statement.{statement}
 use Rattle.check_counts.proofs.pages_in_use.Tie as tie
@@ -24,19 +24,16 @@ abbrev μ-loop : tie.MeasureT-loop
 μ-loop capacity n pages size used₀ page₀ start₀ used page start = n - page
 
 -- the page lies in the lent bytes
-within : (c : tie.In-loop Inv-loop μ-loop) → let s = c .before .before .before .args in
+within : (c : tie.In-loop Inv-loop μ-loop) → let s = c .before .before .before .before .args in
     c .before .loop .start + pageSize (s .capacity) ≤ length (s .pages .now)
 within c =
-    let s = c .before .before .before in
+    let s = c .before .before .before .before in
     let l = c .before .loop in
-    let end = page-end (l .page) (s .args .n) (pageSize (s .args .capacity)) (c .loop-test .taken) in
+    let end = page-end-le (s .args .capacity) (l .page) (s .args .n) (c .loop-test .taken) in
     omega (arith, s .pre, l .inv .1, end)
 
-mul-size : tie.Need-mul-size Inv-loop μ-loop
-mul-size c = search needs
-
-add-size : tie.Need-add-size Inv-loop μ-loop
-add-size c = search needs
+page-size-requires : tie.Need-page-size-requires Inv-loop μ-loop
+page-size-requires c κs = search needs
 
 loop-holds : tie.Need-loop-holds Inv-loop μ-loop
 loop-holds c = (omega arith, omega arith, refl)
@@ -46,13 +43,15 @@ number-at-requires c κs = omega (arith, within c)
 
 add-used : tie.Need-add-used Inv-loop μ-loop
 add-used c =
-    let s = c .before .before .before .before .before .args in
+    let s = c .before .before .before .before .before .before .args in
     let l = c .before .before .before .loop in
     let le = usedPages-le (s .capacity) (s .pages .now) (l .page) in
     record { fits = omega (arith, c .before .before .loop-test .taken, le, l .inv) }
 
 add-start : tie.Need-add-start Inv-loop μ-loop
-add-start c = record { fits = omega (arith, within (c .before .before)) }
+add-start c =
+    rw (c .before .before .before .before .page-size .ensures)
+    (record { fits = omega (arith, within (c .before .before)) })
 
 add-page : tie.Need-add-page Inv-loop μ-loop
 add-page c = omega (arith, c .before .before .loop-test .taken)
@@ -62,14 +61,15 @@ loop-less c = omega (arith, c .before .before .loop-test .taken)
 
 loop-again : tie.Need-loop-again Inv-loop μ-loop
 loop-again c =
-    let s = c .before .before .before .before .before .args in
+    let s = c .before .before .before .before .before .before .args in
     let l = c .before .before .before .loop in
     let b = s .capacity in
+    let size = c .before .before .before .before .page-size .ensures in
     let read = c .before .number-at .ensures .0
     ∙ ap (λ o. numberOf (field (s .pages .now) o 2)) (l .inv .1)
     ∙ countOf-pageAt b (l .page) (s .pages .now) in (
       omega (arith, c .before .before .loop-test .taken),
-      rw (l .inv .1, add-one (l .page), suc-mul (l .page) (pageSize b)) refl,
+      rw (l .inv .1, size, add-one (l .page), suc-mul (l .page) (pageSize b)) refl,
       ⊎-elim
           (λ w. rw (w .1) (usedPages-used b (s .pages .now) (l .page) (l .used) (l .inv .2) _ read (w .0 .taken)))
           (λ w. rw (w .1) (usedPages-free b (s .pages .now) (l .page) (l .used) (l .inv .2) _ read (w .0 .left)))
@@ -79,7 +79,7 @@ loop-again c =
 returns : tie.Need-returns Inv-loop μ-loop
 returns c =
     let l = c .before .loop in
-    let s = c .before .before .before .args in
+    let s = c .before .before .before .before .args in
     let end : l .page ≡ s .n = omega (arith, c .loop-test .left, l .inv .0) in
     l .inv .2 ∙ ap (usedPages (s .capacity) (s .pages .now)) end
 
@@ -89,8 +89,7 @@ pages-in-use-spec =
     (tie.spec
     Inv-loop
     μ-loop
-    mul-size
-    add-size
+    page-size-requires
     loop-holds
     number-at-requires
     add-used

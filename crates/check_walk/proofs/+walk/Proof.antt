@@ -10,9 +10,10 @@ use lib.ListN.{length, getD}
 use Rattle.shape.specs.Shape.{widthList}
 use Rattle.region.specs.Strings.{withBit}
 use Rattle.record.specs.Record.{Record}
-use Rattle.check_test.specs.Walk.{depthField, View, regionTest, readDivision}
+use Rattle.directory_word.specs.Word.{depthField}
+use Rattle.check_test.specs.Walk.{View, regionTest, readDivision}
 use Rattle.check_seen.specs.declared.Seen.{Seen}
-use Rattle.check_walk.specs.Regions.{Names}
+use Rattle.check_walk.specs.Regions.{RegionNamed}
 use Rattle.check_walk.specs.Sums.{viewBy, Tells, TallyRoom}
 use Rattle.check_walk.proofs.RegionLaws.{cellWord-first, region-lt}
 use Rattle.check_walk.proofs.LeafLaws.{sub-walks}
@@ -99,7 +100,7 @@ abbrev steps : (t : ℕ) → Start t → ℕ
 steps t s = s .args .state .deepest - s .args .region .depth
 
 abbrev IsNamed : (t : ℕ) → Start t → (ℕ → Bool) → Type 0
-IsNamed t s p = Names (widthList (s .args .widths)) (s .args .region) p
+IsNamed t s p = RegionNamed (widthList (s .args .widths)) (s .args .region) p
 
 low : (t : ℕ) (s : Start t)
     → (s .args .region .address < length (s .args .dir .now)) × (s .args .region .address < 4096)

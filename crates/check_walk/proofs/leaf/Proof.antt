@@ -11,9 +11,10 @@ use lib.ListN.{getD, length}
 use Rattle.shape.specs.Shape.{widthList}
 use Rattle.region.specs.Division.{leaf}
 use Rattle.record.specs.Record.{Record}
-use Rattle.check_test.specs.Walk.{depthField, View, pageField, pageTest, fieldRecords}
+use Rattle.directory_word.specs.Word.{depthField, pageField}
+use Rattle.check_test.specs.Walk.{View, pageTest, fieldRecords}
 use Rattle.check_seen.specs.declared.Seen.{Seen}
-use Rattle.check_walk.specs.Regions.{Names}
+use Rattle.check_walk.specs.Regions.{RegionNamed}
 use Rattle.check_walk.specs.Sums.{viewBy, Sees}
 use Rattle.check_walk.proofs.RegionLaws.{cellWord-first}
 use Rattle.check_walk.proofs.LeafLaws.{pageAsked-walks}
@@ -28,7 +29,7 @@ abbrev steps : tie.Start → ℕ
 steps s = s .args .state .deepest - s .args .region .depth
 
 abbrev IsNamed : tie.Start → (ℕ → Bool) → Type 0
-IsNamed s p = Names (widthList (s .args .widths)) (s .args .region) p
+IsNamed s p = RegionNamed (widthList (s .args .widths)) (s .args .region) p
 
 -- the word is that of the first cell
 here : (s : tie.Start) (p : ℕ → Bool) → IsNamed s p → view s .word p ≡ s .args .word

@@ -1,13 +1,14 @@
 -- `check_walk::leaf_page` meets its contract: no page, none of the P pages, or one of them. Assumes nothing.
 use Prim.Native.Nat.{_+_, _-_, _*_, _≤_}
-use mathlib.Core.Path.{ap, _∙_}
+use mathlib.Core.Path.{refl, ap, _∙_}
 use native.Mathlib.Omega.{arith}
 use borrow.Author.Needs.{needs}
 use lib.ListN.{length}
 use Rattle.shape.specs.Shape.{widthList}
 use Rattle.page.specs.Page.{pageSize}
 use Rattle.check_seen.specs.Seen.{pageSeen}
-use Rattle.check_walk.proofs.LeafLaws.{part-pageAt, page-within, pageLent-part}
+use Rattle.page.proofs.PartLaws.{midOf-page}
+use Rattle.check_walk.proofs.LeafLaws.{page-within, pageLent-part}
 use Rattle.check_walk.proofs.LeafLaws.{page-none, page-past, page-told}
 use Rattle.check_walk.proofs.leaf_page.Statement.{statement}
 use Rattle.check_walk.proofs.leaf_page.Tie as tie
@@ -41,23 +42,20 @@ returns-2 c =
     (page-past (a .state) (widthList (a .widths)) words (a .pages .now) (a .region) p n (a .field)
     (c .before .before .before .if1 .left) (c .before .if2 .taken))
 
-cast-size : tie.Need-cast-size
-cast-size c = search needs
+cast-page-size : tie.Need-cast-page-size
+cast-page-size c = search needs
 
-mul-size : tie.Need-mul-size
-mul-size c = search needs
-
-add-size : tie.Need-add-size
-add-size c = search needs
+page-size-requires : tie.Need-page-size-requires
+page-size-requires c κs = search needs
 
 cast-start : tie.Need-cast-start
 cast-start c = search needs
 
 mul-start : tie.Need-mul-start
-mul-start c = record { fits = omega (arith, within c) }
+mul-start c = rw (c .page-size .ensures) (record { fits = omega (arith, within (c .before)) })
 
 add-end : tie.Need-add-end
-add-end c = record { fits = omega (arith, within c) }
+add-end c = rw (c .page-size .ensures) (record { fits = omega (arith, within (c .before)) })
 
 sub-page-seen : tie.Need-sub-page-seen
 sub-page-seen c = search needs
@@ -66,26 +64,27 @@ part-page-seen-start : tie.Need-part-page-seen-start
 part-page-seen-start c = search needs
 
 part-page-seen-end : tie.Need-part-page-seen-end
-part-page-seen-end c = within c
+part-page-seen-end c = rw (c .page-size .ensures) (within (c .before))
 
 page-seen-requires : tie.Need-page-seen-requires
 page-seen-requires c κs =
-    let s = c .before .before .before .before .before in
+    let s = c .before .before .before .before .before .before in
     let a = s .args in
-    pageLent-part (a .state) _ (a .region) (a .pages .now) (a .field - 1) (s .pre) (c .before .if2 .left)
+    rw (c .before .page-size .ensures)
+    (pageLent-part (a .state) _ (a .region) (a .pages .now) (a .field - 1) (s .pre) (c .before .before .if2 .left))
 
 returns-3 : tie.Need-returns-3
 returns-3 c =
-    let s = c .before .before .before .before .before .before in
+    let s = c .before .before .before .before .before .before .before in
     let a = s .args in
     let b = a .state .shape .capacity in
     λ words p n.
     page-told (a .state) (widthList (a .widths)) words (a .pages .now) (a .region) p n (a .field)
-    (c .before .before .before .before .if1 .left)
-    (c .before .before .if2 .left) (s .pre .bits) _
-    (c .page-seen .ensures
+    (c .before .before .before .before .before .if1 .left)
+    (c .before .before .before .if2 .left) (s .pre .bits) _
+    (rw (c .before .before .page-size .ensures) at (c .page-seen .ensures)
     ∙ ap (pageSeen (widthList (a .widths)) b (a .region .depth) (a .region .string))
-    (part-pageAt b (a .field - 1) (a .pages .now)))
+    (midOf-page b (a .field - 1) ((a .field - 1) * pageSize b) (pageSize b) (a .pages .now) refl refl))
 
 pub leaf-page-spec : {M : Type 1} → statement M
 leaf-page-spec =
@@ -95,9 +94,8 @@ leaf-page-spec =
     sub-page
     fails-requires
     returns-2
-    cast-size
-    mul-size
-    add-size
+    cast-page-size
+    page-size-requires
     cast-start
     mul-start
     add-end

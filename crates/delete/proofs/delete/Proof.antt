@@ -8,12 +8,11 @@ use Rattle.store.specs.Promises.{keyNumber}
 use Rattle.store.specs.Store.{Store, store}
 use Rattle.refusals.proofs.LentLaws.{keyNumber-by}
 use Rattle.refusals.proofs.LimitsLaws.{limits-parts}
-use Rattle.delete_plan.specs.Plan.{RecordFound, StaysAlone, JoinPlanned, DeletePlanned}
+use Rattle.delete_plan.specs.Plan.{KeepPlanned, JoinPlanned, DeletePlanned}
 use Rattle.delete_plan.proofs.MetLaws.{directoryLent}
-use Rattle.delete.proofs.FoundLaws.{promise-early, recordLent}
-use Rattle.delete.proofs.GuardLaws.{promise-not-whole}
-use Rattle.delete.proofs.KeptLaws.{promise-kept}
-use Rattle.delete.proofs.JoinedLaws.{leavesLent, pairLent, promise-joined}
+use Rattle.delete_promise.proofs.FoundLaws.{promise-early, recordLent}
+use Rattle.delete_promise.proofs.GuardLaws.{promise-not-whole}
+use Rattle.delete_promise.proofs.AcceptedLaws.{promise-kept, leavesLent, pairLent, promise-joined}
 use borrow.Author.Needs.{needs}
 use borrow.Author.Tests.{not-true, not-false}
 use Rattle.delete.proofs.delete.Statement.{statement}
@@ -47,8 +46,7 @@ early p =
 -- the plan of a leaf that stays
 kept : (c : tie.After-plan2)
     → let s = start (c .before .before .before) in
-    let r = c .plan2 .given .0 .0 in
-    RecordFound (given s) (s .args .key .values) r × StaysAlone (given s) (s .args .key .values) (r .page) (r .depth)
+    KeepPlanned (given s) (s .args .key .values) (c .plan2 .given .0 .0)
 kept c =
     let p = c .before .before .before in
     subst (DeletePlanned (given (start p)) (start p .args .key .values)) (c .plan2 .given .1) (p .plan-delete .ensures)
@@ -56,9 +54,7 @@ kept c =
 -- and of one that is joined
 joined : (c : tie.After-plan3)
     → let s = start (c .before .before .before) in
-    let r = c .plan3 .given .0 .0 in
-    let j = c .plan3 .given .0 .1 .0 in
-    RecordFound (given s) (s .args .key .values) r × JoinPlanned (given s) (s .args .key .values) r j
+    JoinPlanned (given s) (s .args .key .values) (c .plan3 .given .0 .0) (c .plan3 .given .0 .1 .0)
 joined c =
     let p = c .before .before .before in
     subst (DeletePlanned (given (start p)) (start p .args .key .values)) (c .plan3 .given .1) (p .plan-delete .ensures)
@@ -84,12 +80,13 @@ enum-known-plan-2 c = search needs
 removal-keeps-requires : tie.Need-removal-keeps-requires
 removal-keeps-requires c κs =
     let s = start (c .before .before .before .before .before) in
-    let leaf = kept (c .before .before) .0 .leaf in
-    let few = limits-parts (s .args .state) (leaf .limits) .1 in (
-      directoryLent (given s) (s .args .key .values) _ _ leaf,
-      leaf .deep,
-      omega (arith, leaf .own-within, few),
-    )
+    let leaf = kept (c .before .before) .found .leaf in
+    let few = limits-parts (s .args .state) (leaf .limits) .1 in
+    record {
+      lent = directoryLent (given s) (s .args .key .values) _ _ leaf;
+      deep = leaf .deep;
+      page-lt = omega (arith, leaf .own-within, few);
+    }
 
 same-length : tie.Need-same-length
 same-length c = search needs
@@ -107,10 +104,12 @@ returns-2 c =
 keep-leaf-requires : tie.Need-keep-leaf-requires
 keep-leaf-requires c κs =
     let s = start (c .before .before .before .before .before .before .before .before .before) in
-    let f = kept (c .before .before .before .before .before .before) .0 in (
-      (directoryLent (given s) (s .args .key .values) _ _ (f .leaf), f .leaf .deep),
-      recordLent (given s) (s .args .key .values) _ f,
-    )
+    let f = kept (c .before .before .before .before .before .before) .found in
+    record {
+      lent = directoryLent (given s) (s .args .key .values) _ _ (f .leaf);
+      deep = f .leaf .deep;
+      own = recordLent (given s) (s .args .key .values) _ f;
+    }
 
 enum-known-plan-3 : tie.Need-enum-known-plan-3
 enum-known-plan-3 c = search needs
@@ -120,11 +119,14 @@ join-keeps-requires c κs =
     let s = start (c .before .before .before .before .before) in
     let v = s .args .key .values in
     let k = joined (c .before .before) in
-    let leaf = k .0 .leaf in
-    let few = limits-parts (s .args .state) (leaf .limits) .1 in (
-      (directoryLent (given s) v _ _ leaf, leavesLent (given s) v _ (k .0) _ (k .1) (thirteen s)),
-      (omega (arith, leaf .own-within, few), omega (arith, k .1 .met .other-within, few)),
-    )
+    let leaf = k .found .leaf in
+    let few = limits-parts (s .args .state) (leaf .limits) .1 in
+    record {
+      lent = directoryLent (given s) v _ _ leaf;
+      leaves = leavesLent (given s) v _ (k .found) _ k (thirteen s);
+      page-lt = omega (arith, leaf .own-within, few);
+      other-lt = omega (arith, k .met .other-within, few);
+    }
 
 same-length-3 : tie.Need-same-length-3
 same-length-3 c = search needs
@@ -143,10 +145,12 @@ join-leaves-requires : tie.Need-join-leaves-requires
 join-leaves-requires c κs =
     let s = start (c .before .before .before .before .before .before .before .before .before) in
     let v = s .args .key .values in
-    let k = joined (c .before .before .before .before .before .before) in (
-      (directoryLent (given s) v _ _ (k .0 .leaf), leavesLent (given s) v _ (k .0) _ (k .1) (thirteen s)),
-      pairLent (given s) v _ (k .0) _ (k .1),
-    )
+    let k = joined (c .before .before .before .before .before .before) in
+    record {
+      lent = directoryLent (given s) v _ _ (k .found .leaf);
+      leaves = leavesLent (given s) v _ (k .found) _ k (thirteen s);
+      pair = pairLent (given s) v _ (k .found) _ k;
+    }
 
 same-length-5 : tie.Need-same-length-5
 same-length-5 c = search needs
@@ -175,7 +179,8 @@ returns-5 c =
     let k = kept (c .before .before .before .before .before .before .before .before .before .before .before) in
     let test = c .before .before .before .before .before .before .before in
     let done = c .before .before .before .before .keep-leaf in
-    promise-kept (given s) (s .args .key .values) _ (k .0) _ _ (done .ensures .0) (done .ensures .1) (k .1)
+    promise-kept (given s) (s .args .key .values) _ (k .found) _ _ (done .ensures .words-are)
+    (done .ensures .bytes-are) (k .alone)
     (test .before .removal-keeps .ensures .yes (not-false _ (test .if2 .left)))
 
 same-length-9 : tie.Need-same-length-9
@@ -192,8 +197,9 @@ returns-6 c =
     let k = joined (c .before .before .before .before .before .before .before .before .before .before .before) in
     let test = c .before .before .before .before .before .before .before in
     let done = c .before .before .before .before .join-leaves in
-    promise-joined (given s) (s .args .key .values) _ (k .0) _ (k .1) (done .result) _ _ (done .ensures .0)
-    (done .ensures .1) (thirteen s) (test .before .join-keeps .ensures .yes (not-false _ (test .if3 .left)))
+    promise-joined (given s) (s .args .key .values) _ (k .found) _ k (done .result) _ _
+    (done .ensures .words-are) (done .ensures .bytes-are) (thirteen s)
+    (test .before .join-keeps .ensures .yes (not-false _ (test .if3 .left)))
 
 pub delete-spec : {M : Type 1} → statement M
 delete-spec =

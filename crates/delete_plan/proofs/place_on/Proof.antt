@@ -1,19 +1,16 @@
 -- `delete_plan::place_on` meets its contract: what is lent is the page. Assumes nothing.
 use mathlib.Core.Path.{ap, _∙_}
-use Rattle.pages.proofs.PageLaws.{midOf-page}
+use Rattle.page.proofs.PartLaws.{midOf-page}
 use Rattle.page_matches.specs.KeyPlace.{keyPlace}
 use borrow.Author.Needs.{needs}
 use Rattle.delete_plan.proofs.place_on.Statement.{statement}
 use Rattle.delete_plan.proofs.place_on.Tie as tie
 
-mul-size : tie.Need-mul-size
-mul-size c = search needs
+page-start-requires : tie.Need-page-start-requires
+page-start-requires c κs = search needs
 
-add-size : tie.Need-add-size
-add-size c = search needs
-
-mul-start : tie.Need-mul-start
-mul-start c = search needs
+page-size-requires : tie.Need-page-size-requires
+page-size-requires c κs = search needs
 
 add-end : tie.Need-add-end
 add-end c = search needs
@@ -32,17 +29,18 @@ find-key-requires c κs = search needs
 
 returns : tie.Need-returns
 returns c =
-    let a = c .before .before .before .args in
+    let size = c .before .before in
+    let a = size .before .before .before .args in
     c .find-key .ensures
-    ∙ ap (λ page. keyPlace (a .key) page (a .n) 0) (midOf-page (a .capacity) (a .g) (a .pages .now))
+    ∙ ap (λ page. keyPlace (a .key) page (a .n) 0)
+    (midOf-page (a .capacity) (a .g) _ _ (a .pages .now) (size .before .page-start .ensures) (size .page-size .ensures))
 
 pub place-on-spec : {M : Type 1} → statement M
 place-on-spec =
     tie.close
     (tie.spec
-    mul-size
-    add-size
-    mul-start
+    page-start-requires
+    page-size-requires
     add-end
     sub-find-key
     part-find-key-start

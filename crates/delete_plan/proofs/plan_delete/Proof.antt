@@ -15,7 +15,7 @@ use Rattle.refusals.proofs.LimitsLaws.{limits-parts}
 use Rattle.leaf_word.specs.Hold.{wordHolds}
 use Rattle.leaf_word.proofs.WordLaws.{key-word-asks, key-word-is}
 use Rattle.store.proofs.ShownLaws.{wordOn}
-use Rattle.lookup.proofs.EarlyLaws.{passed}
+use Rattle.refusals.proofs.PassedLaws.{passed}
 use Rattle.delete_plan.proofs.MetLaws.{refused-limits, refused-word, refused-empty, leafMet}
 use borrow.Author.Needs.{needs}
 use Rattle.delete_plan.proofs.plan_delete.Statement.{statement}

@@ -1,168 +1,138 @@
 -- `delete_plan::plan_leaf` meets its contract: each way that it ends is a law of the key's leaf. Assumes nothing.
 use mathlib.Core.Path.{_≡_, sym, ap, _∙_, subst}
 use native.Mathlib.Omega.{arith}
-use borrow.Author.Tests.{not-true, not-false}
-use Rattle.page.specs.Page.{pageAt}
+use Rattle.shape.specs.Shape.{widthList, widthsOf}
 use Rattle.record.specs.Packed.{packedKey}
-use Rattle.page_matches.specs.KeyPlace.{keyPlace}
-use Rattle.store.specs.Store.{store}
-use Rattle.lookup.proofs.EarlyLaws.{passed, SixteenBits-of-keyFits}
-use Rattle.leaf_word.specs.Hold.{ownPage, OwnAsked}
+use Rattle.page.specs.Page.{pageAt}
+use Rattle.page_ends.specs.Ends.{fixedBits}
+use Rattle.page_ends.proofs.FairLaws.{fair-of-count}
+use Rattle.store.specs.Store.{Store, store}
+use Rattle.refusals.proofs.PassedLaws.{passed}
+use Rattle.model.proofs.SetLaws.{SixteenBits-of-keyFits}
+use Rattle.leaf_word.proofs.PageLaws.{fixed-bits-asks}
 use Rattle.delete_plan.specs.Plan.{RecordFound}
-use Rattle.delete_plan.proofs.MetLaws.{refused-count, refused-ends, refused-absent, recordFound}
-use Rattle.delete_plan.proofs.MetLaws.{pageLent, ownAsked}
-use Rattle.delete_plan.proofs.PairLaws.{stays-root}
+use Rattle.delete_plan.specs.Met.{Sought}
+use Rattle.delete_plan.proofs.MetLaws.{refused-page, refused-absent, recordFound, directoryLent, pageLent}
+use Rattle.delete_plan.proofs.BesideLaws.{stays-root}
 use borrow.Author.Needs.{needs}
 use Rattle.delete_plan.proofs.plan_leaf.Statement.{statement}
 use Rattle.delete_plan.proofs.plan_leaf.Tie as tie
 
--- the place found is the key's
-placed : (c : tie.After-place-on)
-    → let f = c .before .before .before .before .before .before in
-    let a = f .before .before .before .before .before .args in
-    c .place-on .result
-    ≡ keyPlace (packedKey (a .key .values)) (pageAt (a .state .shape .capacity) (a .pages .now) (a .page))
-    (f .count-at .result) 0
-placed c =
-    let f = c .before .before .before .before .before .before in
-    let a = f .before .before .before .before .before .args in
-    c .place-on .ensures
-    ∙ ap (λ key. keyPlace key (pageAt (a .state .shape .capacity) (a .pages .now) (a .page)) (f .count-at .result) 0)
-    (c .before .before .before .pack-key .ensures)
+abbrev given : tie.Start → Store
+given s = store (s .args .state) (s .args .dir .now) (s .args .pages .now)
 
--- what the test of the page tells, of the key's packed form
-tested : (c : tie.After-page-holds)
-    → let f = c .before .before .before .before in
-    let a = f .before .before .before .before .before .args in
-    c .page-holds .result
-    ≡ ownPage (a .state .shape) (a .depth) (packedKey (a .key .values))
-    (pageAt (a .state .shape .capacity) (a .pages .now) (a .page)) (f .count-at .result)
-tested c =
-    let f = c .before .before .before .before in
-    let a = f .before .before .before .before .before .args in
-    c .page-holds .ensures
-    ∙ ap (λ key. ownPage (a .state .shape) (a .depth) key
-    (pageAt (a .state .shape .capacity) (a .pages .now) (a .page)) (f .count-at .result)) (c .before .pack-key .ensures)
+-- where the call began, from the search
+abbrev start : tie.After-seek → tie.Start
+start k = k .before .before .before .before .before .before .before .before
 
-cast-capacity : tie.Need-cast-capacity
-cast-capacity c = search needs
+-- the mask is that of the leaf's depth
+mask-is : (c : tie.After-fixed-bits)
+    → let a = c .before .before .before .before .before .args in
+    c .fixed-bits .result ≡ fixedBits (widthsOf (a .state .shape)) (a .depth)
+mask-is c =
+    let a = c .before .before .before .before .before .args in
+    c .fixed-bits .ensures ∙ ap (λ ws. fixedBits ws (a .depth)) (c .before .widths-of .ensures)
 
-count-at-requires : tie.Need-count-at-requires
-count-at-requires c κs =
+-- what was sought is the key, packed
+sought : (k : tie.After-seek)
+    → let a = start k .args in
+    Sought (a .state .shape .capacity) (packedKey (a .key .values)) (k .before .before .before .fixed-bits .result)
+    (pageAt (a .state .shape .capacity) (a .pages .now) (a .page)) (a .page) (a .depth) (k .seek .result)
+sought k =
+    let a = start k .args in
+    subst
+    (λ key. Sought (a .state .shape .capacity) key (k .before .before .before .fixed-bits .result)
+    (pageAt (a .state .shape .capacity) (a .pages .now) (a .page)) (a .page) (a .depth) (k .seek .result))
+    (k .before .before .pack-key .ensures) (k .seek .ensures)
+
+-- the record that was found
+found : (k : tie.After-seek) → (k .seek .result .count ≡ 0 → ⊥)
+    → (k .seek .result .place ≡ k .seek .result .count → ⊥)
+    → RecordFound (given (start k)) (start k .args .key .values) (k .seek .result)
+found k some other =
+    let s = start k in
+    recordFound (given s) (s .args .key .values) (s .args .page) (s .args .depth) (s .pre) _
+    (mask-is (k .before .before .before)) (k .seek .result) (sought k) some other
+
+widths-of-requires : tie.Need-widths-of-requires
+widths-of-requires c κs = search needs
+
+fixed-bits-requires : tie.Need-fixed-bits-requires
+fixed-bits-requires c κs =
     let s = c .before .before .before .before in
     let a = s .args in
-    let before = store (a .state) (a .dir .now) (a .pages .now) in
-    pageLent before (a .key .values) (a .page) (a .depth) (s .pre) (a .page) (s .pre .own-within)
-
-returns : tie.Need-returns
-returns c =
-    let s = c .before .before .before .before .before .before in
-    let a = s .args in
-    let before = store (a .state) (a .dir .now) (a .pages .now) in
-    let count = c .before .count-at in
-    refused-count before (a .key .values) (a .page) (a .depth) (s .pre) (count .result) (count .ensures .0)
-    (λ u v. omega (arith, u, c .if1 .taken))
-
-returns-2 : tie.Need-returns-2
-returns-2 c =
-    let s = c .before .before .before .before .before .before .before in
-    let a = s .args in
-    let before = store (a .state) (a .dir .now) (a .pages .now) in
-    let count = c .before .before .count-at in
-    refused-count before (a .key .values) (a .page) (a .depth) (s .pre) (count .result) (count .ensures .0)
-    (λ u v. omega (arith, v, c .if2 .taken))
+    let lent = directoryLent (given s) (a .key .values) (a .page) (a .depth) (s .pre) in
+    fixed-bits-asks (a .state .shape) (lent .shape) (a .depth) (omega (arith, s .pre .deep, lent .deep))
+    (widthList (c .widths-of .result)) (c .widths-of .ensures)
 
 pack-key-requires : tie.Need-pack-key-requires
 pack-key-requires c κs =
-    let s = c .before .before .before .before .before .before .before in
+    let s = c .before .before .before .before .before in
     let a = s .args in
-    let before = store (a .state) (a .dir .now) (a .pages .now) in
-    let k = passed before (a .key .values) (s .pre .early) in
+    let k = passed (given s) (a .key .values) (s .pre .early) in
     SixteenBits-of-keyFits (a .state .shape) (a .key .values) (k .shape) (k .fits) (s .pre .four)
 
-page-holds-requires : tie.Need-page-holds-requires
-page-holds-requires c κs =
-    let s = c .before .before .before .before .before .before .before .before in
+cast-seek : tie.Need-cast-seek
+cast-seek c = search needs
+
+seek-requires : tie.Need-seek-requires
+seek-requires c κs =
+    let s = c .before .before .before .before .before .before .before in
     let a = s .args in
-    let before = store (a .state) (a .dir .now) (a .pages .now) in
-    let count = c .before .before .before .count-at .result in
-    subst (OwnAsked (a .state .shape) (a .pages .now) (a .page) count (a .depth)) (sym (c .pack-key .ensures))
-    (ownAsked before (a .key .values) (a .page) (a .depth) (s .pre) count (omega (arith, c .before .before .if1 .left))
-    (omega (arith, c .before .if2 .left)))
+    pageLent (given s) (a .key .values) (a .page) (a .depth) (s .pre) (a .page) (s .pre .own-within)
+
+returns : tie.Need-returns
+returns c =
+    let k = c .before .before in
+    let s = start k in
+    let a = s .args in
+    refused-page (given s) (a .key .values) (a .page) (a .depth) (s .pre) _ (k .seek .result .count)
+    (mask-is (k .before .before .before)) (sought k .counted) (c .if1 .taken)
+
+returns-2 : tie.Need-returns-2
+returns-2 c =
+    let k = c .before .before .before .before in
+    let s = start k in
+    let a = s .args in
+    let r = k .seek .result in
+    let fair = fair-of-count (a .state .shape .capacity) _ _ (r .count) (sought k .counted)
+    (c .before .before .if1 .left) in
+    refused-absent (given s) (a .key .values) (a .page) (a .depth) (s .pre)
+    (λ i. k .before .before .before .before .before .before .shared-slice-known2 .given i .fits)
+    (r .count) (fair .counted) (r .place) (sought k .placed) (c .if2 .taken)
 
 returns-3 : tie.Need-returns-3
 returns-3 c =
-    let f = c .before .before .before .before .before in
-    let s = f .before .before .before .before .before in
-    let a = s .args in
-    let before = store (a .state) (a .dir .now) (a .pages .now) in
-    let holds = c .before .page-holds in
-    refused-ends before (a .key .values) (a .page) (a .depth) (s .pre) (f .count-at .result) (f .count-at .ensures .0)
-    (sym (tested (c .before)) ∙ not-true (holds .result) (c .if3 .taken))
-
-place-on-requires : tie.Need-place-on-requires
-place-on-requires c κs =
-    let f = c .before .before .before .before .before in
-    let s = f .before .before .before .before .before in
-    let a = s .args in
-    let before = store (a .state) (a .dir .now) (a .pages .now) in (
-      pageLent before (a .key .values) (a .page) (a .depth) (s .pre) (a .page) (s .pre .own-within),
-      omega (arith, c .before .before .before .if2 .left),
-    )
-
-returns-4 : tie.Need-returns-4
-returns-4 c =
-    let f = c .before .before .before .before .before .before .before in
-    let s = f .before .before .before .before .before in
-    let a = s .args in
-    let before = store (a .state) (a .dir .now) (a .pages .now) in
-    let known = f .before .before .before .shared-slice-known2 .given in
-    refused-absent before (a .key .values) (a .page) (a .depth) (s .pre) (λ i. known i .fits)
-    (f .count-at .result) (f .count-at .ensures .0) _ (placed (c .before)) (c .if4 .taken)
-
--- the record that was found
-found : (c : tie.Else4)
-    → let f = c .before .before .before .before .before .before .before in
-    let a = f .before .before .before .before .before .args in
-    RecordFound (store (a .state) (a .dir .now) (a .pages .now)) (a .key .values)
-    (record { page = a .page; depth = a .depth; place = c .before .place-on .result; count = f .count-at .result })
-found c =
-    let f = c .before .before .before .before .before .before .before in
-    let s = f .before .before .before .before .before in
-    let a = s .args in
-    let before = store (a .state) (a .dir .now) (a .pages .now) in
-    let holds = c .before .before .before .page-holds in
-    recordFound before (a .key .values) (a .page) (a .depth) (s .pre) (f .count-at .result) (f .count-at .ensures .0)
-    (omega (arith, c .before .before .before .before .before .if2 .left))
-    (sym (tested (c .before .before .before)) ∙ not-false (holds .result) (c .before .before .if3 .left))
-    _ (placed (c .before)) (c .if4 .left)
-
-returns-5 : tie.Need-returns-5
-returns-5 c =
-    let f = c .before .before .before .before .before .before .before .before in
-    let a = f .before .before .before .before .before .args in
-    let before = store (a .state) (a .dir .now) (a .pages .now) in
-    (found (c .before), stays-root before (a .key .values) _ (found (c .before)) (c .if5 .taken))
+    let k = c .before .before .before .before .before in
+    let s = start k in
+    let f = found k (c .before .before .before .if1 .left) (c .before .if2 .left) in
+    record { found = f; alone = stays-root (given s) (s .args .key .values) _ f (sought k .depth-is ∙ c .if3 .taken) }
 
 plan-sibling-requires : tie.Need-plan-sibling-requires
-plan-sibling-requires c κs = (found (c .before), omega (arith, c .if5 .left))
+plan-sibling-requires c κs =
+    let k = c .before .before .before .before .before in
+    let s = start k in
+    record {
+      found = found k (c .before .before .before .if1 .left) (c .before .if2 .left);
+      divided = omega (arith, sought k .depth-is, c .if3 .left);
+      fixed = mask-is (k .before .before .before)
+          ∙ ap (fixedBits (widthsOf (s .args .state .shape))) (sym (sought k .depth-is));
+    }
 
-returns-6 : tie.Need-returns-6
-returns-6 c = c .plan-sibling .ensures
+returns-4 : tie.Need-returns-4
+returns-4 c = c .plan-sibling .ensures
 
 pub plan-leaf-spec : {M : Type 1} → statement M
 plan-leaf-spec =
     tie.close
     (tie.spec
-    cast-capacity
-    count-at-requires
+    widths-of-requires
+    fixed-bits-requires
+    pack-key-requires
+    cast-seek
+    seek-requires
     returns
     returns-2
-    pack-key-requires
-    page-holds-requires
     returns-3
-    place-on-requires
-    returns-4
-    returns-5
     plan-sibling-requires
-    returns-6)
+    returns-4)

@@ -6,7 +6,8 @@ use Rattle.shape.specs.Shape.{widthList}
 use Rattle.directory_word.specs.Word.{wordOf}
 use Rattle.directory_word.specs.declared.Leaf.the-variants.{Page}
 use Rattle.change.proofs.DeleteTallyLaws.{tallyDepth-le}
-use Rattle.delete_steps.proofs.StepLaws.{directoryFits, filled-shape, top-le, keptPage-lt}
+use Rattle.directory_lent.proofs.FitLaws.{directoryFits, filled-shape}
+use Rattle.delete_steps.proofs.StepLaws.{top-le, keptPage-lt}
 use borrow.Author.Needs.{needs}
 use Rattle.delete_steps.proofs.join_leaves.Statement.{statement}
 use Rattle.delete_steps.proofs.join_leaves.Tie as tie
@@ -30,12 +31,12 @@ pack-page-requires : tie.Need-pack-page-requires
 pack-page-requires c κs =
     let s = c .before .before .before .before .before .before .before .before .before .before .before .before in
     let a = s .args in
-    let l = s .pre .0 .1 in
-    let pair = s .pre .1 in
+    let l = s .pre .leaves in
+    let pair = s .pre .pair in
     let lt = keptPage-lt (a .join .bit) (a .found .page) (a .join .other) 4096 (pair .own .page .number-lt)
     (pair .page .number-lt) in (
-      omega (arith, lt, c .before .before .before .before .before .join-records .ensures .0),
-      omega (arith, s .pre .0 .0 .short, l .above, l .deep, l .depth-step),
+      omega (arith, lt, c .before .before .before .before .before .join-records .ensures .kept),
+      omega (arith, s .pre .lent .short, l .above, l .deep, l .depth-step),
     )
 
 widths-of-requires : tie.Need-widths-of-requires
@@ -52,12 +53,12 @@ fill-requires c κs =
     let w = c .before .before .widths-of in
     let depth = c .before .before .before .before .greatest-depth in
     let tally = c .before .before .before .before .before .before .join-tally in (
-      directoryFits (a .state) (widthList (w .result)) (w .ensures) _ _ (s .pre .0 .0)
+      directoryFits (a .state) (widthList (w .result)) (w .ensures) _ _ (s .pre .lent)
           (omega (arith, depth .ensures, tallyDepth-le (tally .result .leaves) (a .state .deepest))),
       omega (
         arith,
         depth .ensures,
-        top-le (a .state) (a .found) (a .join) (s .pre .0 .1) (s .pre .0 .0 .short) (tally .result .leaves)
+        top-le (a .state) (a .found) (a .join) (s .pre .leaves) (s .pre .lent .short) (tally .result .leaves)
             (tally .ensures),
       ),
     )
@@ -70,7 +71,7 @@ cast-t22 c =
       arith,
       c .before .before .before .before .before .before .before .greatest-depth .ensures,
       tallyDepth-le (earlier .join-tally .result .leaves) (a .state .deepest),
-      earlier .before .before .before .before .before .before .before .before .before .before .pre .0 .0 .short,
+      earlier .before .before .before .before .before .before .before .before .before .before .pre .lent .short,
     )
 
 same-length : tie.Need-same-length
@@ -85,20 +86,22 @@ returns c =
     let a = earlier .before .before .before .before .before .before .before .before .before .before .args in
     let w = c .before .before .before .before .before .widths-of in
     let depth = c .before .before .before .before .before .before .before .greatest-depth in
-    let kept = earlier .before .before .before .join-records .ensures in (
-      record {
-        state = refl;
-        tally = earlier .join-tally .ensures;
-        depth = depth .ensures;
-        new-leaf =
-            filled-shape (a .state) (widthList (w .result)) (w .ensures) (depth .result) (a .join .top) (a .values) _ _
-            (a .dir .now) _
-            (c .before .before .before .before .before .before .pack-page .ensures
-            ∙ ap (λ k. wordOf (Page k (a .join .top))) (kept .0))
-            (c .before .before .fill .ensures);
-      },
-      kept .1,
-    )
+    let records = earlier .before .before .before .join-records .ensures in
+    record {
+      words-are =
+          record {
+            state = refl;
+            tally = earlier .join-tally .ensures;
+            depth = depth .ensures;
+            new-leaf =
+                filled-shape (a .state) (widthList (w .result)) (w .ensures) (depth .result) (a .join .top)
+                (a .values) _ _ (a .dir .now) _
+                (c .before .before .before .before .before .before .pack-page .ensures
+                ∙ ap (λ k. wordOf (Page k (a .join .top))) (records .kept))
+                (c .before .before .fill .ensures);
+          };
+      bytes-are = records .bytes-are;
+    }
 
 pub join-leaves-spec : {M : Type 1} → statement M
 join-leaves-spec =

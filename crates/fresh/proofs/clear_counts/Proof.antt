@@ -6,9 +6,10 @@ use borrow.Author.Needs.{needs}
 use borrow.Rule.Slice.PartMut.{mid-len}
 use lib.ListN.{length}
 use Rattle.page.specs.Page.{pageSize}
+use Rattle.page.proofs.PartLaws.{page-end-le}
 use Rattle.store.specs.Fresh.{clearedCounts}
 use Rattle.store.proofs.ClearedLaws.{length-clearedCounts}
-use Rattle.fresh.proofs.CountLaws.{page-end, clearedCounts-suc}
+use Rattle.fresh.proofs.CountLaws.{clearedCounts-suc}
 use Rattle.fresh.proofs.clear_counts.Statement.{statement}
 use Rattle.fresh.proofs.clear_counts.Tie as tie
 
@@ -28,7 +29,7 @@ within : (c : tie.In-loop Inv-loop μ-loop)
     → c .before .loop .start + c .before .before .page-size .result ≤ length (c .before .loop .pages)
 within c =
     let args = c .before .before .before .before .args in
-    let end = page-end (args .n) (c .before .loop .page) (pageSize (args .b)) (c .loop-test .taken) in
+    let end = page-end-le (args .b) (c .before .loop .page) (args .n) (c .loop-test .taken) in
     omega (arith, kept (c .before))
 
 page-size-requires : tie.Need-page-size-requires Inv-loop μ-loop

@@ -2,7 +2,7 @@
 -- `depthLimitOf`. Assumes nothing.
 use borrow.Author.Needs.{needs}
 use Rattle.shape.specs.Shape.{widthList}
-use Rattle.address.proofs.AnswerLaws.{widths-fit}
+use Rattle.shape.proofs.ShapeLaws.{widths-fit}
 use Rattle.model.specs.Limits.{depthLimitOf}
 use Rattle.fresh.proofs.depth_limit.Statement.{statement}
 use Rattle.fresh.proofs.depth_limit.Tie as tie

@@ -19,7 +19,7 @@ some-word : (c : tie.Else2) → 0 < length (c .before .before .before .before .b
 some-word c =
     let s = c .before .before .before .before .before .before .args in
     word-of-lent (s .shape) (length (s .dir .now)) (length (s .pages .now))
-    (sym (c .before .lacks-memory .ensures) ∙ c .if2 .left)
+    (sym (c .before .lacks-word-or-page .ensures) ∙ c .if2 .left)
 
 shape-number-requires : tie.Need-shape-number-requires
 shape-number-requires c κs = search needs
@@ -36,8 +36,8 @@ returns c =
     ∙ sym (n .ensures))
     (c .before .if1 .taken) (c .refuse .ensures .0) (c .refuse .ensures .1)
 
-lacks-memory-requires : tie.Need-lacks-memory-requires
-lacks-memory-requires c κs = search needs
+lacks-word-or-page-requires : tie.Need-lacks-word-or-page-requires
+lacks-word-or-page-requires c κs = search needs
 
 refuse-requires-2 : tie.Need-refuse-requires-2
 refuse-requires-2 c κs = search needs
@@ -48,7 +48,7 @@ returns-2 c =
     let lacks = c .before .before in
     promise-refused (s .shape) (s .dir .now) (s .pages .now) _ _ 2
     (freshNumber-lacks (s .shape) (s .dir .now) (s .pages .now) (in-bounds (lacks .before))
-    (sym (lacks .lacks-memory .ensures) ∙ c .before .if2 .taken))
+    (sym (lacks .lacks-word-or-page .ensures) ∙ c .before .if2 .taken))
     (λ e. omega arith) (c .refuse2 .ensures .0) (c .refuse2 .ensures .1)
 
 page-limit-requires : tie.Need-page-limit-requires
@@ -86,7 +86,7 @@ returns-3 c =
     let s = lent .before .before .before .before .before .before .args in
     promise-accepted (s .shape) (s .dir .now) (s .pages .now) _ _ _
     (freshNumber-none (s .shape) (s .dir .now) (s .pages .now) (in-bounds (lent .before .before))
-    (sym (lent .before .lacks-memory .ensures) ∙ lent .if2 .left))
+    (sym (lent .before .lacks-word-or-page .ensures) ∙ lent .if2 .left))
     (freshState-of (s .shape) (s .dir .now) (s .pages .now) _ _ _ _ (c .before .fresh-shape .ensures)
     (c .one-leaf .ensures) (limits .before .page-limit .ensures) (limits .depth-limit .ensures))
     refl
@@ -99,7 +99,7 @@ fresh-spec =
     shape-number-requires
     refuse-requires
     returns
-    lacks-memory-requires
+    lacks-word-or-page-requires
     refuse-requires-2
     returns-2
     page-limit-requires

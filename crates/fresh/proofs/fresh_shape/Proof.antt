@@ -2,7 +2,7 @@
 use native.Mathlib.Omega.{arith}
 use borrow.Author.Needs.{needs}
 use Rattle.shape.specs.Shape.{Fit, widthList}
-use Rattle.address.proofs.AnswerLaws.{widths-fit}
+use Rattle.shape.proofs.ShapeLaws.{widths-fit}
 use Rattle.model.specs.Limits.{freshShape}
 use Rattle.fresh.proofs.fresh_shape.Statement.{statement}
 use Rattle.fresh.proofs.fresh_shape.Tie as tie

@@ -1,8 +1,9 @@
 -- `host_map::address_result` meets its contract: the answer of `address_of`, by the case that it is. Assumes nothing.
 use mathlib.Core.Path.{refl, sym, ap, _∙_}
 use native.Mathlib.Omega.{arith}
-use Rattle.address.specs.Answers.{indexList, addressAnswerOf}
-use Rattle.address.proofs.AnswerLaws.{addressAnswer-refused}
+use Rattle.address_formula.specs.Index.{indexList}
+use Rattle.address_calls.specs.Answers.{addressAnswerOf}
+use Rattle.address_calls.proofs.AnswerLaws.{addressAnswer-refused}
 use borrow.Author.Needs.{needs}
 use Rattle.host_map.proofs.address_result.Statement.{statement}
 use Rattle.host_map.proofs.address_result.Tie as tie

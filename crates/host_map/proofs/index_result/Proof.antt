@@ -2,8 +2,8 @@
 use mathlib.Core.Path.{refl, sym, ap, _∙_}
 use native.Mathlib.Omega.{arith}
 use mathlib.Core.List.{[], _∷_}
-use Rattle.address.specs.Answers.{indexAnswerOf}
-use Rattle.address.proofs.AnswerLaws.{indexAnswer-refused}
+use Rattle.address_calls.specs.Answers.{indexAnswerOf}
+use Rattle.address_calls.proofs.AnswerLaws.{indexAnswer-refused}
 use borrow.Author.Needs.{needs}
 use Rattle.host_map.proofs.index_result.Statement.{statement}
 use Rattle.host_map.proofs.index_result.Tie as tie

@@ -1,12 +1,20 @@
--- `host_reads::lookup_result` meets its contract: what `lookup` promises, by its answer. Assumes nothing.
-use mathlib.Core.Path.{ap}
+-- `host_reads::lookup_result` meets its contract: what `lookup` promises, reported. Assumes nothing.
+use mathlib.Core.Path.{subst}
 use Rattle.store.specs.Answers.{foundAnswer}
 use Rattle.store.specs.Store.{store}
 use Rattle.store.specs.Promises.{LookupPromise}
-use Rattle.host_reads.proofs.ResultLaws.{keeps-accepted, keeps-refused, lookup-not-zero}
+use Rattle.store.specs.declared.State.{State}
+use Rattle.host_results.proofs.ResultLaws.{keeps-reported}
+use Rattle.host_reads.proofs.RefusalLaws.{lookup-not-zero}
 use borrow.Author.Needs.{needs}
 use Rattle.host_reads.proofs.lookup_result.Statement.{statement}
 use Rattle.host_reads.proofs.lookup_result.Tie as tie
+
+-- what `lookup` promises of a state
+abbrev Promise : tie.After-lookup → State → Type 0
+Promise c state =
+    let a = c .before .before .before .before .before .args in
+    LookupPromise (store state (a .dir .now) (a .pages .now)) (a .key .values) (foundAnswer (c .lookup .result))
 
 state-in-requires : tie.Need-state-in-requires
 state-in-requires c κs = search needs
@@ -14,36 +22,14 @@ state-in-requires c κs = search needs
 lookup-requires : tie.Need-lookup-requires
 lookup-requires c κs = search needs
 
-enum-known-answer : tie.Need-enum-known-answer
-enum-known-answer c = search needs
-
-enum-known-answer-2 : tie.Need-enum-known-answer-2
-enum-known-answer-2 c = search needs
+found-result-requires : tie.Need-found-result-requires
+found-result-requires c κs = lookup-not-zero _ _ _ (c .lookup .ensures)
 
 returns : tie.Need-returns
-unfolding foundAnswer
 returns c =
-    let s = c .before .before .before in
-    let a = s .before .before .before .before .before .args in
-    keeps-accepted (λ t. LookupPromise (store t (a .dir .now) (a .pages .now)) (a .key .values)) (a .state .now) _
-    (s .before .state-in .ensures) _ (s .lookup .ensures) _ _ (ap foundAnswer (c .before .answer .given .1))
-
-returns-2 : tie.Need-returns-2
-unfolding foundAnswer
-returns-2 c =
-    let s = c .before .before .before in
-    let a = s .before .before .before .before .before .args in
-    keeps-refused (λ t. LookupPromise (store t (a .dir .now) (a .pages .now)) (a .key .values)) (a .state .now) _
-    (s .before .state-in .ensures) _ (s .lookup .ensures) _ _ (lookup-not-zero _ _)
-    (ap foundAnswer (c .before .answer2 .given .1))
+    let s = c .before in
+    keeps-reported _ _ _ _ _ (subst (Promise s) (s .before .state-in .ensures) (s .lookup .ensures))
+    (c .found-result .ensures)
 
 pub lookup-result-spec : {M : Type 1} → statement M
-lookup-result-spec =
-    tie.close
-    (tie.spec
-    state-in-requires
-    lookup-requires
-    enum-known-answer
-    enum-known-answer-2
-    returns
-    returns-2)
+lookup-result-spec = tie.close (tie.spec state-in-requires lookup-requires found-result-requires returns)

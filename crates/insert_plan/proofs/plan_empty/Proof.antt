@@ -1,7 +1,7 @@
 -- `insert_plan::plan_empty` meets its contract: a free page, or none. Assumes nothing.
 use borrow.Author.Needs.{needs}
 use Rattle.store.specs.Store.{store}
-use Rattle.insert_plan.proofs.RefusalLaws.{seven-empty, get-planned}
+use Rattle.insert_planned.proofs.RefusalLaws.{seven-empty, get-planned}
 use Rattle.insert_plan.proofs.plan_empty.Statement.{statement}
 use Rattle.insert_plan.proofs.plan_empty.Tie as tie
 

@@ -13,9 +13,9 @@ use Rattle.store.specs.Store.{store, wordAt}
 use Rattle.refusals.proofs.PassedLaws.{passed}
 use Rattle.leaf_word.proofs.PageLaws.{indexFits-packed}
 use Rattle.leaf_word.proofs.WordLaws.{key-word-asks, key-word-is}
-use Rattle.insert_plan.specs.Plan.{InsertAsked}
-use Rattle.insert_plan.proofs.MetLaws.{sixteen}
-use Rattle.insert_plan.proofs.RefusalLaws.{nine-limits, nine-word, asked}
+use Rattle.insert_planned.specs.Found.{InsertAsked}
+use Rattle.insert_planned.proofs.MetLaws.{sixteen}
+use Rattle.insert_planned.proofs.RefusalLaws.{nine-limits, nine-word, asked}
 use Rattle.insert_plan.proofs.plan_insert.Statement.{statement}
 use Rattle.insert_plan.proofs.plan_insert.Tie as tie
 
@@ -51,7 +51,8 @@ returns c =
 found : (c : tie.After-key-word)
     → let a = c .before .before .before .before .before .before .before .before .args in
     c .key-word .result
-    ≡ wordAt (a .state .shape) (a .state .deepest) (a .dir .now) (splitBit (widthsOf (a .state .shape)) (a .key .values))
+    ≡ wordAt (a .state .shape) (a .state .deepest) (a .dir .now)
+    (splitBit (widthsOf (a .state .shape)) (a .key .values))
 found c =
     let a = c .before .before .before .before .before .before .before .before .args in
     key-word-is (a .state .shape) _ (c .before .before .widths-of .ensures) (a .state .deepest) (a .dir .now)

@@ -4,7 +4,7 @@ use mathlib.Core.Path.{_≡_, sym, ap, _∙_}
 use native.Mathlib.Omega.{arith}
 use borrow.Author.Needs.{needs}
 use Rattle.shape.proofs.ShapeLaws.{capacity-bounds}
-use Rattle.pages.proofs.PageLaws.{page-end-le}
+use Rattle.page.proofs.PartLaws.{page-end-le}
 use Rattle.directory_word.specs.Word.{wordOf}
 use Rattle.directory_word.specs.declared.Leaf.the-variants.{Page}
 use Rattle.leaf_word.specs.Hold.{wordHolds}

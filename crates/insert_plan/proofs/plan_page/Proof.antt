@@ -1,6 +1,6 @@
 -- `insert_plan::plan_page` meets its contract: the part that is lent is the leaf's page, and each way that it ends is a
 -- law of the page or of the key's place on it. Assumes nothing.
-use Prim.Native.Nat.{_+_, _-_, _*_}
+use Prim.Native.Nat.{_+_, _-_}
 use mathlib.Core.Path.{_≡_, sym, ap, _∙_, subst}
 use mathlib.Core.Bool.{true}
 use mathlib.Core.Logic.{inl, inr}
@@ -11,46 +11,49 @@ use borrow.Author.Needs.{needs}
 use borrow.Author.Tests.{not-true, not-false}
 use borrow.Rule.Slice.PartMut.{midOf}
 use Rattle.shape.specs.Shape.{widthsOf}
-use Rattle.address.proofs.AnswerLaws.{widths-fit}
+use Rattle.shape.proofs.ShapeLaws.{widths-fit}
 use Rattle.record.specs.Packed.{unpackedKey}
-use Rattle.page.specs.Page.{pageSize, pageAt}
-use Rattle.pages.proofs.PageLaws.{midOf-page, length-pageAt}
+use Rattle.page.specs.Page.{pageAt}
+use Rattle.page.proofs.PartLaws.{midOf-page, length-pageAt}
 use Rattle.page_place.specs.Find.{Placed}
 use Rattle.store.specs.Store.{store}
 use Rattle.leaf_word.specs.Hold.{ownPage}
-use Rattle.insert_plan.proofs.RefusalLaws.{nine-count, nine-ends, four-stored, take-planned, full-met}
+use Rattle.insert_planned.proofs.RefusalLaws.{nine-count, nine-ends, four-stored, take-planned, full-met}
 use Rattle.insert_plan.proofs.plan_page.Statement.{statement}
 use Rattle.insert_plan.proofs.plan_page.Tie as tie
 
 -- what is found is the key's place on the page
 place : (c : tie.After-find)
-    → let f = c .before .before .before .before .before .before .before in
+    → let f = c .before .before .before .before .before .before .before .before .before in
     let a = f .before .before .before .before .args in
     Placed (widthsOf (a .state .shape)) (unpackedKey (a .key))
     (pageAt (a .state .shape .capacity) (a .pages .now) (a .page))
     (f .count-at .result) (c .find .result)
 place c =
-    let f = c .before .before .before .before .before .before .before in
+    let size = c .before .before .before in
+    let f = size .before .before .before .before .before .before in
     let a = f .before .before .before .before .args in
     let n = f .count-at .result in
-    let size = pageSize (a .state .shape .capacity) in
-    let start = a .page * size in
+    let start = size .before .page-start .result in
     subst (λ page. Placed (widthsOf (a .state .shape)) (unpackedKey (a .key)) page n (c .find .result))
-    (midOf-page (a .state .shape .capacity) (a .page) (a .pages .now))
-    (subst (λ ws. Placed ws (unpackedKey (a .key)) (midOf start (start + size - start) (a .pages .now)) n
+    (midOf-page (a .state .shape .capacity) (a .page) _ _ (a .pages .now) (size .before .page-start .ensures)
+    (size .page-size .ensures))
+    (subst
+    (λ ws. Placed ws (unpackedKey (a .key)) (midOf start (start + size .page-size .result - start) (a .pages .now)) n
     (c .find .result))
     (c .before .widths-of .ensures) (c .find .ensures))
 
 -- the page is the leaf's
 own : (c : tie.After-find)
-    → let f = c .before .before .before .before .before .before .before in
+    → let f = c .before .before .before .before .before .before .before .before .before in
     let a = f .before .before .before .before .args in
     ownPage (a .state .shape) (a .depth) (a .key) (pageAt (a .state .shape .capacity) (a .pages .now) (a .page))
     (f .count-at .result)
     ≡ true
 own c =
-    let holds = c .before .before .before .before .page-holds in
-    sym (holds .ensures) ∙ not-false (holds .result) (c .before .before .before .if3 .left)
+    let held = c .before .before .before .before .before in
+    let holds = held .before .page-holds in
+    sym (holds .ensures) ∙ not-false (holds .result) (held .if3 .left)
 
 cast-capacity : tie.Need-cast-capacity
 cast-capacity c = search needs
@@ -94,14 +97,11 @@ returns-3 c words values m =
     nine-ends (store (a .state) words (a .pages .now)) values (a .key) (a .page) (a .depth) m _
     (f .count-at .ensures .0) (sym (holds .ensures) ∙ not-true (holds .result) (c .if3 .taken))
 
-mul-size : tie.Need-mul-size
-mul-size c = search needs
+page-start-requires : tie.Need-page-start-requires
+page-start-requires c κs = search needs
 
-add-size : tie.Need-add-size
-add-size c = search needs
-
-mul-start : tie.Need-mul-start
-mul-start c = search needs
+page-size-requires : tie.Need-page-size-requires
+page-size-requires c κs = search needs
 
 add-end : tie.Need-add-end
 add-end c = search needs
@@ -120,12 +120,16 @@ widths-of-requires c κs = search needs
 
 find-requires : tie.Need-find-requires
 find-requires c κs =
-    let s = c .before .before .before .before .before .before .before .before .before .before in
+    let size = c .before .before in
+    let held = size .before .before in
+    let s = held .before .before .before .before .before .before .before .before in
     let st = s .args .state in
-    let few = c .before .before .before .before .if2 .left in
-    let size = ap length (midOf-page (st .shape .capacity) (s .args .page) (s .args .pages .now))
+    let few = held .before .before .if2 .left in
+    let part = midOf-page (st .shape .capacity) (s .args .page) _ _ (s .args .pages .now)
+    (size .before .page-start .ensures) (size .page-size .ensures) in
+    let whole = ap length part
     ∙ length-pageAt (st .shape .capacity) (s .args .page) (s .args .pages .now) (s .pre .1 .whole) in
-    (omega (arith, size), widths-fit (st .shape) _ (s .pre .0 .shape) (c .widths-of .ensures))
+    (omega (arith, whole), widths-fit (st .shape) _ (s .pre .0 .shape) (c .widths-of .ensures))
 
 enum-known-found : tie.Need-enum-known-found
 enum-known-found c = search needs
@@ -136,13 +140,14 @@ enum-told c = search needs
 returns-4 : tie.Need-returns-4
 returns-4 c words values m =
     let d = c .before .before in
-    let f = d .before .before .before .before .before .before .before in
+    let few = d .before .before .before .before .before .before .before in
+    let f = few .before .before in
     let s = f .before .before .before .before in
     let a = s .args in
     let known = f .before .before .before .shared-slice-known .given in
     four-stored (store (a .state) words (a .pages .now)) values (a .key) (a .page) (a .depth) m _
     (f .count-at .ensures .0)
-    (omega (arith, d .before .before .before .before .before .if2 .left)) (own d) (λ i. omega (arith, known i)) _
+    (omega (arith, few .if2 .left)) (own d) (λ i. omega (arith, known i)) _
     (subst
     (Placed (widthsOf (a .state .shape)) (unpackedKey (a .key))
     (pageAt (a .state .shape .capacity) (a .pages .now) (a .page)) (f .count-at .result))
@@ -152,11 +157,12 @@ returns-5 : tie.Need-returns-5
 returns-5 c words values m =
     let found = c .before .before .found in
     let d = c .before .before .before .before in
-    let f = d .before .before .before .before .before .before .before in
+    let few = d .before .before .before .before .before .before .before in
+    let f = few .before .before in
     let a = f .before .before .before .before .args in
     let known = f .before .before .before .shared-slice-known .given in
     take-planned (store (a .state) words (a .pages .now)) values (a .key) (a .page) (a .depth) m _
-    (f .count-at .ensures .0) (omega (arith, d .before .before .before .before .before .if2 .left)) (own d)
+    (f .count-at .ensures .0) (omega (arith, few .if2 .left)) (own d)
     (λ i. omega (arith, known i)) _
     (subst
     (Placed (widthsOf (a .state .shape)) (unpackedKey (a .key))
@@ -165,7 +171,7 @@ returns-5 c words values m =
 
 plan-split-requires : tie.Need-plan-split-requires
 plan-split-requires c κs =
-    let f = c .before .before .before .before .before .before .before .before .before .before .before in
+    let f = c .before .before .before .before .before .before .before .before .before .before .before .before .before in
     let s = f .before .before .before .before in
     (s .pre .0, s .pre .1)
 
@@ -173,13 +179,14 @@ returns-6 : tie.Need-returns-6
 returns-6 c words values m =
     let found = c .before .before .before .found in
     let d = c .before .before .before .before .before in
-    let f = d .before .before .before .before .before .before .before in
+    let few = d .before .before .before .before .before .before .before in
+    let f = few .before .before in
     let a = f .before .before .before .before .args in
     let known = f .before .before .before .shared-slice-known .given in
     c .plan-split .ensures words values
     (full-met (store (a .state) words (a .pages .now)) values (a .key) (a .page) (a .depth) m _
     (f .count-at .ensures .0)
-    (omega (arith, d .before .before .before .before .before .if2 .left)) (own d) (λ i. omega (arith, known i)) _
+    (omega (arith, few .if2 .left)) (own d) (λ i. omega (arith, known i)) _
     (subst
     (Placed (widthsOf (a .state .shape)) (unpackedKey (a .key))
     (pageAt (a .state .shape .capacity) (a .pages .now) (a .page)) (f .count-at .result))
@@ -196,9 +203,8 @@ plan-page-spec =
     returns-2
     page-holds-requires
     returns-3
-    mul-size
-    add-size
-    mul-start
+    page-start-requires
+    page-size-requires
     add-end
     sub-find
     part-find-start

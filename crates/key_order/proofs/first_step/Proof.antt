@@ -11,8 +11,8 @@ use Rattle.key_order.proofs.first_step.Tie as tie
 first-pair-requires : tie.Need-first-pair-requires
 first-pair-requires c κs = search needs
 
-step-number-requires : tie.Need-step-number-requires
-step-number-requires c κs = search needs
+steps-before-requires : tie.Need-steps-before-requires
+steps-before-requires c κs = search needs
 
 returns : tie.Need-returns
 returns c =
@@ -20,10 +20,10 @@ returns c =
     let a = start .args in
     let w = a .widths in
     let pair = c .before .first-pair in
-    c .step-number .ensures
+    sym (c .steps-before .ensures .before)
     ∙ sym
     (firstStep-pair (widthList w) (start .pre) (unpackedKey (a .x)) (unpackedKey (a .y)) (pair .result) (pair .ensures)
     (length-steps (w .w0) (w .w1) (w .w2) (w .w3) (start .pre)))
 
 pub first-step-spec : {M : Type 1} → statement M
-first-step-spec = tie.close (tie.spec first-pair-requires step-number-requires returns)
+first-step-spec = tie.close (tie.spec first-pair-requires steps-before-requires returns)

@@ -6,7 +6,6 @@ use lib.ListN.{getD}
 use Rattle.shape.specs.Shape.{widthList}
 use Rattle.split.specs.Bits.{splitBit}
 use Rattle.cell.proofs.CellLaws.{cell-laws}
-use borrow.Author.Needs.{needs}
 use Rattle.leaf_word.proofs.key_word.Statement.{statement}
 use Rattle.leaf_word.proofs.key_word.Tie as tie
 
@@ -15,17 +14,17 @@ below c =
     let s = c .before .before in
     let w = s .args .widths in
     rw (c .find-cell .ensures)
-    (cell-laws (w .w0) (w .w1) (w .w2) (w .w3) (s .pre .0) .address-lt (s .args .t) (s .pre .1)
+    (cell-laws (w .w0) (w .w1) (w .w2) (w .w3) (s .pre .fit) .address-lt (s .args .t) (s .pre .deep)
     (splitBit (widthList w) (s .args .values)))
 
 find-cell-requires : tie.Need-find-cell-requires
-find-cell-requires c κs = search needs
+find-cell-requires c κs = let s = c .before in (s .pre .fit, s .pre .deep)
 
 mul-result : tie.Need-mul-result
-mul-result c = record { fits = omega (arith, below c) }
+mul-result c = record { fits = omega (arith, below c, c .before .before .pre .lent) }
 
 shared-slice-read-result : tie.Need-shared-slice-read-result
-shared-slice-read-result c = omega (arith, below (c .before))
+shared-slice-read-result c = omega (arith, below (c .before), c .before .before .before .pre .lent)
 
 returns : tie.Need-returns
 returns c =

@@ -1,11 +1,11 @@
 -- `leaf_word::page_holds` meets its contract: what is lent is the page, and the mask is that of the leaf's fixed bits.
 -- Assumes nothing.
 use mathlib.Core.Path.{ap, _∙_}
-use borrow.Author.Needs.{needs}
 use Rattle.page.specs.Page.{pageAt}
-use Rattle.pages.proofs.PageLaws.{midOf-page}
+use Rattle.page.proofs.PartLaws.{midOf-page}
 use Rattle.page_ends.specs.Ends.{endsAgree}
 use Rattle.leaf_word.proofs.PageLaws.{fixed-bits-asks, endsAgree-mask}
+use borrow.Author.Needs.{needs}
 use Rattle.leaf_word.proofs.page_holds.Statement.{statement}
 use Rattle.leaf_word.proofs.page_holds.Tie as tie
 
@@ -17,17 +17,14 @@ fixed-bits-requires c κs =
     let s = c .before .before in
     fixed-bits-asks (s .args .shape) (s .pre .shape) (s .args .depth) (s .pre .deep) _ (c .widths-of .ensures)
 
-cast-size : tie.Need-cast-size
-cast-size c = search needs
+cast-capacity : tie.Need-cast-capacity
+cast-capacity c = search needs
 
-mul-size : tie.Need-mul-size
-mul-size c = search needs
+page-start-requires : tie.Need-page-start-requires
+page-start-requires c κs = search needs
 
-add-size : tie.Need-add-size
-add-size c = search needs
-
-mul-start : tie.Need-mul-start
-mul-start c = search needs
+page-size-requires : tie.Need-page-size-requires
+page-size-requires c κs = search needs
 
 add-end : tie.Need-add-end
 add-end c = search needs
@@ -46,15 +43,16 @@ ends-agree-requires c κs = search needs
 
 returns : tie.Need-returns
 returns c =
-    let s = c .before .before .before .before .before .before in
+    let size = c .before .before in
+    let mask = size .before .before .before in
+    let s = mask .before .before .before in
     let a = s .args in
     let b = a .shape .capacity in
-    let mask = c .before .before .before .fixed-bits in
     c .ends-agree .ensures
-    ∙ ap (λ page. endsAgree (mask .result) (a .key) page (a .n)) (midOf-page b (a .g) (a .pages .now))
-    ∙ endsAgree-mask (a .shape) (s .pre .shape) (a .depth) (s .pre .deep) _
-    (c .before .before .before .before .widths-of .ensures) _ (mask .ensures) (a .key) (s .pre .fits)
-    (pageAt b (a .pages .now) (a .g)) (a .n)
+    ∙ ap (λ page. endsAgree (mask .fixed-bits .result) (a .key) page (a .n))
+    (midOf-page b (a .g) _ _ (a .pages .now) (size .before .page-start .ensures) (size .page-size .ensures))
+    ∙ endsAgree-mask (a .shape) (s .pre .shape) (a .depth) (s .pre .deep) _ (mask .before .widths-of .ensures) _
+    (mask .fixed-bits .ensures) (a .key) (s .pre .fits) (pageAt b (a .pages .now) (a .g)) (a .n)
 
 pub page-holds-spec : {M : Type 1} → statement M
 page-holds-spec =
@@ -62,10 +60,9 @@ page-holds-spec =
     (tie.spec
     widths-of-requires
     fixed-bits-requires
-    cast-size
-    mul-size
-    add-size
-    mul-start
+    cast-capacity
+    page-start-requires
+    page-size-requires
     add-end
     sub-ends-agree
     part-ends-agree-start

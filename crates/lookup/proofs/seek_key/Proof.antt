@@ -9,14 +9,15 @@ use borrow.Author.Tests.{not-true, not-false}
 use Rattle.shape.specs.Shape.{widthsOf, indexFits}
 use Rattle.split.specs.Bits.{splitBit}
 use Rattle.record.specs.Packed.{unpackedKey}
+use Rattle.model.proofs.SetLaws.{SixteenBits-of-keyFits}
 use Rattle.store.specs.Answers.{foundAnswer}
 use Rattle.store.specs.Store.{store, wordAt}
 use Rattle.refusals.specs.Limits.{limitsHold}
-use Rattle.refusals.proofs.LimitsLaws.{limits-parts}
+use Rattle.refusals.proofs.LimitsLaws.{limited}
+use Rattle.refusals.proofs.PassedLaws.{Passed, passed}
 use Rattle.leaf_word.proofs.PageLaws.{indexFits-packed}
 use Rattle.leaf_word.proofs.WordLaws.{key-word-asks, key-word-is}
 use Rattle.lookup.proofs.CaseLaws.{soughtAnswer-limits, soughtAnswer-word}
-use Rattle.lookup.proofs.EarlyLaws.{Passed, passed, SixteenBits-of-keyFits}
 use Rattle.lookup.proofs.seek_key.Statement.{statement}
 use Rattle.lookup.proofs.seek_key.Tie as tie
 
@@ -47,7 +48,8 @@ returns c =
 found : (c : tie.After-key-word)
     → let a = c .before .before .before .before .before .before .before .before .args in
     c .key-word .result
-    ≡ wordAt (a .state .shape) (a .state .deepest) (a .dir .now) (splitBit (widthsOf (a .state .shape)) (a .key .values))
+    ≡ wordAt (a .state .shape) (a .state .deepest) (a .dir .now)
+    (splitBit (widthsOf (a .state .shape)) (a .key .values))
 found c =
     let a = c .before .before .before .before .before .before .before .before .args in
     key-word-is (a .state .shape) _ (c .before .before .widths-of .ensures) (a .state .deepest) (a .dir .now)
@@ -63,9 +65,9 @@ key-word-requires : tie.Need-key-word-requires
 key-word-requires c κs =
     let st = c .before .before .before .before .before .before .before .args .state in
     let p = early (c .before .before .before .before .before) in
-    let l = limits-parts st (held (c .before .before .before)) in
-    key-word-asks (st .shape) _ (c .before .widths-of .ensures) (st .deepest) (p .shape) (le-trans (l .4) (l .3)) _
-    (le-trans (pow-mono (l .4)) (p .words-lent))
+    let l = limited st (held (c .before .before .before)) in
+    key-word-asks (st .shape) _ (c .before .widths-of .ensures) (st .deepest) (p .shape)
+    (le-trans (l .depth-within) (l .depth-bits)) _ (le-trans (pow-mono (l .depth-within)) (p .words-lent))
 
 pack-key-requires : tie.Need-pack-key-requires
 pack-key-requires c κs =
@@ -78,12 +80,12 @@ seek-by-word-requires c κs =
     let s = c .before .before .before .before .before .before .before .before .before in
     let st = s .args .state in
     let p = early (c .before .before .before .before .before .before .before) in
-    let l = limits-parts st (held (c .before .before .before .before .before)) in
+    let l = limited st (held (c .before .before .before .before .before)) in
     record {
       shape = p .shape;
-      few = l .1;
-      short = le-trans (l .4) (l .2);
-      bits = le-trans (l .4) (l .3);
+      few = l .most-pages;
+      short = le-trans (l .depth-within) (l .depth-limit);
+      bits = le-trans (l .depth-within) (l .depth-bits);
       lent = p .pages-lent;
       fits = subst (λ k. indexFits (widthsOf (st .shape)) (unpackedKey k) ≡ true) (sym (c .pack-key .ensures))
           (indexFits-packed (st .shape) (s .args .key .values) (p .shape) (p .fits) (four s));

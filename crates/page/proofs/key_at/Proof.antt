@@ -1,7 +1,7 @@
 -- `page::key_at` meets its contract: a record begins with its key. Assumes nothing.
-use Prim.Native.Nat.{_+_, _*_}
 use mathlib.Core.Path.{sym, _∙_}
 use Rattle.record.proofs.PackedLaws.{keyIn-field}
+use Rattle.page.specs.Fields.{recordOffset}
 use borrow.Author.Needs.{needs}
 use Rattle.page.proofs.key_at.Statement.{statement}
 use Rattle.page.proofs.key_at.Tie as tie
@@ -18,7 +18,7 @@ read-key-requires c κs = search needs
 returns : tie.Need-returns
 returns c =
     let a = c .before .before .args in
-    c .read-key .ensures ∙ sym (keyIn-field (a .page .now) (2 + 12 * a .i))
+    c .read-key .ensures ∙ sym (keyIn-field (a .page .now) (recordOffset (a .i)))
 
 pub key-at-spec : {M : Type 1} → statement M
 key-at-spec = tie.close (tie.spec mul-read-key add-read-key read-key-requires returns)

@@ -5,44 +5,38 @@ use borrow.Author.Needs.{needs}
 use Rattle.pages.proofs.carry.Statement.{statement}
 use Rattle.pages.proofs.carry.Tie as tie
 
-mul-size : tie.Need-mul-size
-mul-size c = search needs
-
-add-size : tie.Need-add-size
-add-size c = search needs
+page-size-requires : tie.Need-page-size-requires
+page-size-requires c κs = search needs
 
 sub-run : tie.Need-sub-run
 sub-run c = search needs
 
-mul-from : tie.Need-mul-from
-mul-from c = search needs
+page-start-requires : tie.Need-page-start-requires
+page-start-requires c κs = search needs
 
 add-from-end : tie.Need-add-from-end
 add-from-end c = search needs
 
-sub-copy : tie.Need-sub-copy
-sub-copy c = search needs
+sub-copy-records : tie.Need-sub-copy-records
+sub-copy-records c = search needs
 
-part-copy-start : tie.Need-part-copy-start
-part-copy-start c = search needs
+part-copy-records-start : tie.Need-part-copy-records-start
+part-copy-records-start c = search needs
 
-part-copy-end : tie.Need-part-copy-end
-part-copy-end c = search needs
+part-copy-records-end : tie.Need-part-copy-records-end
+part-copy-records-end c = search needs
 
-mul-copy : tie.Need-mul-copy
-mul-copy c = search needs
+mul-copy-records : tie.Need-mul-copy-records
+mul-copy-records c = search needs
 
-add-copy : tie.Need-add-copy
-add-copy c = search needs
+add-copy-records : tie.Need-add-copy-records
+add-copy-records c = search needs
 
-slice-aggregate-copy : tie.Need-slice-aggregate-copy
-slice-aggregate-copy c = search needs
+slice-aggregate-copy-records : tie.Need-slice-aggregate-copy-records
+slice-aggregate-copy-records c = search needs
 
-mul-copy-2 : tie.Need-mul-copy-2
-mul-copy-2 c = search needs
-
-copy-requires : tie.Need-copy-requires
-copy-requires c κs = search needs
+copy-records-requires : tie.Need-copy-records-requires
+copy-records-requires c κs = search needs
 
 sub-set-count : tie.Need-sub-set-count
 sub-set-count c = search needs
@@ -56,8 +50,8 @@ part-set-count-end c = search needs
 set-count-requires : tie.Need-set-count-requires
 set-count-requires c κs = search needs
 
-mul-to : tie.Need-mul-to
-mul-to c = search needs
+page-start-requires-2 : tie.Need-page-start-requires-2
+page-start-requires-2 c κs = search needs
 
 add-to-end : tie.Need-add-to-end
 add-to-end c = search needs
@@ -83,13 +77,16 @@ same-length c = search needs
 returns : tie.Need-returns
 returns c =
     let appended = c .before .before in
-    let counted = appended .before .before .before .before .before in
+    let to = appended .before .before .before in
+    let counted = to .before .before .before in
     let copied = counted .before .before .before in
-    let start = copied .before .before .before .before .before in
+    let from = copied .before .before .before .before in
+    let start = from .before .before .before in
     let a = start .args in
     putMid-carried (a .capacity) (a .p) (a .m) (a .n) (a .q) (a .j) (a .pages .now) (start .pre .0 .0)
     (start .pre .0 .1)
-    (start .pre .1 .0) (start .pre .1 .1) (start .pre .1 .2) _ _ _ _ (copied .copy .ensures)
+    (start .pre .1 .0) (start .pre .1 .1) (start .pre .1 .2) _ _ _ (from .page-start .ensures)
+    (to .page-start2 .ensures) (from .before .page-size .ensures) _ _ _ _ (copied .copy-records .ensures)
     (counted .set-count .ensures)
     (appended .append .ensures)
 
@@ -97,24 +94,22 @@ pub carry-spec : {M : Type 1} → statement M
 carry-spec =
     tie.close
     (tie.spec
-    mul-size
-    add-size
+    page-size-requires
     sub-run
-    mul-from
+    page-start-requires
     add-from-end
-    sub-copy
-    part-copy-start
-    part-copy-end
-    mul-copy
-    add-copy
-    slice-aggregate-copy
-    mul-copy-2
-    copy-requires
+    sub-copy-records
+    part-copy-records-start
+    part-copy-records-end
+    mul-copy-records
+    add-copy-records
+    slice-aggregate-copy-records
+    copy-records-requires
     sub-set-count
     part-set-count-start
     part-set-count-end
     set-count-requires
-    mul-to
+    page-start-requires-2
     add-to-end
     sub-append
     part-append-start

@@ -1,19 +1,16 @@
 -- `pages::count_at` meets its contract: what is lent is the page. Assumes nothing.
 use mathlib.Core.Path.{ap, _∙_}
 use Rattle.page.specs.Page.{countOf}
-use Rattle.pages.proofs.PageLaws.{midOf-page}
+use Rattle.page.proofs.PartLaws.{midOf-page}
 use borrow.Author.Needs.{needs}
 use Rattle.pages.proofs.count_at.Statement.{statement}
 use Rattle.pages.proofs.count_at.Tie as tie
 
-mul-size : tie.Need-mul-size
-mul-size c = search needs
+page-start-requires : tie.Need-page-start-requires
+page-start-requires c κs = search needs
 
-add-size : tie.Need-add-size
-add-size c = search needs
-
-mul-start : tie.Need-mul-start
-mul-start c = search needs
+page-size-requires : tie.Need-page-size-requires
+page-size-requires c κs = search needs
 
 add-end : tie.Need-add-end
 add-end c = search needs
@@ -32,16 +29,18 @@ count-requires c κs = search needs
 
 returns : tie.Need-returns
 returns c =
-    let a = c .before .before .before .args in
-    (c .count .ensures .0 ∙ ap countOf (midOf-page (a .capacity) (a .p) (a .pages .now)), c .count .ensures .1)
+    let size = c .before .before in
+    let a = size .before .before .before .args in
+    let page = midOf-page (a .capacity) (a .p) _ _ (a .pages .now) (size .before .page-start .ensures)
+    (size .page-size .ensures) in
+    (c .count .ensures .0 ∙ ap countOf page, c .count .ensures .1)
 
 pub count-at-spec : {M : Type 1} → statement M
 count-at-spec =
     tie.close
     (tie.spec
-    mul-size
-    add-size
-    mul-start
+    page-start-requires
+    page-size-requires
     add-end
     sub-count
     part-count-start

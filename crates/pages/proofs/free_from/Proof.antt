@@ -4,7 +4,7 @@ use Prim.Native.Nat.{_-_}
 use mathlib.Core.Path.{_≡_, refl, sym, _∙_}
 use native.Mathlib.Omega.{arith}
 use Rattle.pages.specs.Pages.{firstFree}
-use Rattle.pages.proofs.PageLaws.{page-end-le}
+use Rattle.page.proofs.PartLaws.{page-end-le}
 use Rattle.pages.proofs.FreeLaws.{firstFree-end, firstFree-here, firstFree-next}
 use Rattle.pages.proofs.free_from.Statement.{statement}
 use Rattle.pages.proofs.free_from.Tie as tie

@@ -1,7 +1,7 @@
 -- `refusals::key_number` meets its contract: each way that it ends is a law of the number. Assumes nothing.
 use mathlib.Core.Path.{_≡_, sym, _∙_}
 use Rattle.refusals.specs.Lengths.{lentNumberBy}
-use Rattle.refusals.proofs.LentLaws.{keyNumberBy-lent, keyNumberBy-fits, keyNumberBy-out, shape-of-lentNumberBy}
+use Rattle.refusals.proofs.LentLaws.{memoryLent, keyNumberBy-lent, keyNumberBy-fits, keyNumberBy-out}
 use borrow.Author.Needs.{needs}
 use Rattle.refusals.proofs.key_number.Statement.{statement}
 use Rattle.refusals.proofs.key_number.Tie as tie
@@ -10,8 +10,6 @@ none-lent : (c : tie.Else1)
     → lentNumberBy (c .before .before .args .state) (c .before .before .args .words) (c .before .before .args .bytes)
     ≡ 0
 none-lent c = sym (c .before .lent-number .ensures) ∙ c .if1 .left
-
--- `refusals::key_number` meets its contract: each way that it ends is a law of the number. Assumes nothing.
 
 lent-number-requires : tie.Need-lent-number-requires
 lent-number-requires c κs = search needs
@@ -27,7 +25,7 @@ key-fits-requires : tie.Need-key-fits-requires
 key-fits-requires c κs =
     let e = c .before in
     let s = e .before .before .args in
-    shape-of-lentNumberBy (s .state) (s .words) (s .bytes) (none-lent e)
+    memoryLent (s .state) (s .words) (s .bytes) (none-lent e) .shape
 
 returns-2 : tie.Need-returns-2
 returns-2 c =

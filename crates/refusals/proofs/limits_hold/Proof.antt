@@ -3,7 +3,7 @@
 use mathlib.Core.Path.{_≡_, ap, _∙_}
 use native.Mathlib.Omega.{arith}
 use Rattle.shape.specs.Shape.{widthsOf, widthList, total}
-use Rattle.address.proofs.AnswerLaws.{widths-fit}
+use Rattle.shape.proofs.ShapeLaws.{widths-fit}
 use Rattle.refusals.proofs.LimitsLaws.{limitsHold-no-page, limitsHold-pages, limitsHold-deep, limitsHold-bits}
 use Rattle.refusals.proofs.LimitsLaws.{limitsHold-depth}
 use borrow.Author.Needs.{needs}

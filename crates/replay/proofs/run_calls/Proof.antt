@@ -8,7 +8,7 @@ use borrow.Rule.Slice.PartMut.{same-len-mid, mid-len}
 use borrow.Author.Needs.{needs}
 use Rattle.store.specs.Store.{store}
 use Rattle.replay_encoding.specs.Encoding.{requestSize, outputStart, answerSize}
-use Rattle.replay.specs.Private.{Ran}
+use Rattle.replay.specs.Private.{CallsRan}
 use Rattle.replay.proofs.CountLaws.{call-fits, answer-fits, callCount-as, part-lent}
 use Rattle.replay.proofs.RanLaws.{ran-none, ran-more}
 use Rattle.replay.proofs.run_calls.Statement.{statement}
@@ -18,13 +18,13 @@ abbrev Inv-loop : tie.InvT-loop
 Inv-loop dir₀ pages₀ calls answers₀ out₀ n current₀ start₀ i₀ dir pages answers out current start i =
     (i ≤ n) × (length dir ≡ length dir₀) × (length pages ≡ length pages₀) × (length answers ≡ length answers₀)
     × (length out ≡ length out₀) × (start ≤ length out₀) × (start ≡ outputStart calls (length out₀) i)
-    × Ran (store current₀ dir₀ pages₀) calls answers₀ out₀ i (store current dir pages) answers out
+    × CallsRan (store current₀ dir₀ pages₀) calls answers₀ out₀ i (store current dir pages) answers out
 
 abbrev μ-loop : tie.MeasureT-loop
 μ-loop dir₀ pages₀ calls answers₀ out₀ n current₀ start₀ i₀ dir pages answers out current start i = n - i
 
-smaller-requires : tie.Need-smaller-requires Inv-loop μ-loop
-smaller-requires c κs = search needs
+smaller-length-requires : tie.Need-smaller-length-requires Inv-loop μ-loop
+smaller-length-requires c κs = search needs
 
 loop-holds : tie.Need-loop-holds Inv-loop μ-loop
 unfolding outputStart
@@ -44,7 +44,7 @@ read-request-requires : tie.Need-read-request-requires Inv-loop μ-loop
 read-request-requires c κs =
     let s = c .before .before in
     let a = s .before .before .before .before .before .before .args in
-    call-fits (a .calls .now) (a .answers .now) _ _ (s .smaller .ensures) (c .loop-test .taken)
+    call-fits (a .calls .now) (a .answers .now) _ _ (s .smaller-length .ensures) (c .loop-test .taken)
 
 sub-request-size : tie.Need-sub-request-size Inv-loop μ-loop
 sub-request-size c = let inv = c .before .before .loop .inv in omega (arith, inv .4, inv .5)
@@ -83,7 +83,7 @@ put-answer-requires c κs =
     let loop = test .before .loop in
     let counted = test .before .before in
     let a = counted .before .before .before .before .before .before .args in
-    let fits = answer-fits (a .calls .now) (a .answers .now) _ (loop .i) (counted .smaller .ensures)
+    let fits = answer-fits (a .calls .now) (a .answers .now) _ (loop .i) (counted .smaller-length .ensures)
     (test .loop-test .taken) in
     subst (λ (k : ℕ). answerSize * loop .i + answerSize ≤ k) (sym (loop .inv .3)) fits
 
@@ -144,12 +144,13 @@ returns c =
     let loop = c .before .loop in
     let counted = c .before .before in
     let a = counted .before .before .before .before .before .before .args in
-    let n = counted .smaller .result in
+    let n = counted .smaller-length .result in
     let all : loop .i ≡ n = omega (arith, loop .inv .0, c .loop-test .left) in
     subst
-    (λ (k : ℕ). Ran (store (a .state) (a .dir .now) (a .pages .now)) (a .calls .now) (a .answers .now) (a .out .now) k
+    (λ (k : ℕ). CallsRan (store (a .state) (a .dir .now) (a .pages .now)) (a .calls .now) (a .answers .now)
+    (a .out .now) k
     (store (loop .current) (loop .dir) (loop .pages)) (loop .answers) (loop .out))
-    (all ∙ callCount-as (a .calls .now) (a .answers .now) n (counted .smaller .ensures)) (loop .inv .7)
+    (all ∙ callCount-as (a .calls .now) (a .answers .now) n (counted .smaller-length .ensures)) (loop .inv .7)
 
 pub run-calls-spec : {M : Type 1} → statement M
 run-calls-spec =
@@ -157,7 +158,7 @@ run-calls-spec =
     (tie.spec
     Inv-loop
     μ-loop
-    smaller-requires
+    smaller-length-requires
     loop-holds
     read-request-requires
     sub-request-size

@@ -12,19 +12,19 @@ returns c =
     let a = c .before .before .args in
     (sym (requestSize-none (a .request) (a .room) (c .if1 .taken)), omega arith)
 
-cast-smaller : tie.Need-cast-smaller
-cast-smaller c = search needs
+cast-smaller-length : tie.Need-cast-smaller-length
+cast-smaller-length c = search needs
 
-smaller-requires : tie.Need-smaller-requires
-smaller-requires c κs = search needs
+smaller-length-requires : tie.Need-smaller-length-requires
+smaller-length-requires c κs = search needs
 
 returns-2 : tie.Need-returns-2
 returns-2 c =
     let a = c .before .before .before .before .args in
     let query : a .request .kind < 3 → ⊥ = λ h. omega (arith, h, c .before .before .if1 .left) in (
-      c .smaller .ensures ∙ sym (requestSize-query (a .request) (a .room) query),
-      omega (arith, c .smaller .ensures),
+      c .smaller-length .ensures ∙ sym (requestSize-query (a .request) (a .room) query),
+      omega (arith, c .smaller-length .ensures),
     )
 
 pub request-size-spec : {M : Type 1} → statement M
-request-size-spec = tie.close (tie.spec returns cast-smaller smaller-requires returns-2)
+request-size-spec = tie.close (tie.spec returns cast-smaller-length smaller-length-requires returns-2)

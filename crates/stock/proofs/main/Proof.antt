@@ -2,6 +2,7 @@
 use Prim.Native.Nat.{ℕ}
 use lib.ListN.{length-replicate}
 use borrow.Author.Needs.{needs}
+use Rattle.stock_replies.specs.Replies.{outputSize}
 use Rattle.stock.proofs.main.Statement.{statement}
 use Rattle.stock.proofs.main.Tie as tie
 
@@ -31,7 +32,7 @@ serve-requires c κs = (
   record {
     words-lent = length-replicate {A = ℕ} 4096 0;
     bytes-lent = length-replicate {A = ℕ} 32768 0;
-    output-lent = length-replicate {A = ℕ} 3072 0;
+    output-lent = length-replicate {A = ℕ} outputSize 0;
   },
   search needs,
 )

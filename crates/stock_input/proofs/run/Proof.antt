@@ -5,15 +5,17 @@ use mathlib.Core.Path.{_≡_, refl, _∙_}
 use mathlib.Core.Logic.{inl, inr}
 use native.Mathlib.Omega.{arith}
 use lib.ListN.{length}
-use Rattle.stock_console.specs.Console.{lent}
+use Rattle.stock_console.specs.Console.{stockMemory}
+use Rattle.stock_replies.specs.Replies.{outputSize}
 use Rattle.stock_input.proofs.InputLaws.{Running, running-start, running-step, run-promise}
 use Rattle.stock_input.proofs.run.Statement.{statement}
 use Rattle.stock_input.proofs.run.Tie as tie
 
 abbrev Inv-loop : tie.InvT-loop
 Inv-loop piece from dir₀ pages₀ out₀ text₀ here₀ next₀ dir pages out text here next =
-    (length dir ≡ length dir₀) × (length pages ≡ length pages₀) × (length out ≡ length out₀) × (length out₀ ≤ 3072)
-    × Running piece from here₀ (lent dir₀ pages₀ out₀) text₀ next here (lent dir pages out) text
+    (length dir ≡ length dir₀) × (length pages ≡ length pages₀) × (length out ≡ length out₀)
+    × (length out₀ ≤ outputSize)
+    × Running piece from here₀ (stockMemory dir₀ pages₀ out₀) text₀ next here (stockMemory dir pages out) text
 
 abbrev μ-loop : tie.MeasureT-loop
 μ-loop piece from dir₀ pages₀ out₀ text₀ here₀ next₀ dir pages out text here next = length piece - next

@@ -1,5 +1,6 @@
 -- `stock_text::put_record` meets its contract: the payload stands behind the values. Assumes nothing.
 use Prim.Native.Nat.{_*_}
+use mathlib.Core.Path.{ap}
 use native.Mathlib.Omega.{arith}
 use borrow.Author.Needs.{needs}
 use Rattle.record.specs.Bytes.{recordSize}
@@ -14,11 +15,11 @@ mul-start c = search needs
 put-values-requires : tie.Need-put-values-requires
 put-values-requires c κs = search needs
 
-add-read32 : tie.Need-add-read32
-add-read32 c = search needs
+read-content-requires : tie.Need-read-content-requires
+read-content-requires c κs = search needs
 
-read32-requires : tie.Need-read32-requires
-read32-requires c κs = search needs
+cast-put-field : tie.Need-cast-put-field
+cast-put-field c = search needs
 
 put-field-requires : tie.Need-put-field-requires
 put-field-requires c κs = search needs
@@ -29,12 +30,13 @@ same-length c = search needs
 returns : tie.Need-returns
 returns c =
     let call = c .before .before in
-    let read = call .before .read32 in
-    let values = call .before .before .before .before .before .put-values .ensures in
-    let s = call .before .before .before .before .before .before .before .before .before in
-    let most = length-fieldText-le 9 (read .result) newline (omega (arith, read .ensures .1)) in (
-      Grown-payload _ _ _ (s .args .out .now) _ _ _ (recordSize * s .args .i) (s .args .d) (read .result)
-          (read .ensures .0)
+    let read = call .before .before .before .read-content in
+    let values = call .before .before .before .before .before .before .put-values .ensures in
+    let s = call .before .before .before .before .before .before .before .before .before .before in
+    let payload = ap (λ r. r .payload) (read .ensures) in
+    let most = length-fieldText-le 9 (read .result .payload) newline (omega arith) in (
+      Grown-payload _ _ _ (s .args .out .now) _ _ _ (recordSize * s .args .i) (s .args .d) (read .result .payload)
+          payload
           (values .0) (call .put-field .ensures .0),
       omega (arith, s .pre .0, values .1, call .put-field .ensures .0 .end-is, most),
     )
@@ -45,8 +47,8 @@ put-record-spec =
     (tie.spec
     mul-start
     put-values-requires
-    add-read32
-    read32-requires
+    read-content-requires
+    cast-put-field
     put-field-requires
     same-length
     returns)

@@ -10,7 +10,7 @@ use Rattle.split.specs.Steps.{bitValue}
 use Rattle.split.specs.Bits.{bitOf}
 use Rattle.record.specs.Packed.{unpackedKey}
 use Rattle.record.proofs.PackedLaws.{getD-unpackedKey}
-use Rattle.directory.proofs.PlaceLaws.{stepsBefore-lt}
+use Rattle.pairs.proofs.PlaceLaws.{stepsBefore-lt}
 use Rattle.check_page.proofs.CodeLaws.{Coded, coded-zero, coded-skip, coded-step, coded-end}
 use Rattle.check_page.proofs.codes.first_bits.Statement.{statement}
 use Rattle.check_page.proofs.codes.first_bits.Tie as tie

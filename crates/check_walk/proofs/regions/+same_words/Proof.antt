@@ -6,7 +6,7 @@ use native.Mathlib.Omega.{arith}
 use lib.ListN.{length}
 use borrow.Author.Tests.{not-true, not-false}
 use Rattle.shape.specs.Shape.{widthList}
-use Rattle.check_walk.specs.Regions.{cellWord}
+use Rattle.directory_tests.specs.Intact.{cellWord}
 use Rattle.check_walk.proofs.RegionLaws.{cellWord-first, region-lt}
 use Rattle.check_walk.proofs.RegionLaws.{sameWords-cell, sameWords-lower-fails, sameWords-upper}
 use borrow.Fn.Kinds.{In}

@@ -12,7 +12,7 @@ use borrow.Author.Tests.{not-true, not-false}
 use Rattle.lists.proofs.Shifts.{one-shifted}
 use Rattle.shape.specs.Shape.{widthList}
 use Rattle.split.specs.Steps.{steps}
-use Rattle.directory.proofs.PlaceLaws.{stepPair-lt}
+use Rattle.pairs.proofs.PlaceLaws.{stepPair-lt}
 use Rattle.directory.proofs.DoublingLaws.{upperHalf-lt}
 use Rattle.directory_tests.proofs.FoldLaws.{FoldedTo, foldedTo-none, foldedTo-suc, stepTold-yes, stepTold-no}
 use Rattle.directory_tests.proofs.halving.step_folds.Statement.{statement}
@@ -25,7 +25,7 @@ abbrev μ-loop : tie.MeasureT-loop
 μ-loop widths s own dir g size r₀ r = size - r
 
 abbrev Found : Type 0
-Found = tie.After-pair-of-step Inv-loop μ-loop
+Found = tie.After-step-place Inv-loop μ-loop
 
 abbrev ws : Found → List ℕ
 ws c = widthList (c .before .before .args .widths)
@@ -41,7 +41,7 @@ small : (c : Found) → 2 ^ suc (t c) ≤ 4096
 small c = le-trans (pow-mono (c .before .before .pre .short)) (omega arith)
 
 deep : (c : Found) → t c < length (steps (ws c))
-deep c = stepPair-lt (ws c) (t c) _ (c .pair-of-step .ensures) (c .before .before .pre .fit)
+deep c = stepPair-lt (ws c) (t c) _ (c .step-place .ensures) (c .before .before .pre .fit)
 
 below : (c : tie.In-loop Inv-loop μ-loop) → let s = c .before .before in
     (1 * 2 ^ t s) % 2 ^ 64 + c .before .loop .r < 2 ^ suc (t s)
@@ -53,8 +53,8 @@ low c =
     let s = c .before .before .before in
     upperHalf-lt (ws s) (s .before .before .pre .fit) (t s) (deep s) _ _ (c .whole-of .ensures)
 
-pair-of-step-requires : tie.Need-pair-of-step-requires Inv-loop μ-loop
-pair-of-step-requires c κs = (c .before .pre .fit, c .before .pre .deep)
+step-place-requires : tie.Need-step-place-requires Inv-loop μ-loop
+step-place-requires c κs = (c .before .pre .fit, c .before .pre .deep)
 
 shl-size : tie.Need-shl-size Inv-loop μ-loop
 shl-size c = omega (arith, c .before .before .pre .short)
@@ -75,7 +75,7 @@ whole-of-requires c κs =
       fit = s .before .before .pre .fit;
       from = c .before .loop .inv .low;
       past = subst (λ n. (1 * 2 ^ t s) % 2 ^ 64 + c .before .loop .r < 2 ^ n) (sym (add-one (t s))) (below c);
-      pair = s .pair-of-step .ensures;
+      pair = s .step-place .ensures;
     }
 
 pair-folds-requires : tie.Need-pair-folds-requires Inv-loop μ-loop
@@ -127,7 +127,7 @@ step-folds-spec =
     (tie.spec
     Inv-loop
     μ-loop
-    pair-of-step-requires
+    step-place-requires
     shl-size
     loop-holds
     add-a

@@ -6,7 +6,7 @@ use lib.ListN.{length}
 use borrow.Author.Tests.{not-true, not-false}
 use Rattle.shape.specs.Shape.{widthList}
 use Rattle.split.specs.Steps.{steps}
-use Rattle.address.specs.Answers.{indexList}
+use Rattle.address_formula.specs.Index.{indexList}
 use Rattle.directory.proofs.RegionLaws.{fits-steps, FilledTo, filledTo-start, filledTo-suc}
 use Rattle.directory.proofs.RegionLaws.{first-small, last-small, block-fits}
 use Rattle.directory_tests.proofs.HeldLaws.{blockFilled, blocksTold-yes, blocksTold-no}

@@ -9,10 +9,10 @@ use borrow.Author.Needs.{needs}
 use Rattle.shape.specs.Shape.{widthList}
 use Rattle.split.specs.Steps.{steps}
 use Rattle.address.specs.Address.{address}
-use Rattle.address.specs.Answers.{indexList}
+use Rattle.address_formula.specs.Index.{indexList}
 use Rattle.address.specs.Vectors.{InBox}
 use Rattle.cell.specs.Cell.{cellAddress}
-use Rattle.directory.proofs.CellLaws.{inBox-cell}
+use Rattle.cell.proofs.HalfLaws.{inBox-cell}
 use Rattle.directory.proofs.RegionLaws.{fits-steps, own-lt}
 use Rattle.directory_tests.proofs.HeldLaws.{cellsTold-own, cellsTold-blocks}
 use Rattle.directory_tests.proofs.regions.cells_hold.Statement.{statement}

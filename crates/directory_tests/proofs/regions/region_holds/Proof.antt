@@ -7,7 +7,7 @@ use mathlib.Core.List.{List}
 use borrow.Author.Needs.{needs}
 use Rattle.shape.specs.Shape.{widthList}
 use Rattle.split.specs.Bits.{splitBit}
-use Rattle.address.specs.Answers.{indexList}
+use Rattle.address_formula.specs.Index.{indexList}
 use Rattle.cell.specs.Cell.{cell}
 use Rattle.directory_tests.proofs.regions.region_holds.Statement.{statement}
 use Rattle.directory_tests.proofs.regions.region_holds.Tie as tie

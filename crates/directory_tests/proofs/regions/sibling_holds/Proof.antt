@@ -10,11 +10,11 @@ use lib.ListN.{getD}
 use borrow.Author.Needs.{needs}
 use Rattle.shape.specs.Shape.{widthList}
 use Rattle.split.specs.Bits.{splitBit}
-use Rattle.address.specs.Answers.{indexList}
+use Rattle.address_formula.specs.Index.{indexList}
 use Rattle.cell.specs.Cell.{cell}
-use Rattle.directory.specs.Places.{bitSet}
-use Rattle.directory.proofs.PlaceLaws.{stepsBefore-pair}
-use Rattle.directory.proofs.RegionLaws.{getD-cell-lt}
+use Rattle.address_bits.specs.Bits.{bitSet}
+use Rattle.pairs.proofs.PlaceLaws.{stepsBefore-pair}
+use Rattle.directory.proofs.CellLaws.{getD-cell-lt}
 use Rattle.region.specs.Strings.{sibling}
 use Rattle.directory_sibling.proofs.CellLaws.{cell-sibling-zero, cell-sibling-one}
 use Rattle.directory_tests.specs.Intact.{RegionTold}

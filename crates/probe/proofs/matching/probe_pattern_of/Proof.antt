@@ -6,14 +6,14 @@ use borrow.Author.Needs.{needs}
 use Rattle.probe.proofs.matching.probe_pattern_of.Statement.{statement}
 use Rattle.probe.proofs.matching.probe_pattern_of.Tie as tie
 
-query-of-requires : tie.Need-query-of-requires
-query-of-requires c κs = search needs
+store-query-requires : tie.Need-store-query-requires
+store-query-requires c κs = search needs
 
 pattern-of-requires : tie.Need-pattern-of-requires
-pattern-of-requires c κs = subst GivenSixteenBits (sym (c .query-of .ensures)) (c .before .pre)
+pattern-of-requires c κs = subst GivenSixteenBits (sym (c .store-query .ensures)) (c .before .pre)
 
 returns : tie.Need-returns
-returns c = c .pattern-of .ensures ∙ ap patternOf (c .before .query-of .ensures)
+returns c = c .pattern-of .ensures ∙ ap patternOf (c .before .store-query .ensures)
 
 pub probe-pattern-of-spec : {M : Type 1} → statement M
-probe-pattern-of-spec = tie.close (tie.spec query-of-requires pattern-of-requires returns)
+probe-pattern-of-spec = tie.close (tie.spec store-query-requires pattern-of-requires returns)

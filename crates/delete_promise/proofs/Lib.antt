@@ -1,0 +1,4 @@
+pub mod AcceptedLaws
+pub mod FoundLaws
+pub mod GuardLaws
+pub mod SoundPageLaws

@@ -1,0 +1,4 @@
+pub mod ClimbLaws
+pub mod KeyLaws
+pub mod SiblingLaws
+pub mod WordLaws

@@ -1,0 +1,3 @@
+pub mod Result
+pub mod Settled
+pub mod Wanted

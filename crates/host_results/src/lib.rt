@@ -1,0 +1,159 @@
+// What crosses the C interface as numbers: an answer as a struct of numbers, a change as its number and
+// its state in words, a query as it comes. A number of 0 stands for an accepted call; any other is the
+// refusal's (document 01, "Refused calls"), and the values beside it are 0.
+use host_state::put_state;
+use shape::Attribute;
+use shape::Query;
+use shape::Wanted;
+use store::Change;
+use store::Changed;
+use store::Checked;
+use store::Found;
+use store::Listed;
+ghost use mathlib.Core.Path.{_≡_};
+ghost use Prim.Native.Nat.{_<_, _≤_};
+ghost use lib.ListN.{getD, length};
+ghost use Rattle.shape.specs.Key.{wantedValue, wantedValues};
+ghost use Rattle.shape.specs.Refusal.{accepted, refused};
+ghost use Rattle.model.specs.Model.{changed, found, listed};
+ghost use Rattle.store.specs.Answers.{changedAnswer, foundAnswer, listedAnswer, checkedAnswer};
+ghost use Rattle.host_state.specs.Image.{stateSize};
+ghost use Rattle.host_results.specs.Result.{Reports, isYes};
+ghost use Rattle.host_results.specs.Settled.{Settled};
+ghost use Rattle.host_results.specs.Wanted.{wantedIf, wantedOf};
+
+// A partial-match query: attribute j is given `values[j]` where `given[j]` is not 0, otherwise free.
+#[repr(C)]
+pub struct HostQuery {
+    pub given: [u32; 4],
+    pub values: [u32; 4],
+}
+
+// The payload of a key's record, and the pages read.
+#[repr(C)]
+pub struct LookupResult {
+    pub number: u32,
+    pub payload: u32,
+    pub reads: u32,
+}
+
+// How many records a query wrote, how many match, how many pages it read.
+#[repr(C)]
+pub struct QueryResult {
+    pub number: u32,
+    pub written: u64,
+    pub total: u64,
+    pub reads: u64,
+}
+
+// 1 for a sound store, 0 for any other.
+#[repr(C)]
+pub struct CheckResult {
+    pub number: u32,
+    pub sound: u32,
+}
+
+// A lookup's answer as numbers.
+pub fn found_result(answer: Found) -> LookupResult
+    requires { ⌜ (foundAnswer answer ≡ refused 0 → ⊥) ⌝ }
+    ensures { λ r. ⌜ Reports (r .number) (found (record { payload = r .payload }) (r .reads))
+        (found (record { payload = 0 }) 0) (foundAnswer answer) ⌝ }
+{
+    match answer {
+        Found::Content(content, reads) => LookupResult {
+            number: 0,
+            payload: content.payload,
+            reads,
+        },
+        Found::Refused(number) => LookupResult {
+            number,
+            payload: 0,
+            reads: 0,
+        },
+    }
+}
+
+// A query's answer as numbers.
+pub fn listed_result(answer: Listed) -> QueryResult
+    requires { ⌜ (listedAnswer answer ≡ refused 0 → ⊥) ⌝ }
+    ensures { λ r. ⌜ Reports (r .number) (listed (r .written) (r .total) (r .reads)) (listed 0 0 0)
+        (listedAnswer answer) ⌝ }
+{
+    match answer {
+        Listed::Records(counts) => QueryResult {
+            number: 0,
+            written: counts.written,
+            total: counts.total,
+            reads: counts.reads,
+        },
+        Listed::Refused(number) => QueryResult {
+            number,
+            written: 0,
+            total: 0,
+            reads: 0,
+        },
+    }
+}
+
+// A check's answer as numbers.
+pub fn checked_result(answer: Checked) -> CheckResult
+    requires { ⌜ (checkedAnswer answer ≡ refused 0 → ⊥) ⌝ }
+    ensures { λ r. ⌜ Reports (r .number) (isYes (r .sound)) (isYes 0) (checkedAnswer answer) ⌝ }
+    ensures { λ r. ⌜ r .sound ≤ 1 ⌝ }
+{
+    match answer {
+        Checked::Yes => CheckResult {
+            number: 0,
+            sound: 1,
+        },
+        Checked::No => CheckResult {
+            number: 0,
+            sound: 0,
+        },
+        Checked::Refused(number) => CheckResult { number, sound: 0 },
+    }
+}
+
+// Writes the state of an accepted change into its words, and returns the number of the change.
+pub fn settle(words: &mut [u32], change: Change) -> u32
+    requires { ⌜ (changedAnswer (change .answer) ≡ accepted changed → stateSize ≤ length (now words)) ⌝ }
+    ensures { λ r. ⌜ Settled change (now (words .entry)) r (now (words .exit)) ⌝ }
+{
+    let answer = change.answer;
+    match answer {
+        Changed::Done => {
+            put_state(words, change.state);
+            0
+        }
+        Changed::Refused(number) => number,
+    }
+}
+
+// The query as the store takes it.
+pub fn store_query(query: HostQuery) -> Query
+    ensures { λ r. ⌜ wantedValues r ≡ wantedOf (query .given) (query .values) ⌝ }
+{
+    let a0 = wanted_at(query, 0);
+    let a1 = wanted_at(query, 1);
+    let a2 = wanted_at(query, 2);
+    let a3 = wanted_at(query, 3);
+    let attributes = [a0, a1, a2, a3];
+    Query { attributes }
+}
+
+// What a query wants of attribute j.
+fn wanted_at(query: HostQuery, j: usize) -> Attribute
+    requires { ⌜ j < 4 ⌝ }
+    ensures { λ r. ⌜ wantedValue (r .wanted) ≡ wantedIf (getD (query .given) j 0) (getD (query .values) j 0) ⌝ }
+{
+    let given = query.given;
+    let values = query.values;
+    if given[j] == 0 {
+        return Attribute {
+            wanted: Wanted::Free,
+        };
+    }
+    Attribute {
+        wanted: Wanted::Given(values[j]),
+    }
+}

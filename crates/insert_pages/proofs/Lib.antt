@@ -1,0 +1,2 @@
+pub mod CarriedLaws
+pub mod InsertedLaws

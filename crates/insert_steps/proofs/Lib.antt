@@ -1,2 +1,0 @@
-pub mod InsertedLaws
-pub mod StepLaws

@@ -1,0 +1,140 @@
+-- Laws of the mask of matches: its bound and its parts; one record more, below; the records that it picks are those
+-- that match. Assumes nothing.
+use Prim.Native.Nat.{ℕ, zero, suc, _+_, _-_, _*_, _/_, _%_, _^_, _≤_, _<_}
+use mathlib.Core.Path.{_≡_, refl, sym, ap, _∙_}
+use mathlib.Core.Bool.{Bool, true, false, cond}
+use mathlib.Core.List.{List, [], _∷_, _++_}
+use native.Mathlib.Nat.{pow-suc, add-zero, mod-eq-of-lt}
+use native.Mathlib.Omega.{arith}
+use mir.Val.{boolByte}
+use lib.Bits.{bitOr, bitAnd, and-mask, or-shifted}
+use lib.Dec.{eqb}
+use lib.Pow.{pow-pos, pow-lt, low, mod-mod-pow}
+use Rattle.lists.specs.Filter.{filter}
+use Rattle.record.specs.Bytes.{recordSize}
+use Rattle.page.specs.Fields.{recordOffset, recordField, keyAt, fieldsFrom}
+use Rattle.page_matches.specs.declared.Pattern.{Pattern}
+use Rattle.page_matches.specs.Pattern.{passes}
+use Rattle.page_matches.specs.Output.{hits}
+use Rattle.page_matches.specs.Mask.{matchMask, picked}
+
+-- ---- bit n
+
+pub bit-exact : (n : ℕ) → n < 64 → 1 * 2 ^ n % 2 ^ 64 ≡ 2 ^ n
+bit-exact n h =
+    let one : 1 * 2 ^ n ≡ 2 ^ n = omega arith in
+    ap (λ x. x % 2 ^ 64) one ∙ mod-eq-of-lt (pow-lt {j = 64} h)
+
+pub one-le-bit : (n : ℕ) → n < 64 → 1 ≤ 1 * 2 ^ n % 2 ^ 64
+one-le-bit n h = rw (bit-exact n h) (pow-pos n)
+
+-- ---- the records that match
+
+module _ (p : Pattern) (page : List ℕ) where
+  abbrev bitAt : ℕ → ℕ
+  bitAt i = cond (passes p (recordField page i)) 1 0
+
+  bitAt-lt : (i : ℕ) → bitAt i < 2
+  bitAt-lt i = go (passes p (recordField page i))
+    where
+      go : (β : Bool) → cond β 1 0 < 2
+      go true = omega arith
+      go false = omega arith
+
+  -- ---- its bound and its parts
+
+  pub matchMask-lt : (k i : ℕ) → matchMask p page k i < 2 ^ k
+  unfolding matchMask
+  matchMask-lt zero i = omega arith
+  matchMask-lt (suc k) i = omega (arith, bitAt-lt i, matchMask-lt k (suc i), pow-suc 2 k)
+
+  matchMask-add : (n m i : ℕ)
+      → matchMask p page (n + m) i ≡ matchMask p page m (i + n) * 2 ^ n + matchMask p page n i
+  unfolding matchMask
+  matchMask-add zero m i =
+      let all : 0 + m ≡ m = omega arith in
+      let one : matchMask p page m i * 2 ^ 0 + 0 ≡ matchMask p page m i = omega arith in
+      ap (λ k. matchMask p page k i) all
+      ∙ sym one
+      ∙ ap (λ j. matchMask p page m j * 2 ^ 0 + 0) (sym (add-zero i))
+  matchMask-add (suc n) m i =
+      let k : suc n + m ≡ suc (n + m) = omega arith in
+      let j : suc i + n ≡ i + suc n = omega arith in
+      let high = matchMask p page m (i + suc n) in
+      let rest = matchMask p page n (suc i) in
+      let times : high * 2 ^ suc n ≡ 2 * (high * 2 ^ n) = ap (λ x. high * x) (pow-suc 2 n) ∙ omega arith in
+      ap (λ k. matchMask p page k i) k
+      ∙ ap (λ x. bitAt i + 2 * x)
+      (matchMask-add n m (suc i) ∙ ap (λ j. matchMask p page m j * 2 ^ n + rest) j)
+      ∙ omega (arith, times)
+
+  -- the first n records of s
+  pub matchMask-cut : (n s : ℕ) → n < 64 → n ≤ s
+      → bitAnd (matchMask p page s 0 % 2 ^ 64) (2 ^ n - 1) ≡ matchMask p page n 0
+  matchMask-cut n s l h =
+      let whole : n + (s - n) ≡ s = omega arith in
+      let bits : (64 - n) + n ≡ 64 = omega arith in
+      let m = matchMask p page s 0 in
+      and-mask (m % 2 ^ 64) n
+      ∙ ap (λ k. m % 2 ^ k % 2 ^ n) (sym bits)
+      ∙ mod-mod-pow m (64 - n) n
+      ∙ ap (λ k. matchMask p page k 0 % 2 ^ n) (sym whole)
+      ∙ ap (λ x. x % 2 ^ n) (matchMask-add n (s - n) 0)
+      ∙ low (matchMask p page (s - n) (0 + n)) n (matchMask-lt n 0)
+
+  -- ---- one record more, below
+
+  -- the test of a record as a bit
+  bitAt-key : (i key : ℕ) → key ≡ keyAt page i → boolByte (eqb (bitAnd key (p .mask)) (p .value)) ≡ bitAt i
+  unfolding passes
+  bitAt-key i key e = ap (λ k. boolByte (eqb (bitAnd k (p .mask)) (p .value))) e ∙ go (passes p (recordField page i))
+    where
+      go : (β : Bool) → boolByte β ≡ cond β 1 0
+      go true = refl
+      go false = refl
+
+  pub matchMask-below : (s i mask key : ℕ) → 0 < i → i ≤ s → mask ≡ matchMask p page (s - i) i % 2 ^ 64
+      → key ≡ keyAt page (i - 1)
+      → bitOr (mask * 2 % 2 ^ 64) (boolByte (eqb (bitAnd key (p .mask)) (p .value)))
+      ≡ matchMask p page (s - (i - 1)) (i - 1) % 2 ^ 64
+  unfolding matchMask
+  matchMask-below s i mask key l h e f =
+      let k : s - (i - 1) ≡ suc (s - i) = omega arith in
+      let j : suc (i - 1) ≡ i = omega arith in
+      let rest = matchMask p page (s - i) i in
+      let half = rest % 2 ^ 63 in
+      let even : mask * 2 % 2 ^ 64 ≡ half * 2 ^ 1 = omega arith in
+      let bit = bitAt (i - 1) in
+      let b = bitAt-lt (i - 1) in
+      ap (bitOr (mask * 2 % 2 ^ 64)) (bitAt-key (i - 1) key f)
+      ∙ ap (λ x. bitOr x bit) even
+      ∙ or-shifted half 1 bit b
+      ∙ omega arith
+      ∙ ap (λ j. (bit + 2 * matchMask p page (s - i) j) % 2 ^ 64) (sym j)
+      ∙ ap (λ k. matchMask p page k (i - 1) % 2 ^ 64) (sym k)
+
+  -- ---- the records that it picks
+
+  pub picked-matchMask : (k i : ℕ)
+      → picked page k i (matchMask p page k i) ≡ filter (passes p) (fieldsFrom k (recordOffset i) page)
+  unfolding picked matchMask
+  picked-matchMask zero i = refl
+  picked-matchMask (suc k) i =
+      let rest = matchMask p page k (suc i) in
+      let b = bitAt-lt i in
+      let bit : (bitAt i + 2 * rest) % 2 ≡ bitAt i = omega arith in
+      let half : (bitAt i + 2 * rest) / 2 ≡ rest = omega arith in
+      let next : recordOffset (suc i) ≡ recordOffset i + recordSize = omega arith in
+      let here : Bool → List (List ℕ) = λ β. cond β (recordField page i ∷ []) [] in
+      (λ j. here (eqb (bit j) 1) ++ picked page k (suc i) (half j))
+      ∙ ap (λ β. here β ++ picked page k (suc i) rest) (go (passes p (recordField page i)))
+      ∙ ap (λ l. here (passes p (recordField page i)) ++ l) (picked-matchMask k (suc i))
+      ∙ ap (λ o. here (passes p (recordField page i)) ++ filter (passes p) (fieldsFrom k o page)) next
+    where
+      go : (β : Bool) → eqb (cond β 1 0) 1 ≡ β
+      go true = refl
+      go false = refl
+
+  pub picked-hits : (n : ℕ) → picked page n 0 (matchMask p page n 0) ≡ hits p n page
+  unfolding hits
+  picked-hits n = picked-matchMask n 0

@@ -1,0 +1,18 @@
+-- The records of a page that match, as bits of one number. Assumes nothing.
+use Prim.Native.Nat.{ℕ, zero, suc, _+_, _*_, _/_, _%_}
+use mathlib.Core.Bool.{cond}
+use mathlib.Core.List.{List, [], _∷_, _++_}
+use lib.Dec.{eqb}
+use Rattle.page.specs.Fields.{recordField}
+use Rattle.page_matches.specs.declared.Pattern.{Pattern}
+use Rattle.page_matches.specs.Pattern.{passes}
+
+-- of the k records from record i on: bit j is set if record i + j matches
+unfoldable pub matchMask : Pattern → List ℕ → ℕ → ℕ → ℕ
+matchMask p page zero i = 0
+matchMask p page (suc k) i = cond (passes p (recordField page i)) 1 0 + 2 * matchMask p page k (suc i)
+
+-- the records whose bits are set, of the k from record i on
+unfoldable pub picked : List ℕ → ℕ → ℕ → ℕ → List (List ℕ)
+picked page zero i mask = []
+picked page (suc k) i mask = cond (eqb (mask % 2) 1) (recordField page i ∷ []) [] ++ picked page k (suc i) (mask / 2)

@@ -1,0 +1,10 @@
+pub mod CornerLaws
+pub mod DepthLaws
+pub mod FilledLaws
+pub mod FixedLaws
+pub mod LaneLaws
+pub mod MostLaws
+pub mod RowLaws
+pub mod StoreRunLaws
+pub mod TableLaws
+pub mod VectorLaws

@@ -1,0 +1,4 @@
+pub mod Corners
+pub mod Private
+pub mod Rows
+pub mod Vectors

@@ -1,0 +1,4 @@
+pub mod BoundLaws
+pub mod DivisionLaws
+pub mod SeenLaws
+pub mod StoreLaws
