@@ -8,6 +8,7 @@ pub mod judge;
 pub mod kept;
 pub mod leaves;
 pub mod lines;
+pub mod met;
 pub mod model;
 pub mod ordered;
 pub mod reading;

@@ -94,16 +94,15 @@ impl Reading<'_> {
         })
     }
 
-    /// Whether a delete from a leaf with a sibling of its own depth is told: the sibling has to have another page, of 1
-    /// to b records; where the two are joined, its records are read, and what is set is tested.
+    /// Whether a delete from a leaf with a sibling of its own depth is told: the sibling has to have another page, whose
+    /// count, first and last record are those of its leaf; where the two are joined, what is set is tested.
     fn pair_told(&self, leaf: &[bool], word: u32, other: u32) -> bool {
         let (Some(g), Some(h)) = (page_of(word), page_of(other)) else { return true };
-        if g == h || !self.count_fair(h) {
+        if g == h || !self.page_fair(h, &sibling(leaf)) {
             return true;
         }
         let stored = self.image.count(g) + self.image.count(h) - 1;
-        stored <= self.model.shape.capacity as usize
-            && (!self.page_fair(h, &sibling(leaf)) || self.join_told(leaf, word, other))
+        stored <= self.model.shape.capacity as usize && self.join_told(leaf, word, other)
     }
 
     /// Whether a join of a leaf with its sibling and with the empty siblings above is told: a tally with more leaves

@@ -10,13 +10,13 @@ pub struct Pattern {
 }
 
 #[repr(C)]
-struct Asked {
+struct HostQuery {
     given: [u32; 4],
     values: [u32; 4],
 }
 
 extern "C" {
-    fn probe_pattern_of(asked: Asked) -> Pattern;
+    fn probe_pattern_of(wanted: HostQuery) -> Pattern;
     fn probe_put_matches(
         page: *const u8,
         bytes: usize,
@@ -33,22 +33,22 @@ pub fn pattern_of(query: [Option<u32>; 4]) -> Option<Pattern> {
     if query.iter().flatten().any(|&value| value > 0xffff) {
         return None;
     }
-    let asked = Asked {
+    let wanted = HostQuery {
         given: query.map(|value| value.is_some().into()),
         values: query.map(Option::unwrap_or_default),
     };
     // SAFETY: the given values have 16 bits, as the `requires` asks; numbers alone go in and out.
-    Some(unsafe { probe_pattern_of(asked) })
+    Some(unsafe { probe_pattern_of(wanted) })
 }
 
 /// Writes the records that match, of the n of a page, into the output from its record `total` on, while whole
 /// ones fit. Returns how many match, with the `total` before.
 #[inline]
 pub fn put_matches(page: &[u8], n: usize, pattern: Pattern, out: &mut [u8], total: usize) -> Option<usize> {
-    if !has_records(page, n) || total > 1 << 32 || total + n > 1 << 32 {
+    if n > 63 || !has_records(page, n) || total > 1 << 32 || total + n > 1 << 32 {
         return None;
     }
-    // SAFETY: the page has n records and the total stays below 2^32, as the `requires` asks; each pointer and
+    // SAFETY: the page has n records, n is below 64 and the total stays below 2^32, as the `requires` asks; each pointer and
     // length are of one slice, and no two slices overlap.
     Some(unsafe {
         probe_put_matches(page.as_ptr(), page.len(), n, pattern, out.as_mut_ptr(), out.len(), total)
