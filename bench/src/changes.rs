@@ -1,70 +1,35 @@
-//! Insert of all records in random order into a store without records, and delete of some of them, beside the plain
-//! store and SQLite in memory.
-use crate::calls::SQLITE;
-use crate::inputs::sum;
-use crate::measure::{Form, Step, Table, PLAIN, PROVED};
-use crate::records::{payload, values, Forms, Sample, BYTES, WORDS};
-use crate::sqlite::Database;
+//! Insert of all records in random order into a store without records, and delete of a tenth of them, another one in
+//! each run, beside the plain store and SQLite.
+use crate::builds::{Build, Lent};
+use crate::database;
+use crate::measure::{Form, Table};
+use crate::records::{Forms, Input};
+use crate::step::{Step, PLAIN, SQLITE};
 use crate::store::Store;
-use mdeh_tests::host;
 use mdeh_tests::random::Random;
 use std::cell::RefCell;
 use std::rc::Rc;
 
-/// A key and a payload.
-type Input = ([u32; 4], u32);
-
 pub fn rows(table: &mut Table, random: &mut Random, forms: Forms) {
-    let record = |record: &[u8; 12]| (values(record).map(|value| value as u32), payload(record));
-    let mut inputs: Vec<Input> = forms.records.iter().map(record).collect();
-    random.shuffle(&mut inputs);
-    let inputs: &'static [Input] = inputs.leak();
-    let step = |name: &str, units| Step::new(name, forms.sample.shown(), "call", units);
+    let inputs: &'static [Input] = forms.inputs(random).leak();
     if table.has("insert") {
-        table.changing(step("insert", inputs.len()), inserts(forms.sample, inputs));
+        table.changing(Step::call("insert", forms.sample.shown()), &[inputs.len()], inserts(forms, inputs));
     }
     if table.has("delete") {
-        let deleted = &inputs[..forms.sample.deleted()];
-        table.changing(step("delete", deleted.len()), deletes(forms, deleted));
+        let parts: Vec<&'static [Input]> = inputs.chunks_exact(forms.sample.deleted()).collect();
+        let lengths: Vec<usize> = parts.iter().map(|part| part.len()).collect();
+        table.changing(Step::call("delete", forms.sample.shown()), &lengths, deletes(forms, parts.leak()));
     }
 }
 
-/// The proved store's lent memory.
-struct Lent {
-    state: Vec<u32>,
-    dir: Vec<u32>,
-    pages: Vec<u8>,
-}
-
-impl Lent {
-    fn fresh(&mut self, sample: Sample) {
-        host::fresh(sample.shape(), &mut self.state, &mut self.dir, &mut self.pages).expect("accepted");
-    }
-
-    fn insert(&mut self, &(key, payload): &Input) -> u64 {
-        accepted(host::insert(&mut self.state, &mut self.dir, &mut self.pages, key, payload))
-    }
-
-    fn delete(&mut self, key: [u32; 4]) -> u64 {
-        accepted(host::delete(&mut self.state, &mut self.dir, &mut self.pages, key))
-    }
-
-    /// Panics unless the store has the plain one's records, in split order.
-    fn assert_same(&self, plain: &Store, records: usize) {
-        let [mut own, mut other] = [vec![0; 12 * records], vec![0; 12 * records]];
-        let found = host::query(&self.state, &self.dir, &self.pages, [None; 4], &mut own).expect("accepted");
-        let expected = plain.query([None; 4], &mut other).expect("accepted");
-        assert_eq!(
-            (found.written, found.total, found.reads as usize),
-            (expected.0 as u64, expected.1 as u64, expected.2)
-        );
-        assert!(own == other, "other records");
-    }
-}
-
-/// 1 for an accepted call.
-fn accepted(answer: Result<(), u32>) -> u64 {
-    answer.is_ok().into()
+/// Panics unless a proved store has the plain one's records, in split order.
+fn assert_same(build: &Build, lent: &Lent, plain: &Store, records: usize) {
+    let [mut own, mut other] = [vec![0; 12 * records], vec![0; 12 * records]];
+    let found = build.query(lent, [None; 4], &mut own);
+    let (written, total, reads) = plain.query([None; 4], &mut other).expect("accepted");
+    let numbers = [written, total, reads].map(|number| number as u64);
+    assert_eq!((found.number, [found.written, found.total, found.reads]), (0, numbers));
+    assert!(own == other, "other records");
 }
 
 /// A form over memory that is made ready by one function and changed by another.
@@ -72,119 +37,98 @@ fn changing<M: 'static>(
     name: &'static str,
     memory: M,
     ready: impl Fn(&mut M) + 'static,
-    pass: impl Fn(&mut M) -> u64 + 'static,
+    run: impl Fn(&mut M, usize) -> u64 + 'static,
 ) -> Form {
     let memory = Rc::new(RefCell::new(memory));
     let own = memory.clone();
     Form {
         name,
-        ready: Some(Box::new(move || ready(&mut own.borrow_mut()))),
-        pass: Box::new(move || pass(&mut memory.borrow_mut())),
+        ready: Some(Box::new(move |_| ready(&mut own.borrow_mut()))),
+        run: Box::new(move |part| run(&mut memory.borrow_mut(), part)),
     }
+}
+
+/// How many of some inputs are accepted.
+fn accepted(inputs: &[Input], call: impl FnMut(&Input) -> u64) -> u64 {
+    inputs.iter().map(call).sum()
 }
 
 /// Inserts into a store without records.
-fn inserts(sample: Sample, inputs: &'static [Input]) -> Vec<Form> {
-    let mut lent = Lent { state: vec![0; host::STATE_WORDS], dir: vec![0; WORDS], pages: vec![0; BYTES] };
-    let new = move || Store::new(sample.shape(), WORDS, BYTES);
-    let mut plain = new();
-    lent.fresh(sample);
-    for &(key, payload) in inputs {
-        assert_eq!((lent.insert(&(key, payload)), plain.insert(key, payload)), (1, Ok(())));
+fn inserts(forms: Forms, inputs: &'static [Input]) -> Vec<Form> {
+    let Forms { sample, builds, .. } = forms;
+    let empty = sample.plain();
+    let mut filled = empty.clone();
+    inputs.iter().for_each(|&(key, payload)| filled.insert(key, payload).expect("accepted"));
+    let mut all = Vec::new();
+    for build in builds {
+        let mut lent = sample.proved(build);
+        assert_eq!(accepted(inputs, |input| build.insert(&mut lent, input.0, input.1)), inputs.len() as u64);
+        assert_same(build, &lent, &filled, inputs.len());
+        all.push(changing(
+            build.name,
+            lent,
+            move |lent| assert!(build.fresh(sample.shape(), lent)),
+            move |lent, _| accepted(inputs, |input| build.insert(lent, input.0, input.1)),
+        ));
     }
-    lent.assert_same(&plain, inputs.len());
-    let fresh = move |lent: &mut Lent| lent.fresh(sample);
-    let mut forms = vec![
-        changing(PROVED, lent, fresh, |lent| sum(inputs, |input| lent.insert(input))),
-        changing(
-            PLAIN,
-            new(),
-            move |plain| *plain = new(),
-            |plain| sum(inputs, |&(key, payload)| accepted(plain.insert(key, payload))),
-        ),
-    ];
-    if let Some(database) = table_of(&[]) {
-        let insert = database.prepare(INSERT);
-        inputs.iter().for_each(|input| insert.run(numbers(input), |_| {}));
-        assert_eq!(rows_of(database), inputs.len());
-        let pass = move |_: &mut ()| {
-            sum(inputs, |input| {
-                insert.run(numbers(input), |_| {});
+    all.push(changing(
+        PLAIN,
+        sample.plain(),
+        move |store| *store = empty.clone(),
+        |store, _| accepted(inputs, |input| store.insert(input.0, input.1).is_ok().into()),
+    ));
+    if let Some(database) = database::of_records(&[]) {
+        let insert = database.prepare(database::INSERT);
+        database.run("BEGIN");
+        inputs.iter().for_each(|input| insert.run(database::numbers(input.0, input.1), |_| {}));
+        assert_eq!(database::count(database), inputs.len());
+        let run = move |_: &mut (), _| {
+            accepted(inputs, |input| {
+                insert.run(database::numbers(input.0, input.1), |_| {});
                 1
             })
         };
-        // what an earlier pass inserted is taken back
-        forms.push(changing(SQLITE, (), move |_| database.run("ROLLBACK; BEGIN"), pass));
+        // what an earlier run inserted is taken back
+        all.push(changing(SQLITE, (), |_| database.run("ROLLBACK; BEGIN"), run));
     }
-    forms
+    all
 }
 
 /// Deletes from the store of all records.
-fn deletes(forms: Forms, deleted: &'static [Input]) -> Vec<Form> {
-    let Forms { plain, state, dir, pages, records, .. } = forms;
-    let mut lent = Lent { state: state.to_vec(), dir: dir.to_vec(), pages: pages.to_vec() };
+fn deletes(forms: Forms, parts: &'static [&'static [Input]]) -> Vec<Form> {
+    let Forms { builds, lent, plain, records, .. } = forms;
     let mut store = plain.clone();
-    for &(key, _) in deleted {
-        assert_eq!((lent.delete(key), store.delete(key)), (1, Ok(())));
+    parts[0].iter().for_each(|input| store.delete(input.0).expect("accepted"));
+    let mut all = Vec::new();
+    for build in builds {
+        let mut own = lent.clone();
+        assert_eq!(accepted(parts[0], |input| build.delete(&mut own, input.0)), parts[0].len() as u64);
+        assert_same(build, &own, &store, records.len());
+        all.push(changing(
+            build.name,
+            own,
+            |own| own.clone_from(lent),
+            |own, part| accepted(parts[part], |input| build.delete(own, input.0)),
+        ));
     }
-    lent.assert_same(&store, records.len());
-    let restore = |lent: &mut Lent| {
-        lent.state.copy_from_slice(state);
-        lent.dir.copy_from_slice(dir);
-        lent.pages.copy_from_slice(pages);
-    };
-    let mut forms = vec![
-        changing(PROVED, lent, restore, |lent| sum(deleted, |input| lent.delete(input.0))),
-        changing(
-            PLAIN,
-            plain.clone(),
-            |store| *store = plain.clone(),
-            |store| sum(deleted, |input| accepted(store.delete(input.0))),
-        ),
-    ];
-    if let Some(database) = table_of(records) {
-        let delete = database.prepare("DELETE FROM s WHERE a0 = ? AND a1 = ? AND a2 = ?");
-        let key = |input: &Input| input.0.map(i64::from);
-        deleted.iter().for_each(|input| delete.run(key(input)[..3].iter().copied(), |_| {}));
-        assert_eq!(rows_of(database), records.len() - deleted.len());
-        let pass = move |_: &mut ()| {
-            sum(deleted, |input| {
-                delete.run(key(input)[..3].iter().copied(), |_| {});
+    all.push(changing(
+        PLAIN,
+        plain.clone(),
+        |store| *store = plain.clone(),
+        |store, part| accepted(parts[part], |input| store.delete(input.0).is_ok().into()),
+    ));
+    if let Some(database) = database::of_records(records) {
+        let delete = database.prepare(database::DELETE);
+        database.run("BEGIN");
+        parts[0].iter().for_each(|input| delete.run(database::key(input.0), |_| {}));
+        assert_eq!(database::count(database), records.len() - parts[0].len());
+        let run = move |_: &mut (), part: usize| {
+            accepted(parts[part], |input| {
+                delete.run(database::key(input.0), |_| {});
                 1
             })
         };
-        forms.push(changing(SQLITE, (), move |_| database.run("ROLLBACK; BEGIN"), pass));
+        all.push(changing(SQLITE, (), |_| database.run("ROLLBACK; BEGIN"), run));
     }
-    forms
-}
-
-const INSERT: &str = "INSERT INTO s VALUES (?, ?, ?, ?)";
-
-/// A key's three values and the payload.
-fn numbers(&(key, payload): &Input) -> [i64; 4] {
-    [key[0].into(), key[1].into(), key[2].into(), payload.into()]
-}
-
-/// A database of these records by their key, with an index for each of the other attributes, in a transaction; none
-/// where SQLite is not installed.
-fn table_of(records: &[[u8; 12]]) -> Option<&'static Database> {
-    let database: &'static Database = Box::leak(Box::new(Database::open()?));
-    database.run(
-        "CREATE TABLE s (a0 INT, a1 INT, a2 INT, payload INT, PRIMARY KEY (a0, a1, a2)) WITHOUT ROWID;
-         CREATE INDEX s1 ON s (a1); CREATE INDEX s2 ON s (a2); BEGIN",
-    );
-    let insert = database.prepare(INSERT);
-    for record in records {
-        let [a0, a1, a2, _] = values(record);
-        insert.run([a0, a1, a2, payload(record).into()], |_| {});
-    }
-    database.run("COMMIT; BEGIN");
-    Some(database)
-}
-
-/// How many rows the table has.
-fn rows_of(database: &Database) -> usize {
-    let mut rows = 0;
-    database.prepare("SELECT count(*) FROM s").run([], |row| rows = row.number(0) as usize);
-    rows
+    all
 }

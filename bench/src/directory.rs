@@ -1,12 +1,13 @@
 //! The steps on the directory's words.
-use crate::inputs::{shown, sum, vectors, SHAPES};
-use crate::measure::{Step, Table};
+use crate::inputs::{shown, vectors, SHAPES};
+use crate::measure::Table;
 use crate::plain;
+use crate::step::Step;
 use mdeh_tests::probe;
 use mdeh_tests::random::Random;
 
-/// How many keys make a pass.
-const KEYS: usize = 1024;
+/// How many keys a row has.
+const KEYS: usize = 20_000;
 
 /// The words of a directory of the greatest depth.
 const WORDS: usize = 1 << 12;
@@ -35,11 +36,12 @@ fn fitting(widths: &[u32]) -> (probe::Widths, plain::Widths) {
 fn cell(table: &mut Table, random: &mut Random, widths: &[u32]) {
     let keys = vectors(random, widths, KEYS);
     let (proved, plain) = fitting(widths);
-    table.row(
-        Step::new("cell of a key, T = 12", shown(widths), "call", KEYS),
+    table.pair(
+        Step::call("cell of a key, T = 12", shown(widths)),
+        keys,
         (),
-        move |_| sum(keys, |&key| probe::find_cell(&proved, key, 12).unwrap()),
-        move |_| sum(keys, |&key| plain::find_cell(&plain, key, 12).unwrap()),
+        move |&key, _| probe::find_cell(&proved, key, 12).unwrap(),
+        move |&key, _| plain::find_cell(&plain, key, 12).unwrap(),
     );
 }
 
@@ -47,11 +49,12 @@ fn cell(table: &mut Table, random: &mut Random, widths: &[u32]) {
 fn doubling(table: &mut Table, random: &mut Random, widths: &[u32]) {
     let words: Vec<u32> = (0..WORDS).map(|_| random.number() as u32).collect();
     let (proved, plain) = fitting(widths);
-    table.row(
-        Step::new("doubling, T = 11 to 12", shown(widths), "new word", WORDS / 2),
+    table.pair(
+        Step::each("doubling, T = 11 to 12", shown(widths), "new word", WORDS / 2),
+        &[()],
         words,
-        move |words| done(probe::double(&proved, 11, words)),
-        move |words| done(plain::double(&plain, 11, words)),
+        move |_, words| done(probe::double(&proved, 11, words)),
+        move |_, words| done(plain::double(&plain, 11, words)),
     );
 }
 
@@ -59,13 +62,14 @@ fn doubling(table: &mut Table, random: &mut Random, widths: &[u32]) {
 /// first number.
 fn region(table: &mut Table, random: &mut Random, widths: &[u32], x: usize) {
     let size = WORDS >> x;
-    let keys = vectors(random, widths, WORDS / size);
+    let keys = vectors(random, widths, KEYS / size + 1);
     let (proved, plain) = fitting(widths);
-    table.row(
-        Step::new(format!("setting a region of {size}, T = 12"), shown(widths), "word", WORDS),
+    table.pair(
+        Step::each(format!("setting a region of {size}, T = 12"), shown(widths), "word", size),
+        keys,
         vec![0; WORDS],
-        move |words| sum(keys, |&key| done(probe::fill(&proved, key, x as u64, 12, key[0], words))),
-        move |words| sum(keys, |&key| done(plain::fill(&plain, key, x, 12, key[0], words))),
+        move |&key, words| done(probe::fill(&proved, key, x as u64, 12, key[0], words)),
+        move |&key, words| done(plain::fill(&plain, key, x, 12, key[0], words)),
     );
 }
 

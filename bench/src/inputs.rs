@@ -15,13 +15,13 @@ pub fn vectors(random: &mut Random, widths: &[u32], count: usize) -> &'static [[
     all.leak()
 }
 
+/// These inputs again and again, so many in all.
+pub fn repeated<T: Copy>(inputs: &[T], count: usize) -> &'static [T] {
+    inputs.iter().copied().cycle().take(count).collect::<Vec<T>>().leak()
+}
+
 /// Widths as the table shows them.
 pub fn shown(widths: &[u32]) -> String {
     let widths: Vec<String> = widths.iter().map(u32::to_string).collect();
     format!("widths {}", widths.join(", "))
-}
-
-/// The sum of what a step answers, input by input.
-pub fn sum<T>(inputs: &[T], answer: impl FnMut(&T) -> u64) -> u64 {
-    inputs.iter().map(answer).fold(0, u64::wrapping_add)
 }

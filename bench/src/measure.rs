@@ -1,50 +1,28 @@
-//! Times the forms of each step on the same inputs, all steps turn by turn, so that each is timed all the
-//! while that the program runs.
+//! Times the forms of each step on the same inputs, all steps turn by turn, so that each is timed all the while that
+//! the program runs. Inputs are cut into parts: a turn times one part, after another one that fills the caches. So no
+//! input comes twice in a run, and the processor cannot learn what it will be asked.
+use crate::clock;
+use crate::step::{Step, PLAIN, PROVED};
 use crate::tables::{self, Layout, Line, Time};
 use std::fmt::Debug;
 use std::hint::black_box;
-use std::time::Instant;
 
-/// How many turns each form has.
-const RUNS: usize = 501;
+/// How many turns there are, and into how many parts inputs are cut.
+const TURNS: usize = 240;
+const PARTS: usize = 4;
 
-/// How long one run lasts at least, in nanoseconds: much less than a turn of the system's scheduler.
-const RUN: f64 = 250_000.0;
-
-/// A form whose pass lasts up to n times as long is timed in every nth turn.
+/// A form whose run lasts up to n times as many nanoseconds is timed in every nth turn, at least in every `RAREST`th.
 const LONG_RUN: f64 = 1_000_000.0;
+const RAREST: usize = 20;
 
-/// The names of the two forms of most steps. The first form of a step is what the others are compared with.
-pub const PROVED: &str = "proved";
-pub const PLAIN: &str = "plain Rust";
+/// One form of a step that reads: its name, and a sum of its answers to some inputs, with memory to write them to.
+pub type Answers<I, M> = (&'static str, Box<dyn FnMut(&[I], &mut M) -> u64>);
 
-/// What a row is about: the step, its input, the unit that a time is given for, how many of them one pass over the
-/// inputs has, and for queries what they find.
-pub struct Step {
-    pub name: String,
-    pub input: String,
-    pub unit: &'static str,
-    pub units: usize,
-    pub found: Option<Found>,
-}
-
-/// What a query finds on average.
-#[derive(Clone, Copy)]
-pub struct Found {
-    pub records: f64,
-    pub reads: f64,
-}
-
-/// One form of a step by its name: a pass over the inputs on its memory, with a number that sums up what it
-/// computed.
-pub type Named<M> = (&'static str, Box<dyn FnMut(&mut M) -> u64>);
-
-/// One form of a step: its name, what makes a run of a single pass ready, which is not timed, where a pass changes its
-/// memory, and a pass over the inputs.
+/// One form of a step: its name, what makes a run of a part ready where the part before it does not, and the run.
 pub struct Form {
     pub name: &'static str,
-    pub ready: Option<Box<dyn FnMut()>>,
-    pub pass: Box<dyn FnMut() -> u64>,
+    pub ready: Option<Box<dyn FnMut(usize)>>,
+    pub run: Box<dyn FnMut(usize) -> u64>,
 }
 
 /// The rows to be measured, in sections that have a table each.
@@ -59,23 +37,29 @@ struct Section {
     rows: Vec<Row>,
 }
 
+/// A step, how many units each part has, and the forms.
 struct Row {
     step: Step,
+    units: Vec<usize>,
     forms: Vec<(Form, Timing)>,
 }
 
-/// How a form is timed: how many passes make a run, in which turns it runs, and the times of a unit.
+/// How a form is timed: in which turns it runs, and the times of a unit, part by part.
 #[derive(Default)]
 struct Timing {
-    passes: u32,
     every: usize,
-    times: Vec<f64>,
+    times: Vec<Vec<f64>>,
 }
 
-impl Step {
-    pub fn new(name: impl Into<String>, input: String, unit: &'static str, units: usize) -> Step {
-        Step { name: name.into(), input, unit, units, found: None }
-    }
+/// A form by how it answers one input.
+pub fn answers<I, M>(
+    name: &'static str,
+    mut answer: impl FnMut(&I, &mut M) -> u64 + 'static,
+) -> Answers<I, M> {
+    let all = move |inputs: &[I], memory: &mut M| {
+        inputs.iter().fold(0, |sum: u64, input| sum.wrapping_add(answer(input, memory)))
+    };
+    (name, Box::new(all))
 }
 
 impl Table {
@@ -95,53 +79,76 @@ impl Table {
         self.chosen.is_empty() || self.chosen.iter().any(|word| name.contains(word) || title.contains(word))
     }
 
-    /// Adds a row of two forms.
-    pub fn row<M: Clone + Debug + PartialEq + 'static>(
+    /// Adds a row of a proved and a plain form.
+    pub fn pair<I, M: Clone + Debug + PartialEq + 'static>(
         &mut self,
         step: Step,
+        inputs: &'static [I],
         memory: M,
-        proved: impl FnMut(&mut M) -> u64 + 'static,
-        plain: impl FnMut(&mut M) -> u64 + 'static,
+        proved: impl FnMut(&I, &mut M) -> u64 + 'static,
+        plain: impl FnMut(&I, &mut M) -> u64 + 'static,
     ) {
-        self.forms(step, memory, vec![(PROVED, Box::new(proved)), (PLAIN, Box::new(plain))]);
+        self.compared(step, inputs, memory, vec![answers(PROVED, proved), answers(PLAIN, plain)]);
     }
 
-    /// Adds a row of several forms, each on memory of its own. Memory and number after one pass have to be the
-    /// same for all.
-    pub fn forms<M: Clone + Debug + PartialEq + 'static>(
+    /// Adds a row of several forms. The sum of their answers, and what each leaves in its memory, have to be the same
+    /// for all.
+    pub fn compared<I, M: Clone + Debug + PartialEq + 'static>(
         &mut self,
         step: Step,
+        inputs: &'static [I],
         memory: M,
-        named: Vec<Named<M>>,
+        mut forms: Vec<Answers<I, M>>,
     ) {
         if !self.has(&step.name) {
             return;
         }
         let mut first = None;
-        let mut forms = Vec::new();
-        for (name, mut pass) in named {
+        for (name, all) in &mut forms {
             let mut own = memory.clone();
-            let result = (pass(&mut own), own.clone());
+            let result = (all(inputs, &mut own), own);
             let same = first.get_or_insert_with(|| result.clone()) == &result;
-            assert!(same, "{}, {}: {name} does something else than the first form", step.name, step.input);
-            forms.push(Form { name, ready: None, pass: Box::new(move || pass(&mut own)) });
+            assert!(same, "{}, {}: {name} does something else than the first form", step.name, step.on);
         }
-        self.push(step, forms);
+        self.answering(step, inputs, memory, forms);
     }
 
-    /// Adds a row of forms that change their memory. The numbers after one pass have to be the same for all.
-    pub fn changing(&mut self, step: Step, mut forms: Vec<Form>) {
+    /// Adds a row of several forms, each on memory of its own.
+    pub fn answering<I, M: Clone + 'static>(
+        &mut self,
+        step: Step,
+        inputs: &'static [I],
+        memory: M,
+        forms: Vec<Answers<I, M>>,
+    ) {
+        let parts: Vec<&'static [I]> = inputs.chunks(inputs.len().div_ceil(PARTS)).collect();
+        let form = |(name, mut all): Answers<I, M>| {
+            let (mut own, parts) = (memory.clone(), parts.clone());
+            Form { name, ready: None, run: Box::new(move |part| all(parts[part], &mut own)) }
+        };
+        let forms = forms.into_iter().map(form).collect();
+        self.push(step, parts.iter().map(|part| part.len()), forms);
+    }
+
+    /// Adds a row of forms that change their memory, with so many inputs in each part. The sums of their answers have
+    /// to be the same for all.
+    pub fn changing(&mut self, step: Step, inputs: &[usize], mut forms: Vec<Form>) {
         if !self.has(&step.name) {
             return;
         }
-        let numbers: Vec<u64> = forms.iter_mut().map(|form| form.made_ready()()).collect();
-        assert!(numbers.iter().all(|&number| number == numbers[0]), "{}: different numbers", step.name);
-        self.push(step, forms);
+        for part in 0..inputs.len() {
+            let mut sums = forms.iter_mut().map(|form| form.made_ready(part, inputs.len())(part));
+            let first = sums.next();
+            assert!(sums.all(|sum| Some(sum) == first), "{}, {}: different answers", step.name, step.on);
+        }
+        self.push(step, inputs.iter().copied(), forms);
     }
 
-    fn push(&mut self, step: Step, forms: Vec<Form>) {
-        let forms = forms.into_iter().map(|form| (form, Timing::default())).collect();
-        self.sections.last_mut().expect("a section is begun").rows.push(Row { step, forms });
+    fn push(&mut self, step: Step, inputs: impl Iterator<Item = usize>, forms: Vec<Form>) {
+        let units: Vec<usize> = inputs.map(|inputs| inputs * step.units).collect();
+        let timing = || Timing { every: 1, times: vec![vec![]; units.len()] };
+        let forms = forms.into_iter().map(|form| (form, timing())).collect();
+        self.sections.last_mut().expect("a section is begun").rows.push(Row { step, units, forms });
     }
 
     /// The sections that have rows.
@@ -155,11 +162,15 @@ impl Table {
     pub fn measure(self) {
         let mut sections = self.chosen_sections();
         let mut rows: Vec<&mut Row> = sections.iter_mut().flat_map(|section| &mut section.rows).collect();
-        rows.iter_mut().flat_map(|row| &mut row.forms).for_each(|(form, timing)| timing.prepare(form));
-        for turn in 0..RUNS {
-            for Row { step, forms } in &mut rows {
+        for Row { units, forms, .. } in &mut rows {
+            forms.iter_mut().for_each(|(form, timing)| timing.prepare(form, units));
+        }
+        for turn in 0..TURNS {
+            for Row { units, forms, .. } in &mut rows {
+                // another form each time is the first, which finds the store's memory out of the cache
+                forms.rotate_left(1);
                 for (form, timing) in forms.iter_mut().filter(|(_, timing)| turn % timing.every == 0) {
-                    timing.run(form, step.units);
+                    timing.run(form, turn / timing.every, units);
                 }
             }
         }
@@ -168,67 +179,74 @@ impl Table {
         }
     }
 
-    /// Runs one pass of each form by itself, for a tool that counts instructions, and prints a line for each: section,
-    /// step, input, form and units, with tabs between.
+    /// Runs the first part of each form by itself, for a tool that counts instructions, and prints a line for each:
+    /// section, step, what it is measured on, form and units, with tabs between.
     pub fn count(self) {
         for Section { title, rows, .. } in self.chosen_sections() {
-            for Row { step, forms } in rows {
+            for Row { step, units, forms } in rows {
                 for (mut form, _) in forms {
-                    black_box(counted(form.made_ready()));
-                    println!("{title}\t{}\t{}\t{}\t{}", step.label(), step.input, form.name, step.units);
+                    black_box(counted(form.made_ready(0, units.len())));
+                    println!("{title}\t{}\t{}\t{}\t{}", step.label(), step.on, form.name, units[0]);
                 }
             }
         }
     }
 }
 
-/// A pass, in a function that can be told from the rest by its name.
+/// A run of the first part, in a function that can be told from the rest by its name.
 #[inline(never)]
-fn counted(pass: &mut dyn FnMut() -> u64) -> u64 {
-    black_box(pass())
+fn counted(run: &mut dyn FnMut(usize) -> u64) -> u64 {
+    black_box(run(0))
 }
 
 impl Form {
-    /// A pass, for which the memory is ready.
-    fn made_ready(&mut self) -> &mut dyn FnMut() -> u64 {
-        self.ready.iter_mut().for_each(|ready| ready());
-        &mut self.pass
+    /// The run, ready for one of so many parts.
+    fn made_ready(&mut self, part: usize, parts: usize) -> &mut dyn FnMut(usize) -> u64 {
+        match &mut self.ready {
+            Some(ready) => ready(part),
+            None => _ = black_box((self.run)((part + parts - 1) % parts)),
+        }
+        &mut self.run
     }
 }
 
 impl Row {
     fn line(self) -> Line {
-        let times = self.forms.into_iter().map(|(form, timing)| timing.best(form.name)).collect();
-        Line { step: self.step, times }
+        let Row { step, units, forms } = self;
+        let times = forms.into_iter().map(|(form, timing)| timing.best(form.name, &units)).collect();
+        Line { step, times }
     }
 }
 
 impl Timing {
-    /// Finds out how long a pass lasts.
-    fn prepare(&mut self, form: &mut Form) {
-        let one = (0..3).map(|_| time(form.made_ready(), 1)).fold(f64::INFINITY, f64::min);
-        self.passes = if form.ready.is_some() { 1 } else { (RUN / one).ceil() as u32 };
-        self.every = (one / LONG_RUN).ceil() as usize;
+    /// Finds out how long it takes to make a run ready and to run it.
+    fn prepare(&mut self, form: &mut Form, units: &[usize]) {
+        let start = clock::now();
+        black_box(form.made_ready(0, units.len())(0));
+        self.every = (((clock::now() - start) / LONG_RUN).ceil() as usize).min(RAREST);
     }
 
-    /// Times one run.
-    fn run(&mut self, form: &mut Form, units: usize) {
-        self.times.push(time(form.made_ready(), self.passes) / units as f64);
+    /// Times one run, of the next part.
+    fn run(&mut self, form: &mut Form, turn: usize, units: &[usize]) {
+        let part = turn % units.len();
+        let run = form.made_ready(part, units.len());
+        let start = clock::now();
+        black_box(run(part));
+        self.times[part].push((clock::now() - start) / units[part] as f64);
     }
 
-    /// The best time, and how far the median is above it.
-    fn best(mut self, form: &'static str) -> Time {
-        self.times.sort_by(f64::total_cmp);
-        let (best, median) = (self.times[0], self.times[self.times.len() / 2]);
+    /// The best time of a unit of each part, on average, and how far the median is above it.
+    fn best(mut self, form: &'static str, units: &[usize]) -> Time {
+        self.times.iter_mut().for_each(|times| times.sort_by(f64::total_cmp));
+        let average = |chosen: fn(&[f64]) -> f64| {
+            let timed = self.times.iter().zip(units).filter(|(times, _)| !times.is_empty());
+            let sum = |(time, all), (times, &units): (&Vec<f64>, &usize)| {
+                (time + chosen(times) * units as f64, all + units as f64)
+            };
+            let (time, all) = timed.fold((0.0, 0.0), sum);
+            time / all
+        };
+        let (best, median) = (average(|times| times[0]), average(|times| times[times.len() / 2]));
         Time { form, best, spread: (median / best - 1.0) * 100.0 }
     }
-}
-
-/// The time of one pass in nanoseconds, over so many.
-fn time(pass: &mut dyn FnMut() -> u64, passes: u32) -> f64 {
-    let start = Instant::now();
-    for _ in 0..passes {
-        black_box(pass());
-    }
-    start.elapsed().as_nanos() as f64 / f64::from(passes)
 }

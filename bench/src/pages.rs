@@ -1,14 +1,15 @@
 //! The steps on one page.
-use crate::inputs::{shown, sum};
-use crate::measure::{Step, Table};
+use crate::inputs::shown;
+use crate::measure::Table;
 use crate::plain;
+use crate::step::Step;
 use mdeh_tests::pages::{packed, Page, Record};
 use mdeh_tests::probe::{keys, matching, Widths};
 use mdeh_tests::random::Random;
 use mdeh_tests::samples::{distinct_keys, random_record};
 
-/// How many pages make a pass, and how many records each of them has: as many as it has room for.
-const PAGES: usize = 64;
+/// How many pages a row has, and how many records each of them has: as many as it has room for.
+const PAGES: usize = 1_250;
 const RECORDS: usize = 16;
 
 /// The widths of the shapes.
@@ -44,16 +45,12 @@ fn find(table: &mut Table, random: &mut Random, widths: &'static [u32], hit: boo
     let inputs: &'static [_] = inputs.leak();
     let (proved, plain) = (Widths::new(widths).unwrap(), plain::Widths::new(widths).unwrap());
     let place = |place: Result<usize, usize>| place.map_or_else(|i| i as u64, |i| 100 + i as u64);
-    table.row(
-        Step::new(
-            format!("find in a full page, {}", if hit { "hit" } else { "miss" }),
-            shown(widths),
-            "call",
-            inputs.len(),
-        ),
+    table.pair(
+        Step::call(format!("find in a full page, {}", if hit { "hit" } else { "miss" }), shown(widths)),
+        inputs,
         (),
-        move |_| sum(inputs, |&(page, key)| place(keys::find(page, RECORDS, &proved, key).unwrap())),
-        move |_| sum(inputs, |&(page, key)| place(plain::find(page, RECORDS, &plain, key).unwrap())),
+        move |&(page, key), _| place(keys::find(page, RECORDS, &proved, key).unwrap()),
+        move |&(page, key), _| place(plain::find(page, RECORDS, &plain, key).unwrap()),
     );
 }
 
@@ -67,18 +64,11 @@ fn matches(table: &mut Table, random: &mut Random) {
         inputs.push((page, matching::pattern_of(query).unwrap(), plain::Pattern::new(query).unwrap()));
     }
     let inputs: &'static [_] = inputs.leak();
-    table.row(
-        Step::new("matching a page, one value given", shown(&[16; 4]), "record", PAGES * RECORDS),
+    table.pair(
+        Step::each("matching a page, one value given", shown(&[16; 4]), "record", RECORDS),
+        inputs,
         vec![0; 12 * RECORDS],
-        move |out| {
-            sum(inputs, |&(page, pattern, _)| {
-                matching::put_matches(page, RECORDS, pattern, out, 0).unwrap() as u64
-            })
-        },
-        move |out| {
-            sum(inputs, |(page, _, pattern)| {
-                plain::put_matches(page, RECORDS, pattern, out, 0).unwrap() as u64
-            })
-        },
+        |&(page, pattern, _), out| matching::put_matches(page, RECORDS, pattern, out, 0).unwrap() as u64,
+        |(page, _, pattern), out| plain::put_matches(page, RECORDS, pattern, out, 0).unwrap() as u64,
     );
 }

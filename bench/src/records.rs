@@ -1,37 +1,74 @@
 //! The same records in every form that the calls are compared in.
+use crate::builds::{Build, Lent};
+use crate::database;
 use crate::inputs::shown;
+use crate::numbers::grouped;
+use crate::packed::{self, Record, ATTRIBUTES};
+use crate::scans::Columns;
 use crate::sqlite::Database;
 use crate::store::Store;
-use crate::tables::grouped;
-use mdeh_tests::host::{self, Shape};
+use mdeh_tests::host::{Shape, STATE_WORDS};
 use mdeh_tests::random::Random;
 
-/// How many records there are, and of which widths.
+/// How many records there are, what they are called, their widths, and below what each attribute's values are.
 #[derive(Clone, Copy)]
 pub struct Sample {
-    pub widths: [u32; ATTRIBUTES],
     pub records: usize,
+    pub called: &'static str,
+    pub widths: [u32; ATTRIBUTES],
+    pub below: [usize; ATTRIBUTES],
 }
 
-pub const ATTRIBUTES: usize = 3;
-
 /// The lent memory: the words of a directory of depth 12, and the bytes of 4,096 pages.
-pub const WORDS: usize = 1 << 12;
-pub const BYTES: usize = PAGES * (2 + 12 * 16);
+const WORDS: usize = 1 << 12;
+const BYTES: usize = PAGES * PAGE;
 const PAGES: usize = 4096;
+const CAPACITY: u32 = 16;
+
+/// The bytes of a page.
+pub const PAGE: usize = 2 + 12 * CAPACITY as usize;
+
+pub type Key = [u32; 4];
+
+/// What is inserted: a key and a payload.
+pub type Input = (Key, u32);
 
 impl Sample {
-    pub fn shape(&self) -> Shape {
-        Shape::new(&self.widths, 16)
+    /// Records with any values.
+    pub fn random(records: usize, widths: [u32; ATTRIBUTES]) -> Sample {
+        Sample { records, called: "records", widths, below: widths.map(|width| 1 << width) }
     }
 
-    /// How many records are deleted: of so many more that are inserted at first, and by the calls that are measured.
+    pub fn shape(&self) -> Shape {
+        Shape::new(&self.widths, CAPACITY)
+    }
+
+    /// How many records are deleted: of so many more that are inserted at first, and by a run of the deletes that are
+    /// measured.
     pub fn deleted(&self) -> usize {
         self.records / 10
     }
 
     pub fn shown(&self) -> String {
-        format!("{} records", grouped(self.records))
+        format!("{} {}", grouped(self.records), self.called)
+    }
+
+    /// A random key.
+    pub fn key(&self, random: &mut Random) -> Key {
+        let [a0, a1, a2] = self.below.map(|below| random.below(below) as u32);
+        [a0, a1, a2, 0]
+    }
+
+    /// A proved store without records.
+    pub fn proved(&self, build: &Build) -> Lent {
+        let mut lent = Lent { state: vec![0; STATE_WORDS], dir: vec![0; WORDS], pages: vec![0; BYTES] };
+        assert!(build.fresh(self.shape(), &mut lent));
+        lent
+    }
+
+    /// A plain store without records.
+    pub fn plain(&self) -> Store {
+        Store::new(self.shape(), WORDS, BYTES)
     }
 }
 
@@ -39,26 +76,25 @@ impl Sample {
 #[derive(Clone, Copy)]
 pub struct Forms {
     pub sample: Sample,
+    pub builds: &'static [Build],
+    pub lent: &'static Lent,
     pub plain: &'static Store,
-    pub state: &'static [u32],
-    pub dir: &'static [u32],
-    pub pages: &'static [u8],
     /// packed, in split order
-    pub records: &'static [[u8; 12]],
+    pub records: &'static [Record],
+    pub columns: &'static Columns,
     pub database: Option<&'static Database>,
 }
 
 impl Forms {
     /// Random records, some of them deleted again: the plain store is filled by its inserts, the proved store is lent a
     /// copy of its memory.
-    pub fn new(random: &mut Random, sample: Sample) -> Forms {
-        let Sample { widths, records: count } = sample;
-        let mut plain = Store::new(sample.shape(), WORDS, BYTES);
+    pub fn new(random: &mut Random, builds: &'static [Build], sample: Sample) -> Forms {
+        let count = sample.records;
+        let mut plain = sample.plain();
         let mut keys = Vec::new();
         let mut refused = 0;
         while keys.len() < count + sample.deleted() {
-            let [a0, a1, a2] = widths.map(|width| random.below(1 << width) as u32);
-            let key = [a0, a1, a2, 0];
+            let key = sample.key(random);
             match plain.insert(key, random.number() as u32) {
                 Ok(()) => keys.push(key),
                 Err(4) => {}
@@ -68,62 +104,39 @@ impl Forms {
         random.shuffle(&mut keys);
         keys[count..].iter().for_each(|&key| plain.delete(key).expect("the key is stored"));
         let (pages, depth) = plain.extent();
-        let text = format!("{}: {} on {} pages", shown(&widths), sample.shown(), grouped(pages));
+        let text = format!("{}: {} on {} pages", shown(&sample.widths), sample.shown(), grouped(pages));
         println!("{text}, T = {depth}, {refused} inserts refused");
         let mut records = vec![[0; 12]; count];
         let all = plain.query([None; 4], records.as_flattened_mut());
         assert_eq!(all, Ok((count, count, pages)));
         let (state, dir, bytes) = plain.image();
-        assert_eq!(host::check(&state, &dir, &bytes), Ok(true));
+        let lent = Lent { state, dir, pages: bytes };
+        assert!(builds.iter().all(|build| build.check(&lent)));
         Forms {
             sample,
+            builds,
+            lent: Box::leak(Box::new(lent)),
             plain: Box::leak(Box::new(plain)),
-            state: state.leak(),
-            dir: dir.leak(),
-            pages: bytes.leak(),
-            database: fill_database(&records),
+            columns: Box::leak(Box::new(Columns::new(&records))),
+            database: database::of_records(&records),
             records: records.leak(),
         }
     }
-}
-
-/// A database of the records, numbered in split order; none where SQLite is not installed.
-fn fill_database(records: &[[u8; 12]]) -> Option<&'static Database> {
-    let database = Database::open()?;
-    database.run("CREATE TABLE r (n INTEGER PRIMARY KEY, a0 INT, a1 INT, a2 INT, payload INT); BEGIN");
-    let insert = database.prepare("INSERT INTO r VALUES (?, ?, ?, ?, ?)");
-    for (n, record) in records.iter().enumerate() {
-        let [a0, a1, a2, _] = values(record);
-        insert.run([n as i64, a0, a1, a2, payload(record).into()], |_| {});
+    /// So many keys of records in random order, each of them once before one comes again.
+    pub fn keys(&self, random: &mut Random, count: usize) -> Vec<Key> {
+        let mut keys = Vec::new();
+        while keys.len() < count {
+            keys.extend(self.inputs(random).iter().map(|input| input.0));
+        }
+        keys.truncate(count);
+        keys
     }
-    database.run(
-        "CREATE INDEX i0 ON r (a0); CREATE INDEX i1 ON r (a1); CREATE INDEX i2 ON r (a2); COMMIT; ANALYZE",
-    );
-    Some(Box::leak(Box::new(database)))
-}
 
-/// The keys of random records.
-pub fn stored_keys(random: &mut Random, records: &[[u8; 12]], count: usize) -> &'static [[u32; 4]] {
-    let key = |record| values(record).map(|value| value as u32);
-    let keys: Vec<[u32; 4]> = (0..count).map(|_| key(&records[random.below(records.len())])).collect();
-    keys.leak()
-}
-
-/// The four values of a packed record.
-pub fn values(record: &[u8; 12]) -> [i64; 4] {
-    [0, 1, 2, 3].map(|j| u16::from_le_bytes([record[2 * j], record[2 * j + 1]]).into())
-}
-
-pub fn payload(record: &[u8; 12]) -> u32 {
-    u32::from_le_bytes(record[8..].try_into().expect("four bytes"))
-}
-
-/// The first eight bytes of a record.
-pub fn packed(record: &[u8; 12]) -> u64 {
-    u64::from_le_bytes(record[..8].try_into().expect("eight bytes"))
-}
-
-/// Values as a record packs them.
-pub fn pack(values: [u32; 4]) -> u64 {
-    (0..4).fold(0, |packed, j| packed | u64::from(values[j]) << (16 * j))
+    /// The records in random order.
+    pub fn inputs(&self, random: &mut Random) -> Vec<Input> {
+        let input = |record: &Record| (packed::key(record), packed::payload(record));
+        let mut inputs: Vec<Input> = self.records.iter().map(input).collect();
+        random.shuffle(&mut inputs);
+        inputs
+    }
 }

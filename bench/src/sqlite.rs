@@ -1,14 +1,8 @@
-//! SQLite in memory, with an index for each attribute. The library is looked for when the program runs.
+//! SQLite, on databases in memory. The library is looked for when the program runs.
+use crate::dynamic::{function, Library};
 use std::ffi::{c_char, c_int, c_void, CStr, CString};
-use std::mem::transmute_copy;
 use std::ptr::null_mut;
 
-extern "C" {
-    fn dlopen(name: *const c_char, flags: c_int) -> *mut c_void;
-    fn dlsym(library: *mut c_void, name: *const c_char) -> *mut c_void;
-}
-
-const RTLD_NOW: c_int = 2;
 const SQLITE_OK: c_int = 0;
 const SQLITE_ROW: c_int = 100;
 
@@ -43,37 +37,21 @@ pub struct Statement {
 
 impl Functions {
     fn load() -> Option<Functions> {
-        // SAFETY: the name is a C string; each symbol has the type that SQLite's header gives it.
+        let library = Library::open(c"libsqlite3.so.0")?;
+        // SAFETY: each function has the type that SQLite's header gives it.
         unsafe {
-            let library = dlopen(c"libsqlite3.so.0".as_ptr(), RTLD_NOW);
-            if library.is_null() {
-                return None;
-            }
             Some(Functions {
-                version: symbol(library, c"sqlite3_libversion")?,
-                open: symbol(library, c"sqlite3_open")?,
-                exec: symbol(library, c"sqlite3_exec")?,
-                prepare: symbol(library, c"sqlite3_prepare_v2")?,
-                bind: symbol(library, c"sqlite3_bind_int64")?,
-                step: symbol(library, c"sqlite3_step")?,
-                column: symbol(library, c"sqlite3_column_int64")?,
-                text: symbol(library, c"sqlite3_column_text")?,
-                reset: symbol(library, c"sqlite3_reset")?,
+                version: function(library.address(c"sqlite3_libversion")?),
+                open: function(library.address(c"sqlite3_open")?),
+                exec: function(library.address(c"sqlite3_exec")?),
+                prepare: function(library.address(c"sqlite3_prepare_v2")?),
+                bind: function(library.address(c"sqlite3_bind_int64")?),
+                step: function(library.address(c"sqlite3_step")?),
+                column: function(library.address(c"sqlite3_column_int64")?),
+                text: function(library.address(c"sqlite3_column_text")?),
+                reset: function(library.address(c"sqlite3_reset")?),
             })
         }
-    }
-}
-
-/// A function of a library, by its name.
-///
-/// # Safety
-/// F is the function's type.
-unsafe fn symbol<F: Copy>(library: Raw, name: &CStr) -> Option<F> {
-    const { assert!(size_of::<F>() == size_of::<Raw>()) };
-    // SAFETY: the library is open and the name is a C string; a pointer to a function has a pointer's size.
-    unsafe {
-        let found = dlsym(library, name.as_ptr());
-        (!found.is_null()).then(|| transmute_copy(&found))
     }
 }
 
@@ -108,6 +86,13 @@ impl Database {
         let status = unsafe { (self.functions.prepare)(self.raw, text.as_ptr(), -1, &mut raw, null_mut()) };
         assert_eq!(status, SQLITE_OK, "{statement}");
         Statement { functions: self.functions, raw }
+    }
+
+    /// The number that a statement answers.
+    pub fn number(&self, statement: &str) -> usize {
+        let mut number = 0;
+        self.prepare(statement).run([], |row| number = row.number(0) as usize);
+        number
     }
 }
 

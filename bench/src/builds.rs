@@ -1,0 +1,157 @@
+//! The proved store's calls on lent memory: of the library that is linked, and of another build of it.
+use crate::dynamic::{function, Address, Library};
+use crate::step::{EARLIER, PROVED};
+use mdeh_tests::host::{CheckResult, HostQuery, Key, LookupResult, QueryResult, Shape};
+use std::ffi::{CStr, CString};
+
+/// The variable that names a shared library with the calls of another build.
+const EARLIER_BUILD: &str = "MDEH_EARLIER";
+
+/// The store's memory: the words of its state, those of the directory, and the bytes of pages.
+#[derive(Clone)]
+pub struct Lent {
+    pub state: Vec<u32>,
+    pub dir: Vec<u32>,
+    pub pages: Vec<u8>,
+}
+
+/// A build's calls, all by pointers, so that no build is called more quickly than another.
+#[derive(Clone, Copy)]
+pub struct Build {
+    pub name: &'static str,
+    fresh: Fresh,
+    insert: Insert,
+    delete: Delete,
+    lookup: Lookup,
+    query: Query,
+    check: Check,
+}
+
+type Fresh = unsafe extern "C" fn(Shape, *mut u32, usize, *mut u32, usize, *mut u8, usize) -> u32;
+type Insert = unsafe extern "C" fn(*mut u32, usize, *mut u32, usize, *mut u8, usize, Key, u32) -> u32;
+type Delete = unsafe extern "C" fn(*mut u32, usize, *mut u32, usize, *mut u8, usize, Key) -> u32;
+type Lookup =
+    unsafe extern "C" fn(*const u32, usize, *const u32, usize, *const u8, usize, Key) -> LookupResult;
+#[rustfmt::skip]
+type Query = unsafe extern "C" fn(
+    *const u32, usize, *const u32, usize, *const u8, usize, HostQuery, *mut u8, usize,
+) -> QueryResult;
+type Check = unsafe extern "C" fn(*const u32, usize, *const u32, usize, *const u8, usize) -> CheckResult;
+
+// The functions of the linked library, for their addresses.
+extern "C" {
+    fn mdeh_fresh();
+    fn mdeh_insert();
+    fn mdeh_delete();
+    fn mdeh_lookup();
+    fn mdeh_query();
+    fn mdeh_check();
+}
+
+/// Their names, in the same order.
+const NAMES: [&CStr; 6] =
+    [c"mdeh_fresh", c"mdeh_insert", c"mdeh_delete", c"mdeh_lookup", c"mdeh_query", c"mdeh_check"];
+
+impl Build {
+    /// The build whose library is linked, and another one where the environment names it.
+    pub fn all() -> Vec<Build> {
+        let linked = [mdeh_fresh, mdeh_insert, mdeh_delete, mdeh_lookup, mdeh_query, mdeh_check];
+        // SAFETY: the functions are those of the store's header.
+        let proved = unsafe { Build::at(PROVED, linked.map(|function| function as Address)) };
+        let mut all = vec![proved];
+        if let Ok(path) = std::env::var(EARLIER_BUILD) {
+            let name = CString::new(path.clone()).expect("no zero byte");
+            let library = Library::open(&name).unwrap_or_else(|| panic!("{path} is no shared library"));
+            let address = |name| library.address(name).unwrap_or_else(|| panic!("{path} lacks {name:?}"));
+            // SAFETY: as above.
+            all.push(unsafe { Build::at(EARLIER, NAMES.map(address)) });
+        }
+        all
+    }
+
+    /// The build with functions at these addresses, in the order of `NAMES`.
+    ///
+    /// # Safety
+    /// They have the types that the store's header gives them, and no `requires`.
+    unsafe fn at(name: &'static str, [fresh, insert, delete, lookup, query, check]: [Address; 6]) -> Build {
+        // SAFETY: as above.
+        unsafe {
+            Build {
+                name,
+                fresh: function(fresh),
+                insert: function(insert),
+                delete: function(delete),
+                lookup: function(lookup),
+                query: function(query),
+                check: function(check),
+            }
+        }
+    }
+
+    /// Makes a store without records; whether it is accepted.
+    pub fn fresh(&self, shape: Shape, Lent { state, dir, pages }: &mut Lent) -> bool {
+        let (state, words) = (state.as_mut_ptr(), state.len());
+        // SAFETY: each pointer and length are of one slice, and the slices do not overlap; so in all calls.
+        0 == unsafe {
+            (self.fresh)(shape, state, words, dir.as_mut_ptr(), dir.len(), pages.as_mut_ptr(), pages.len())
+        }
+    }
+
+    /// 1 for an accepted insert, 0 for a refused one.
+    #[inline]
+    pub fn insert(&self, Lent { state, dir, pages }: &mut Lent, values: [u32; 4], payload: u32) -> u64 {
+        let (state, words, key) = (state.as_mut_ptr(), state.len(), Key { values });
+        let (dir, size) = (dir.as_mut_ptr(), dir.len());
+        // SAFETY: see `fresh`.
+        let number =
+            unsafe { (self.insert)(state, words, dir, size, pages.as_mut_ptr(), pages.len(), key, payload) };
+        (number == 0).into()
+    }
+
+    /// 1 for an accepted delete, 0 for a refused one.
+    #[inline]
+    pub fn delete(&self, Lent { state, dir, pages }: &mut Lent, values: [u32; 4]) -> u64 {
+        let (state, words, key) = (state.as_mut_ptr(), state.len(), Key { values });
+        let (dir, size) = (dir.as_mut_ptr(), dir.len());
+        // SAFETY: see `fresh`.
+        let number = unsafe { (self.delete)(state, words, dir, size, pages.as_mut_ptr(), pages.len(), key) };
+        (number == 0).into()
+    }
+
+    /// The payload of a key's record, or the number of the refusal.
+    #[inline]
+    pub fn lookup(&self, Lent { state, dir, pages }: &Lent, values: [u32; 4]) -> Result<u32, u32> {
+        let (state, words, key) = (state.as_ptr(), state.len(), Key { values });
+        // SAFETY: see `fresh`.
+        let found =
+            unsafe { (self.lookup)(state, words, dir.as_ptr(), dir.len(), pages.as_ptr(), pages.len(), key) };
+        match found.number {
+            0 => Ok(found.payload),
+            number => Err(number),
+        }
+    }
+
+    /// What a query writes and counts, as the library returns it.
+    #[inline]
+    pub fn query(
+        &self,
+        Lent { state, dir, pages }: &Lent,
+        query: [Option<u32>; 4],
+        out: &mut [u8],
+    ) -> QueryResult {
+        let (state, words, query) = (state.as_ptr(), state.len(), HostQuery::new(query));
+        let (dir, size) = (dir.as_ptr(), dir.len());
+        let (out, room) = (out.as_mut_ptr(), out.len());
+        // SAFETY: see `fresh`.
+        unsafe { (self.query)(state, words, dir, size, pages.as_ptr(), pages.len(), query, out, room) }
+    }
+
+    /// Whether the store is sound.
+    pub fn check(&self, Lent { state, dir, pages }: &Lent) -> bool {
+        let (state, words) = (state.as_ptr(), state.len());
+        // SAFETY: see `fresh`.
+        let found =
+            unsafe { (self.check)(state, words, dir.as_ptr(), dir.len(), pages.as_ptr(), pages.len()) };
+        found == CheckResult { number: 0, sound: 1 }
+    }
+}
