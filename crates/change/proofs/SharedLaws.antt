@@ -1,5 +1,5 @@
--- Records that share their first split bits: order, an insert and sorted lists by the bits that follow; an insert at a
--- place, and into a half. Assumes nothing.
+-- Records that share their first split bits: order, an insert and sorted lists by the bits that follow; an insert into a
+-- half. Assumes nothing.
 use Prim.Native.Nat.{ℕ, zero, suc, _+_, _-_, _<_}
 use mathlib.Core.Path.{_≡_, refl, sym, ap, _∙_}
 use mathlib.Core.Bool.{Bool, true, false, not, _&&_, cond, Bool·beq, false≢true}

@@ -1,38 +1,23 @@
--- Laws of the record with a key in a page whose records are in split order: none, or the one at the place found; the
--- others without it. Assumes nothing.
-use Prim.Native.Nat.{ℕ, zero, suc, _+_, _<_}
-use mathlib.Core.Path.{_≡_, refl, sym, ap, _∙_, subst}
-use mathlib.Core.Bool.{Bool, true, false, not, _&&_, cond, true≢false}
+-- Laws of the search of a page for a key: the place found is that of the first record with the key, and where there is
+-- none, no record has it. Assumes nothing.
+use Prim.Native.Nat.{ℕ, zero, suc, _+_}
+use mathlib.Core.Path.{_≡_, refl, sym, ap, _∙_}
+use mathlib.Core.Bool.{Bool, true, false, _&&_, cond}
 use mathlib.Core.List.{List, [], _∷_, _++_}
 use native.Mathlib.Omega.{arith}
 use native.Mathlib.Nat.{add-zero, zero-add}
 use lib.Dec.{eqb}
 use lib.ListN.{length, getD}
-use borrow.Author.Tests.{eqb-true}
-use Rattle.lists.specs.Filter.{filter, all}
-use Rattle.lists.proofs.Bools.{and-split}
-use Rattle.lists.proofs.FilterLaws.{filter-none, filter-all}
-use Rattle.shape.specs.Shape.{widthsOf, total, Fit}
+use Rattle.lists.specs.Filter.{filter}
 use Rattle.shape.specs.declared.Shape.{Shape}
-use Rattle.shape.proofs.BoundsLaws.{test-of-allBelow}
-use Rattle.split.specs.Steps.{steps}
-use Rattle.split.specs.Bits.{bitOf, splitBit}
-use Rattle.split.proofs.StepLaws.{length-steps}
-use Rattle.split.proofs.DepthLaws.{step-of}
-use Rattle.split.proofs.BitLaws.{splitBit-stepNumber}
-use Rattle.region.specs.Strings.{sameBits}
-use Rattle.region.specs.Sets.{before, sorted}
-use Rattle.region.proofs.StringLaws.{sameBits-below}
-use Rattle.region.proofs.OrderLaws.{sameBits-before}
-use Rattle.record.specs.Record.{Record, recordBit, sameKey}
+use Rattle.record.specs.Record.{sameKey}
 use Rattle.record.specs.Bytes.{recordSize, recordOf}
 use Rattle.record.specs.Packed.{packedKey, SixteenBits, keyIn}
 use Rattle.record.proofs.ByteLaws.{AreBytes, AreBytes-field}
 use Rattle.record.proofs.CodecLaws.{SixteenBits-recordOf, packedKey-recordOf}
 use Rattle.page.specs.Page.{recordsFrom}
 use Rattle.page.specs.Fields.{recordOffset, recordField}
-use Rattle.page.specs.Changes.{removeAt}
-use Rattle.page.proofs.FieldLaws.{length-recordsFrom, getD-recordsFrom}
+use Rattle.page.proofs.FieldLaws.{length-recordsFrom}
 use Rattle.page_matches.specs.KeyPlace.{keyPlace}
 use Rattle.page_matches.proofs.PatternLaws.{eqb-comm, eqb-above, and-turn}
 
@@ -53,72 +38,6 @@ module _ {A : Type 0} (test : A → Bool) where
           → cond β (x ∷ []) [] ++ filter test xs ≡ []
       go true e ih = absurd (omega arith)
       go false e ih = ih (omega arith)
-
-module _ {R : Type 0} (bit : R → ℕ → Bool) (n t : ℕ) (test : R → Bool)
-    (apart : (x y : R) → before bit n t x y ≡ true → test x ≡ true → test y ≡ false) where
-  -- at most one passes
-  pub filter-found : (xs : List R) (d : R) → sorted bit n t xs ≡ true → firstPlace test xs < length xs
-      → filter test xs ≡ getD xs (firstPlace test xs) d ∷ []
-  filter-found [] d o h = absurd (omega arith)
-  filter-found (x ∷ xs) d o h = go (test x) refl h (filter-found xs d (parts .1))
-    where
-      parts : (all (before bit n t x) xs ≡ true) × (sorted bit n t xs ≡ true)
-      parts = and-split (all (before bit n t x) xs) (sorted bit n t xs) o
-
-      go : (β : Bool) → test x ≡ β → cond β 0 (suc (firstPlace test xs)) < suc (length xs)
-          → (firstPlace test xs < length xs → filter test xs ≡ getD xs (firstPlace test xs) d ∷ [])
-          → cond β (x ∷ []) [] ++ filter test xs ≡ getD (x ∷ xs) (cond β 0 (suc (firstPlace test xs))) d ∷ []
-      go true e l ih = ap (λ ys. x ∷ ys) (filter-none (before bit n t x) test (λ y b. apart x y b e) xs (parts .0))
-      go false e l ih = ih (omega arith)
-
-  pub filter-others : (xs : List R) → sorted bit n t xs ≡ true → firstPlace test xs < length xs
-      → filter (λ x. not (test x)) xs ≡ removeAt (firstPlace test xs) xs
-  unfolding removeAt
-  filter-others [] o h = absurd (omega arith)
-  filter-others (x ∷ xs) o h = go (test x) refl h (filter-others xs (parts .1))
-    where
-      parts : (all (before bit n t x) xs ≡ true) × (sorted bit n t xs ≡ true)
-      parts = and-split (all (before bit n t x) xs) (sorted bit n t xs) o
-
-      go : (β : Bool) → test x ≡ β → cond β 0 (suc (firstPlace test xs)) < suc (length xs)
-          → (firstPlace test xs < length xs → filter (λ y. not (test y)) xs ≡ removeAt (firstPlace test xs) xs)
-          → cond (not β) (x ∷ []) [] ++ filter (λ y. not (test y)) xs
-          ≡ removeAt (cond β 0 (suc (firstPlace test xs))) (x ∷ xs)
-      go true e l ih = filter-all (before bit n t x) (λ y. not (test y)) (λ y b. ap not (apart x y b e)) xs (parts .0)
-      go false e l ih = ap (λ ys. x ∷ ys) (ih (omega arith))
-
--- ---- records with one key stand not before each other
-
-module _ (s : Shape) (fit : Fit (widthsOf s)) (key : List ℕ) where
-  length-widths : length (steps (widthsOf s)) ≡ total (widthsOf s)
-  unfolding widthsOf
-  length-widths = length-steps _ _ _ _ fit
-
-  recordBit-sameKey : (x : Record) → sameKey key x ≡ true → (t : ℕ) → t < total (widthsOf s)
-      → recordBit s x t ≡ splitBit (widthsOf s) key t
-  recordBit-sameKey x e t l =
-      let p = step-of (widthsOf s) t (omega (arith, length-widths)) in
-      let k = p .0 in
-      let j = p .1 in
-      let same : getD (x .key) j 0 ≡ getD key j 0 =
-      sym (eqb-true _ _ (test-of-allBelow (λ i. eqb (getD key i 0) (getD (x .key) i 0)) 4 j e (p .2))) in
-      subst (λ u. recordBit s x u ≡ splitBit (widthsOf s) key u) (p .4)
-      (splitBit-stepNumber (widthsOf s) fit (x .key) k j (p .2) (p .3)
-      ∙ ap (λ v. bitOf (getD (widthsOf s) j 0) v k) same
-      ∙ sym (splitBit-stepNumber (widthsOf s) fit key k j (p .2) (p .3)))
-
-  apart-sameKey : (x y : Record) → before (recordBit s) (total (widthsOf s)) 0 x y ≡ true → sameKey key x ≡ true
-      → sameKey key y ≡ false
-  apart-sameKey x y b e = go (sameKey key y) refl
-    where
-      go : (β : Bool) → sameKey key y ≡ β → sameKey key y ≡ false
-      go false f = f
-      go true f =
-          let W = total (widthsOf s) in
-          let equal : sameBits (recordBit s x) (recordBit s y) W 0 ≡ true =
-          sameBits-below (recordBit s x) (recordBit s y) W W 0 (omega arith)
-          (λ t l. recordBit-sameKey x e t l ∙ sym (recordBit-sameKey y f t l)) in
-          absurd (true≢false (sym equal ∙ sameBits-before (recordBit s) W 0 x y b))
 
 -- ---- the search of a page
 
@@ -175,9 +94,3 @@ module _ (s : Shape) (key : List ℕ) (six : SixteenBits key) where
       sameKey-absent e =
           filter-absent (sameKey key) (recordsFrom s n 2 page)
           (sym place-first ∙ e ∙ sym (length-recordsFrom s n 2 page))
-
-      module _ (fit : Fit (widthsOf s))
-          (o : sorted (recordBit s) (total (widthsOf s)) 0 (recordsFrom s n 2 page) ≡ true)
-          (l : place < n) where
-        first-lt : firstPlace (sameKey key) (recordsFrom s n 2 page) < length (recordsFrom s n 2 page)
-        first-lt = omega (arith, place-first, length-recordsFrom s n 2 page)
