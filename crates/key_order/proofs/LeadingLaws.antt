@@ -1,18 +1,20 @@
--- Laws of the first bit of a value that is 1: the value's bits shifted to the top of 64, and their leading zeros.
+-- Laws of a value's bits at the top of 64: how shifts put them there, which bits they are, and their leading zeros.
 -- Assumes nothing.
 use Prim.Native.Nat.{ℕ, suc, _+_, _*_, _-_, _/_, _%_, _^_, _≤_, _<_}
 use mathlib.Core.Path.{_≡_, sym, ap, _∙_, subst}
+use mathlib.Core.Bool.{true, false, true≢false}
 use mathlib.Core.Logic.{_⊎_, inl, inr}
-use native.Mathlib.Nat.{mul-le-mul-right, mul-assoc, mul-mod-left, mod-lt}
+use native.Mathlib.Nat.{mul-assoc, mul-mod-left, mod-lt}
 use native.Mathlib.Omega.{arith}
-use lib.Dec.{eqb}
+use lib.Bits.{shifted-even}
 use lib.Count.{leadingZeros, leading-of-zero, leading-top, leading-le}
-use lib.Pow.{pow-pos, pow-mono, pow-add, shl-lt, shr-lt, shr-mono, shl-shr, mod-pow-add, mod-mod-pow}
-use Rattle.lists.proofs.Numbers.{lt-or-le, eq-or-ne, pow-below}
+use lib.Dec.{eqb}
+use lib.Pow.{pow-pos, pow-add, shl-lt, shl-shr, shr-shr, mod-pow-add}
+use Rattle.lists.proofs.Numbers.{lt-or-le, eq-or-ne}
 use Rattle.split.specs.Bits.{bitOf}
 use Rattle.record.specs.Packed.{packedValue}
-use Rattle.key_order.specs.Private.{FirstBit}
-use Rattle.key_order.proofs.BitLaws.{bit-mod}
+use Rattle.key_order.specs.Private.{hasBit, topBits, LeadingOne, FirstBit}
+use Rattle.key_order.proofs.BitLaws.{bit-mod, hasBit-past, hasBit-highest}
 
 -- ---- shifted to the top
 
@@ -23,146 +25,105 @@ shl-mod a j k =
     let low : (a * 2 ^ k) % 2 ^ k ≡ 0 = mul-mod-left a (2 ^ k) in
     parts ∙ ap (λ x. (x % 2 ^ j) * 2 ^ k + (a * 2 ^ k) % 2 ^ k) high ∙ omega (arith, low)
 
-module _ (w : ℕ) (h : w ≤ 16) where
-  abbrev rest : ℕ
-  rest = 64 - w
+pub topBits-shifted : (key w j : ℕ) → w ≤ 16
+    → (((key / 2 ^ (16 * j) * 2 ^ 48) % 2 ^ 64) * 2 ^ (16 - w)) % 2 ^ 64 ≡ topBits w (packedValue key j)
+topBits-shifted key w j h =
+    let v = key / 2 ^ (16 * j) in
+    let e : 48 + (16 - w) ≡ 64 - w = omega arith in
+    let f : w + (64 - w) ≡ 64 = omega arith in
+    ap (λ x. (x * 2 ^ (16 - w)) % 2 ^ 64) (shl-mod v 16 48)
+    ∙ ap (λ x. x % 2 ^ 64) (mul-assoc (v % 2 ^ 16) (2 ^ 48) (2 ^ (16 - w)))
+    ∙ ap (λ x. ((v % 2 ^ 16) * x) % 2 ^ 64) (sym (pow-add 2 48 (16 - w)))
+    ∙ (λ i. ((v % 2 ^ 16) * 2 ^ e i) % 2 ^ sym f i)
+    ∙ shl-mod (v % 2 ^ 16) w (64 - w)
 
-  pub shifted-top : (v : ℕ) → (((v * 2 ^ 48) % 2 ^ 64) * 2 ^ (16 - w)) % 2 ^ 64 ≡ (v % 2 ^ w) * 2 ^ (64 - w)
-  shifted-top v =
-      let e : 48 + (16 - w) ≡ rest = omega arith in
-      let f : w + rest ≡ 64 = omega arith in
-      let g : (16 - w) + w ≡ 16 = omega arith in
-      ap (λ x. (x * 2 ^ (16 - w)) % 2 ^ 64) (shl-mod v 16 48)
-      ∙ ap (λ x. x % 2 ^ 64) (mul-assoc (v % 2 ^ 16) (2 ^ 48) (2 ^ (16 - w)))
-      ∙ ap (λ x. ((v % 2 ^ 16) * x) % 2 ^ 64) (sym (pow-add 2 48 (16 - w)))
-      ∙ (λ i. ((v % 2 ^ 16) * 2 ^ e i) % 2 ^ sym f i)
-      ∙ shl-mod (v % 2 ^ 16) w rest
-      ∙ ap (λ k. (v % 2 ^ k % 2 ^ w) * 2 ^ rest) (sym g)
-      ∙ ap (λ x. x * 2 ^ rest) (mod-mod-pow v (16 - w) w)
+-- ---- their bits
 
-  -- ---- leading zeros
+pub topBits-lt : (w v : ℕ) → w ≤ 16 → topBits w v < 2 ^ 64
+topBits-lt w v h =
+    let f : w + (64 - w) ≡ 64 = omega arith in
+    subst (λ k. topBits w v < 2 ^ k) f (shl-lt w (64 - w) (mod-lt v (pow-pos w)))
 
-  module _ (u : ℕ) (small : u < 2 ^ w) (pos : u ≡ 0 → ⊥) where
-    abbrev zeros : ℕ
-    zeros = leadingZeros 64 (u * 2 ^ rest)
+-- bit k from above, bit s from below
+module _ (w v k s : ℕ) (h : w ≤ 16) (place : k + suc s ≡ 64) where
+  pub hasBit-topBits : k < w → hasBit s (topBits w v) ≡ bitOf w v k
+  hasBit-topBits l =
+      let i = w - suc k in
+      let e : s ≡ (64 - w) + i = omega arith in
+      ap (λ n. hasBit n (topBits w v)) e
+      ∙ ap (λ a. eqb (a % 2) 1) (sym (shr-shr (topBits w v) (64 - w) i))
+      ∙ ap (λ a. eqb (a / 2 ^ i % 2) 1) (shl-shr (v % 2 ^ w) (64 - w))
+      ∙ ap (λ a. eqb a 1) (bit-mod w v i (omega arith))
 
-    at-least : 2 ^ rest ≤ u * 2 ^ rest
-    at-least = let one : 1 ≤ u = omega arith in omega (arith, mul-le-mul-right (2 ^ rest) one)
+  hasBit-topBits-past : w ≤ k → hasBit s (topBits w v) ≡ false
+  hasBit-topBits-past l =
+      let i = k - w in
+      let u = v % 2 ^ w in
+      let e : 64 - w ≡ suc i + s = omega arith in
+      let more : u * 2 ^ (64 - w) ≡ u * 2 ^ suc i * 2 ^ s =
+      ap (λ n. u * 2 ^ n) e ∙ ap (λ a. u * a) (pow-add 2 (suc i) s) ∙ sym (mul-assoc u (2 ^ suc i) (2 ^ s)) in
+      ap (hasBit s) more
+      ∙ ap (λ a. eqb (a % 2) 1) (shl-shr (u * 2 ^ suc i) s)
+      ∙ ap (λ a. eqb a 1) (shifted-even u i)
 
-    at-most : u * 2 ^ rest < 2 ^ 64
-    at-most =
-        let f : w + rest ≡ 64 = omega arith in
-        subst (λ k. u * 2 ^ rest < 2 ^ k) f (shl-lt w rest small)
+  pub width-of-hasBit : hasBit s (topBits w v) ≡ true → k < w
+  width-of-hasBit e = go (lt-or-le k w)
+    where
+      go : (k < w) ⊎ (w ≤ k) → k < w
+      go (inl l) = l
+      go (inr l) = absurd (true≢false (sym e ∙ hasBit-topBits-past l))
 
-    abbrev Top : Type 0
-    Top = (s : ℕ) × (zeros + suc s ≡ 64) × (2 ^ s ≤ u * 2 ^ rest) × (u * 2 ^ rest < 2 ^ suc s)
+-- of top bits below 2 ^ m, the bits from m on are 0
+pub bitOf-below : (w v k m : ℕ) → w ≤ 16 → k < w → topBits w v < 2 ^ m → k + m < 64 → bitOf w v k ≡ false
+bitOf-below w v k m h l small past =
+    sym (hasBit-topBits w v k (63 - k) h (omega arith) l) ∙ hasBit-past (topBits w v) m (63 - k) small (omega arith)
 
-    top : Top
-    top = leading-top 64 (u * 2 ^ rest) (omega (arith, at-least, pow-pos rest)) at-most
+-- ---- the leading one by leading zeros
 
-    -- the highest bit of u is bit i from below, i = w - 1 - zeros
-    pub zeros-lt : zeros < w
-    zeros-lt =
-        omega (arith, top .1, pow-below rest (suc (top .0)) (u * 2 ^ rest) at-least (top .3))
+pub leadingOne-shifted : (n : ℕ) → 0 < n → n < 2 ^ 64 → LeadingOne n (2 ^ 63 / 2 ^ leadingZeros 64 n)
+leadingOne-shifted n pos small =
+    let top = leading-top 64 n pos small in
+    let e : 63 ≡ top .0 + leadingZeros 64 n = omega (arith, top .1) in
+    record {
+      place = top .0;
+      is-power =
+          ap (λ k. 2 ^ k / 2 ^ leadingZeros 64 n) e
+          ∙ ap (λ a. a / 2 ^ leadingZeros 64 n) (pow-add 2 (top .0) (leadingZeros 64 n))
+          ∙ shl-shr (2 ^ top .0) (leadingZeros 64 n);
+      low = top .2;
+      high = top .3;
+    }
 
-    place : top .0 ≡ (w - suc zeros) + rest
-    place = omega (arith, top .1, zeros-lt)
-
-    pub zeros-low : 2 ^ (w - suc zeros) ≤ u
-    zeros-low = go (lt-or-le u (2 ^ (w - suc zeros)))
-      where
-        go : (u < 2 ^ (w - suc zeros)) ⊎ (2 ^ (w - suc zeros) ≤ u) → 2 ^ (w - suc zeros) ≤ u
-        go (inr l) = l
-        go (inl l) =
-            let less : u * 2 ^ rest < 2 ^ ((w - suc zeros) + rest) = shl-lt (w - suc zeros) rest l in
-            absurd (omega (arith, less, subst (λ s. 2 ^ s ≤ u * 2 ^ rest) place (top .2)))
-
-    pub zeros-high : u < 2 ^ suc (w - suc zeros)
-    zeros-high = go (lt-or-le u (2 ^ suc (w - suc zeros)))
-      where
-        go : (u < 2 ^ suc (w - suc zeros)) ⊎ (2 ^ suc (w - suc zeros) ≤ u) → u < 2 ^ suc (w - suc zeros)
-        go (inl l) = l
-        go (inr l) =
-            let e : suc (w - suc zeros) + rest ≡ suc (top .0) = omega (arith, place) in
-            let more : 2 ^ suc (w - suc zeros) * 2 ^ rest ≤ u * 2 ^ rest = mul-le-mul-right (2 ^ rest) l in
-            let sum : 2 ^ (suc (w - suc zeros) + rest) ≡ 2 ^ suc (w - suc zeros) * 2 ^ rest =
-            pow-add 2 (suc (w - suc zeros)) rest in
-            absurd (omega (arith, more, sum, ap (λ k. 2 ^ k) e, top .3))
-
--- ---- the first bit that is 1
-
--- a number below a power, shifted past it
-shr-zero : (u k m : ℕ) → u < 2 ^ m → m ≤ k → u / 2 ^ k ≡ 0
-shr-zero u k m l h =
-    let small : u < 2 ^ k = omega (arith, pow-mono h) in
-    let e : k ≡ 0 + k = omega arith in
-    omega (arith, shr-lt {n = u} 0 k (subst (λ n. u < 2 ^ n) e small))
-
-shr-one : (u i : ℕ) → 2 ^ i ≤ u → u < 2 ^ suc i → u / 2 ^ i ≡ 1
-shr-one u i l h =
-    let one : 1 * 2 ^ i ≡ 2 ^ i = omega arith in
-    let e : suc i ≡ 1 + i = omega arith in
-    omega (
-      arith,
-      shr-lt {n = u} 1 i (subst (λ n. u < 2 ^ n) e h),
-      shr-mono {a = 1 * 2 ^ i} {b = u} i (omega arith),
-      shl-shr 1 i,
-    )
-
-module _ (w j v : ℕ) (h : w ≤ 16) (hj : j < 4) where
+module _ (w v j : ℕ) (h : w ≤ 16) (hj : j < 4) where
   abbrev found : ℕ
-  found = leadingZeros 64 ((v % 2 ^ w) * 2 ^ (64 - w))
+  found = leadingZeros 64 (topBits w v)
 
   pub firstBit-zeros : FirstBit w v j (4 * found + j)
-  firstBit-zeros = go (eq-or-ne (v % 2 ^ w) 0)
+  firstBit-zeros = go (eq-or-ne (topBits w v) 0)
     where
-      small : v % 2 ^ w < 2 ^ w
-      small = mod-lt v (pow-pos w)
-
-      bit-as : (k : ℕ) → k < w → (b : ℕ) → (v % 2 ^ w) / 2 ^ (w - suc k) % 2 ≡ b → bitOf w v k ≡ eqb b 1
-      bit-as k l b e = ap (λ x. eqb x 1) (sym (bit-mod w v (w - suc k) (omega arith)) ∙ e)
-
-      go : (v % 2 ^ w ≡ 0) ⊎ (v % 2 ^ w ≡ 0 → ⊥) → FirstBit w v j (4 * found + j)
+      go : (topBits w v ≡ 0) ⊎ (topBits w v ≡ 0 → ⊥) → FirstBit w v j (4 * found + j)
       go (inl z) =
-          let all : found ≡ 64 =
-          ap (λ u. leadingZeros 64 (u * 2 ^ (64 - w))) z
-          ∙ ap (leadingZeros 64) (let n : 0 * 2 ^ (64 - w) ≡ 0 = omega arith in n)
-          ∙ leading-of-zero 64 in
+          let all : found ≡ 64 = ap (leadingZeros 64) z ∙ leading-of-zero 64 in
           record {
             most = omega arith;
-            zero-before =
-                λ k l p. bit-as k l 0
-                (ap (λ u. u / 2 ^ (w - suc k) % 2) z ∙ ap (λ x. x % 2)
-                (shr-zero 0 (w - suc k) 0 (omega arith) (omega arith)));
+            zero-before = λ k l p. bitOf-below w v k 0 h l (omega arith) (omega arith);
             attribute-there = λ l. absurd (omega arith);
             step-there = λ l. absurd (omega arith);
             one-there = λ l. absurd (omega arith);
           }
       go (inr n) =
-          let lt = zeros-lt w h (v % 2 ^ w) small n in
+          let top = leading-top 64 (topBits w v) (omega arith) (topBits-lt w v h) in
+          let s = top .0 in
+          let one = hasBit-highest (topBits w v) s (top .2) (top .3) in
+          let live = width-of-hasBit w v found s h (top .1) one in
           let k-is : (4 * found + j) / 4 ≡ found = omega arith in
           record {
-            most = omega arith;
-            zero-before = λ k l p. bit-as k l 0 (ap (λ x. x % 2)
-                (shr-zero (v % 2 ^ w) (w - suc k) (suc (w - suc found)) (zeros-high w h (v % 2 ^ w) small n)
-                (omega arith)));
+            most = omega (arith, top .1);
+            zero-before = λ k l p. bitOf-below w v k (suc s) h l (top .3) (omega (arith, top .1));
             attribute-there = λ l. omega arith;
             step-there = λ l. omega arith;
-            one-there = λ l. ap (bitOf w v) k-is ∙ bit-as found lt 1 (ap (λ x. x % 2)
-                (shr-one (v % 2 ^ w) (w - suc found) (zeros-low w h (v % 2 ^ w) small n)
-                (zeros-high w h (v % 2 ^ w) small n)));
+            one-there = λ l. ap (bitOf w v) k-is ∙ sym (hasBit-topBits w v found s h (top .1) live) ∙ one;
           }
-
--- in a packed key
-pub firstBit-top : (z w j : ℕ) → w ≤ 16 → j < 4
-    → FirstBit w (packedValue z j) j
-    (4 * leadingZeros 64 ((((z / 2 ^ (16 * j) * 2 ^ 48) % 2 ^ 64) * 2 ^ (16 - w)) % 2 ^ 64) + j)
-firstBit-top z w j h hj =
-    let v = z / 2 ^ (16 * j) in
-    let e : (16 - w) + w ≡ 16 = omega arith in
-    let same : v % 2 ^ 16 % 2 ^ w ≡ v % 2 ^ w = ap (λ k. v % 2 ^ k % 2 ^ w) (sym e) ∙ mod-mod-pow v (16 - w) w in
-    subst (λ a. FirstBit w (packedValue z j) j (4 * leadingZeros 64 a + j))
-    (ap (λ u. u * 2 ^ (64 - w)) same ∙ sym (shifted-top w h v)) (firstBit-zeros w j (packedValue z j) h hj)
 
 -- places are small numbers
 pub zeros-fit : (a : ℕ) → leadingZeros 64 a < 2 ^ 64

@@ -1,5 +1,7 @@
 pub mod BitLaws
+pub mod ChoiceLaws
 pub mod CommonLaws
+pub mod CompareLaws
 pub mod Example
 pub mod FirstLaws
 pub mod LeadingLaws

@@ -2,7 +2,7 @@
 -- exclusive-or. Assumes nothing.
 use Prim.Native.Nat.{ℕ, zero, suc, _+_, _*_, _/_, _%_, _-_, _^_, _≤_, _<_, min}
 use mathlib.Core.Path.{_≡_, sym, ap, _∙_, subst}
-use mathlib.Core.Bool.{true, false, not, Bool·beq, true≢false}
+use mathlib.Core.Bool.{Bool, true, false, not, Bool·beq, true≢false}
 use mathlib.Core.List.{List, [], _∷_}
 use mathlib.Core.Logic.{_⊎_, inl, inr}
 use native.Mathlib.Omega.{arith}
@@ -52,15 +52,33 @@ pairBit-unpackedKey ws key g =
 
 module _ (ws : List ℕ) (x y : ℕ) where
   -- a bit of the exclusive-or, by its place
-  differs : (g : ℕ) → bitOf (getD ws (g % 4) 0) (packedValue (bitXor x y) (g % 4)) (g / 4)
-      ≡ not (Bool·beq (pairBit ws (unpackedKey x) g) (pairBit ws (unpackedKey y) g))
-  differs g =
+  abbrev pub xorBit : ℕ → Bool
+  xorBit g = bitOf (getD ws (g % 4) 0) (packedValue (bitXor x y) (g % 4)) (g / 4)
+
+  xorBit-is : (g : ℕ) → xorBit g ≡ not (Bool·beq (pairBit ws (unpackedKey x) g) (pairBit ws (unpackedKey y) g))
+  xorBit-is g =
       bitOf-xor (getD ws (g % 4) 0) x y (g % 4) (g / 4)
       ∙ sym (λ i. not (Bool·beq (pairBit-unpackedKey ws x g i) (pairBit-unpackedKey ws y g i)))
 
+  -- the first pair by the first of these bits that is 1
+  pub firstPair-of-xor : (g : ℕ) → g ≤ 64 → ((h : ℕ) → h < g → IsStep ws h → xorBit h ≡ false)
+      → (g < 64 → IsStep ws g) → (g < 64 → xorBit g ≡ true)
+      → FirstPair ws (unpackedKey x) (unpackedKey y) g
+  firstPair-of-xor g most zero-before step one =
+      record {
+        most = most;
+        same-before = λ h l k.
+            sym (eq-of-beq (pairBit ws (unpackedKey x) h) (pairBit ws (unpackedKey y) h)
+            (not-false _ (sym (xorBit-is h) ∙ zero-before h l k)));
+        step-there = step;
+        differ-there = λ l e.
+            true≢false
+            (sym (beq-eq (pairBit ws (unpackedKey x) g) (pairBit ws (unpackedKey y) g) e)
+            ∙ not-true _ (sym (xorBit-is g) ∙ one l));
+      }
+
   module _ (f : ℕ → ℕ) (bits : (r : ℕ) → r < 4 → FirstBit (getD ws r 0) (packedValue (bitXor x y) r) r (f r)) where
-    zero-below : (h : ℕ) → h < least f → IsStep ws h
-        → bitOf (getD ws (h % 4) 0) (packedValue (bitXor x y) (h % 4)) (h / 4) ≡ false
+    zero-below : (h : ℕ) → h < least f → IsStep ws h → xorBit h ≡ false
     zero-below h l k =
         let r = h % 4 in
         let small : r < 4 = omega arith in
@@ -68,36 +86,21 @@ module _ (ws : List ℕ) (x y : ℕ) where
         bits r small .zero-before (h / 4) k (omega (arith, least-le f r small))
 
     -- what holds at the place of the attribute that attains the least
-    attained : (g r : ℕ) → f r ≡ g → g < 64 → r < 4
-        → (g % 4 ≡ r) × (g / 4 < getD ws r 0) × (bitOf (getD ws r 0) (packedValue (bitXor x y) r) (g / 4) ≡ true)
+    attained : (g r : ℕ) → f r ≡ g → g < 64 → r < 4 → IsStep ws g × (xorBit g ≡ true)
     attained g r e l h =
         let b = bits r h in
-        let at : f r < 64 = omega arith in (
-          subst (λ p. p % 4 ≡ r) e (b .attribute-there at),
-          subst (λ p. p / 4 < getD ws r 0) e (b .step-there at),
-          subst (λ p. bitOf (getD ws r 0) (packedValue (bitXor x y) r) (p / 4) ≡ true) e (b .one-there at),
+        let at : f r < 64 = omega arith in
+        let attribute : r ≡ g % 4 = sym (subst (λ p. p % 4 ≡ r) e (b .attribute-there at)) in (
+          subst (λ q. g / 4 < getD ws q 0) attribute (subst (λ p. p / 4 < getD ws r 0) e (b .step-there at)),
+          subst (λ q. bitOf (getD ws q 0) (packedValue (bitXor x y) q) (g / 4) ≡ true) attribute
+              (subst (λ p. bitOf (getD ws r 0) (packedValue (bitXor x y) r) (p / 4) ≡ true) e (b .one-there at)),
         )
 
+    there : least f < 64 → IsStep ws (least f) × (xorBit (least f) ≡ true)
+    there l = let a = least-attained f l in attained (least f) (a .0) (a .2) l (a .1)
+
     pub firstPair-least : FirstPair ws (unpackedKey x) (unpackedKey y) (least f)
-    firstPair-least =
-        record {
-          most = omega arith;
-          same-before = λ h l k.
-              sym (eq-of-beq (pairBit ws (unpackedKey x) h) (pairBit ws (unpackedKey y) h)
-              (not-false _ (sym (differs h) ∙ zero-below h l k)));
-          step-there = λ l.
-              let a = least-attained f l in
-              let t = attained (least f) (a .0) (a .2) l (a .1) in
-              subst (λ r. least f / 4 < getD ws r 0) (sym (t .0)) (t .1);
-          differ-there = λ l e.
-              let a = least-attained f l in
-              let t = attained (least f) (a .0) (a .2) l (a .1) in
-              let one : bitOf (getD ws (least f % 4) 0) (packedValue (bitXor x y) (least f % 4)) (least f / 4) ≡ true =
-              subst (λ r. bitOf (getD ws r 0) (packedValue (bitXor x y) r) (least f / 4) ≡ true) (sym (t .0)) (t .2) in
-              let unequal = not-true _ (sym (differs (least f)) ∙ one) in
-              true≢false
-              (sym (beq-eq (pairBit ws (unpackedKey x) (least f)) (pairBit ws (unpackedKey y) (least f)) e) ∙ unequal);
-        }
+    firstPair-least = firstPair-of-xor (least f) (omega arith) zero-below (λ l. there l .0) (λ l. there l .1)
 
 -- ---- the four attributes together
 

@@ -1,8 +1,8 @@
 -- Laws from the first pair in which two keys differ to split steps: the number of that step, and how the keys stand
 -- to each other. Assumes nothing.
 use Prim.Native.Nat.{ℕ, _+_, _*_, _/_, _%_, _≤_, _<_}
-use mathlib.Core.Path.{_≡_, sym, ap, _∙_, subst}
-use mathlib.Core.Bool.{cond}
+use mathlib.Core.Path.{_≡_, refl, sym, ap, _∙_, subst}
+use mathlib.Core.Bool.{Bool, true, false, cond}
 use mathlib.Core.List.{List}
 use mathlib.Core.Logic.{_⊎_, inl, inr}
 use native.Mathlib.Nat.{zero-add}
@@ -19,6 +19,13 @@ use Rattle.pairs.proofs.PlaceLaws.{splitBit-place, stepsBelow-lt}
 use Rattle.key_order.specs.declared.Order.the-variants.{Same, Before, After}
 use Rattle.key_order.proofs.CommonLaws.{AgreeFrom, DifferAt, commonBits-all, commonBits-differ}
 use Rattle.key_order.proofs.CommonLaws.{sameBits-all, sameBits-differ, before-differ}
+
+-- of two bits that differ either tells the order
+cond-ne : (α β : Bool) → (α ≡ β → ⊥) → cond β Before After ≡ cond α After Before
+cond-ne true true n = absurd (n refl)
+cond-ne true false n = refl
+cond-ne false true n = refl
+cond-ne false false n = absurd (n refl)
 
 module _ (ws : List ℕ) (fit : Fit ws) where
   module _ (x y : List ℕ) (g : ℕ) (d : FirstPair ws x y g) where
@@ -75,7 +82,7 @@ module _ (ws : List ℕ) (fit : Fit ws) where
       unfolding compared
       compared-same l = rw (sameBits-all (splitBit ws x) (splitBit ws y) (total ws) 0 (agree-all l))
 
-      pub compared-differ : g < 64 → compared ws x y ≡ cond (pairBit ws y g) Before After
+      pub compared-differ : g < 64 → compared ws x y ≡ cond (pairBit ws x g) After Before
       unfolding compared
       compared-differ l =
           rw (
@@ -83,4 +90,5 @@ module _ (ws : List ℕ) (fit : Fit ws) where
             before-differ (splitBit ws) x y (total ws) 0 t (t-lt l) agree-before (differ-here l),
           )
           (ap (λ β. cond β Before After)
-          (ap (splitBit ws y) (zero-add t) ∙ splitBit-place ws fit y g (d .step-there l)))
+          (ap (splitBit ws y) (zero-add t) ∙ splitBit-place ws fit y g (d .step-there l))
+          ∙ cond-ne (pairBit ws x g) (pairBit ws y g) (d .differ-there l))

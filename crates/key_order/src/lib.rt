@@ -15,7 +15,7 @@ ghost use Rattle.split.specs.Bits.{bitOf};
 ghost use Rattle.pairs.specs.Pairs.{IsStep};
 ghost use Rattle.record.specs.Packed.{packedValue, unpackedKey};
 ghost use Rattle.key_order.specs.Order.{firstStep, compared, FirstPair};
-ghost use Rattle.key_order.specs.Private.{FirstBit};
+ghost use Rattle.key_order.specs.Private.{topBits, LeadingOne, BitOfFirst, Chosen, FirstBit};
 
 // How a key stands to another one in split order.
 pub enum Order {
@@ -32,16 +32,22 @@ pub fn first_step(widths: Widths, x: u64, y: u64) -> u64
     steps_before(widths, first_pair(widths, x, y))
 }
 
-// How x stands to y.
+// How x stands to y. With each attribute's differing bits at the top of a word, the leading one of
+// all four is the first bit in which any attribute differs.
 pub fn compare(widths: Widths, x: u64, y: u64) -> Order
     requires { ⌜ Fit (widthList widths) ⌝ }
     ensures { λ r. ⌜ r ≡ compared (widthList widths) (unpackedKey x) (unpackedKey y) ⌝ }
 {
-    let g = first_pair(widths, x, y);
-    if g == 64 {
+    let z = x ^ y;
+    let d0 = top_bits(z, widths.w0, 0);
+    let d1 = top_bits(z, widths.w1, 1);
+    let d2 = top_bits(z, widths.w2, 2);
+    let d3 = top_bits(z, widths.w3, 3);
+    let all = d0 | d1 | d2 | d3;
+    if all == 0 {
         return Order::Same;
     }
-    if pair_bit(widths, y, g) {
+    if bit_of_first(widths, x, leading_one(all), d0, d1, d2) == 0 {
         return Order::Before;
     }
     Order::After
@@ -70,12 +76,49 @@ pub fn pair_bit(widths: Widths, key: u64, g: u64) -> bool
     (key >> low) & 1 == 1
 }
 
+// The value of attribute j, its w bits at the top of the word.
+fn top_bits(key: u64, w: u64, j: u64) -> u64
+    requires { ⌜ (w ≤ 16) × (j < 4) ⌝ }
+    ensures { λ r. ⌜ r ≡ topBits w (packedValue key j) ⌝ }
+{
+    ((key >> (16 * j)) << 48) << (16 - w)
+}
+
+// The highest bit that is 1 in a number other than 0, alone.
+fn leading_one(n: u64) -> u64
+    requires { ⌜ 0 < n ⌝ }
+    ensures { λ r. ⌜ LeadingOne n r ⌝ }
+{
+    0x8000_0000_0000_0000u64 >> u64::leading_zeros(n)
+}
+
+// One bit of a key, alone or 0: in the top bits of attribute j, for the first j of which dj has it,
+// and of attribute 3 where none of d0, d1, d2 has it.
+fn bit_of_first(widths: Widths, key: u64, bit: u64, d0: u64, d1: u64, d2: u64) -> u64
+    requires { ⌜ Fit (widthList widths) ⌝ }
+    ensures { λ r. ⌜ BitOfFirst (widthList widths) key bit d0 d1 d2 r ⌝ }
+{
+    let a3 = top_bits(key, widths.w3, 3);
+    let b2 = choose(bit, d2, top_bits(key, widths.w2, 2), a3);
+    let b1 = choose(bit, d1, top_bits(key, widths.w1, 1), b2);
+    choose(bit, d0, top_bits(key, widths.w0, 0), b1)
+}
+
+// One bit, alone or 0: a's where d has it, b's where not. It is taken by masks: which one it is
+// varies from key to key, so that a jump would often be mispredicted.
+fn choose(bit: u64, d: u64, a: u64, b: u64) -> u64
+    ensures { λ r. ⌜ Chosen bit d a b r ⌝ }
+{
+    let e = d & bit;
+    (a & e) | (b & (bit ^ e))
+}
+
 // The place of the first bit that is 1 in the value of attribute j; 64 or more where there is none.
-// The value's w bits are shifted to the top, so that the leading zeros count from bit 0.
+// In the value's top bits the leading zeros count from bit 0.
 fn first_bit(z: u64, w: u64, j: u64) -> u64
     requires { ⌜ (w ≤ 16) × (j < 4) ⌝ }
     ensures { λ r. ⌜ FirstBit w (packedValue z j) j r ⌝ }
 {
-    let top = ((z >> (16 * j)) << 48) << (16 - w);
+    let top = top_bits(z, w, j);
     4 * (u64::leading_zeros(top) as u64) + j
 }

@@ -1,68 +1,82 @@
--- `key_order::compare` meets its contract: of two bits that differ y's tells the order. Assumes nothing.
-use Prim.Native.Nat.{_<_}
+-- `key_order::compare` meets its contract: of two bits that differ x's tells the order. Assumes nothing.
 use mathlib.Core.Path.{sym, ap, _∙_}
 use mathlib.Core.Bool.{cond}
 use native.Mathlib.Omega.{arith}
-use Rattle.shape.specs.Shape.{widthList}
-use Rattle.split.proofs.StepLaws.{length-steps}
-use Rattle.record.specs.Packed.{unpackedKey}
+use borrow.Author.Tests.{eq-eqb, ne-eqb}
 use Rattle.key_order.specs.declared.Order.the-variants.{Before, After}
-use Rattle.key_order.proofs.PairLaws.{pairBit-unpackedKey}
-use Rattle.key_order.proofs.StepLaws.{compared-same, compared-differ}
+use Rattle.key_order.proofs.CompareLaws.{compared-zero, compared-bit}
 use borrow.Author.Needs.{needs}
 use Rattle.key_order.proofs.compare.Statement.{statement}
 use Rattle.key_order.proofs.compare.Tie as tie
 
-first-pair-requires : tie.Need-first-pair-requires
-first-pair-requires c κs = search needs
+top-bits-requires : tie.Need-top-bits-requires
+top-bits-requires c κs = (c .pre 0, omega arith)
+
+top-bits-requires-2 : tie.Need-top-bits-requires-2
+top-bits-requires-2 c κs = (c .before .pre 1, omega arith)
+
+top-bits-requires-3 : tie.Need-top-bits-requires-3
+top-bits-requires-3 c κs = (c .before .before .pre 2, omega arith)
+
+top-bits-requires-4 : tie.Need-top-bits-requires-4
+top-bits-requires-4 c κs = (c .before .before .before .pre 3, omega arith)
 
 returns : tie.Need-returns
 returns c =
-    let start = c .before .before in
+    let four = c .before in
+    let two = four .before .before in
+    let start = two .before .before in
     let a = start .args in
     let w = a .widths in
-    let pair = c .before .first-pair in
     sym
-    (compared-same (widthList w) (start .pre) (unpackedKey (a .x)) (unpackedKey (a .y)) (pair .result) (pair .ensures)
-    (length-steps (w .w0) (w .w1) (w .w2) (w .w3) (start .pre)) (omega arith))
+    (compared-zero (w .w0) (w .w1) (w .w2) (w .w3) (start .pre) (a .x) (a .y) _ _ _ _
+    (two .before .top-bits .ensures) (two .top-bits2 .ensures) (four .before .top-bits3 .ensures)
+    (four .top-bits4 .ensures) (c .if1 .taken))
 
-pair-bit-requires : tie.Need-pair-bit-requires
-pair-bit-requires c κs =
-    let pair = c .before .first-pair in
-    let n = c .if1 .left in
-    let l : pair .result < 64 = omega (arith, pair .ensures .most) in
-    (c .before .before .pre, l, pair .ensures .step-there l)
+leading-one-requires : tie.Need-leading-one-requires
+leading-one-requires c κs = search needs
+
+bit-of-first-requires : tie.Need-bit-of-first-requires
+bit-of-first-requires c κs = search needs
 
 returns-2 : tie.Need-returns-2
 returns-2 c =
-    let first = c .before .before .before in
-    let start = first .before in
+    let one = c .before .before in
+    let four = one .before .before in
+    let two = four .before .before in
+    let start = two .before .before in
     let a = start .args in
     let w = a .widths in
-    let pair = first .first-pair in
-    let n = c .before .before .if1 .left in
-    let l : pair .result < 64 = omega (arith, pair .ensures .most) in
     sym
-    (compared-differ (widthList w) (start .pre) (unpackedKey (a .x)) (unpackedKey (a .y)) (pair .result) (pair .ensures)
-    (length-steps (w .w0) (w .w1) (w .w2) (w .w3) (start .pre)) l
-    ∙ ap (λ β. cond β Before After)
-    (pairBit-unpackedKey (widthList w) (a .y) (pair .result) ∙ sym (c .before .pair-bit .ensures) ∙ c .if2 .taken))
+    (compared-bit (w .w0) (w .w1) (w .w2) (w .w3) (start .pre) (a .x) (a .y) _ _ _ _
+    (two .before .top-bits .ensures) (two .top-bits2 .ensures) (four .before .top-bits3 .ensures)
+    (four .top-bits4 .ensures) _ _ (one .leading-one .ensures) (c .before .bit-of-first .ensures)
+    ∙ ap (λ β. cond β Before After) (eq-eqb _ 0 (c .if2 .taken)))
 
 returns-3 : tie.Need-returns-3
 returns-3 c =
-    let first = c .before .before .before in
-    let start = first .before in
+    let one = c .before .before in
+    let four = one .before .before in
+    let two = four .before .before in
+    let start = two .before .before in
     let a = start .args in
     let w = a .widths in
-    let pair = first .first-pair in
-    let n = c .before .before .if1 .left in
-    let l : pair .result < 64 = omega (arith, pair .ensures .most) in
     sym
-    (compared-differ (widthList w) (start .pre) (unpackedKey (a .x)) (unpackedKey (a .y)) (pair .result) (pair .ensures)
-    (length-steps (w .w0) (w .w1) (w .w2) (w .w3) (start .pre)) l
-    ∙ ap (λ β. cond β Before After)
-    (pairBit-unpackedKey (widthList w) (a .y) (pair .result) ∙ sym (c .before .pair-bit .ensures) ∙ c .if2 .left))
+    (compared-bit (w .w0) (w .w1) (w .w2) (w .w3) (start .pre) (a .x) (a .y) _ _ _ _
+    (two .before .top-bits .ensures) (two .top-bits2 .ensures) (four .before .top-bits3 .ensures)
+    (four .top-bits4 .ensures) _ _ (one .leading-one .ensures) (c .before .bit-of-first .ensures)
+    ∙ ap (λ β. cond β Before After) (ne-eqb _ 0 (c .if2 .left)))
 
 pub compare-spec : {M : Type 1} → statement M
 compare-spec =
-    tie.close (tie.spec first-pair-requires returns pair-bit-requires returns-2 returns-3)
+    tie.close
+    (tie.spec
+    top-bits-requires
+    top-bits-requires-2
+    top-bits-requires-3
+    top-bits-requires-4
+    returns
+    leading-one-requires
+    bit-of-first-requires
+    returns-2
+    returns-3)
