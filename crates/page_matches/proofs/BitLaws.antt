@@ -69,6 +69,15 @@ module _ (page : List ℕ) where
       go true h = omega arith
       go false h = omega arith
 
+  -- records past the highest bit are not picked
+  pub picked-more : (n k i mask : ℕ) → n ≤ k → mask < 2 ^ n → picked page k i mask ≡ picked page n i mask
+  unfolding picked
+  picked-more zero k i mask l h = let none : mask ≡ 0 = omega arith in ap (picked page k i) none ∙ picked-none k i
+  picked-more (suc n) zero i mask l h = absurd (omega arith)
+  picked-more (suc n) (suc k) i mask l h =
+      ap (λ fs. cond (eqb (mask % 2) 1) (recordField page i ∷ []) [] ++ fs)
+      (picked-more n k (suc i) (mask / 2) (omega arith) (omega (arith, pow-suc 2 n)))
+
   picked-masked : (k t a i : ℕ) → t < k
       → picked page k i (masked a t) ≡ recordField page (i + t) ∷ picked page k i (a * 2 ^ suc t)
   unfolding picked
@@ -97,12 +106,12 @@ module _ (page : List ℕ) where
       ++ picked page k (suc i) (shifted-half a (suc t) j)))
 
   -- the lowest bit picks the first of them, and the mask without it the others
-  module _ (n mask : ℕ) (few : n < 64) (some : 0 < mask) (below : mask < 2 ^ n) where
+  module _ (n mask : ℕ) (fits : mask < 2 ^ 64) (some : 0 < mask) (below : mask < 2 ^ n) where
     abbrev place : ℕ
     place = trailingZeros 64 mask
 
     bottom : (a : ℕ) × (mask ≡ masked a place)
-    bottom = trailing-bottom 64 mask some (omega (arith, pow-mono {i = n} {j = 64} (omega arith)))
+    bottom = trailing-bottom 64 mask some fits
 
     pub trailing-lt : place < n
     trailing-lt = go (decLt place n)

@@ -6,12 +6,14 @@ use mathlib.Core.Bool.{Bool, true}
 use mathlib.Core.List.{List, [], _∷_, _++_, map}
 use mathlib.Core.Option.{Option}
 use native.Mathlib.Omega.{arith}
-use lib.Bits.{bitAnd, bitOr, and-zero-r, and-le-l, and-le-r, or-add-and}
+use lib.Bits.{bitAnd, and-zero-r}
 use lib.Dec.{eqb}
 use lib.ListN.{length, take, drop, length-drop}
 use lib.Seq.{paste, paste-zero, take-take, length-take-le}
+use borrow.Author.Tests.{eqb-true}
 use Rattle.lists.specs.Filter.{filter}
 use Rattle.lists.specs.Members.{All}
+use Rattle.lists.proofs.Bools.{and-split}
 use Rattle.lists.proofs.FilterLaws.{filter-ext, filter-true, filter-map, length-filter-le}
 use Rattle.lists.proofs.MemberLaws.{All-imp, All-filter}
 use Rattle.shape.specs.declared.Shape.{Shape}
@@ -23,7 +25,7 @@ use Rattle.page.specs.Page.{recordsFrom}
 use Rattle.page.specs.Fields.{recordOffset, fieldsFrom}
 use Rattle.page.proofs.FieldLaws.{recordsFrom-fields, length-fieldsFrom, take-fieldsFrom}
 use Rattle.page_matches.specs.declared.Pattern.{Pattern}
-use Rattle.page_matches.specs.Pattern.{GivenSixteenBits, patternOf, passes}
+use Rattle.page_matches.specs.Pattern.{GivenSixteenBits, patternOf, givesNothing, passes}
 use Rattle.page_matches.specs.Output.{hits, emit}
 use Rattle.page_matches.proofs.PatternLaws.{passes-matches}
 use Rattle.page_matches.proofs.EmitLaws.{IsField, joined, emit-joined, take-min}
@@ -75,13 +77,12 @@ map-hits s q n page g b h =
 -- ---- all records
 
 -- a pattern that gives nothing
-pub hits-all : (p : Pattern) (n : ℕ) (page : List ℕ) → bitOr (p .mask) (p .value) ≡ 0
-    → hits p n page ≡ fieldsFrom n 2 page
-unfolding hits passes
+pub hits-all : (p : Pattern) (n : ℕ) (page : List ℕ) → givesNothing p ≡ true → hits p n page ≡ fieldsFrom n 2 page
+unfolding hits passes givesNothing
 hits-all p n page e =
-    let sum = or-add-and (p .mask) (p .value) in
-    let mask : p .mask ≡ 0 = omega (arith, sum, and-le-r (p .mask) (p .value)) in
-    let value : p .value ≡ 0 = omega (arith, sum, and-le-l (p .mask) (p .value)) in
+    let parts = and-split (eqb (p .mask) 0) (eqb (p .value) 0) e in
+    let mask = eqb-true (p .mask) 0 (parts .0) in
+    let value = eqb-true (p .value) 0 (parts .1) in
     filter-ext (passes p) (λ f. true)
     (λ f. (λ i. eqb (bitAnd (keyIn f) (mask i)) (value i)) ∙ ap (λ k. eqb k 0) (and-zero-r (keyIn f)))
     (fieldsFrom n 2 page)

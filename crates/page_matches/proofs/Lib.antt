@@ -1,7 +1,6 @@
 pub mod BitLaws
 pub mod EmitLaws
 pub mod HitLaws
-pub mod KeyPlaceLaws
 pub mod MaskLaws
 pub mod PatternLaws
 pub mod PlaceLaws

@@ -4,29 +4,27 @@ use Prim.Native.Nat.{ℕ, zero, suc, _+_, _-_, _*_, _/_, _%_, _^_, _≤_, _<_}
 use mathlib.Core.Path.{_≡_, refl, sym, ap, _∙_}
 use mathlib.Core.Bool.{Bool, true, false, cond}
 use mathlib.Core.List.{List, [], _∷_, _++_}
-use native.Mathlib.Nat.{pow-suc, add-zero, mod-eq-of-lt}
+use native.Mathlib.Nat.{pow-suc, add-zero, lt-of-lt-of-le}
 use native.Mathlib.Omega.{arith}
 use mir.Val.{boolByte}
 use lib.Bits.{bitOr, bitAnd, and-mask, or-shifted}
 use lib.Dec.{eqb}
-use lib.Pow.{pow-pos, pow-lt, low, mod-mod-pow}
+use lib.ListN.{length}
+use lib.Pow.{pow-pos, pow-mono, low, mod-mod-pow}
 use Rattle.lists.specs.Filter.{filter}
+use Rattle.lists.proofs.Shifts.{one-shifted}
 use Rattle.record.specs.Bytes.{recordSize}
 use Rattle.page.specs.Fields.{recordOffset, recordField, keyAt, fieldsFrom}
 use Rattle.page_matches.specs.declared.Pattern.{Pattern}
 use Rattle.page_matches.specs.Pattern.{passes}
 use Rattle.page_matches.specs.Output.{hits}
-use Rattle.page_matches.specs.Mask.{matchMask, picked}
+use Rattle.page_matches.specs.Mask.{matchMask, picked, slotsOf, pickedBy}
+use Rattle.page_matches.proofs.BitLaws.{picked-more}
 
 -- ---- bit n
 
-pub bit-exact : (n : ℕ) → n < 64 → 1 * 2 ^ n % 2 ^ 64 ≡ 2 ^ n
-bit-exact n h =
-    let one : 1 * 2 ^ n ≡ 2 ^ n = omega arith in
-    ap (λ x. x % 2 ^ 64) one ∙ mod-eq-of-lt (pow-lt {j = 64} h)
-
 pub one-le-bit : (n : ℕ) → n < 64 → 1 ≤ 1 * 2 ^ n % 2 ^ 64
-one-le-bit n h = rw (bit-exact n h) (pow-pos n)
+one-le-bit n h = rw (one-shifted n h) (pow-pos n)
 
 -- ---- the records that match
 
@@ -68,19 +66,20 @@ module _ (p : Pattern) (page : List ℕ) where
       (matchMask-add n m (suc i) ∙ ap (λ j. matchMask p page m j * 2 ^ n + rest) j)
       ∙ omega (arith, times)
 
-  -- the first n records of s
-  pub matchMask-cut : (n s : ℕ) → n < 64 → n ≤ s
-      → bitAnd (matchMask p page s 0 % 2 ^ 64) (2 ^ n - 1) ≡ matchMask p page n 0
-  matchMask-cut n s l h =
-      let whole : n + (s - n) ≡ s = omega arith in
+  -- the first n records of k
+  pub matchMask-cut : (n k mask : ℕ) → n < 64 → n ≤ k → mask ≡ matchMask p page k 0 % 2 ^ 64
+      → bitAnd mask (1 * 2 ^ n % 2 ^ 64 - 1) ≡ matchMask p page n 0
+  matchMask-cut n k mask l h e =
+      let whole : n + (k - n) ≡ k = omega arith in
       let bits : (64 - n) + n ≡ 64 = omega arith in
-      let m = matchMask p page s 0 in
-      and-mask (m % 2 ^ 64) n
-      ∙ ap (λ k. m % 2 ^ k % 2 ^ n) (sym bits)
+      let m = matchMask p page k 0 in
+      (λ i. bitAnd (e i) (one-shifted n l i - 1))
+      ∙ and-mask (m % 2 ^ 64) n
+      ∙ ap (λ w. m % 2 ^ w % 2 ^ n) (sym bits)
       ∙ mod-mod-pow m (64 - n) n
-      ∙ ap (λ k. matchMask p page k 0 % 2 ^ n) (sym whole)
-      ∙ ap (λ x. x % 2 ^ n) (matchMask-add n (s - n) 0)
-      ∙ low (matchMask p page (s - n) (0 + n)) n (matchMask-lt n 0)
+      ∙ ap (λ j. matchMask p page j 0 % 2 ^ n) (sym whole)
+      ∙ ap (λ x. x % 2 ^ n) (matchMask-add n (k - n) 0)
+      ∙ low (matchMask p page (k - n) (0 + n)) n (matchMask-lt n 0)
 
   -- ---- one record more, below
 
@@ -115,7 +114,7 @@ module _ (p : Pattern) (page : List ℕ) where
 
   -- ---- the records that it picks
 
-  pub picked-matchMask : (k i : ℕ)
+  picked-matchMask : (k i : ℕ)
       → picked page k i (matchMask p page k i) ≡ filter (passes p) (fieldsFrom k (recordOffset i) page)
   unfolding picked matchMask
   picked-matchMask zero i = refl
@@ -135,6 +134,14 @@ module _ (p : Pattern) (page : List ℕ) where
       go true = refl
       go false = refl
 
-  pub picked-hits : (n : ℕ) → picked page n 0 (matchMask p page n 0) ≡ hits p n page
-  unfolding hits
-  picked-hits n = picked-matchMask n 0
+  -- the n records of a page, by their own mask
+  module _ (n : ℕ) (h : recordOffset n ≤ length page) where
+    pub matchMask-lt-slots : matchMask p page n 0 < 2 ^ slotsOf page
+    matchMask-lt-slots =
+        lt-of-lt-of-le (matchMask-lt n 0) (pow-mono {i = n} {j = slotsOf page} (omega arith))
+
+    pub pickedBy-matchMask : pickedBy (matchMask p page n 0) page ≡ hits p n page
+    unfolding hits
+    pickedBy-matchMask =
+        picked-more page n (slotsOf page) 0 (matchMask p page n 0) (omega arith) (matchMask-lt n 0)
+        ∙ picked-matchMask n 0

@@ -1,5 +1,5 @@
--- Laws of patterns: a query's attributes; four values under a mask; the test of a record's bytes is the query's.
--- Assumes nothing.
+-- Laws of patterns: a query's attributes; nothing given; four values under a mask; the test of a record's bytes is the
+-- query's. Assumes nothing.
 use Prim.Native.Nat.{ℕ, zero, suc, _+_, _*_, _%_, _^_, _<_}
 use mathlib.Core.Path.{_≡_, refl, sym, ap, _∙_}
 use mathlib.Core.Bool.{Bool, true, false, _&&_}
@@ -7,10 +7,11 @@ use mathlib.Core.List.{List}
 use mathlib.Core.Option.{Option, none, some}
 use native.Mathlib.Nat.{mod-eq-of-lt}
 use native.Mathlib.Omega.{arith}
-use lib.Bits.{bitAnd, and-block, and-mask, and-zero-r}
+use lib.Bits.{bitAnd, bitOr, and-block, and-mask, and-zero-r, and-le-l, and-le-r, or-add-and}
 use lib.Dec.{eqb}
 use lib.ListN.{getD}
 use borrow.Author.Tests.{eq-eqb, ne-eqb, eqb-true, eqb-false}
+use Rattle.lists.proofs.Bools.{and-split, and-both, eq-of-iff}
 use Rattle.shape.specs.Key.{wantedValue, wantedValues, ifGiven}
 use Rattle.shape.specs.declared.Shape.{Shape}
 use Rattle.shape.specs.declared.Query.{Query}
@@ -21,8 +22,9 @@ use Rattle.record.specs.Packed.{packedKey, SixteenBits}
 use Rattle.record.proofs.PackedLaws.{packedKey-bytes}
 use Rattle.record.proofs.ByteLaws.{AreBytes}
 use Rattle.record.proofs.CodecLaws.{SixteenBits-recordOf}
+use Rattle.page_matches.specs.declared.Pattern.{Pattern}
 use Rattle.page_matches.specs.Pattern.{wantedMask, wantedBits, masksOf, bitsOf}
-use Rattle.page_matches.specs.Pattern.{GivenSixteenBits, patternOf, passes}
+use Rattle.page_matches.specs.Pattern.{GivenSixteenBits, patternOf, givesNothing, passes}
 
 -- ---- attributes of a query
 
@@ -45,6 +47,28 @@ masksOf-lt q (suc zero) = wantedMask-lt (getD q 1 none)
 masksOf-lt q (suc (suc zero)) = wantedMask-lt (getD q 2 none)
 masksOf-lt q (suc (suc (suc zero))) = wantedMask-lt (getD q 3 none)
 masksOf-lt q (suc (suc (suc (suc j)))) = omega arith
+
+-- ---- nothing given
+
+-- as the code tests it
+pub givesNothing-or : (p : Pattern) → eqb (bitOr (p .mask) (p .value)) 0 ≡ givesNothing p
+unfolding givesNothing
+givesNothing-or p = eq-of-iff _ _ both none
+  where
+    both : eqb (bitOr (p .mask) (p .value)) 0 ≡ true → (eqb (p .mask) 0 && eqb (p .value) 0) ≡ true
+    both e =
+        let no-bit = eqb-true (bitOr (p .mask) (p .value)) 0 e in
+        let sum = or-add-and (p .mask) (p .value) in
+        and-both (eqb (p .mask) 0) (eqb (p .value) 0)
+        (eq-eqb (p .mask) 0 (omega (arith, no-bit, sum, and-le-r (p .mask) (p .value))))
+        (eq-eqb (p .value) 0 (omega (arith, no-bit, sum, and-le-l (p .mask) (p .value))))
+
+    none : (eqb (p .mask) 0 && eqb (p .value) 0) ≡ true → eqb (bitOr (p .mask) (p .value)) 0 ≡ true
+    none e =
+        let parts = and-split (eqb (p .mask) 0) (eqb (p .value) 0) e in
+        let sum = or-add-and (p .mask) (p .value) in
+        eq-eqb (bitOr (p .mask) (p .value)) 0
+        (omega (arith, sum, eqb-true (p .mask) 0 (parts .0), eqb-true (p .value) 0 (parts .1)))
 
 -- ---- one value under a mask
 

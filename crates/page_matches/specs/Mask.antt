@@ -1,8 +1,10 @@
 -- The records of a page that match, as bits of one number. Assumes nothing.
-use Prim.Native.Nat.{ℕ, zero, suc, _+_, _*_, _/_, _%_}
+use Prim.Native.Nat.{ℕ, zero, suc, _+_, _-_, _*_, _/_, _%_}
 use mathlib.Core.Bool.{cond}
 use mathlib.Core.List.{List, [], _∷_, _++_}
 use lib.Dec.{eqb}
+use lib.ListN.{length}
+use Rattle.record.specs.Bytes.{recordSize}
 use Rattle.page.specs.Fields.{recordField}
 use Rattle.page_matches.specs.declared.Pattern.{Pattern}
 use Rattle.page_matches.specs.Pattern.{passes}
@@ -16,3 +18,11 @@ matchMask p page (suc k) i = cond (passes p (recordField page i)) 1 0 + 2 * matc
 unfoldable pub picked : List ℕ → ℕ → ℕ → ℕ → List (List ℕ)
 picked page zero i mask = []
 picked page (suc k) i mask = cond (eqb (mask % 2) 1) (recordField page i ∷ []) [] ++ picked page k (suc i) (mask / 2)
+
+-- the records that a page has room for
+abbrev pub slotsOf : List ℕ → ℕ
+slotsOf page = (length page - 2) / recordSize
+
+-- those whose bits are set
+abbrev pub pickedBy : ℕ → List ℕ → List (List ℕ)
+pickedBy mask page = picked page (slotsOf page) 0 mask

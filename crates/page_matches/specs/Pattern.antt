@@ -1,6 +1,6 @@
 -- Queries as patterns of packed keys: a mask and the value under it. Assumes nothing.
 use Prim.Native.Nat.{ℕ}
-use mathlib.Core.Bool.{Bool}
+use mathlib.Core.Bool.{Bool, _&&_}
 use mathlib.Core.List.{List}
 use mathlib.Core.Option.{Option, none, some}
 use lib.Bits.{bitAnd}
@@ -33,6 +33,10 @@ GivenSixteenBits q = SixteenBits (bitsOf q)
 -- the pattern of a query: attribute 1 given as 5 has mask 0xffff0000 and value 0x50000
 unfoldable pub patternOf : List (Option ℕ) → Pattern
 patternOf q = record { mask = packedKey (masksOf q); value = packedKey (bitsOf q) }
+
+-- a pattern of a query with every attribute free
+unfoldable pub givesNothing : Pattern → Bool
+givesNothing p = eqb (p .mask) 0 && eqb (p .value) 0
 
 -- a record's bytes match a pattern
 unfoldable pub passes : Pattern → List ℕ → Bool

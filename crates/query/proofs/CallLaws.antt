@@ -38,7 +38,8 @@ use Rattle.query_seen.specs.Seen.{walkSeen}
 use Rattle.query_walk.specs.Noting.{Put, Walkable}
 use Rattle.query_walk.proofs.NotedLaws.{length-noted, noted-le, noted-readable, noted-reads, noted-records}
 use Rattle.query_walk.proofs.StartLaws.{length-walkSeen-le}
-use Rattle.query.specs.Private.{queryNumberBy, LimitsLent, PageWithin, PagesListed, listHits}
+use Rattle.query_records.specs.Records.{PageWithin, ListOf, listHits}
+use Rattle.query.specs.Private.{queryNumberBy, LimitsLent}
 use Rattle.query.proofs.EarlyLaws.{indexFits-query, parts-of-queryNumberBy, lent-of-lentNumberBy}
 use Rattle.query.proofs.NotedLaws.{PageWithin-readable, All-take-of, IsField-listHits, map-listHits}
 use Rattle.query.proofs.PromiseLaws.{promise-nine, promise-listed}
@@ -144,7 +145,7 @@ module _ (st : State) (words bytes : List ℕ) (q : List (Option ℕ))
         capacity-le : st .shape .capacity ≤ 16
         capacity-le = capacity-bounds (st .shape) shape-of-none .1
 
-        pub pages-listed : PagesListed (st .shape .capacity) bytes n later
+        pub pages-listed : ListOf (PageWithin (st .shape .capacity) bytes) (st .shape .capacity) n later
         pages-listed = record {
           capacity = capacity-le;
           few = few;
@@ -173,7 +174,7 @@ module _ (st : State) (words bytes : List ℕ) (q : List (Option ℕ))
               let reads : n ≡ readsOf (st .shape) q S =
               ap pagesIn (sym e ∙ noted-reads (store st words bytes) q S h list r later o) in (
                 reads,
-                map-listHits (st .shape .capacity) capacity-le bytes are (st .shape) q six-of-none
+                map-listHits (st .shape .capacity) bytes are (st .shape) q six-of-none
                     (take n later) all-within
                     ∙ subst (λ k. _≡_ (gathered k) (filter (matches (st .shape) q) S)) (sym reads)
                     (noted-records (store st words bytes) q S h list r later o (omega (arith, within, reads))
@@ -189,7 +190,7 @@ module _ (st : State) (words bytes : List ℕ) (q : List (Option ℕ))
               → Promised written total out′
           promise-of-pages written total out′ t w d =
               let found = promise-listed st words bytes q out (sym none) fs
-              (IsField-listHits (st .shape .capacity) capacity-le bytes are (patternOf q)
+              (IsField-listHits (st .shape .capacity) bytes are (patternOf q)
               (take n later) all-within) n as-model in
               let w′ : written ≡ min (length fs) (length out / recordSize) =
               w ∙ ap (λ k. min k (length out / recordSize)) t in

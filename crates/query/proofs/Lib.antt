@@ -1,5 +1,4 @@
 pub mod CallLaws
 pub mod EarlyLaws
-pub mod ListLaws
 pub mod NotedLaws
 pub mod PromiseLaws

@@ -32,6 +32,7 @@ use Rattle.page_ends.proofs.BeginLaws.{bitOf-high, indexFits-of-below, length-s
 use Rattle.page_ends.proofs.AgreeLaws.{endsBegin-agree, endsAgree-endsBegin}
 use Rattle.query_rows.specs.Corners.{Corner}
 use Rattle.query_rows.specs.Rows.{valueBit}
+use Rattle.query_rows.proofs.DepthLaws.{bitValue-lt, eqb-bitValue}
 use Rattle.query_rows.proofs.FixedLaws.{valueBit-here, halves}
 
 -- ---- one value more
@@ -89,14 +90,6 @@ module _ (ws : List ℕ) (fit : Fit ws) (t k z : ℕ) (hz : z < 4) (hk : k < get
 
     first-other : (j : ℕ) → (j ≡ z → ⊥) → firstOf j ≡ c .first j
     first-other j ne = rw (ne-eqb j z ne)
-
-    bitValue-lt : (α : Bool) → bitValue α < 2
-    bitValue-lt true = omega arith
-    bitValue-lt false = omega arith
-
-    eqb-bitValue : (α : Bool) → eqb (bitValue α) 1 ≡ α
-    eqb-bitValue true = refl
-    eqb-bitValue false = refl
 
     packs-side : key + bitValue β * valueBit ws t
         ≡ packedKey (perAttribute (λ j. firstOf j * 2 ^ (getD ws j 0 - attributeDepth ws (suc t) j)))

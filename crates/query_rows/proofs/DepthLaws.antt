@@ -1,24 +1,32 @@
 -- Laws of depths in one number: depth x is among those of a tally if the tally has a leaf there, and how a loop puts
 -- them together. Assumes nothing.
-use Prim.Native.Nat.{ℕ, zero, suc, _+_, _*_, _/_, _%_, _^_, _≤_, _<_}
+use Prim.Native.Nat.{ℕ, zero, suc, _+_, _*_, _-_, _/_, _%_, _^_, _≤_, _<_}
 use mathlib.Core.Path.{_≡_, refl, sym, ap, _∙_}
-use mathlib.Core.Bool.{Bool, true, false}
+use mathlib.Core.Bool.{Bool, true, false, not}
 use mathlib.Core.List.{List, [], _∷_}
 use native.Mathlib.Omega.{arith}
-use native.Mathlib.Nat.{pow-suc, zero-div, mul-one}
-use native.Mathlib.Numerals.{add-one}
+use native.Mathlib.Nat.{pow-suc, zero-div, mod-eq-of-lt}
 use borrow.Author.Tests.{le-leb, eq-eqb, ne-eqb}
-use lib.Bits.{bitAnd, bitOr, and-mask, or-shifted-r}
+use lib.Bits.{bitAnd, bitOr, and-mask, or-shifted}
 use lib.Dec.{eqb, leb}
-use lib.ListN.{getD, drop, length}
-use lib.Pow.{shr-shr, shl-exact}
+use lib.ListN.{getD, drop, length, length-drop}
+use lib.Pow.{shr-shr, pow-mono}
 use lib.Seq.{drop-cons}
+use mir.Val.{boolByte}
 use Rattle.split.specs.Steps.{bitValue}
 use Rattle.query_rows.specs.Rows.{talliedDepths, hasDepth}
 
-eqb-bitValue : (β : Bool) → eqb (bitValue β) 1 ≡ β
+-- ---- a bit's value
+
+pub bitValue-lt : (β : Bool) → bitValue β < 2
+bitValue-lt true = omega arith
+bitValue-lt false = omega arith
+
+pub eqb-bitValue : (β : Bool) → eqb (bitValue β) 1 ≡ β
 eqb-bitValue true = refl
 eqb-bitValue false = refl
+
+-- ---- among those of a tally
 
 -- the lowest bit, and the others
 low-bit : (β : Bool) (m : ℕ) → ((bitValue β + 2 * m) % 2 ≡ bitValue β) × ((bitValue β + 2 * m) / 2 ≡ m)
@@ -53,39 +61,38 @@ hasDepth-none depths x h =
     let e : depths / 2 ^ x % 2 ≡ 0 = sym (and-mask (depths / 2 ^ x) 1) ∙ h in
     ne-eqb (depths / 2 ^ x % 2) 1 (λ o. omega arith)
 
--- ---- put together from the lowest on
+-- ---- put together from the highest on
 
--- a bit above those so far
-pub or-next : (x depths : ℕ) → x < 13 → depths < 2 ^ x → bitOr depths ((1 * 2 ^ x) % 2 ^ 32) ≡ depths + 2 ^ x
-or-next x depths l h =
-    ap (bitOr depths) (shl-exact 1 x 32 (omega arith) (omega arith)) ∙ or-shifted-r 1 x depths h ∙ omega arith
+talliedDepths-lt : (ns : List ℕ) → talliedDepths ns < 2 ^ length ns
+unfolding talliedDepths
+talliedDepths-lt [] = omega arith
+talliedDepths-lt (n ∷ ns) = rw pow-suc (omega (arith, talliedDepths-lt ns, bitValue-lt (leb 1 n)))
 
-regroup : (d n b m : ℕ) → d + n * b + n * 2 * m ≡ d + n * (b + 2 * m)
-regroup d n b m = omega arith
+-- a bit below twice those so far, as the code puts it there
+or-low : (depths n : ℕ) → depths < 2 ^ 13
+    → bitOr ((depths * 2) % 2 ^ 64) (boolByte (not (eqb n 0))) ≡ bitValue (leb 1 n) + 2 * depths
+or-low depths n h =
+    ap (λ m. bitOr m (boolByte (not (eqb n 0)))) (mod-eq-of-lt {n = depths * 2} (omega arith))
+    ∙ ap (λ β. bitOr (depths * 2) (boolByte β)) (some n)
+    ∙ put (leb 1 n)
+  where
+    some : (n : ℕ) → not (eqb n 0) ≡ leb 1 n
+    some zero = refl
+    some (suc n) = rw (ne-eqb (suc n) 0 (λ e. omega arith), le-leb 1 (suc n) (omega arith))
 
-module _ (ns : List ℕ) (x depths : ℕ) (more : x < length ns)
-    (e : depths + 2 ^ x * talliedDepths (drop x ns) ≡ talliedDepths ns) where
-  depths-next : depths + 2 ^ x * bitValue (leb 1 (getD ns x 0)) + 2 ^ (x + 1) * talliedDepths (drop (x + 1) ns)
-      ≡ talliedDepths ns
-  unfolding talliedDepths
-  depths-next =
-      let here : talliedDepths (drop x ns) ≡ bitValue (leb 1 (getD ns x 0)) + 2 * talliedDepths (drop (x + 1) ns) =
-      ap talliedDepths (drop-cons ns x 0 more ∙ ap (λ y. getD ns x 0 ∷ drop y ns) (sym (add-one x))) in
-      let twice : 2 ^ (x + 1) ≡ 2 ^ x * 2 = ap (λ y. 2 ^ y) (add-one x) ∙ pow-suc 2 x in
-      ap (λ n. depths + 2 ^ x * bitValue (leb 1 (getD ns x 0)) + n * talliedDepths (drop (x + 1) ns)) twice
-      ∙ regroup depths (2 ^ x) (bitValue (leb 1 (getD ns x 0))) (talliedDepths (drop (x + 1) ns))
-      ∙ ap (λ n. depths + 2 ^ x * n) (sym here)
-      ∙ e
+    put : (β : Bool) → bitOr (depths * 2) (boolByte β) ≡ bitValue β + 2 * depths
+    put true = or-shifted depths 1 1 (omega arith) ∙ omega arith
+    put false = or-shifted depths 1 0 (omega arith) ∙ omega arith
 
-  pub depths-leaf : 1 ≤ getD ns x 0
-      → (depths + 2 ^ x) + 2 ^ (x + 1) * talliedDepths (drop (x + 1) ns) ≡ talliedDepths ns
-  depths-leaf h =
-      let one : 2 ^ x * bitValue (leb 1 (getD ns x 0)) ≡ 2 ^ x =
-      ap (λ β. 2 ^ x * bitValue β) (le-leb 1 (getD ns x 0) h) ∙ mul-one (2 ^ x) in
-      ap (λ n. depths + n + 2 ^ (x + 1) * talliedDepths (drop (x + 1) ns)) (sym one) ∙ depths-next
-
-  pub depths-none : getD ns x 0 ≡ 0 → depths + 2 ^ (x + 1) * talliedDepths (drop (x + 1) ns) ≡ talliedDepths ns
-  depths-none h =
-      let none : depths + 2 ^ x * bitValue (leb 1 (getD ns x 0)) ≡ depths =
-      ap (λ n. depths + 2 ^ x * bitValue (leb 1 n)) h ∙ omega arith in
-      ap (λ n. n + 2 ^ (x + 1) * talliedDepths (drop (x + 1) ns)) (sym none) ∙ depths-next
+pub talliedDepths-before : (ns : List ℕ) (x depths : ℕ) → 0 < x → x ≤ length ns → length ns ≤ 13
+    → depths ≡ talliedDepths (drop x ns)
+    → bitOr ((depths * 2) % 2 ^ 64) (boolByte (not (eqb (getD ns (x - 1) 0) 0))) ≡ talliedDepths (drop (x - 1) ns)
+unfolding talliedDepths
+talliedDepths-before ns x depths above within few e =
+    let next : suc (x - 1) ≡ x = omega arith in
+    let fits : 2 ^ length (drop x ns) ≤ 2 ^ 13 = pow-mono {j = 13} (omega (arith, length-drop x ns)) in
+    let here : talliedDepths (drop (x - 1) ns) ≡ bitValue (leb 1 (getD ns (x - 1) 0)) + 2 * talliedDepths (drop x ns) =
+    ap talliedDepths (drop-cons ns (x - 1) 0 (omega arith) ∙ ap (λ y. getD ns (x - 1) 0 ∷ drop y ns) next) in
+    or-low depths (getD ns (x - 1) 0) (omega (arith, talliedDepths-lt (drop x ns)))
+    ∙ ap (λ d. bitValue (leb 1 (getD ns (x - 1) 0)) + 2 * d) e
+    ∙ sym here

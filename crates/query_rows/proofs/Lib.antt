@@ -5,6 +5,7 @@ pub mod FixedLaws
 pub mod LaneLaws
 pub mod MostLaws
 pub mod RowLaws
+pub mod ShiftLaws
 pub mod StoreRunLaws
 pub mod TableLaws
 pub mod VectorLaws

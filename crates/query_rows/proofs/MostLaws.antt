@@ -6,16 +6,15 @@ use mathlib.Core.List.{List}
 use native.Mathlib.Omega.{arith}
 use native.Mathlib.Nat.{pow-suc, le-trans, mul-one, mul-le-mul-left, mul-le-mul-right}
 use lib.Dec.{ltb}
-use lib.ListN.{getD}
 use borrow.Author.Tests.{lt-ltb, le-ltb}
-use Rattle.query_rows.specs.Rows.{mostPages}
+use Rattle.query_rows.specs.Rows.{mostPages, wantedBitIn}
 
 -- the sides of a step that are entered
 abbrev entered : List ℕ → ℕ → ℕ
-entered rows x = cond (ltb 1 (getD rows (x * 8 + 5) 0)) 2 1
+entered rows x = cond (ltb 1 (wantedBitIn rows x)) 2 1
 
 entered-bounds : (rows : List ℕ) (x : ℕ) → (1 ≤ entered rows x) × (entered rows x ≤ 2)
-entered-bounds rows x = go (ltb 1 (getD rows (x * 8 + 5) 0))
+entered-bounds rows x = go (ltb 1 (wantedBitIn rows x))
   where
     go : (β : Bool) → (1 ≤ cond β 2 1) × (cond β 2 1 ≤ 2)
     go true = (omega arith, omega arith)
@@ -28,12 +27,12 @@ mostPages-next rows f x =
     (mul-le-mul-left (mostPages rows f (x + 1)) (entered-bounds rows x .0))
 
 -- both sides
-pub mostPages-free : (rows : List ℕ) (f x : ℕ) → (getD rows (x * 8 + 5) 0 ≡ 0 → ⊥) → (getD rows (x * 8 + 5) 0 ≡ 1 → ⊥)
+pub mostPages-free : (rows : List ℕ) (f x : ℕ) → (wantedBitIn rows x ≡ 0 → ⊥) → (wantedBitIn rows x ≡ 1 → ⊥)
     → mostPages rows (suc f) x ≡ mostPages rows f (x + 1) * 2
 unfolding mostPages
 mostPages-free rows f x n0 n1 =
-    let more : 1 < getD rows (x * 8 + 5) 0 = omega arith in
-    rw (lt-ltb 1 (getD rows (x * 8 + 5) 0) more)
+    let more : 1 < wantedBitIn rows x = omega arith in
+    rw (lt-ltb 1 (wantedBitIn rows x) more)
 
 pub mostPages-pos : (rows : List ℕ) (f x : ℕ) → 1 ≤ mostPages rows f x
 unfolding mostPages
@@ -59,9 +58,9 @@ module _ (rows : List ℕ) (T x most : ℕ) (above : 0 < x) (deep : x ≤ T) (e 
       ∙ ap (λ y. mostPages rows (T - x) y * entered rows (x - 1)) next
       ∙ ap (λ n. n * entered rows (x - 1)) (sym e)
 
-  pub counted-free : 1 < getD rows ((x - 1) * 8 + 5) 0 → most * 2 ≡ mostPages rows (T - (x - 1)) (x - 1)
-  counted-free h = sym (mostPages-down ∙ rw (lt-ltb 1 (getD rows ((x - 1) * 8 + 5) 0) h))
+  pub counted-free : 1 < wantedBitIn rows (x - 1) → most * 2 ≡ mostPages rows (T - (x - 1)) (x - 1)
+  counted-free h = sym (mostPages-down ∙ rw (lt-ltb 1 (wantedBitIn rows (x - 1)) h))
 
-  pub counted-given : getD rows ((x - 1) * 8 + 5) 0 ≤ 1 → most ≡ mostPages rows (T - (x - 1)) (x - 1)
+  pub counted-given : wantedBitIn rows (x - 1) ≤ 1 → most ≡ mostPages rows (T - (x - 1)) (x - 1)
   counted-given h =
-      sym (mostPages-down ∙ rw (le-ltb 1 (getD rows ((x - 1) * 8 + 5) 0) h) (mul-one most))
+      sym (mostPages-down ∙ rw (le-ltb 1 (wantedBitIn rows (x - 1)) h) (mul-one most))

@@ -1,5 +1,5 @@
 -- Laws of the row of a step: what the query wants of a bit, the shifts, and all its numbers. Assumes nothing.
-use Prim.Native.Nat.{ℕ, zero, suc, _+_, _*_, _-_, _/_, _%_, _^_, _<_, min}
+use Prim.Native.Nat.{ℕ, zero, suc, _+_, _*_, _-_, _/_, _%_, _^_, _≤_, _<_, min}
 use mathlib.Core.Path.{_≡_, refl, sym, ap, _∙_}
 use mathlib.Core.Bool.{cond}
 use mathlib.Core.List.{List, [], _∷_}
@@ -9,6 +9,7 @@ use native.Mathlib.Nat.{zero-div}
 use lib.Bits.{bitAnd, and-mask}
 use lib.Dec.{eqb}
 use lib.ListN.{getD, length}
+use Rattle.lists.proofs.Bools.{cond-cases}
 use Rattle.lists.proofs.Shifts.{one-shifted}
 use Rattle.shape.specs.Shape.{Fit}
 use Rattle.shape.specs.Key.{wantedValue, wantedValues}
@@ -16,12 +17,12 @@ use Rattle.shape.specs.declared.Wanted.{Wanted}
 use Rattle.shape.specs.declared.Wanted.the-variants.{Free, Given}
 use Rattle.shape.specs.declared.Query.{Query}
 use Rattle.split.specs.Steps.{stepNumber, stepsBelow, attributeDepth}
-use Rattle.split.proofs.StepLaws.{depthBefore}
+use Rattle.split.proofs.StepLaws.{depthBefore, length-stepsBelow}
 use Rattle.split.proofs.DepthLaws.{step-here, attributeDepth-here}
 use Rattle.region.specs.Query.{given}
 use Rattle.model.specs.Sets.{queryBitOf}
 use Rattle.query_rows.specs.Private.{valueOrZero, freeMark}
-use Rattle.query_rows.specs.Rows.{shiftOf, otherDepth, wantedNumber, wantedAt, stepRow}
+use Rattle.query_rows.specs.Rows.{shiftOf, otherDepth, wantedNumber, wantedAt, multiplier, stepRow}
 use Rattle.query_rows.proofs.LaneLaws.{fourNumbers}
 
 -- ---- what the query wants of a bit
@@ -101,18 +102,41 @@ module _ (w0 w1 w2 w3 : ℕ) (fit : Fit (fourNumbers w0 w1 w2 w3)) (g : ℕ) (lo
       let e : 4 * (g / 4) + g % 4 ≡ g = omega arith in
       attributeDepth-here ws fit (g / 4) (g % 4) (omega arith) live number j hj ∙ ap (λ x. depthBefore ws x j) e
 
-  pub stepRow-pair : (wanted : List (Option ℕ)) (h0 h1 h2 h3 s0 s1 s2 s3 w n : ℕ)
+  -- no shift passes 12 if t does not
+  pub shifts-le : t < 12 → (h0 h1 h2 h3 s0 s1 s2 s3 : ℕ)
       → h0 ≡ otherDepth w0 g 0 → h1 ≡ otherDepth w1 g 1 → h2 ≡ otherDepth w2 g 2 → h3 ≡ otherDepth w3 g 3
       → s0 ≡ cond (eqb 0 (g % 4)) (h0 + h1 + h2 + h3) (h1 + h2 + h3)
       → s1 ≡ cond (eqb 1 (g % 4)) (h0 + h1 + h2 + h3) (h2 + h3)
       → s2 ≡ cond (eqb 2 (g % 4)) (h0 + h1 + h2 + h3) h3
       → s3 ≡ cond (eqb 3 (g % 4)) (h0 + h1 + h2 + h3) 0
+      → (s0 ≤ 12) × (s1 ≤ 12) × (s2 ≤ 12) × (s3 ≤ 12)
+  unfolding depthBefore
+  shifts-le few h0 h1 h2 h3 s0 s1 s2 s3 e0 e1 e2 e3 i0 i1 i2 i3 =
+      let either : (j x y n : ℕ) → x ≤ n → y ≤ n → cond (eqb j (g % 4)) x y ≤ n =
+      λ j x y n a b. cond-cases (λ m. m ≤ n) (eqb j (g % 4)) x y (λ e. a) (λ e. b) in
+      let depth : (w j : ℕ) → otherDepth w g j ≤ min w ((g + 3 - j) / 4) =
+      λ w j. either j 0 (min w ((g + 3 - j) / 4)) (min w ((g + 3 - j) / 4)) (omega arith) (omega arith) in
+      let all : h0 + h1 + h2 + h3 ≤ 12 =
+      omega (arith, length-stepsBelow ws g, depth w0 0, depth w1 1, depth w2 2, depth w3 3) in (
+        omega (arith, either 0 (h0 + h1 + h2 + h3) (h1 + h2 + h3) 12 all (omega arith)),
+        omega (arith, either 1 (h0 + h1 + h2 + h3) (h2 + h3) 12 all (omega arith)),
+        omega (arith, either 2 (h0 + h1 + h2 + h3) h3 12 all (omega arith)),
+        omega (arith, either 3 (h0 + h1 + h2 + h3) 0 12 all (omega arith)),
+      )
+
+  pub stepRow-pair : (wanted : List (Option ℕ)) (h0 h1 h2 h3 s0 s1 s2 s3 m0 m1 w n : ℕ)
+      → h0 ≡ otherDepth w0 g 0 → h1 ≡ otherDepth w1 g 1 → h2 ≡ otherDepth w2 g 2 → h3 ≡ otherDepth w3 g 3
+      → s0 ≡ cond (eqb 0 (g % 4)) (h0 + h1 + h2 + h3) (h1 + h2 + h3)
+      → s1 ≡ cond (eqb 1 (g % 4)) (h0 + h1 + h2 + h3) (h2 + h3)
+      → s2 ≡ cond (eqb 2 (g % 4)) (h0 + h1 + h2 + h3) h3
+      → s3 ≡ cond (eqb 3 (g % 4)) (h0 + h1 + h2 + h3) 0
+      → m0 ≡ multiplier s0 s1 → m1 ≡ multiplier s2 s3
       → w ≡ getD ws (g % 4) 0 → n ≡ wantedNumber (queryBitOf w (g / 4) (getD wanted (g % 4) none))
-      → s0 ∷ s1 ∷ s2 ∷ s3 ∷ ((1 * 2 ^ (16 * (g % 4) + g / 4)) % 2 ^ 64) ∷ n
+      → m0 ∷ m1 ∷ ((1 * 2 ^ (16 * (g % 4) + g / 4)) % 2 ^ 64) ∷ n
       ∷ ((1 * 2 ^ (16 * (g % 4) + (w - 1 - g / 4))) % 2 ^ 64) ∷ []
       ≡ stepRow ws (wantedAt ws wanted) t
   unfolding stepRow
-  stepRow-pair wanted h0 h1 h2 h3 s0 s1 s2 s3 w n e0 e1 e2 e3 i0 i1 i2 i3 ew en =
+  stepRow-pair wanted h0 h1 h2 h3 s0 s1 s2 s3 m0 m1 w n e0 e1 e2 e3 i0 i1 i2 i3 el eh ew en =
       let z = g % 4 in
       let deep : (j : ℕ) → j < 4 → (x : ℕ) → x ≡ cond (eqb j z) 0 (min (getD ws j 0) ((g + 3 - j) / 4))
       → x ≡ cond (eqb j z) 0 (attributeDepth ws t j) = λ j hj x e. e ∙ ap (cond (eqb j z) 0) (sym (depth-at j hj)) in
@@ -125,6 +149,8 @@ module _ (w0 w1 w2 w3 : ℕ) (fit : Fit (fourNumbers w0 w1 w2 w3)) (g : ℕ) (lo
       let lower : 16 * z + (w - 1 - g / 4) < 64 = omega (arith, fit z, live) in
       rw (step-here ws fit (g / 4) (g % 4) (omega arith) live number)
       (cc (
+        el,
+        eh,
         i0 ∙ s .0,
         i1 ∙ s .1,
         i2 ∙ s .2,

@@ -53,23 +53,23 @@ module _ (st : State) (rows : List ℕ) (deep : st .deepest ≤ 12) where
   more = st .limits .pages ∷ st .shape .capacity ∷ st .deepest ∷ talliedDepths (st .tally .leaves) ∷ []
 
   -- the rows stay
-  limited-row : (i : ℕ) → i < 104 → getD (limited st rows) i 0 ≡ getD rows i 0
+  limited-row : (i : ℕ) → i < 78 → getD (limited st rows) i 0 ≡ getD rows i 0
   unfolding limited
-  limited-row i h = getD-sets-before rows 104 more i h
+  limited-row i h = getD-sets-before rows 78 more i h
 
-  pub Table-limited : (q : ℕ → QueryBit) → Rows (widthsOf (st .shape)) q (st .deepest) rows → 108 ≤ length rows
+  pub Table-limited : (q : ℕ → QueryBit) → Rows (widthsOf (st .shape)) q (st .deepest) rows → 82 ≤ length rows
       → Table st q (limited st rows)
   unfolding limited
   Table-limited q r lent =
       record {
         rows-of = record {
-          row = λ x i l h. getD-sets-before rows 104 more (x * 8 + i) (omega arith) ∙ r .row x i l h;
-          fixed = λ x l. getD-sets-before rows 104 more (x * 8 + 7) (omega arith) ∙ r .fixed x l;
+          row = λ x i l h. getD-sets-before rows 78 more (x * 6 + i) (omega arith) ∙ r .row x i l h;
+          fixed = λ x l. getD-sets-before rows 78 more (x * 6 + 5) (omega arith) ∙ r .fixed x l;
         };
-        pages = getD-sets rows 104 more 0 (omega arith) (omega arith);
-        capacity = getD-sets rows 104 more 1 (omega arith) (omega arith);
-        depth-of = getD-sets rows 104 more 2 (omega arith) (omega arith);
-        depths = getD-sets rows 104 more 3 (omega arith) (omega arith);
+        pages = getD-sets rows 78 more 0 (omega arith) (omega arith);
+        capacity = getD-sets rows 78 more 1 (omega arith) (omega arith);
+        depth-of = getD-sets rows 78 more 2 (omega arith) (omega arith);
+        depths = getD-sets rows 78 more 3 (omega arith) (omega arith);
       }
 
   mostPages-rows : (f x : ℕ) → x + f ≤ 12 → mostPages (limited st rows) f x ≡ mostPages rows f x
@@ -77,7 +77,7 @@ module _ (st : State) (rows : List ℕ) (deep : st .deepest ≤ 12) where
   mostPages-rows zero x h = refl
   mostPages-rows (suc f) x h =
       λ i. mostPages-rows f (x + 1) (omega arith) i
-      * cond (ltb 1 (limited-row (x * 8 + 5) (omega arith) i)) 2 1
+      * cond (ltb 1 (limited-row (x * 6 + 3) (omega arith) i)) 2 1
 
   pub mostPages-limited : mostPages (limited st rows) (st .deepest) 0 ≡ mostPages rows (st .deepest) 0
   mostPages-limited = mostPages-rows (st .deepest) 0 (omega arith)

@@ -1,91 +1,62 @@
--- Laws of addresses as sums of shifted indices, and of cells in one number: the address of a 1-side from the row of its
--- step. Assumes nothing.
-use Prim.Native.Nat.{ℕ, zero, suc, _+_, _*_, _^_, _≤_, _<_}
-use mathlib.Core.Path.{_≡_, sym, ap, _∙_, subst}
+-- Laws of cells in one number: a cell fits; the address of a 1-side from the row of its step. Assumes nothing.
+use Prim.Native.Nat.{ℕ, suc, _+_, _*_, _/_, _%_, _^_, _≤_, _<_}
+use mathlib.Core.Path.{_≡_, refl, sym, ap, _∙_, subst}
 use mathlib.Core.Bool.{Bool, true}
-use mathlib.Core.List.{List, [], _∷_}
+use mathlib.Core.List.{List}
 use native.Mathlib.Omega.{arith}
 use native.Mathlib.Nat.{le-trans}
-use lib.Pow.{pow-add, pow-mono}
-use lib.ListN.{getD, length, set, drop}
+use lib.Pow.{pow-add, pow-mono, shl-lt}
+use lib.ListN.{getD, length}
 use lib.Seq.{getD-set-same}
-use lib.Dec.{eqb}
-use Rattle.lists.proofs.Bools.{cond-cases}
-use Rattle.shape.specs.Shape.{Fit, total}
+use Rattle.shape.specs.Shape.{Fit}
 use Rattle.split.specs.Steps.{step, steps, bitValue, attributeDepth}
 use Rattle.split.proofs.StepLaws.{StepBelow}
-use Rattle.split.proofs.DepthLaws.{attributeDepth-width, step-of, step-here, attributeDepth-sum}
+use Rattle.split.proofs.DepthLaws.{attributeDepth-width, step-of, step-here}
 use Rattle.address.specs.Address.{formula, address}
 use Rattle.address.specs.Doubling.{sides}
 use Rattle.address.proofs.SideLaws.{In-sides-get}
 use Rattle.address.proofs.AppendLaws.{address-new}
 use Rattle.cell.specs.Cell.{cell, cellAddress}
-use Rattle.cell.proofs.CellLaws.{plus, length-cell, In-cell, cell-suc, cell-agree}
+use Rattle.cell.proofs.CellLaws.{plus, length-cell, In-cell, cell-suc, cell-agree, cellAddress-lt}
 use Rattle.region.specs.Strings.{withBit}
 use Rattle.region.specs.Query.{QueryBit}
 use Rattle.region.proofs.StringLaws.{withBit-same, withBit-other}
-use Rattle.query_rows.specs.Rows.{attributeDepths, shiftOf, stepRow, Rows}
-use Rattle.query_rows.specs.Vectors.{packed, lane, rowAddress}
-use Rattle.query_rows.proofs.LaneLaws.{fourNumbers, fourNumbers-of, lane-fourNumbers, packed-lt, packed-plus}
+use Rattle.query_rows.specs.Rows.{attributeDepths, shiftOf, multiplier, stepRow, Rows}
+use Rattle.query_rows.specs.Vectors.{packed, rowAddress, Addressable}
+use Rattle.query_rows.proofs.LaneLaws.{fourNumbers, fourNumbers-of, packed-halves, packed-lt, packed-plus}
+use Rattle.query_rows.proofs.LaneLaws.{halfAddress-multiplier, multiplier-lt}
+use Rattle.query_rows.proofs.ShiftLaws.{formula-shifted, shiftOf-step-le, shiftOf-cross}
 
--- ---- the address as a sum of shifted indices
+-- ---- the multipliers in the table
 
-module _ (h0 h1 h2 h3 i0 i1 i2 i3 : ℕ) where
-  abbrev shifted : ℕ → ℕ
-  shifted z =
-      i0 * 2 ^ shiftOf z (fourNumbers h0 h1 h2 h3) 0
-      + i1 * 2 ^ shiftOf z (fourNumbers h0 h1 h2 h3) 1
-      + i2 * 2 ^ shiftOf z (fourNumbers h0 h1 h2 h3) 2
-      + i3 * 2 ^ shiftOf z (fourNumbers h0 h1 h2 h3) 3
+module _ (ws : List ℕ) (t : ℕ) (q : ℕ → QueryBit) (T : ℕ) (rows : List ℕ) (table : Rows ws q T rows) (l : t < T) where
+  -- the shifts of a step of attribute z
+  abbrev shift : ℕ → ℕ → ℕ
+  shift z = shiftOf z (attributeDepths ws t)
 
-  formula-shifted : (z : ℕ) → z < 4
-      → formula z (fourNumbers (2 ^ h0) (2 ^ h1) (2 ^ h2) (2 ^ h3)) (fourNumbers i0 i1 i2 i3) ≡ shifted z
-  unfolding formula shiftOf
-  formula-shifted zero h =
-      let e0 : 0 + (h1 + (h2 + (h3 + 0))) ≡ h1 + (h2 + h3) = omega arith in
-      let e1 : h2 + (h3 + 0) ≡ h2 + h3 = omega arith in
-      let e2 : h3 + 0 ≡ h3 = omega arith in
-      rw (e0, e1, e2, pow-add 2 h1 (h2 + h3), pow-add 2 h2 h3) (omega arith)
-  formula-shifted (suc zero) h =
-      let e1 : h0 + (0 + (h2 + (h3 + 0))) ≡ h0 + (h2 + h3) = omega arith in
-      let e0 : 0 + (h2 + (h3 + 0)) ≡ h2 + h3 = omega arith in
-      let e2 : h3 + 0 ≡ h3 = omega arith in
-      rw (e1, e0, e2, pow-add 2 h0 (h2 + h3), pow-add 2 h2 h3) (omega arith)
-  formula-shifted (suc (suc zero)) h =
-      let e2 : h0 + (h1 + (0 + (h3 + 0))) ≡ h0 + (h1 + h3) = omega arith in
-      let e0 : h1 + (0 + (h3 + 0)) ≡ h1 + h3 = omega arith in
-      let e1 : 0 + (h3 + 0) ≡ h3 = omega arith in
-      rw (e2, e0, e1, pow-add 2 h0 (h1 + h3), pow-add 2 h1 h3) (omega arith)
-  formula-shifted (suc (suc (suc zero))) h =
-      let e3 : h0 + (h1 + (h2 + (0 + 0))) ≡ h0 + (h1 + h2) = omega arith in
-      let e0 : h1 + (h2 + (0 + 0)) ≡ h1 + h2 = omega arith in
-      let e1 : h2 + (0 + 0) ≡ h2 = omega arith in
-      rw (e3, e0, e1, pow-add 2 h0 (h1 + h2), pow-add 2 h1 h2) (omega arith)
-  formula-shifted (suc (suc (suc (suc z)))) h = absurd (omega arith)
+  multipliers : (z : ℕ) → step ws t .attribute ≡ z
+      → (getD rows (t * 6) 0 ≡ multiplier (shift z 0) (shift z 1))
+      × (getD rows (t * 6 + 1) 0 ≡ multiplier (shift z 2) (shift z 3))
+  unfolding stepRow
+  multipliers z e =
+      let first : t * 6 ≡ t * 6 + 0 = omega arith in (
+        ap (λ x. getD rows x 0) first
+            ∙ table .row t 0 l (omega arith)
+            ∙ ap (λ y. multiplier (shift y 0) (shift y 1)) e,
+        table .row t 1 l (omega arith) ∙ ap (λ y. multiplier (shift y 2) (shift y 3)) e,
+      )
 
--- no shift passes the sum of the depths
-total-set-le : (hs : List ℕ) (z : ℕ) → total (set hs z 0) ≤ total hs
-total-set-le [] z = omega arith
-total-set-le (h ∷ hs) zero = omega arith
-total-set-le (h ∷ hs) (suc z) = omega (arith, total-set-le hs z)
-
-total-drop-le : (hs : List ℕ) (j : ℕ) → total (drop j hs) ≤ total hs
-total-drop-le hs zero = omega arith
-total-drop-le [] (suc j) = omega arith
-total-drop-le (h ∷ hs) (suc j) = omega (arith, total-drop-le hs j)
-
-shiftOf-le : (z : ℕ) (hs : List ℕ) (j : ℕ) → shiftOf z hs j ≤ total hs
-unfolding shiftOf
-shiftOf-le z hs j =
-    cond-cases (λ n. n ≤ total hs) (eqb j z) (total (set hs z 0)) (total (drop (suc j) (set hs z 0)))
-    (λ e. total-set-le hs z) (λ e. omega (arith, total-set-le hs z, total-drop-le (set hs z 0) (suc j)))
-
--- which is the step's number
-pub shiftOf-step-le : (ws : List ℕ) → Fit ws → (t : ℕ) → t < length (steps ws) → (z j : ℕ)
-    → shiftOf z (attributeDepths ws t) j ≤ t
-shiftOf-step-le ws fit t h z j =
-    let d = step-of ws t h in
-    omega (arith, shiftOf-le z (attributeDepths ws t) j, attributeDepth-sum ws fit (d .0) (d .1) (d .2) (d .3) (d .4))
+  -- what `address_by` asks
+  pub Addressable-row : Fit ws → t < length (steps ws) → T ≤ 12 → Addressable rows (t * 6)
+  Addressable-row fit h twelve =
+      let s = shift (step ws t .attribute) in
+      let le : (j : ℕ) → s j ≤ 12 = λ j. omega (arith, shiftOf-step-le ws fit t h (step ws t .attribute) j) in
+      let both = multipliers (step ws t .attribute) refl in
+      record {
+        row = omega arith;
+        low = rw (both .0) (multiplier-lt (s 0) (s 1) (le 0) (le 1));
+        high = rw (both .1) (multiplier-lt (s 2) (s 3) (le 2) (le 3));
+      }
 
 -- ---- cells
 
@@ -147,10 +118,10 @@ module _ (ws : List ℕ) (fit : Fit ws) where
         omega arith
 
     -- the address of a cell that step t appended, from the row of the step
-    pub rowAddress-cell : (q : ℕ → QueryBit) (T : ℕ) (rows : List ℕ) → Rows ws q T rows → t < T → p t ≡ true
-        → rowAddress rows (t * 8) (packed (cell ws (suc t) p)) ≡ cellAddress ws (suc t) p
-    unfolding rowAddress cellAddress sides stepRow
-    rowAddress-cell q T rows table l e = at (step-of ws t h)
+    pub rowAddress-cell : (q : ℕ → QueryBit) (T : ℕ) (rows : List ℕ) → Rows ws q T rows → t < T → T ≤ 12 → p t ≡ true
+        → rowAddress rows (t * 6) (packed (cell ws (suc t) p)) ≡ cellAddress ws (suc t) p
+    unfolding rowAddress cellAddress sides
+    rowAddress-cell q T rows table l twelve e = at (step-of ws t h)
       where
         is : List ℕ
         is = cell ws (suc t) p
@@ -161,47 +132,42 @@ module _ (ws : List ℕ) (fit : Fit ws) where
         is-four : is ≡ fourNumbers (i 0) (i 1) (i 2) (i 3)
         is-four = fourNumbers-of is (length-cell ws (suc t) p)
 
-        Lanes : List ℕ → Type 0
-        Lanes v =
-            (lane (packed v) 0 ≡ i 0)
-            × (lane (packed v) 1 ≡ i 1)
-            × (lane (packed v) 2 ≡ i 2)
-            × (lane (packed v) 3 ≡ i 3)
+        halves : (packed is % 2 ^ 32 ≡ i 0 + 2 ^ 16 * i 1) × (packed is / 2 ^ 32 ≡ i 2 + 2 ^ 16 * i 3)
+        halves =
+            subst (λ v. (packed v % 2 ^ 32 ≡ i 0 + 2 ^ 16 * i 1) × (packed v / 2 ^ 32 ≡ i 2 + 2 ^ 16 * i 3))
+            (sym is-four)
+            (packed-halves (i 0) (i 1) (i 2) (i 3) (cell-lane (suc t) p 0 (omega arith))
+            (cell-lane (suc t) p 1 (omega arith)))
 
-        lanes : Lanes is
-        lanes =
-            let fits : (r : ℕ) → r < 4 → i r < 2 ^ 16 = cell-lane (suc t) p in
-            subst Lanes (sym is-four)
-            (lane-fourNumbers (i 0) (i 1) (i 2) (i 3) (fits 0 (omega arith)) (fits 1 (omega arith))
-            (fits 2 (omega arith))
-            (fits 3 (omega arith)))
+        -- the first index of a half, shifted as the second
+        cross : (r s : ℕ) → r < 4 → attributeDepth ws (suc t) r + s ≤ suc t → i r * 2 ^ s < 2 ^ 16
+        cross r s hr m =
+            let depth = attributeDepth ws (suc t) r in
+            let small : depth + s ≤ 16 = omega arith in
+            le-trans (shl-lt depth s (In-sides-get ws (suc t) (In-cell ws (suc t) p) r hr)) (pow-mono small)
 
-        at : StepBelow ws t 64 → rowAddress rows (t * 8) (packed is) ≡ address ws is
+        at : StepBelow ws t 64 → rowAddress rows (t * 6) (packed is) ≡ address ws is
         at (k, z, hz, hk, number, low) =
             let here = step-here ws fit k z hz hk number in
-            let shift : (r : ℕ) → r < 4 → getD rows (t * 8 + r) 0 ≡ shiftOf z (attributeDepths ws t) r =
-            λ r hr. table .row t r l (omega arith) ∙ row r hr here in
-            let first : t * 8 + 0 ≡ t * 8 = omega arith in
+            let s = shift ws t q T rows table l z in
+            let row = multipliers ws t q T rows table l z (ap (λ s. s .attribute) here) in
             let new : 2 ^ k ≤ i z = new-bit k z hz here e in
+            let sum : (i 0 * 2 ^ s 0 + i 1 * 2 ^ s 1) + (i 2 * 2 ^ s 2 + i 3 * 2 ^ s 3) ≡ address ws is =
             cc (
-              lanes .0,
-              lanes .1,
-              lanes .2,
-              lanes .3,
-              sym (ap (λ x. getD rows x 0) first) ∙ shift 0 (omega arith),
-              shift 1 (omega arith),
-              shift 2 (omega arith),
-              shift 3 (omega arith),
               formula-shifted (attributeDepth ws t 0) (attributeDepth ws t 1) (attributeDepth ws t 2)
                   (attributeDepth ws t 3) (i 0) (i 1) (i 2) (i 3) z hz,
               ap (formula z (sides ws t)) is-four,
               address-new ws fit k z hz hk number is (In-cell ws (suc t) p) new,
+            ) in
+            let fits : address ws is < 2 ^ 16 =
+            le-trans (cellAddress-lt ws fit (suc t) h p) (pow-mono {j = 16} (omega arith)) in
+            let deep = shiftOf-cross ws fit t h k z hz hk number in
+            cc (
+              halves .0,
+              halves .1,
+              row .0,
+              row .1,
+              halfAddress-multiplier (i 0) (i 1) (s 0) (s 1) (omega arith) (cross 0 (s 1) (omega arith) (deep .0)),
+              halfAddress-multiplier (i 2) (i 3) (s 2) (s 3) (omega arith) (cross 2 (s 3) (omega arith) (deep .1)),
+              sum,
             )
-          where
-            row : (r : ℕ) → r < 4 → step ws t ≡ record { bit = k; attribute = z }
-                → getD (stepRow ws q t) r 0 ≡ shiftOf z (attributeDepths ws t) r
-            row zero hr here = ap (λ s. shiftOf (s .attribute) (attributeDepths ws t) 0) here
-            row (suc zero) hr here = ap (λ s. shiftOf (s .attribute) (attributeDepths ws t) 1) here
-            row (suc (suc zero)) hr here = ap (λ s. shiftOf (s .attribute) (attributeDepths ws t) 2) here
-            row (suc (suc (suc zero))) hr here = ap (λ s. shiftOf (s .attribute) (attributeDepths ws t) 3) here
-            row (suc (suc (suc (suc r)))) hr here = absurd (omega arith)

@@ -47,15 +47,18 @@ abbrev pub valueBit : List ℕ → ℕ → ℕ
 valueBit ws t =
     2 ^ (16 * step ws t .attribute + (getD ws (step ws t .attribute) 0 - suc (step ws t .bit)))
 
--- seven numbers for a step: four shifts, the bit that it sets in a vector of 16-bit lanes, what the query wants, and
--- the bit that it sets in a packed key
+-- what two indices of 16 bits in one number are multiplied by, so that in bits 16 to 31 stands the first shifted by s
+-- plus the second shifted by r: for s = 2, r = 0 the number 3 + 2^16 × 1 gives 13
+abbrev pub multiplier : ℕ → ℕ → ℕ
+multiplier s r = 2 ^ 16 * 2 ^ s + 2 ^ r
+
+-- five numbers for a step: the multipliers of the indices 0 and 1 and of 2 and 3, the bit that it sets in a vector of
+-- 16-bit lanes, what the query wants, and the bit that it sets in a packed key
 unfoldable pub stepRow : List ℕ → (ℕ → QueryBit) → ℕ → List ℕ
 stepRow ws q t =
     let z = step ws t .attribute in
-    shiftOf z (attributeDepths ws t) 0
-    ∷ shiftOf z (attributeDepths ws t) 1
-    ∷ shiftOf z (attributeDepths ws t) 2
-    ∷ shiftOf z (attributeDepths ws t) 3
+    multiplier (shiftOf z (attributeDepths ws t) 0) (shiftOf z (attributeDepths ws t) 1)
+    ∷ multiplier (shiftOf z (attributeDepths ws t) 2) (shiftOf z (attributeDepths ws t) 3)
     ∷ 2 ^ (16 * z + step ws t .bit)
     ∷ wantedNumber (q t)
     ∷ valueBit ws t
@@ -63,35 +66,50 @@ stepRow ws q t =
 
 -- a row as a list
 abbrev pub rowList : Row → List ℕ
-rowList r = r .s0 ∷ r .s1 ∷ r .s2 ∷ r .s3 ∷ r .bit ∷ r .wanted ∷ r .value ∷ []
+rowList r = r .low ∷ r .high ∷ r .bit ∷ r .wanted ∷ r .value ∷ []
 
--- rows of eight numbers: those of the steps below t, and the bits of a packed key that are fixed at each depth up to t
+-- ---- the table
+
+-- of the row of depth x: the bit in a vector, what the query wants, the bit in a packed key, and the fixed bits
+abbrev pub bitIn : List ℕ → ℕ → ℕ
+bitIn rows x = getD rows (x * 6 + 2) 0
+
+abbrev pub wantedBitIn : List ℕ → ℕ → ℕ
+wantedBitIn rows x = getD rows (x * 6 + 3) 0
+
+abbrev pub valueIn : List ℕ → ℕ → ℕ
+valueIn rows x = getD rows (x * 6 + 4) 0
+
+abbrev pub fixedIn : List ℕ → ℕ → ℕ
+fixedIn rows x = getD rows (x * 6 + 5) 0
+
+-- rows of six numbers: those of the steps below t, and the bits of a packed key that are fixed at each depth up to t
 pub record Rows (ws : List ℕ) (q : ℕ → QueryBit) (t : ℕ) (rows : List ℕ) : Type 0 where
-  pub row : (x i : ℕ) → x < t → i < 7 → getD rows (x * 8 + i) 0 ≡ getD (stepRow ws q x) i 0
-  pub fixed : (x : ℕ) → x ≤ t → getD rows (x * 8 + 7) 0 ≡ fixedBits ws x
+  pub row : (x i : ℕ) → x < t → i < 5 → getD rows (x * 6 + i) 0 ≡ getD (stepRow ws q x) i 0
+  pub fixed : (x : ℕ) → x ≤ t → fixedIn rows x ≡ fixedBits ws x
 
 -- what the rows of t steps ask of a shape and of a table of this length
 pub record RowsAsked (s : Shape) (t room : ℕ) : Type 0 where
   pub shape : inBounds s ≡ true
   pub deep : t ≤ 12
   pub bits : t ≤ total (widthsOf s)
-  pub table-lent : 108 ≤ room
+  pub table-lent : 82 ≤ room
 
 -- ---- the numbers behind the rows
 
 -- P, b and T
 abbrev pub pagesIn : List ℕ → ℕ
-pagesIn rows = getD rows 104 0
+pagesIn rows = getD rows 78 0
 
 abbrev pub capacityIn : List ℕ → ℕ
-capacityIn rows = getD rows 105 0
+capacityIn rows = getD rows 79 0
 
 abbrev pub deepestIn : List ℕ → ℕ
-deepestIn rows = getD rows 106 0
+deepestIn rows = getD rows 80 0
 
 -- the depths that have a leaf in the tally
 abbrev pub talliedIn : List ℕ → ℕ
-talliedIn rows = getD rows 107 0
+talliedIn rows = getD rows 81 0
 
 -- a bit for each number of a list, the first lowest: 1 where it is not 0
 unfoldable pub talliedDepths : List ℕ → ℕ
@@ -105,7 +123,7 @@ hasDepth depths x = eqb (depths / 2 ^ x % 2) 1
 -- P, b, T and the depths in the tally put there
 unfoldable pub limited : State → List ℕ → List ℕ
 limited st rows =
-    sets rows 104 (st .limits .pages ∷ st .shape .capacity ∷ st .deepest ∷ talliedDepths (st .tally .leaves) ∷ [])
+    sets rows 78 (st .limits .pages ∷ st .shape .capacity ∷ st .deepest ∷ talliedDepths (st .tally .leaves) ∷ [])
 
 -- the table of a state and a query
 pub record Table (st : State) (q : ℕ → QueryBit) (rows : List ℕ) : Type 0 where
@@ -121,4 +139,4 @@ pub record Table (st : State) (q : ℕ → QueryBit) (rows : List ℕ) : Type 0 
 -- count where the query is free
 unfoldable pub mostPages : List ℕ → ℕ → ℕ → ℕ
 mostPages rows zero x = 1
-mostPages rows (suc f) x = mostPages rows f (x + 1) * cond (ltb 1 (getD rows (x * 8 + 5) 0)) 2 1
+mostPages rows (suc f) x = mostPages rows f (x + 1) * cond (ltb 1 (wantedBitIn rows x)) 2 1

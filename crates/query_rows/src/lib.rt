@@ -1,8 +1,19 @@
-// The table that a query's walk uses, made once a query: eight numbers for each depth up to the
-// directory's, and behind them four that stay the same.
+// The table that a query's walk uses, made once a query: six numbers for each depth up to 12, and
+// behind them four that stay the same. The row of depth x, from 6x on:
 //
-//     row x       the numbers of step x, and the bits of a packed key that are fixed at depth x
-//     104-107     P, b, T, the depths that have a leaf in the tally
+//     0             for the address of a cell that step x appended: the multiplier of indices 0, 1
+//     1             that of indices 2, 3
+//     2   BIT       the bit that step x sets in a vector of 16-bit lanes
+//     3   WANTED    the query's bit at step x: 0, 1, or 2 where it is free
+//     4   VALUE     the bit that step x sets in a packed key
+//     5   FIXED     the bits of a packed key that are fixed at depth x
+//
+// Behind the rows:
+//
+//     78  PAGES     P
+//     79  CAPACITY  b
+//     80  DEEPEST   T
+//     81  TALLIED   the depths that have a leaf in the tally
 use page_ends::fixed_bits_before;
 use pairs::depth_before;
 use pairs::width_at;
@@ -26,32 +37,56 @@ ghost use Rattle.shape.specs.Key.{wantedValues};
 ghost use Rattle.split.specs.Steps.{stepsBelow};
 ghost use Rattle.model.specs.Sets.{queryBits, queryBitOf};
 ghost use Rattle.query_rows.specs.Rows.{Rows, RowsAsked, stepRow, rowList, wantedAt, wantedNumber};
-ghost use Rattle.query_rows.specs.Rows.{otherDepth, talliedDepths, limited, mostPages};
+ghost use Rattle.query_rows.specs.Rows.{otherDepth, multiplier, talliedDepths, limited, mostPages};
 ghost use Rattle.query_rows.specs.Vectors.{Addressable, rowAddress};
 ghost use Rattle.query_rows.specs.Private.{RowsFilled, BitAsked, StepAt, PlaceAsked, BitOf};
 ghost use Rattle.query_rows.specs.Private.{valueOrZero, freeMark};
 
-// What the walk needs of a step: how far each index is shifted in the address of a cell that the step
-// appended, the bit that the step sets in a vector of 16-bit lanes, the query's bit (0, 1, or 2 where
-// it is free), and the bit that the step sets in a packed key.
+// How many numbers the table has.
+pub const TABLE: usize = 82;
+
+// How many numbers a row has.
+pub const ROW: usize = 6;
+
+// Where the numbers of a row stand in it; the last one in the next row.
+pub const BIT: usize = 2;
+
+pub const WANTED: usize = 3;
+
+pub const VALUE: usize = 4;
+
+pub const FIXED: usize = 5;
+
+const NEXT_FIXED: usize = ROW + FIXED;
+
+// Where the numbers behind the rows stand.
+pub const PAGES: usize = 78;
+
+pub const CAPACITY: usize = 79;
+
+pub const DEEPEST: usize = 80;
+
+pub const TALLIED: usize = 81;
+
+// What the walk needs of a step: the two multipliers for the address of a cell that the step
+// appended, the bit that the step sets in a vector of 16-bit lanes, the query's bit (0, 1, or 2
+// where it is free), and the bit that the step sets in a packed key.
 pub struct Row {
-    pub s0: u64,
-    pub s1: u64,
-    pub s2: u64,
-    pub s3: u64,
+    pub low: u64,
+    pub high: u64,
     pub bit: u64,
     pub wanted: u64,
     pub value: u64,
 }
 
 // Writes the rows of the steps below t, and the bits that are fixed at each depth up to t.
-pub fn fill_rows(shape: Shape, query: Query, t: usize, rows: &mut [u64; 108])
+pub fn fill_rows(shape: Shape, query: Query, t: usize, rows: &mut [u64; TABLE])
     requires { ⌜ RowsAsked shape t (length (now rows)) ⌝ }
     ensures { λ _. ⌜ (length (now (rows .exit)) ≡ length (now (rows .entry)))
         × Rows (widthsOf shape) (queryBits shape (wantedValues query)) t (now (rows .exit)) ⌝ }
 {
     let widths = widths_of(shape);
-    rows[7] = fixed_bits_before(widths, 0);
+    rows[FIXED] = fixed_bits_before(widths, 0);
     let mut x: usize = 0;
     let mut bit: u64 = 0;
     while x < t {
@@ -67,7 +102,7 @@ fn fill_bit(
     query: Query,
     t: usize,
     bit: u64,
-    rows: &mut [u64; 108],
+    rows: &mut [u64; TABLE],
     before: usize,
 ) -> usize
     requires { ⌜ BitAsked (widthList widths) (wantedAt (widthList widths) (wantedValues query)) t bit before
@@ -81,7 +116,7 @@ fn fill_bit(
     while z < 4 {
         if x < t {
             if bit < width_at(widths, z) {
-                put_row(rows, x * 8, row_at(widths, query, 4 * bit + z));
+                put_row(rows, x * ROW, row_at(widths, query, 4 * bit + z));
                 x += 1;
             }
         }
@@ -91,20 +126,20 @@ fn fill_bit(
 }
 
 // Writes behind the rows what stays the same in a walk: P, b, T, the depths in the tally.
-pub fn fill_limits(state: State, rows: &mut [u64; 108])
+pub fn fill_limits(state: State, rows: &mut [u64; TABLE])
     ensures { λ _. ⌜ now (rows .exit) ≡ limited state (now (rows .entry)) ⌝ }
 {
     let shape = state.shape;
     let limits = state.limits;
-    rows[104] = limits.pages as u64;
-    rows[105] = shape.capacity as u64;
-    rows[106] = state.deepest as u64;
-    rows[107] = tallied_depths(state.tally);
+    rows[PAGES] = limits.pages as u64;
+    rows[CAPACITY] = shape.capacity as u64;
+    rows[DEEPEST] = state.deepest as u64;
+    rows[TALLIED] = tallied_depths(state.tally);
 }
 
 // How many pages a walk by the rows of the steps below t notes at most: twice as many for each step in
 // which the query is free.
-pub fn most_pages(rows: &[u64; 108], t: usize) -> usize
+pub fn most_pages(rows: &[u64; TABLE], t: usize) -> usize
     requires { ⌜ t ≤ 12 ⌝ }
     ensures { λ r. ⌜ r ≡ mostPages (now (rows .entry)) t 0 ⌝ }
 {
@@ -112,38 +147,35 @@ pub fn most_pages(rows: &[u64; 108], t: usize) -> usize
     let mut x = t;
     while 0 < x {
         x -= 1;
-        if 1 < rows[x * 8 + 5] {
+        if 1 < rows[x * ROW + WANTED] {
             most *= 2;
         }
     }
     most
 }
 
-// The address of a cell of this index vector that the step of the row at this place appended.
-pub fn address_by(rows: &[u64; 108], at: usize, index: u64) -> usize
-    requires { ⌜ Addressable (now rows) at index ⌝ }
+// The address of a cell of this index vector that the step of the row at this place appended: each
+// half of the vector times its multiplier has in bits 16 to 31 the sum of its two shifted indices.
+pub fn address_by(rows: &[u64; TABLE], at: usize, index: u64) -> usize
+    requires { ⌜ Addressable (now rows) at ⌝ }
     ensures { λ r. ⌜ r ≡ rowAddress (now (rows .entry)) at index ⌝ }
 {
-    let a0 = (index & 0xffff) << rows[at];
-    let a1 = ((index >> 16) & 0xffff) << rows[at + 1];
-    let a2 = ((index >> 32) & 0xffff) << rows[at + 2];
-    let a3 = ((index >> 48) & 0xffff) << rows[at + 3];
-    (a0 + a1 + a2 + a3) as usize
+    let low = ((index & 0xffff_ffff) * rows[at]) >> 16;
+    let high = ((index >> 32) * rows[at + 1]) >> 16;
+    ((low & 0xffff) + (high & 0xffff)) as usize
 }
 
 // The depths that have a leaf in the tally, one bit each, depth 0 lowest.
 fn tallied_depths(tally: Tally) -> u64
     ensures { λ r. ⌜ r ≡ talliedDepths (tally .leaves) ⌝ }
 {
-    let mut depths: u32 = 0;
-    let mut x: usize = 0;
-    while x < 13 {
-        if tally.leaves[x] != 0 {
-            depths |= 1u32 << x;
-        }
-        x += 1;
+    let mut depths: u64 = 0;
+    let mut x: usize = 13;
+    while 0 < x {
+        x -= 1;
+        depths = (depths << 1) | ((tally.leaves[x] != 0) as u64);
     }
-    depths as u64
+    depths
 }
 
 // The row of the step at place g.
@@ -161,11 +193,13 @@ fn row_at(widths: Widths, query: Query, g: u64) -> Row
     let h3 = other_depth(widths.w3, g, 3);
     let all = h0 + h1 + h2 + h3;
     let width = width_at(widths, z);
+    let s0 = shift_of(0, z, all, h1 + h2 + h3);
+    let s1 = shift_of(1, z, all, h2 + h3);
+    let s2 = shift_of(2, z, all, h3);
+    let s3 = shift_of(3, z, all, 0);
     Row {
-        s0: shift_of(0, z, all, h1 + h2 + h3),
-        s1: shift_of(1, z, all, h2 + h3),
-        s2: shift_of(2, z, all, h3),
-        s3: shift_of(3, z, all, 0),
+        low: multiplier_of(s0, s1),
+        high: multiplier_of(s2, s3),
         bit: 1u64 << (16 * z + bit),
         wanted: wanted_bit(query, z as usize, width, bit),
         value: 1u64 << (16 * z + (width - 1 - bit)),
@@ -188,6 +222,15 @@ fn shift_of(j: u64, z: u64, all: u64, behind: u64) -> u64
     ensures { λ r. ⌜ r ≡ cond (eqb j z) all behind ⌝ }
 {
     if j == z { all } else { behind }
+}
+
+// What two indices of 16 bits in one number are multiplied by, so that in bits 16 to 31 stands the
+// first shifted by s plus the second shifted by r.
+fn multiplier_of(s: u64, r: u64) -> u64
+    requires { ⌜ (s ≤ 12) × (r ≤ 12) ⌝ }
+    ensures { λ m. ⌜ m ≡ multiplier s r ⌝ }
+{
+    (65536u64 << s) + (1u64 << r)
 }
 
 // What the query says of a bit of attribute j: the bit of the value, and 2 more where it is free.
@@ -226,25 +269,21 @@ fn free_mark(query: Query, j: usize) -> u64
 }
 
 // Writes a row from a place on, and to the next row the bits that are fixed there: one more.
-fn put_row(rows: &mut [u64; 108], at: usize, row: Row)
-    requires { ⌜ (at + 16 ≤ 104) × (getD (now rows) (at + 7) 0 + row .value < 2 ^ 64) ⌝ }
+fn put_row(rows: &mut [u64; TABLE], at: usize, row: Row)
+    requires { ⌜ (at + 12 ≤ 78) × (getD (now rows) (at + 5) 0 + row .value < 2 ^ 64) ⌝ }
     ensures { λ _. ⌜ now (rows .exit)
-        ≡ sets (sets (now (rows .entry)) at (rowList row)) (at + 15)
-        ((getD (now (rows .entry)) (at + 7) 0 + row .value) ∷ []) ⌝ }
+        ≡ sets (sets (now (rows .entry)) at (rowList row)) (at + 11)
+        ((getD (now (rows .entry)) (at + 5) 0 + row .value) ∷ []) ⌝ }
 {
-    let fixed = rows[at + 7] + row.value;
+    let fixed = rows[at + FIXED] + row.value;
     let a1 = at + 1;
     let a2 = a1 + 1;
     let a3 = a2 + 1;
     let a4 = a3 + 1;
-    let a5 = a4 + 1;
-    let a6 = a5 + 1;
-    rows[at] = row.s0;
-    rows[a1] = row.s1;
-    rows[a2] = row.s2;
-    rows[a3] = row.s3;
-    rows[a4] = row.bit;
-    rows[a5] = row.wanted;
-    rows[a6] = row.value;
-    rows[at + 15] = fixed;
+    rows[at] = row.low;
+    rows[a1] = row.high;
+    rows[a2] = row.bit;
+    rows[a3] = row.wanted;
+    rows[a4] = row.value;
+    rows[at + NEXT_FIXED] = fixed;
 }

@@ -6,7 +6,7 @@ use native.Mathlib.Omega.{arith}
 use lib.ListN.{getD, length}
 use borrow.Author.Tests.{ne-eqb}
 use Rattle.directory_word.specs.Word.{depthField}
-use Rattle.query_rows.specs.Rows.{deepestIn, mostPages}
+use Rattle.query_rows.specs.Rows.{wantedBitIn, deepestIn, mostPages}
 use Rattle.query_rows.specs.Vectors.{rowAddress}
 use Rattle.query_rows.proofs.MostLaws.{mostPages-free, mostPages-le}
 use Rattle.query_seen.specs.Seen.{Seen, damaged, after, met}
@@ -32,7 +32,7 @@ module _ {rows words : List ℕ} {bytes room v corner x n word : ℕ}
     by = seenBy rows words leaf T
 
     abbrev upperWord : ℕ
-    upperWord = getD words (rowAddress rows (x * 8) (upperVector i)) 0
+    upperWord = getD words (rowAddress rows (x * 6) (upperVector i)) 0
 
     first-le : (length (by (T - (x + 1)) (x + 1) v corner word .pages) ≤ mostPages rows (T - (x + 1)) (x + 1))
         × (length (by (T - (x + 1)) (x + 1) v corner word .pages) ≤ 2 ^ (T - (x + 1)))
@@ -41,7 +41,7 @@ module _ {rows words : List ℕ} {bytes room v corner x n word : ℕ}
         (l, omega (arith, l, mostPages-le rows (T - (x + 1)) (x + 1)))
 
     seenBy-inside : by (T - x) x v corner word
-        ≡ wantedSides (getD rows (x * 8 + 5) 0) (by (T - (x + 1)) (x + 1) v corner word)
+        ≡ wantedSides (wantedBitIn rows x) (by (T - (x + 1)) (x + 1) v corner word)
         (by (T - (x + 1)) (x + 1) (upperVector i) (upperCorner i) upperWord)
     unfolding seenBy
     seenBy-inside =
@@ -58,13 +58,13 @@ module _ {rows words : List ℕ} {bytes room v corner x n word : ℕ}
     one-side (suc zero) l = refl
     one-side (suc (suc w)) l = absurd (omega arith)
 
-    module _ (wanted : ℕ) (e : getD rows (x * 8 + 5) 0 ≡ wanted) (given : wanted < 2) where
+    module _ (wanted : ℕ) (e : wantedBitIn rows x ≡ wanted) (given : wanted < 2) where
       seenBy-given : by (T - x) x v corner word
           ≡ by (T - (x + 1)) (x + 1) (givenSide wanted v (upperVector i)) (givenSide wanted corner (upperCorner i))
           (givenSide wanted word upperWord)
       seenBy-given = seenBy-inside ∙ rw e (one-side wanted given)
 
-      pub Wrote-given : (list later : List ℕ) (r a side low own : ℕ) → a ≡ rowAddress rows (x * 8) (upperVector i)
+      pub Wrote-given : (list later : List ℕ) (r a side low own : ℕ) → a ≡ rowAddress rows (x * 6) (upperVector i)
           → side ≡ givenSide wanted v (upperVector i) → low ≡ givenSide wanted corner (upperCorner i)
           → own ≡ givenSide wanted word (getD words a 0)
           → Wrote list n (by (T - (x + 1)) (x + 1) side low own) r later
@@ -76,12 +76,12 @@ module _ {rows words : List ℕ} {bytes room v corner x n word : ℕ}
           (sym (seenBy-given ∙ (λ i. by (T - (x + 1)) (x + 1) (sym es i) (sym el i) (sym there i)))) o
 
     -- both sides
-    module _ (two : 2 ≤ getD rows (x * 8 + 5) 0) (list mid : List ℕ) (r : ℕ)
+    module _ (two : 2 ≤ wantedBitIn rows x) (list mid : List ℕ) (r : ℕ)
         (o : Wrote list n (by (T - (x + 1)) (x + 1) v corner word) r mid) where
-      n0 : getD rows (x * 8 + 5) 0 ≡ 0 → ⊥
+      n0 : wantedBitIn rows x ≡ 0 → ⊥
       n0 e = omega arith
 
-      n1 : getD rows (x * 8 + 5) 0 ≡ 1 → ⊥
+      n1 : wantedBitIn rows x ≡ 1 → ⊥
       n1 e = omega arith
 
       seenBy-both : by (T - x) x v corner word
@@ -104,7 +104,7 @@ module _ {rows words : List ℕ} {bytes room v corner x n word : ℕ}
           subst (λ s. Wrote list n s r mid) (sym seenBy-both)
           (Wrote-stop list mid n _ r o _ k (omega (arith, h .count, fuel-halves i, first-le .1)))
 
-      pub Wrote-both : (later : List ℕ) (z a : ℕ) → a ≡ rowAddress rows (x * 8) (upperVector i) → r ≤ 4096
+      pub Wrote-both : (later : List ℕ) (z a : ℕ) → a ≡ rowAddress rows (x * 6) (upperVector i) → r ≤ 4096
           → Wrote mid r (by (T - (x + 1)) (x + 1) (upperVector i) (upperCorner i) (getD words a 0)) z later
           → Wrote list n (by (T - x) x v corner word) z later
       Wrote-both later z a at k o′ =

@@ -23,7 +23,8 @@ use Rattle.store.specs.declared.State.{State}
 use Rattle.shape.proofs.ShapeLaws.{shapeNumber-true, capacity-bounds}
 use Rattle.query_walk.specs.declared.Noted.the-variants.{Pages, Damaged}
 use Rattle.query_rows.specs.Corners.{Corner}
-use Rattle.query_rows.specs.Rows.{wantedNumber, valueBit, stepRow, Rows, capacityIn, deepestIn, talliedIn, hasDepth}
+use Rattle.query_rows.specs.Rows.{wantedNumber, valueBit, stepRow, bitIn, wantedBitIn, valueIn, fixedIn, Rows}
+use Rattle.query_rows.specs.Rows.{capacityIn, deepestIn, talliedIn, hasDepth}
 use Rattle.query_rows.specs.Rows.{Table, mostPages}
 use Rattle.query_rows.specs.Vectors.{packed, rowAddress}
 use Rattle.query_rows.proofs.CornerLaws.{Corner-lower, Corner-upper, Corner-zero, endsAgree-corner}
@@ -42,8 +43,9 @@ use Rattle.query_walk.proofs.WroteLaws.{sound-of-next, damaged-of-next}
 
 -- ---- by rows and over strings
 
-module _ (ws : List ℕ) (fit : Fit ws) (q : ℕ → QueryBit) (T : ℕ) (bits : T ≤ length (steps ws)) (rows : List ℕ)
-    (table : Rows ws q T rows) (words : List ℕ) (leaf : ℕ → (ℕ → Bool) → ℕ → Seen) (leafBy : ℕ → ℕ → ℕ → Seen)
+module _ (ws : List ℕ) (fit : Fit ws) (q : ℕ → QueryBit) (T : ℕ) (bits : T ≤ length (steps ws)) (twelve : T ≤ 12)
+    (rows : List ℕ) (table : Rows ws q T rows) (words : List ℕ) (leaf : ℕ → (ℕ → Bool) → ℕ → Seen)
+    (leafBy : ℕ → ℕ → ℕ → Seen)
     -- both see a leaf alike
     (alike : (x : ℕ) (p : ℕ → Bool) (k w : ℕ) → x ≤ T → Corner ws x p k → leafBy x k w ≡ leaf x p w) where
   abbrev wordOver : ℕ → (ℕ → Bool) → ℕ
@@ -56,12 +58,12 @@ module _ (ws : List ℕ) (fit : Fit ws) (q : ℕ → QueryBit) (T : ℕ) (bits :
   wantedSides-after : (x : ℕ) (p : ℕ → Bool) → x < T → agrees q p x 0 ≡ true → (s u s′ u′ : Seen)
       → (queryEnters q (suc x) (withBit p x false) ≡ true → s ≡ s′)
       → (queryEnters q (suc x) (withBit p x true) ≡ true → u ≡ u′)
-      → wantedSides (getD rows (x * 8 + 5) 0) s u
+      → wantedSides (wantedBitIn rows x) s u
       ≡ after (cond (queryEnters q (suc x) (withBit p x false)) s′ nothing)
       (cond (queryEnters q (suc x) (withBit p x true)) u′ nothing)
   unfolding wantedSides stepRow
   wantedSides-after x p l e s u s′ u′ hs hu =
-      rw (table .row x 5 l (omega arith), queryEnters-side q p x false e, queryEnters-side q p x true e)
+      rw (table .row x 3 l (omega arith), queryEnters-side q p x false e, queryEnters-side q p x true e)
       (by-bit (q x) (λ d. hs (queryEnters-side q p x false e ∙ d)) (λ d. hu (queryEnters-side q p x true e ∙ d)))
     where
       by-bit : (w : QueryBit) → (bitAgrees w false ≡ true → s ≡ s′) → (bitAgrees w true ≡ true → u ≡ u′)
@@ -103,23 +105,23 @@ module _ (ws : List ℕ) (fit : Fit ws) (q : ℕ → QueryBit) (T : ℕ) (bits :
       upperVector : ℕ
       upperVector = packed (cell ws (suc x) (withBit p x true))
 
-      vector : packed (cell ws x p) + getD rows (x * 8 + 4) 0 ≡ upperVector
+      vector : packed (cell ws x p) + bitIn rows x ≡ upperVector
       vector =
-          ap (λ y. packed (cell ws x p) + y) (table .row x 4 inner (omega arith))
+          ap (λ y. packed (cell ws x p) + y) (table .row x 2 inner (omega arith))
           ∙ sym (packed-upper ws fit x step-lt p)
 
       -- the 1-side of depth y with this vector and the bit b in its corner
       upperBy : ℕ → ℕ → ℕ → Seen
-      upperBy y v b = by y v (k + b) (getD words (rowAddress rows (x * 8) v) 0)
+      upperBy y v b = by y v (k + b) (getD words (rowAddress rows (x * 6) v) 0)
 
-      upper : upperBy (x + 1) (packed (cell ws x p) + getD rows (x * 8 + 4) 0) (getD rows (x * 8 + 6) 0)
+      upper : upperBy (x + 1) (packed (cell ws x p) + bitIn rows x) (valueIn rows x)
           ≡ by (suc x) upperVector (k + valueBit ws x) (wordOver (suc x) (withBit p x true))
       upper =
-          ap (λ y. upperBy y (packed (cell ws x p) + getD rows (x * 8 + 4) 0) (getD rows (x * 8 + 6) 0)) (add-one x)
-          ∙ ap (λ v. upperBy (suc x) v (getD rows (x * 8 + 6) 0)) vector
-          ∙ ap (upperBy (suc x) upperVector) (table .row x 6 inner (omega arith))
+          ap (λ y. upperBy y (packed (cell ws x p) + bitIn rows x) (valueIn rows x)) (add-one x)
+          ∙ ap (λ v. upperBy (suc x) v (valueIn rows x)) vector
+          ∙ ap (upperBy (suc x) upperVector) (table .row x 4 inner (omega arith))
           ∙ ap (λ a. by (suc x) upperVector (k + valueBit ws x) (getD words a 0))
-          (rowAddress-cell ws fit x step-lt (withBit p x true) q T rows table inner (withBit-same p x true))
+          (rowAddress-cell ws fit x step-lt (withBit p x true) q T rows table inner twelve (withBit-same p x true))
 
 -- ---- from the empty string
 
@@ -159,7 +161,7 @@ module _ (st : State) (rows words bytes : List ℕ) (room : ℕ)
       }
 
   -- the walk by rows from the zero vector and the zero corner, to depth T
-  abbrev byRows : ℕ → Seen
+  abbrev pub byRows : ℕ → Seen
   byRows T = seenBy rows words (leafBy rows bytes) T (T - 0) 0 0 0 (getD words 0 0)
 
   length-byRows-le : (length (byRows (st .deepest) .pages) ≤ room) × (length (byRows (st .deepest) .pages) ≤ 4096)
@@ -178,13 +180,13 @@ module _ (st : State) (rows words bytes : List ℕ) (room : ℕ)
   module _ (q : ℕ → QueryBit) (table : Table st q rows) where
     -- a leaf's page, by its corner
     fair-alike : (x : ℕ) (p : ℕ → Bool) (k : ℕ) → x ≤ st .deepest → Corner ws x p k → (g : ℕ)
-        → fairBy (capacityIn rows) (getD rows (x * 8 + 7) 0) k (pageAt (capacityIn rows) bytes g)
+        → fairBy (capacityIn rows) (fixedIn rows x) k (pageAt (capacityIn rows) bytes g)
         ≡ fairPage (st .shape) bytes x p g
     unfolding fairPage fairBy widthsOf
     fair-alike x p k l c g =
         let b = st .shape .capacity in
         let page = pageAt b bytes g in
-        ap (λ n. fairBy n (getD rows (x * 8 + 7) 0) k (pageAt n bytes g)) (table .capacity)
+        ap (λ n. fairBy n (fixedIn rows x) k (pageAt n bytes g)) (table .capacity)
         ∙ ap (λ m. fairBy b m k page) (table .rows-of .fixed x l)
         ∙ ap (λ β. within 1 b (countOf page) && β)
         (endsAgree-corner ws (fits .0) x p k c refl (le-trans l (h .depth-bits)) page (countOf page))
@@ -208,8 +210,8 @@ module _ (st : State) (rows words bytes : List ℕ) (room : ℕ)
         ∙ ap (λ v. seenBy rows words (leafBy rows bytes) T T 0 v 0 (getD words 0 0)) (sym (ap packed none))
         ∙ ap (λ a. seenBy rows words (leafBy rows bytes) T T 0 (packed (cell ws 0 emptyString)) 0 (getD words a 0))
         (sym (ap (address ws) none ∙ address-zero ws))
-        ∙ seenBy-seen ws (fits .0) q T (fits .1) rows (table .rows-of) words (leafSeen st bytes) (leafBy rows bytes)
-        leaf-alike T 0 emptyString 0 (omega arith) refl (Corner-zero ws)
+        ∙ seenBy-seen ws (fits .0) q T (fits .1) (h .depth-twelve) rows (table .rows-of) words (leafSeen st bytes)
+        (leafBy rows bytes) leaf-alike T 0 emptyString 0 (omega arith) refl (Corner-zero ws)
 
     -- they have room in the list
     pub length-walkSeen-le : (length (walkSeen st words bytes q .pages) ≤ room)

@@ -7,21 +7,21 @@ use native.Mathlib.Omega.{arith}
 use native.Mathlib.Nat.{pow-suc, le-trans}
 use native.Mathlib.Numerals.{add-one}
 use lib.Pow.{pow-mono, pow-pos}
-use lib.ListN.{getD, length}
+use lib.ListN.{length}
 use borrow.Author.Tests.{ne-eqb}
-use Rattle.split.specs.Steps.{step, steps}
+use Rattle.split.specs.Steps.{steps}
 use Rattle.cell.specs.Cell.{cell, cellAddress}
 use Rattle.cell.proofs.CellLaws.{cellAddress-lt}
 use Rattle.region.specs.Strings.{withBit}
 use Rattle.region.proofs.StringLaws.{withBit-same}
 use Rattle.directory_word.specs.Word.{depthField}
 use Rattle.query_rows.specs.Corners.{Corner}
-use Rattle.query_rows.specs.Rows.{stepRow, deepestIn, mostPages}
+use Rattle.query_rows.specs.Rows.{stepRow, bitIn, valueIn, deepestIn, mostPages}
 use Rattle.query_rows.specs.Vectors.{packed, rowAddress, Addressable}
 use Rattle.query_rows.proofs.CornerLaws.{Corner-lower, Corner-upper, Corner-lt}
 use Rattle.query_rows.proofs.MostLaws.{mostPages-next, mostPages-pos}
 use Rattle.cell.proofs.HalfLaws.{cell-lower}
-use Rattle.query_rows.proofs.VectorLaws.{shiftOf-step-le, packed-cell-lt, packed-upper, rowAddress-cell}
+use Rattle.query_rows.proofs.VectorLaws.{Addressable-row, packed-cell-lt, packed-upper, rowAddress-cell}
 use Rattle.query_walk.specs.Private.{NoteAsked, givenSide, Turn}
 
 -- ---- a divided region
@@ -34,9 +34,9 @@ pub record Inside (rows words : List ℕ) (bytes room v corner x n word : ℕ) :
   pub within : depthField word ≤ deepestIn rows
 
 pub inside-of : {rows words : List ℕ} {bytes room v corner x n word : ℕ} → Turn rows words bytes room v corner x n
-    → (depth : ℕ) → depth ≡ depthField word → x ≤ depth → (depth ≡ x → ⊥) → depth ≤ deepestIn rows
+    → (depthField word ≡ x → ⊥) → (depth : ℕ) → depth ≡ depthField word → x ≤ depth → depth ≤ deepestIn rows
     → Inside rows words bytes room v corner x n word
-inside-of h depth e k d u = record { turn = h; inner = omega arith; below = omega arith; within = omega arith }
+inside-of h d depth e k u = record { turn = h; inner = omega arith; below = omega arith; within = omega arith }
 
 -- what its leaf asks
 pub leaf-asked : {rows words : List ℕ} {bytes room v corner x n : ℕ} → Turn rows words bytes room v corner x n
@@ -58,10 +58,10 @@ module _ {rows words : List ℕ} {bytes room v corner x n word : ℕ}
 
   -- the vector and the corner of the 1-side
   abbrev pub upperVector : ℕ
-  upperVector = v + getD rows (x * 8 + 4) 0
+  upperVector = v + bitIn rows x
 
   abbrev pub upperCorner : ℕ
-  upperCorner = corner + getD rows (x * 8 + 6) 0
+  upperCorner = corner + valueIn rows x
 
   pub fuel : T - x ≡ suc (T - (x + 1))
   fuel = omega (arith, i .inner)
@@ -81,7 +81,7 @@ module _ {rows words : List ℕ} {bytes room v corner x n word : ℕ}
   -- ---- what the calls ask
 
   -- the row lies in the table
-  pub row-lent : (x < 12) × (x * 8 + 8 ≤ 96)
+  pub row-lent : (x < 12) × (x * 6 + 6 ≤ 72)
   row-lent = (omega (arith, i .inner, h .depth-twelve), omega (arith, i .inner, h .depth-twelve))
 
   pub Turn-lower : Turn rows words bytes room v corner (x + 1) n
@@ -110,15 +110,15 @@ module _ {rows words : List ℕ} {bytes room v corner x n word : ℕ}
   upper-vector : upperVector ≡ packed (cell (h .widths) (suc x) (withBit (h .string) x true))
   unfolding stepRow
   upper-vector =
-      ap (λ y. y + getD rows (x * 8 + 4) 0) (h .vector)
-      ∙ ap (λ y. packed (cell (h .widths) x (h .string)) + y) (h .table .row x 4 (i .inner) (omega arith))
+      ap (λ y. y + bitIn rows x) (h .vector)
+      ∙ ap (λ y. packed (cell (h .widths) x (h .string)) + y) (h .table .row x 2 (i .inner) (omega arith))
       ∙ sym (packed-upper (h .widths) (h .fit) x step-lt (h .string))
 
   upper-corner : Corner (h .widths) (suc x) (withBit (h .string) x true) upperCorner
   unfolding stepRow
   upper-corner =
       subst (λ y. Corner (h .widths) (suc x) (withBit (h .string) x true) (corner + y))
-      (sym (h .table .row x 6 (i .inner) (omega arith)))
+      (sym (h .table .row x 4 (i .inner) (omega arith)))
       (Corner-upper (h .widths) (h .fit) x step-lt (h .string) corner (h .cornered))
 
   pub upper-corner-fits : upperCorner < 2 ^ 64
@@ -129,15 +129,14 @@ module _ {rows words : List ℕ} {bytes room v corner x n word : ℕ}
   pub upper-fits : upperVector < 2 ^ 64
   upper-fits = rw upper-vector (packed-cell-lt (h .widths) (h .fit) (suc x) (withBit (h .string) x true))
 
-  pub upper-address : rowAddress rows (x * 8) upperVector ≡ cellAddress (h .widths) (suc x) (withBit (h .string) x true)
+  pub upper-address : rowAddress rows (x * 6) upperVector ≡ cellAddress (h .widths) (suc x) (withBit (h .string) x true)
   upper-address =
-      ap (rowAddress rows (x * 8)) upper-vector
+      ap (rowAddress rows (x * 6)) upper-vector
       ∙ rowAddress-cell (h .widths) (h .fit) x step-lt (withBit (h .string) x true) (h .query) T rows (h .table)
-      (i .inner)
-      (withBit-same (h .string) x true)
+      (i .inner) (h .depth-twelve) (withBit-same (h .string) x true)
 
   -- its address is one of the directory's
-  pub upper-room : (rowAddress rows (x * 8) upperVector < length words) × (rowAddress rows (x * 8) upperVector < 4096)
+  pub upper-room : (rowAddress rows (x * 6) upperVector < length words) × (rowAddress rows (x * 6) upperVector < 4096)
   upper-room =
       let lt = cellAddress-lt (h .widths) (h .fit) (suc x) step-lt (withBit (h .string) x true) in
       let most = pow-mono {j = T} (i .inner) in
@@ -145,20 +144,9 @@ module _ {rows words : List ℕ} {bytes room v corner x n word : ℕ}
       (omega (arith, upper-address, lt, most, h .words-lent), omega (arith, upper-address, lt, most, twelve))
 
   -- what `address_by` asks
-  pub upper-addressable : Addressable rows (x * 8) upperVector
-  unfolding stepRow
+  pub upper-addressable : Addressable rows (x * 6)
   upper-addressable =
-      let row = h .table .row x in
-      let first : x * 8 + 0 ≡ x * 8 = omega arith in
-      let shift = shiftOf-step-le (h .widths) (h .fit) x step-lt (step (h .widths) x .attribute) in
-      record {
-        row = omega (arith, row-lent);
-        shift0 = omega (arith, ap (λ y. getD rows y 0) first, row 0 (i .inner) (omega arith), shift 0, row-lent);
-        shift1 = omega (arith, row 1 (i .inner) (omega arith), shift 1, row-lent);
-        shift2 = omega (arith, row 2 (i .inner) (omega arith), shift 2, row-lent);
-        shift3 = omega (arith, row 3 (i .inner) (omega arith), shift 3, row-lent);
-        sum = upper-room .1;
-      }
+      Addressable-row (h .widths) x (h .query) T rows (h .table) (i .inner) (h .fit) step-lt (h .depth-twelve)
 
   pub Turn-upper : (m size : ℕ) → m + 2 ^ (T - (x + 1)) ≤ 4096 → m + mostPages rows (T - (x + 1)) (x + 1) ≤ size
       → Turn rows words bytes size upperVector upperCorner (x + 1) m

@@ -22,6 +22,11 @@ Wrote-damaged list n = record { next = refl; lines = refl }
 pub Wrote-single : (list : List ℕ) (n g : ℕ) → Wrote list n (single g) (n + 1) (set list n g)
 Wrote-single list n g = record { next = refl; lines = refl }
 
+-- an equal place and an equal list: where the two arms of a test meet
+pub Wrote-same : {list later later′ : List ℕ} {n r r′ : ℕ} {s : Seen} → r′ ≡ r → later′ ≡ later
+    → Wrote list n s r later → Wrote list n s r′ later′
+Wrote-same e d o = record { next = e ∙ o .next; lines = d ∙ o .lines }
+
 -- a place up to 4096 tells that all is sound, if there is room for the pages
 module _ (list mid : List ℕ) (n : ℕ) (s : Seen) (r : ℕ) (p : Wrote list n s r mid) where
   pub sound-of-next : r ≤ 4096 → (s .sound ≡ true) × (r ≡ n + length (s .pages))

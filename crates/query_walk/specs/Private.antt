@@ -13,7 +13,8 @@ use Rattle.page.specs.Page.{countOf, pageSize, pageAt}
 use Rattle.page_ends.specs.Ends.{endsAgree}
 use lib.Seq.{sets}
 use Rattle.query_rows.specs.Corners.{Corner}
-use Rattle.query_rows.specs.Rows.{Rows, pagesIn, capacityIn, deepestIn, talliedIn, hasDepth, mostPages}
+use Rattle.query_rows.specs.Rows.{bitIn, wantedBitIn, valueIn, fixedIn, Rows}
+use Rattle.query_rows.specs.Rows.{pagesIn, capacityIn, deepestIn, talliedIn, hasDepth, mostPages}
 use Rattle.query_rows.specs.Vectors.{packed, rowAddress}
 use Rattle.query_seen.specs.Seen.{Seen, damaged, after, noted, met}
 
@@ -26,7 +27,7 @@ fairBy b mask key page = within 1 b (countOf page) && endsAgree mask key page (c
 -- page g can be that of the leaf of depth x with this corner
 abbrev pub pageFair : List ℕ → List ℕ → ℕ → ℕ → ℕ → Bool
 pageFair rows bytes x key g =
-    fairBy (capacityIn rows) (getD rows (x * 8 + 7) 0) key (pageAt (capacityIn rows) bytes g)
+    fairBy (capacityIn rows) (fixedIn rows x) key (pageAt (capacityIn rows) bytes g)
 
 -- the word of a leaf of depth x, by one of its keys
 abbrev pub leafBy : List ℕ → List ℕ → ℕ → ℕ → ℕ → Seen
@@ -68,9 +69,9 @@ module _ (rows words : List ℕ) (leaf : ℕ → ℕ → ℕ → Seen) (T : ℕ)
   seenBy zero x v corner word = met T x word (leaf x corner word) damaged
   seenBy (suc f) x v corner word =
       met T x word (leaf x corner word)
-      (wantedSides (getD rows (x * 8 + 5) 0) (seenBy f (x + 1) v corner word)
-      (seenBy f (x + 1) (v + getD rows (x * 8 + 4) 0) (corner + getD rows (x * 8 + 6) 0)
-      (getD words (rowAddress rows (x * 8) (v + getD rows (x * 8 + 4) 0)) 0)))
+      (wantedSides (wantedBitIn rows x) (seenBy f (x + 1) v corner word)
+      (seenBy f (x + 1) (v + bitIn rows x) (corner + valueIn rows x)
+      (getD words (rowAddress rows (x * 6) (v + bitIn rows x)) 0)))
 
 -- a part of the walk noted what it saw from place n on, and returned the next place, or 65535
 pub record Wrote (list : List ℕ) (n : ℕ) (s : Seen) (r : ℕ) (later : List ℕ) : Type 0 where

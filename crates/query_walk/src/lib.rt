@@ -5,11 +5,23 @@ use directory_word::field_of;
 use page::page_size;
 use page::page_start;
 use page_ends::fair_count;
+use query_rows::BIT;
+use query_rows::CAPACITY;
+use query_rows::DEEPEST;
+use query_rows::FIXED;
+use query_rows::PAGES;
+use query_rows::ROW;
+use query_rows::TABLE;
+use query_rows::TALLIED;
+use query_rows::VALUE;
+use query_rows::WANTED;
 use query_rows::address_by;
 use store::State;
 ghost use mathlib.Core.Path.{_≡_};
 ghost use Prim.Native.Nat.{_-_};
+ghost use lib.Dec.{eqb};
 ghost use lib.ListN.{length};
+ghost use Rattle.directory_word.specs.Word.{depthField};
 ghost use Rattle.query_rows.specs.Rows.{deepestIn};
 ghost use Rattle.query_walk.specs.Noting.{Noting, Walkable};
 ghost use Rattle.query_walk.specs.Private.{Wrote, NoteAsked, PageAsked, Turn, seenBy, leafBy, pageFair};
@@ -34,7 +46,7 @@ pub enum Noted {
 // record is not one of the leaf's.
 pub fn note_pages(
     state: State,
-    rows: &[u64; 108],
+    rows: &[u64; TABLE],
     dir: &[u32],
     pages: &[u8],
     list: &mut [u32],
@@ -44,7 +56,11 @@ pub fn note_pages(
         (now (list .exit)) ⌝ }
 {
     let word = dir[0];
-    let count = walk(rows, dir, pages, list, 0, 0, word, 0, 0);
+    let count = if is_leaf(word, 0) {
+        note(rows, pages, list, 0, word, 0, 0)
+    } else {
+        walk(rows, dir, pages, list, 0, 0, word, 0, 0)
+    };
     if MOST_PAGES < count {
         return Noted::Damaged;
     }
@@ -52,11 +68,12 @@ pub fn note_pages(
 }
 
 // Notes the pages below the region of depth x with this index vector and low corner, whose own cell
-// holds the word, from place n on, and returns the next place, or DAMAGED. The 0-side has the same
-// cell and corner, so that only the 1-side's address is computed and its word read. Which side a
-// given bit leads to is chosen without a jump, which could not be foretold.
+// holds the word, from place n on, and returns the next place, or DAMAGED. The region is no leaf; a
+// side that is one is noted here, so that a leaf takes no turn of its own. The 0-side has the same cell
+// and corner, so that only the 1-side's address is computed and its word read. Which side a given
+// bit leads to is chosen without a jump, which could not be foretold.
 fn walk(
-    rows: &[u64; 108],
+    rows: &[u64; TABLE],
     dir: &[u32],
     pages: &[u8],
     list: &mut [u32],
@@ -67,44 +84,61 @@ fn walk(
     n: usize,
 ) -> usize
     requires { ⌜ Turn (now rows) (now dir) (length (now pages)) (length (now list)) index corner x n ⌝ }
+    requires { ⌜ (depthField word ≡ x → ⊥) ⌝ }
     ensures { λ r. ⌜ Wrote (now (list .entry)) n
         (seenBy (now (rows .entry)) (now (dir .entry)) (leafBy (now (rows .entry)) (now (pages .entry)))
         (deepestIn (now (rows .entry))) (deepestIn (now (rows .entry)) - x) x index corner word)
         r (now (list .exit)) ⌝ }
 {
     let depth = depth_of(word) as usize;
-    if depth == x {
-        return note(rows, pages, list, corner, word, x, n);
-    }
     if depth < x {
         return DAMAGED;
     }
-    let t = rows[106] as usize;
+    let t = rows[DEEPEST] as usize;
     if t < depth {
         return DAMAGED;
     }
-    let at = x * 8;
-    let wanted = rows[at + 5];
-    let upper = index + rows[at + 4];
-    let high = corner + rows[at + 6];
+    let deeper = x + 1;
+    let at = x * ROW;
+    let wanted = rows[at + WANTED];
+    let upper = index + rows[at + BIT];
+    let high = corner + rows[at + VALUE];
     let other = dir[address_by(rows, at, upper)];
     if wanted < 2 {
         let side = given_side(wanted, index, upper);
         let low = given_side(wanted, corner, high);
         let own = given_word(wanted, word, other);
-        return walk(rows, dir, pages, list, side, low, own, x + 1, n);
+        if is_leaf(own, deeper) {
+            return note(rows, pages, list, low, own, deeper, n);
+        }
+        return walk(rows, dir, pages, list, side, low, own, deeper, n);
     }
-    let m = walk(rows, dir, pages, list, index, corner, word, x + 1, n);
+    let m = if is_leaf(word, deeper) {
+        note(rows, pages, list, corner, word, deeper, n)
+    } else {
+        walk(rows, dir, pages, list, index, corner, word, deeper, n)
+    };
     if MOST_PAGES < m {
         return m;
     }
-    walk(rows, dir, pages, list, upper, high, other, x + 1, m)
+    if is_leaf(other, deeper) {
+        return note(rows, pages, list, high, other, deeper, m);
+    }
+    walk(rows, dir, pages, list, upper, high, other, deeper, m)
+}
+
+// Whether a region of depth x with this word is a leaf: the word names this depth.
+fn is_leaf(word: u32, x: usize) -> bool
+    ensures { λ r. ⌜ r ≡ eqb (depthField word) x ⌝ }
+{
+    let depth = depth_of(word) as usize;
+    depth == x
 }
 
 // Notes the page of the word of a leaf of depth x with this corner at place n, if it has one, and
 // returns the next place, or DAMAGED.
 fn note(
-    rows: &[u64; 108],
+    rows: &[u64; TABLE],
     pages: &[u8],
     list: &mut [u32],
     corner: u64,
@@ -117,7 +151,7 @@ fn note(
         (leafBy (now (rows .entry)) (now (pages .entry)) x corner word)
         r (now (list .exit)) ⌝ }
 {
-    let depths = rows[107];
+    let depths = rows[TALLIED];
     if (depths >> x) & 1 == 0 {
         return DAMAGED;
     }
@@ -125,7 +159,7 @@ fn note(
     if field == 0 {
         return n;
     }
-    let p = rows[104] as usize;
+    let p = rows[PAGES] as usize;
     if p < field {
         return DAMAGED;
     }
@@ -139,12 +173,12 @@ fn note(
 
 // Whether a page can be that of the leaf of depth x with this corner: its count is 1 to b, and its
 // first and last record agree with the corner in the bits that are fixed at this depth.
-fn page_fair(rows: &[u64; 108], pages: &[u8], page: usize, corner: u64, x: usize) -> bool
+fn page_fair(rows: &[u64; TABLE], pages: &[u8], page: usize, corner: u64, x: usize) -> bool
     requires { ⌜ PageAsked (now rows) (length (now pages)) page x ⌝ }
     ensures { λ r. ⌜ r ≡ pageFair (now (rows .entry)) (now (pages .entry)) x corner page ⌝ }
 {
-    let b = rows[105] as usize;
-    let fixed = rows[x * 8 + 7];
+    let b = rows[CAPACITY] as usize;
+    let fixed = rows[x * ROW + FIXED];
     let start = page_start(b, page);
     let end = start + page_size(b);
     if fair_count(&pages[start..end], b, corner, fixed) == 0 {

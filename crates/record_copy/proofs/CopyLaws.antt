@@ -1,6 +1,6 @@
 -- Laws of runs of bytes that are copied in parts: eight bytes, read and written as one number; a part put to those
 -- copied. Assumes nothing.
-use Prim.Native.Nat.{ℕ, _+_, _≤_}
+use Prim.Native.Nat.{ℕ, _+_, _≤_, min}
 use mathlib.Core.Path.{_≡_, sym, ap, _∙_}
 use mathlib.Core.List.{List, _++_}
 use native.Mathlib.Omega.{arith}
@@ -28,17 +28,26 @@ paste-part j s d from to k m hm hk hs hd now after e w =
     ∙ ap (λ l. paste (paste d to (drop from s) k) (to + m) l j) (sym (drop-drop m from s))
     ∙ paste-over d to (drop from s) k m j hm hk (simp length-drop (omega arith)) hd
 
--- eight bytes six times are a block
-pub paste-eights : (s d : List ℕ) (from to : ℕ) → from + 48 ≤ length s → to + 48 ≤ length d
-    → (d1 d2 d3 d4 d5 d6 : List ℕ) → d1 ≡ paste d to (drop from s) 8 → d2 ≡ paste d1 (to + 8) (drop (from + 8) s) 8
-    → d3 ≡ paste d2 (to + 16) (drop (from + 16) s) 8 → d4 ≡ paste d3 (to + 24) (drop (from + 24) s) 8
-    → d5 ≡ paste d4 (to + 32) (drop (from + 32) s) 8 → d6 ≡ paste d5 (to + 40) (drop (from + 40) s) 8
-    → d6 ≡ paste d to (drop from s) 48
-paste-eights s d from to hs hd d1 d2 d3 d4 d5 d6 e1 e2 e3 e4 e5 e6 = next 40 d5 d6 (omega arith) e6
-    (next 32 d4 d5 (omega arith) e5
-    (next 24 d3 d4 (omega arith) e4 (next 16 d2 d3 (omega arith) e3 (next 8 d1 d2 (omega arith) e2 e1))))
-  where
-    next : (k : ℕ) (now after : List ℕ) → k ≤ 40 → after ≡ paste now (to + k) (drop (from + k) s) 8
-        → now ≡ paste d to (drop from s) k → after ≡ paste d to (drop from s) (k + 8)
-    next k now after h w e =
-        paste-part 8 s d from to k k (omega arith) (omega arith) (omega arith) (omega arith) now after e w
+-- sixteen bytes three times are a block
+pub paste-sixteens : (s d : List ℕ) (from to : ℕ) → from + 48 ≤ length s → to + 48 ≤ length d
+    → (d1 d2 d3 : List ℕ) → d1 ≡ paste d to (drop from s) 16 → d2 ≡ paste d1 (to + 16) (drop (from + 16) s) 16
+    → d3 ≡ paste d2 (to + 32) (drop (from + 32) s) 16
+    → d3 ≡ paste d to (drop from s) 48
+paste-sixteens s d from to hs hd d1 d2 d3 e1 e2 e3 =
+    let two = paste-part 16 s d from to 16 16 (omega arith) (omega arith) (omega arith) (omega arith) d1 d2 e1 e2 in
+    paste-part 16 s d from to 32 32 (omega arith) (omega arith) (omega arith) (omega arith) d2 d3 two e3
+
+-- four blocks, each but the first begun with the last one where it would begin behind that
+pub paste-four : (s d : List ℕ) (from to last : ℕ) → last ≤ 144 → from + (last + 48) ≤ length s
+    → to + (last + 48) ≤ length d → (second third : ℕ) → second ≡ min 48 last → third ≡ min 96 last
+    → (d1 d2 d3 d4 : List ℕ) → d1 ≡ paste d to (drop from s) 48
+    → d2 ≡ paste d1 (to + second) (drop (from + second) s) 48 → d3 ≡ paste d2 (to + third) (drop (from + third) s) 48
+    → d4 ≡ paste d3 (to + last) (drop (from + last) s) 48
+    → d4 ≡ paste d to (drop from s) (last + 48)
+paste-four s d from to last h hs hd second third e f d1 d2 d3 d4 w1 w2 w3 w4 =
+    let two =
+    paste-part 48 s d from to 48 second (omega arith) (omega arith) (omega arith) (omega arith) d1 d2 w1 w2 in
+    let three =
+    paste-part 48 s d from to (second + 48) third (omega arith) (omega arith) (omega arith) (omega arith) d2 d3 two
+    w3 in
+    paste-part 48 s d from to (third + 48) last (omega arith) (omega arith) (omega arith) (omega arith) d3 d4 three w4

@@ -66,11 +66,14 @@ add-row-at c =
 row-at-requires : tie.Need-row-at-requires Inv-loop μ-loop
 row-at-requires c κs =
     let s = c .before .before .before .before .before .before in
-    let z = c .before .before .before .before .loop-test .taken in record {
+    let test = c .before .before .before in
+    let z = test .before .loop-test .taken in
+    let counted = test .before .before .loop .inv .2 .counted (test .if1 .taken) in record {
       fit = s .pre .fit;
       low = omega (arith, s .pre .low, z);
       live = live (s .args .bit) _ z (widthList (s .args .widths)) _ (c .before .before .width-at .ensures)
           (c .before .if2 .taken);
+      deep = omega (arith, counted, test .if1 .taken, s .pre .deep);
     }
 
 put-row-requires : tie.Need-put-row-requires Inv-loop μ-loop
@@ -106,7 +109,7 @@ loop-again c =
     let next : 4 * a .bit + l .z + 1 ≡ 4 * a .bit + (l .z + 1) = omega arith in
     let here = l .inv .2 in
     let live-here = live (a .bit) (l .z) z ws in
-    let lent : 108 ≤ length (l .rows) = omega (arith, s .pre .table-lent, l .inv .1) in (
+    let lent : 82 ≤ length (l .rows) = omega (arith, s .pre .table-lent, l .inv .1) in (
       omega (arith, z),
       ⊎-elim
           (λ w. length-stored _ _ _ _ _ _ here (w .0 .taken) (s .pre .fit) (live-here _ (w .1 .ensures) (w .2 .taken)) _

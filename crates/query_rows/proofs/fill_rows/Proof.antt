@@ -45,9 +45,9 @@ loop-holds : tie.Need-loop-holds Inv-loop μ-loop
 unfolding stepsBelow
 loop-holds c =
     let s = c .before .before in
-    let seven : 7 < length (s .args .rows .now) = omega (arith, s .pre .table-lent) in (
+    let five : 5 < length (s .args .rows .now) = omega (arith, s .pre .table-lent) in (
       refl,
-      filled-zero _ _ _ _ (getD-set-same (s .args .rows .now) 7 _ 0 seven ∙ c .fixed-bits-before .ensures),
+      filled-zero _ _ _ _ (getD-set-same (s .args .rows .now) 5 _ 0 five ∙ c .fixed-bits-before .ensures),
     )
 
 live : (c : tie.In-loop Inv-loop μ-loop) → c .before .loop .bit < 16
@@ -62,7 +62,7 @@ fill-bit-requires c κs =
     let test = c .before in
     let s = test .before .before .before .before in
     let loop = test .before .loop in
-    let lent = loop .inv .0 ∙ length-set (s .args .rows .now) 7 _ in
+    let lent = loop .inv .0 ∙ length-set (s .args .rows .now) 5 _ in
     record {
       fit = fits (test .before .before .before) .0;
       deep = s .pre .deep;
@@ -93,7 +93,7 @@ returns c =
     let a = c .before .before .before .before .args in
     let l = c .before .loop in
     let wanted = wantedValues (a .query) in (
-      l .inv .0 ∙ length-set (a .rows .now) 7 _,
+      l .inv .0 ∙ length-set (a .rows .now) 5 _,
       rows-filled (a .shape) wanted (a .t) (4 * l .bit) (l .x) (l .rows)
           (subst (λ ws. RowsFilled ws (wantedAt ws wanted) (a .t) (4 * l .bit) (l .x) (l .rows))
           (c .before .before .before .widths-of .ensures) (l .inv .1))

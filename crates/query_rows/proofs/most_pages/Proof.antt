@@ -25,7 +25,7 @@ sub-x : tie.Need-sub-x Inv-loop μ-loop
 sub-x c = omega (arith, c .loop-test .taken)
 
 -- the row lies in the table
-row-lent : (c : tie.In-loop Inv-loop μ-loop) → (c .before .loop .x - 1) * 8 + 8 ≤ 96
+row-lent : (c : tie.In-loop Inv-loop μ-loop) → (c .before .loop .x - 1) * 6 + 6 ≤ 72
 row-lent c = omega (arith, c .loop-test .taken, c .before .loop .inv .0, c .before .before .pre)
 
 mul-if1 : tie.Need-mul-if1 Inv-loop μ-loop

@@ -1,4 +1,4 @@
--- `query_rows::put_row` meets its contract: seven stores in a row, and one in the next. Assumes nothing.
+-- `query_rows::put_row` meets its contract: five stores in a row, and one in the next. Assumes nothing.
 use native.Mathlib.Numerals.{add-one}
 use borrow.Author.Needs.{needs}
 use Rattle.query_rows.proofs.put_row.Statement.{statement}
@@ -14,7 +14,7 @@ element-copy-out-fixed : tie.Need-element-copy-out-fixed
 element-copy-out-fixed c = search needs
 
 add-fixed-2 : tie.Need-add-fixed-2
-add-fixed-2 c = record { fits = c .before .before .pre .1 }
+add-fixed-2 c = search needs
 
 add-a1 : tie.Need-add-a1
 add-a1 c = search needs
@@ -27,12 +27,6 @@ add-a3 c = search needs
 
 add-a4 : tie.Need-add-a4
 add-a4 c = search needs
-
-add-a5 : tie.Need-add-a5
-add-a5 c = search needs
-
-add-a6 : tie.Need-add-a6
-add-a6 c = search needs
 
 mul-rows : tie.Need-mul-rows
 mul-rows c = search needs
@@ -64,26 +58,14 @@ mul-rows-5 c = search needs
 element-write-rows-5 : tie.Need-element-write-rows-5
 element-write-rows-5 c = search needs
 
+add-rows : tie.Need-add-rows
+add-rows c = search needs
+
 mul-rows-6 : tie.Need-mul-rows-6
 mul-rows-6 c = search needs
 
 element-write-rows-6 : tie.Need-element-write-rows-6
 element-write-rows-6 c = search needs
-
-mul-rows-7 : tie.Need-mul-rows-7
-mul-rows-7 c = search needs
-
-element-write-rows-7 : tie.Need-element-write-rows-7
-element-write-rows-7 c = search needs
-
-add-rows : tie.Need-add-rows
-add-rows c = search needs
-
-mul-rows-8 : tie.Need-mul-rows-8
-mul-rows-8 c = search needs
-
-element-write-rows-8 : tie.Need-element-write-rows-8
-element-write-rows-8 c = search needs
 
 returns : tie.Need-returns
 returns c = simp add-one
@@ -100,8 +82,6 @@ put-row-spec =
     add-a2
     add-a3
     add-a4
-    add-a5
-    add-a6
     mul-rows
     element-write-rows
     mul-rows-2
@@ -112,11 +92,7 @@ put-row-spec =
     element-write-rows-4
     mul-rows-5
     element-write-rows-5
+    add-rows
     mul-rows-6
     element-write-rows-6
-    mul-rows-7
-    element-write-rows-7
-    add-rows
-    mul-rows-8
-    element-write-rows-8
     returns)

@@ -1,9 +1,9 @@
 -- `query_rows::row_at` meets its contract: its numbers are those of the step at place g. Assumes nothing.
-use Prim.Native.Nat.{_/_, _%_, _<_}
+use Prim.Native.Nat.{_/_, _%_, _≤_, _<_}
 use mathlib.Core.Path.{sym, subst}
 use native.Mathlib.Omega.{arith}
 use Rattle.shape.specs.Key.{wantedValues}
-use Rattle.query_rows.proofs.RowLaws.{stepRow-pair}
+use Rattle.query_rows.proofs.RowLaws.{shifts-le, stepRow-pair}
 use borrow.Author.Needs.{needs}
 use Rattle.query_rows.proofs.row_at.Statement.{statement}
 use Rattle.query_rows.proofs.row_at.Tie as tie
@@ -67,18 +67,40 @@ shift-of-requires-3 c κs = search needs
 shift-of-requires-4 : tie.Need-shift-of-requires-4
 shift-of-requires-4 c κs = search needs
 
-mul-t19 : tie.Need-mul-t19
-mul-t19 c = search needs
+-- no shift passes 12
+small : (c : tie.After-shift-of4) → (c .before .before .before .shift-of .result ≤ 12)
+    × (c .before .before .shift-of2 .result ≤ 12)
+    × (c .before .shift-of3 .result ≤ 12)
+    × (c .shift-of4 .result ≤ 12)
+small c =
+    let h4 = c .before .before .before .before .before in
+    let s = h4 .before .before .before .before in
+    let w = s .args .widths in
+    shifts-le (w .w0) (w .w1) (w .w2) (w .w3) (s .pre .fit) (s .args .g) (s .pre .low) (s .pre .live) (s .pre .deep)
+    _ _ _ _ _ _ _ _
+    (h4 .before .before .before .other-depth .ensures .0) (h4 .before .before .other-depth2 .ensures .0)
+    (h4 .before .other-depth3 .ensures .0) (h4 .other-depth4 .ensures .0)
+    (c .before .before .before .shift-of .ensures) (c .before .before .shift-of2 .ensures)
+    (c .before .shift-of3 .ensures) (c .shift-of4 .ensures)
 
-add-t20 : tie.Need-add-t20
-add-t20 c = search needs
+multiplier-of-requires : tie.Need-multiplier-of-requires
+multiplier-of-requires c κs = (small c .0, small c .1)
 
-shl-t21 : tie.Need-shl-t21
-shl-t21 c = search needs
+multiplier-of-requires-2 : tie.Need-multiplier-of-requires-2
+multiplier-of-requires-2 c κs = (small (c .before) .2, small (c .before) .3)
+
+mul-t18 : tie.Need-mul-t18
+mul-t18 c = search needs
+
+add-t19 : tie.Need-add-t19
+add-t19 c = search needs
+
+shl-t20 : tie.Need-shl-t20
+shl-t20 c = search needs
 
 wanted-bit-requires : tie.Need-wanted-bit-requires
 wanted-bit-requires c κs =
-    let measured = c .before .before .before .before in
+    let measured = c .before .before .before .before .before .before in
     let s = measured .before .before .before .before .before in
     let live = width-live measured in
     record {
@@ -87,46 +109,41 @@ wanted-bit-requires c κs =
       width = omega (arith, measured .width-at .ensures, s .pre .fit (s .args .g % 4));
     }
 
-mul-t24 : tie.Need-mul-t24
-mul-t24 c = search needs
+mul-t23 : tie.Need-mul-t23
+mul-t23 c = search needs
+
+sub-t24 : tie.Need-sub-t24
+sub-t24 c = search needs
 
 sub-t25 : tie.Need-sub-t25
-sub-t25 c =
-    let measured = c .before .before .before .before .before in
+sub-t25 c = search needs
+
+add-t26 : tie.Need-add-t26
+add-t26 c =
+    let measured = c .before .before .before .before .before .before .before in
     let s = measured .before .before .before .before .before in
     omega (arith, width-live measured, measured .width-at .ensures, s .pre .fit (s .args .g % 4))
 
-sub-t26 : tie.Need-sub-t26
-sub-t26 c =
-    let measured = c .before .before .before .before .before in
-    let s = measured .before .before .before .before .before in
-    omega (arith, width-live measured, measured .width-at .ensures, s .pre .fit (s .args .g % 4))
-
-add-t27 : tie.Need-add-t27
-add-t27 c =
-    let measured = c .before .before .before .before .before in
-    let s = measured .before .before .before .before .before in
-    omega (arith, width-live measured, measured .width-at .ensures, s .pre .fit (s .args .g % 4))
-
-shl-t28 : tie.Need-shl-t28
-shl-t28 c =
-    let measured = c .before .before .before .before .before in
+shl-t27 : tie.Need-shl-t27
+shl-t27 c =
+    let measured = c .before .before .before .before .before .before .before in
     let s = measured .before .before .before .before .before in
     omega (arith, width-live measured, measured .width-at .ensures, s .pre .fit (s .args .g % 4))
 
 returns : tie.Need-returns
 returns c =
-    let s4 = c .before in
+    let s4 = c .before .before .before in
     let measured = s4 .before .before .before .before in
     let h4 = measured .before in
     let start = h4 .before .before .before .before in
     let w = start .args .widths in
     stepRow-pair (w .w0) (w .w1) (w .w2) (w .w3) (start .pre .fit) (start .args .g) (start .pre .low) (start .pre .live)
-    (wantedValues (start .args .query)) _ _ _ _ _ _ _ _ _ _
+    (wantedValues (start .args .query)) _ _ _ _ _ _ _ _ _ _ _ _
     (h4 .before .before .before .other-depth .ensures .0) (h4 .before .before .other-depth2 .ensures .0)
     (h4 .before .other-depth3 .ensures .0) (h4 .other-depth4 .ensures .0)
     (s4 .before .before .before .shift-of .ensures) (s4 .before .before .shift-of2 .ensures)
     (s4 .before .shift-of3 .ensures) (s4 .shift-of4 .ensures)
+    (c .before .before .multiplier-of .ensures) (c .before .multiplier-of2 .ensures)
     (measured .width-at .ensures) (c .wanted-bit .ensures)
 
 pub row-at-spec : {M : Type 1} → statement M
@@ -148,13 +165,15 @@ row-at-spec =
     shift-of-requires-2
     shift-of-requires-3
     shift-of-requires-4
-    mul-t19
-    add-t20
-    shl-t21
+    multiplier-of-requires
+    multiplier-of-requires-2
+    mul-t18
+    add-t19
+    shl-t20
     wanted-bit-requires
-    mul-t24
+    mul-t23
+    sub-t24
     sub-t25
-    sub-t26
-    add-t27
-    shl-t28
+    add-t26
+    shl-t27
     returns)

@@ -1,14 +1,13 @@
 -- `query_walk::page_fair` meets its contract: the part lent is the page, and its count tells. Assumes nothing.
 use Prim.Native.Nat.{_+_, _-_, _*_, _≤_}
 use mathlib.Core.Path.{_≡_, ap, _∙_}
-use mathlib.Core.List.{List}
 use native.Mathlib.Omega.{arith}
 use native.Mathlib.Nat.{le-trans}
-use lib.ListN.{getD, length}
+use lib.ListN.{length}
 use borrow.Rule.Slice.PartMut.{midOf}
 use Rattle.page.specs.Page.{pageSize, pageAt}
 use Rattle.page.proofs.PartLaws.{page-end-le, length-pageAt, midOf-page}
-use Rattle.query_rows.specs.Rows.{pagesIn, capacityIn}
+use Rattle.query_rows.specs.Rows.{fixedIn, pagesIn, capacityIn}
 use Rattle.query_walk.specs.Private.{fairBy}
 use Rattle.query_walk.proofs.LeafLaws.{fairBy-zero, fairBy-some}
 use borrow.Author.Needs.{needs}
@@ -96,20 +95,20 @@ returns : tie.Need-returns
 returns c =
     let s = c .before .before .before .before .before .before .before .before in
     let rows = s .args .rows .now in
-    fairBy-zero (capacityIn rows) (getD rows (s .args .x * 8 + 7) 0) (s .args .corner) _ _
+    fairBy-zero (capacityIn rows) (fixedIn rows (s .args .x)) (s .args .corner) _ _
     (c .before .fair-count .ensures)
     (c .if1 .taken)
-    ∙ ap (fairBy (capacityIn rows) (getD rows (s .args .x * 8 + 7) 0) (s .args .corner))
+    ∙ ap (fairBy (capacityIn rows) (fixedIn rows (s .args .x)) (s .args .corner))
     (part (c .before .before .before))
 
 returns-2 : tie.Need-returns-2
 returns-2 c =
     let s = c .before .before .before .before .before .before .before .before in
     let rows = s .args .rows .now in
-    fairBy-some (capacityIn rows) (getD rows (s .args .x * 8 + 7) 0) (s .args .corner) _ _
+    fairBy-some (capacityIn rows) (fixedIn rows (s .args .x)) (s .args .corner) _ _
     (c .before .fair-count .ensures)
     (c .if1 .left)
-    ∙ ap (fairBy (capacityIn rows) (getD rows (s .args .x * 8 + 7) 0) (s .args .corner))
+    ∙ ap (fairBy (capacityIn rows) (fixedIn rows (s .args .x)) (s .args .corner))
     (part (c .before .before .before))
 
 pub page-fair-spec : {M : Type 1} → statement M

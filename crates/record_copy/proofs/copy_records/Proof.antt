@@ -29,9 +29,18 @@ same-length c = c .before .before .copy-few .kept .1 .1 .0
 returns : tie.Need-returns Inv-loop μ-loop
 returns c = c .before .before .copy-few .ensures
 
+copy-page-requires : tie.Need-copy-page-requires Inv-loop μ-loop
+copy-page-requires c κs = (omega arith, omega arith, omega arith, omega arith)
+
+same-length-2 : tie.Need-same-length-2 Inv-loop μ-loop
+same-length-2 c = c .before .before .copy-page .kept .1 .1 .0
+
+returns-2 : tie.Need-returns-2 Inv-loop μ-loop
+returns-2 c = c .before .before .copy-page .ensures
+
 loop-holds : tie.Need-loop-holds Inv-loop μ-loop
 loop-holds c =
-    let a = c .before .before .before .args in
+    let a = c .before .before .before .before .args in
     (omega arith, refl, paste-zero (a .target .now) (a .to) (drop (a .from) (a .source .now)))
 
 add-copy-block : tie.Need-add-copy-block Inv-loop μ-loop
@@ -53,7 +62,7 @@ loop-again : tie.Need-loop-again Inv-loop μ-loop
 loop-again c =
     let block = c .before .before .copy-block in
     let loop = c .before .before .before .before .before .loop in
-    let a = c .before .before .before .before .before .before .before .before .before .args in (
+    let a = c .before .before .before .before .before .before .before .before .before .before .args in (
       omega arith,
       block .kept .1 .1 .0 ∙ loop .inv .1,
       paste-part 48 (a .source .now) (a .target .now) (a .from) (a .to) (loop .k) (loop .k) (omega arith)
@@ -69,15 +78,15 @@ add-copy-block-4 c = omega arith
 copy-block-requires-2 : tie.Need-copy-block-requires-2 Inv-loop μ-loop
 copy-block-requires-2 c κs = (omega arith, omega arith)
 
-same-length-2 : tie.Need-same-length-2 Inv-loop μ-loop
-same-length-2 c =
+same-length-3 : tie.Need-same-length-3 Inv-loop μ-loop
+same-length-3 c =
     c .before .before .copy-block2 .kept .1 .1 .0 ∙ c .before .before .before .before .before .loop .inv .1
 
-returns-2 : tie.Need-returns-2 Inv-loop μ-loop
-returns-2 c =
+returns-3 : tie.Need-returns-3 Inv-loop μ-loop
+returns-3 c =
     let block = c .before .before .copy-block2 in
     let loop = c .before .before .before .before .before .loop in
-    let a = c .before .before .before .before .before .before .before .before .before .args in
+    let a = c .before .before .before .before .before .before .before .before .before .before .args in
     let last = recordSize * a .n - 48 in
     let whole : last + 48 ≡ recordSize * a .n = omega arith in
     paste-part 48 (a .source .now) (a .target .now) (a .from) (a .to) (loop .k) last (omega arith)
@@ -94,6 +103,9 @@ copy-records-spec =
     copy-few-requires
     same-length
     returns
+    copy-page-requires
+    same-length-2
+    returns-2
     loop-holds
     add-copy-block
     add-copy-block-2
@@ -104,5 +116,5 @@ copy-records-spec =
     add-copy-block-3
     add-copy-block-4
     copy-block-requires-2
-    same-length-2
-    returns-2)
+    same-length-3
+    returns-3)

@@ -1,0 +1,2 @@
+pub mod MatchedLaws
+pub mod ListLaws
