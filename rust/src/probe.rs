@@ -9,6 +9,8 @@ pub mod matching;
 pub mod records;
 pub mod words;
 
+use crate::pages::packed;
+
 /// The widths of the four attributes in bits, 0 for an unused one.
 #[repr(C)]
 #[derive(Clone, Copy, Debug)]
@@ -26,7 +28,7 @@ struct Key {
 }
 
 extern "C" {
-    fn probe_find_cell(widths: RawWidths, key: Key, t: u64) -> u64;
+    fn probe_find_cell(widths: RawWidths, key: u64, t: u64) -> u64;
     fn probe_double(widths: RawWidths, t: u64, dir: *mut u32, words: usize);
     fn probe_fill(widths: RawWidths, key: Key, x: u64, t: u64, word: u32, dir: *mut u32, words: usize);
 }
@@ -63,14 +65,15 @@ impl Widths {
     }
 }
 
-/// The address of a key's cell in a directory of depth t.
+/// The address of a key's cell in a directory of depth t. The step takes a packed key: 16 bits of each encoding, more
+/// than which no width counts.
 #[inline]
 pub fn find_cell(widths: &Widths, key: [u32; 4], t: u64) -> Option<u64> {
     if t > widths.total {
         return None;
     }
     // SAFETY: the widths fit and t is at most their sum, as the `requires` asks; numbers alone go in and out.
-    Some(unsafe { probe_find_cell(widths.raw, Key { values: key }, t) })
+    Some(unsafe { probe_find_cell(widths.raw, packed(key.map(|value| value as u16)), t) })
 }
 
 /// Doubles a directory from depth t to t + 1.

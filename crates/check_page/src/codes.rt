@@ -1,5 +1,6 @@
 // The first split bits of a key as one number, the first bit highest.
 use pairs::width_at;
+use record::value_at;
 use shape::Widths;
 ghost use mathlib.Core.Path.{_≡_};
 ghost use Prim.Native.Nat.{_-_, _/_, _^_, _<_, _≤_};
@@ -7,7 +8,7 @@ ghost use lib.Dec.{eqb};
 ghost use Rattle.shape.specs.Shape.{Fit, widthList, total};
 ghost use Rattle.split.specs.Steps.{bitValue};
 ghost use Rattle.split.specs.Bits.{bitOf, splitBit};
-ghost use Rattle.record.specs.Packed.{packedValue, unpackedKey};
+ghost use Rattle.record.specs.Packed.{unpackedKey};
 ghost use Rattle.check_test.specs.Codes.{code};
 ghost use Rattle.check_page.specs.PageTest.{keyCode};
 
@@ -39,14 +40,6 @@ fn first_bits(widths: Widths, key: u64, x: u64) -> u64
         g += 1;
     }
     code
-}
-
-// The value of attribute j in a packed key.
-pub fn value_at(key: u64, j: u64) -> u64
-    requires { ⌜ j < 4 ⌝ }
-    ensures { λ r. ⌜ r ≡ packedValue key j ⌝ }
-{
-    (key >> (16 * j)) & 0xffff
 }
 
 // Bit k of an encoding of w bits, as 0 or 1.

@@ -4,12 +4,12 @@ pub mod codes;
 
 use bytes::number_at;
 use codes::begins;
-use codes::value_at;
 use key_order::Order;
 use key_order::compare;
 use key_order::first_step;
 use numbers::below;
 use page::key_at;
+use record::value_at;
 use shape::Widths;
 ghost use mathlib.Core.Path.{_≡_};
 ghost use Prim.Native.Nat.{_<_, _≤_};

@@ -24,6 +24,7 @@ use Rattle.page.specs.Fields.{keyAt}
 use Rattle.pages.specs.Pages.{PageLent}
 use Rattle.page.proofs.PartLaws.{page-end-le}
 use Rattle.page_matches.specs.KeyPlace.{keyPlace}
+use Rattle.page_matches.proofs.PlaceLaws.{keyPlace-le}
 use Rattle.page_matches.proofs.StoredLaws.{sameKey-absent}
 use Rattle.directory_word.specs.Word.{leafOf}
 use Rattle.directory_word.specs.declared.Leaf.the-variants.{Empty, Page}
@@ -54,15 +55,6 @@ use Rattle.delete_plan.proofs.FairLaws.{fair-of-sound}
 -- ---- the place of a key
 
 module _ (key : ℕ) (page : List ℕ) where
-  keyPlace-le : (k i : ℕ) → keyPlace key page k i ≤ i + k
-  unfolding keyPlace
-  keyPlace-le zero i = omega arith
-  keyPlace-le (suc k) i = go (eqb (keyAt page i) key) (keyPlace-le k (suc i))
-    where
-      go : (β : Bool) → keyPlace key page k (suc i) ≤ suc i + k → cond β i (keyPlace key page k (suc i)) ≤ i + suc k
-      go true ih = omega arith
-      go false ih = omega arith
-
   keyAt-keyPlace : (k i : ℕ) → keyPlace key page k i < i + k → keyAt page (keyPlace key page k i) ≡ key
   unfolding keyPlace
   keyAt-keyPlace zero i l = absurd (omega arith)
@@ -176,7 +168,7 @@ module _ (before : Store) (values : List ℕ) where
     deep = omega (arith, m .deep, directoryLent .deep)
 
     -- the key's packed form
-    values-back : unpackedKey (packedKey values) ≡ values
+    pub values-back : unpackedKey (packedKey values) ≡ values
     values-back =
         let k = passed before values (m .early) in
         unpackedKey-values s values (k .shape) (k .fits) (m .four)

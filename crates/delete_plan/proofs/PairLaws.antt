@@ -11,7 +11,7 @@ use Rattle.split.specs.Bits.{splitBit}
 use Rattle.cell.specs.Cell.{Agree}
 use Rattle.region.specs.Strings.{sibling}
 use Rattle.record.specs.Record.{Record}
-use Rattle.record.specs.Packed.{packedKey, unpackedKey}
+use Rattle.record.specs.Packed.{unpackedKey}
 use Rattle.page.specs.Page.{countOf, pageAt}
 use Rattle.page_ends.specs.Ends.{endsBegin, endsAgree}
 use Rattle.page_ends.proofs.AgreeLaws.{endsBegin-agree}
@@ -27,7 +27,7 @@ use Rattle.store.proofs.ShownLaws.{wordOn}
 use Rattle.change.specs.Delete.{keyString, JoinFound}
 use Rattle.change.proofs.DeletePromiseLaws.{delete-unsound}
 use Rattle.refusals.proofs.LimitsLaws.{limits-parts}
-use Rattle.leaf_word.proofs.PageLaws.{unpackedKey-values, endsAgree-mask}
+use Rattle.leaf_word.proofs.PageLaws.{endsAgree-mask}
 use Rattle.refusals.proofs.PassedLaws.{passed}
 use Rattle.tally.specs.Tally.{tallyHolds}
 use Rattle.tally.proofs.CountLaws.{tallyHolds-of-sound}
@@ -36,7 +36,7 @@ use Rattle.delete_plan.specs.Met.{SiblingMet, JoinMade}
 use Rattle.delete_plan.specs.declared.Stored.{Stored}
 use Rattle.delete_plan.specs.declared.Join.{Join}
 use Rattle.delete_plan.proofs.FairLaws.{fair-of-sound, siblings-apart}
-use Rattle.delete_plan.proofs.MetLaws.{directoryLent}
+use Rattle.delete_plan.proofs.MetLaws.{directoryLent, values-back}
 use Rattle.delete_plan.proofs.BesideLaws.{stays}
 
 module _ (before : Store) (values : List ℕ) (r : Stored) (mask h beside : ℕ)
@@ -73,15 +73,11 @@ module _ (before : Store) (values : List ℕ) (r : Stored) (mask h beside : ℕ)
   good : shapeNumber (before .state .shape) ≡ 0
   good = passed before values (f .leaf .early) .shape
 
-  values-back : unpackedKey (packedKey values) ≡ values
-  values-back =
-      let e = passed before values (f .leaf .early) in
-      unpackedKey-values (before .state .shape) values (e .shape) (e .fits) (f .leaf .four)
-
   -- the key that falls there begins with the sibling's string
   there : Agree (suc (x - 1)) (sibling p (x - 1)) (splitBit ws (unpackedKey beside))
   there =
-      subst (λ v. Agree (suc (x - 1)) (sibling (splitBit ws v) (x - 1)) (splitBit ws (unpackedKey beside))) values-back
+      subst (λ v. Agree (suc (x - 1)) (sibling (splitBit ws v) (x - 1)) (splitBit ws (unpackedKey beside)))
+      (values-back before values (r .page) x (f .leaf))
       (s .key-there .agree)
 
   unsound : ((S : List Record) → Sound before S → ⊥) → DeletePromise before values (refused 9) before
@@ -127,7 +123,8 @@ module _ (before : Store) (values : List ℕ) (r : Stored) (mask h beside : ℕ)
     own-ends : (m : ℕ) → x ≡ suc m → endsBegin ws (suc m) p (pageOf (r .page)) (r .count) ≡ true
     own-ends m d =
         subst (λ y. endsBegin ws y p (pageOf (r .page)) (r .count) ≡ true) d
-        (subst (λ v. endsBegin ws x (splitBit ws v) (pageOf (r .page)) (r .count) ≡ true) values-back (f .ends))
+        (subst (λ v. endsBegin ws x (splitBit ws v) (pageOf (r .page)) (r .count) ≡ true)
+        (values-back before values (r .page) x (f .leaf)) (f .ends))
 
     pub joinPlanned : r .count + k ≤ b + 1 → tallyHolds (before .state .tally .leaves) ≡ true
         → (j : Join) → JoinMade (before .state) (before .memory .words) values x h k j → JoinPlanned before values r j

@@ -22,6 +22,7 @@ use tally::tally_holds;
 ghost use mathlib.Core.Path.{_≡_};
 ghost use Prim.Native.Nat.{_≤_};
 ghost use lib.ListN.{length};
+ghost use Rattle.record.specs.Packed.{unpackedKey};
 ghost use Rattle.page.specs.Page.{pageAt};
 ghost use Rattle.pages.specs.Pages.{PageLent};
 ghost use Rattle.page_matches.specs.KeyPlace.{keyPlace};
@@ -66,9 +67,8 @@ pub fn plan_delete(state: State, dir: &[u32], pages: &[u8], key: Key) -> Plan
     if !limits_hold(state) {
         return Plan::Refused(9);
     }
-    let values = key.values;
     let widths = widths_of(state.shape);
-    let word = key_word(widths, state.deepest as u64, dir, values);
+    let word = key_word(widths, state.deepest as u64, dir, pack_key(key));
     if !word_holds(state, word) {
         return Plan::Refused(9);
     }
@@ -145,9 +145,8 @@ fn plan_sibling(state: State, dir: &[u32], pages: &[u8], key: Key, found: Stored
     requires { ⌜ LeafFound (store state (now dir) (now pages)) (key .values) found mask ⌝ }
     ensures { λ r. ⌜ DeletePlanned (store state (now (dir .entry)) (now (pages .entry))) (key .values) r ⌝ }
 {
-    let values = key.values;
     let packed = pack_key(key);
-    let beside = find_sibling(state, dir, values, packed, found.depth - 1);
+    let beside = find_sibling(state, dir, packed, found.depth - 1);
     let word = beside.word;
     if !sibling_word_holds(state, word, found.depth) {
         return Plan::Refused(9);
@@ -190,19 +189,19 @@ fn plan_pair(
     if !tally_holds(state.tally) {
         return Plan::Refused(9);
     }
-    let values = key.values;
-    let join = plan_join(state, dir, values, found.depth, other, count);
+    let join = plan_join(state, dir, pack_key(key), found.depth, other, count);
     Plan::Join(found, join)
 }
 
-// The join of a leaf of depth x with its sibling, which has page `other` and so many records.
-fn plan_join(state: State, dir: &[u32], values: [u32; 4], x: u32, other: u32, count: usize) -> Join
+// The join of the leaf of depth x in which a packed key falls with its sibling, which has page `other`
+// and so many records.
+fn plan_join(state: State, dir: &[u32], key: u64, x: u32, other: u32, count: usize) -> Join
     requires { ⌜ JoinAsked state (length (now dir)) x ⌝ }
-    ensures { λ r. ⌜ JoinMade state (now (dir .entry)) values x other count r ⌝ }
+    ensures { λ r. ⌜ JoinMade state (now (dir .entry)) (unpackedKey key) x other count r ⌝ }
 {
     let step = x - 1;
-    let bit = step_bit(state.shape, values, step);
-    let top = climb(state, dir, values, step);
+    let bit = step_bit(state.shape, key, step);
+    let top = climb(state, dir, key, step);
     Join {
         other,
         count,

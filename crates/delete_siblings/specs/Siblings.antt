@@ -35,8 +35,8 @@ pub record SiblingKey (s : Shape) (key z beside : ℕ) : Type 0 where
       (splitBit (widthsOf s) (unpackedKey beside))
 
 -- the word of one of the sibling's cells, and a key that falls there
-pub record SiblingFound (st : State) (words values : List ℕ) (key z : ℕ) (r : Sibling) : Type 0 where
-  pub word : AtSibling (store st words []) values z (λ w. r .word ≡ w)
+pub record SiblingFound (st : State) (words : List ℕ) (key z : ℕ) (r : Sibling) : Type 0 where
+  pub word : AtSibling (store st words []) (unpackedKey key) z (λ w. r .word ≡ w)
   pub beside : SiblingKey (st .shape) key z (r .key)
 
 -- a sound store can have a word at the sibling of a leaf of depth x that has a page: a leaf above depth x would hold

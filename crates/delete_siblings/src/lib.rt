@@ -1,9 +1,9 @@
 // The siblings of a key's regions (document 01, "Calls", Delete): the word of the one beside the key's
 // leaf and a key that falls there, whether a sound store can have the word, and how far up siblings
 // are empty leaves.
-use directory_sibling::bit_at;
 use directory_sibling::sibling_word;
 use directory_word::pack_empty;
+use key_order::pair_bit;
 use leaf_word::word_holds;
 use pairs::step_place;
 use pairs::width_at;
@@ -17,6 +17,7 @@ ghost use Prim.Native.Nat.{_/_, _%_, _<_, _≤_};
 ghost use lib.ListN.{getD, length};
 ghost use Rattle.shape.specs.Shape.{Fit, shapeNumber, widthList, widthsOf, total};
 ghost use Rattle.split.specs.Bits.{splitBit};
+ghost use Rattle.record.specs.Packed.{unpackedKey};
 ghost use Rattle.store.specs.Store.{store};
 ghost use Rattle.change.specs.Delete.{AtSibling};
 ghost use Rattle.directory_lent.specs.Lent.{DirectoryLent};
@@ -29,14 +30,14 @@ pub struct Sibling {
     pub key: u64,
 }
 
-// The sibling of a key's region of z + 1 bits; the key is given by its values and packed.
-pub fn find_sibling(state: State, dir: &[u32], values: [u32; 4], key: u64, z: u32) -> Sibling
+// The sibling of a packed key's region of z + 1 bits.
+pub fn find_sibling(state: State, dir: &[u32], key: u64, z: u32) -> Sibling
     requires { ⌜ SiblingAsked state (length (now dir)) key z ⌝ }
-    ensures { λ r. ⌜ SiblingFound state (now (dir .entry)) values key z r ⌝ }
+    ensures { λ r. ⌜ SiblingFound state (now (dir .entry)) key z r ⌝ }
 {
     let widths = widths_of(state.shape);
     let g = step_place(widths, z as u64);
-    let word = sibling_word(widths, values, g, state.deepest as u64, dir);
+    let word = sibling_word(widths, key, g, state.deepest as u64, dir);
     Sibling {
         word,
         key: flipped(widths, key, g),
@@ -65,25 +66,25 @@ pub fn sibling_word_holds(state: State, word: u32, depth: u32) -> bool
     pack_empty(depth) < word
 }
 
-// The split bit of a key at a step.
-pub fn step_bit(shape: Shape, values: [u32; 4], step: u32) -> bool
+// The split bit of a packed key at a step.
+pub fn step_bit(shape: Shape, key: u64, step: u32) -> bool
     requires { ⌜ (shapeNumber shape ≡ 0) × (step < total (widthsOf shape)) ⌝ }
-    ensures { λ r. ⌜ r ≡ splitBit (widthsOf shape) values step ⌝ }
+    ensures { λ r. ⌜ r ≡ splitBit (widthsOf shape) (unpackedKey key) step ⌝ }
 {
     let widths = widths_of(shape);
     let pair = step_place(widths, step as u64);
-    bit_at(widths, values, pair)
+    pair_bit(widths, key, pair)
 }
 
-// The least depth y such that from depth m up the siblings are empty leaves, those of depths y + 1
-// to m.
-pub fn climb(state: State, dir: &[u32], values: [u32; 4], m: u32) -> u32
+// The least depth y such that from depth m up the siblings of a packed key's regions are empty
+// leaves, those of depths y + 1 to m.
+pub fn climb(state: State, dir: &[u32], key: u64, m: u32) -> u32
     requires { ⌜ DirectoryLent state (length (now dir)) × (m < state .deepest) ⌝ }
-    ensures { λ r. ⌜ Climbed state (now (dir .entry)) values m r ⌝ }
+    ensures { λ r. ⌜ Climbed state (now (dir .entry)) (unpackedKey key) m r ⌝ }
 {
     let mut y = m;
     while 0 < y {
-        let word = word_beside(state, dir, values, y - 1);
+        let word = word_beside(state, dir, key, y - 1);
         if word != pack_empty(y) {
             return y;
         }
@@ -92,12 +93,12 @@ pub fn climb(state: State, dir: &[u32], values: [u32; 4], m: u32) -> u32
     y
 }
 
-// The word of a cell of the sibling of a key's region of z + 1 bits.
-fn word_beside(state: State, dir: &[u32], values: [u32; 4], z: u32) -> u32
+// The word of a cell of the sibling of a packed key's region of z + 1 bits.
+fn word_beside(state: State, dir: &[u32], key: u64, z: u32) -> u32
     requires { ⌜ DirectoryLent state (length (now dir)) × (z < state .deepest) ⌝ }
-    ensures { λ r. ⌜ AtSibling (store state (now (dir .entry)) []) values z (λ w. r ≡ w) ⌝ }
+    ensures { λ r. ⌜ AtSibling (store state (now (dir .entry)) []) (unpackedKey key) z (λ w. r ≡ w) ⌝ }
 {
     let widths = widths_of(state.shape);
     let g = step_place(widths, z as u64);
-    sibling_word(widths, values, g, state.deepest as u64, dir)
+    sibling_word(widths, key, g, state.deepest as u64, dir)
 }

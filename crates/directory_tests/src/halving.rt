@@ -1,5 +1,5 @@
 // Whether a directory of less depth shows the same words, but for a key's region: before T falls.
-use directory_cell::find_cell;
+use directory_cell::locate_cell;
 use directory_double::whole_of;
 use pairs::step_place;
 use shape::Widths;
@@ -20,7 +20,7 @@ pub fn folds(widths: Widths, key: [u32; 4], u: u64, t: u64, dir: &[u32]) -> bool
 {
     let mut s = u;
     while s < t {
-        let own = find_cell(widths, key, s);
+        let own = locate_cell(widths, key, s);
         if !step_folds(widths, s, own, dir) {
             return false;
         }

@@ -36,13 +36,13 @@ pub fn plan_insert(state: State, dir: &[u32], pages: &[u8], key: Key) -> Plan
     if !limits_hold(state) {
         return Plan::Refused(9);
     }
-    let values = key.values;
+    let packed = pack_key(key);
     let widths = widths_of(state.shape);
-    let word = key_word(widths, state.deepest as u64, dir, values);
+    let word = key_word(widths, state.deepest as u64, dir, packed);
     if !word_holds(state, word) {
         return Plan::Refused(9);
     }
-    plan_leaf(state, pages, pack_key(key), word)
+    plan_leaf(state, pages, packed, word)
 }
 
 // In the leaf that the word of a packed key's cell names.

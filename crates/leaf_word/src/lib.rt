@@ -18,16 +18,17 @@ ghost use lib.ListN.{getD, length};
 ghost use Rattle.shape.specs.Shape.{widthList};
 ghost use Rattle.split.specs.Bits.{splitBit};
 ghost use Rattle.cell.specs.Cell.{cellAddress};
+ghost use Rattle.record.specs.Packed.{unpackedKey};
 ghost use Rattle.page.specs.Page.{pageAt};
 ghost use Rattle.leaf_word.specs.Hold.{CellAsked, wordHolds, ownPage, ownCount, LeafAsked, OwnAsked};
 
-// The word at the cell of a key, in a directory of depth t.
-pub fn key_word(widths: Widths, t: u64, dir: &[u32], values: [u32; 4]) -> u32
+// The word at the cell of a packed key, in a directory of depth t.
+pub fn key_word(widths: Widths, t: u64, dir: &[u32], key: u64) -> u32
     requires { ⌜ CellAsked (widthList widths) t (length (now dir)) ⌝ }
     ensures { λ r. ⌜ r ≡ getD (now (dir .entry))
-        (cellAddress (widthList widths) t (splitBit (widthList widths) values)) 0 ⌝ }
+        (cellAddress (widthList widths) t (splitBit (widthList widths) (unpackedKey key))) 0 ⌝ }
 {
-    let cell = find_cell(widths, values, t);
+    let cell = find_cell(widths, key, t);
     dir[cell as usize]
 }
 

@@ -51,10 +51,10 @@ fn seek_key(state: State, dir: &[u32], pages: &[u8], key: Key) -> Found
     if !limits_hold(state) {
         return Found::Refused(9);
     }
-    let values = key.values;
+    let packed = pack_key(key);
     let widths = widths_of(state.shape);
-    let word = key_word(widths, state.deepest as u64, dir, values);
-    seek_by_word(state, pages, word, pack_key(key))
+    let word = key_word(widths, state.deepest as u64, dir, packed);
+    seek_by_word(state, pages, word, packed)
 }
 
 // The record of a packed key in the leaf that a word names: 9 for a word that no sound store has, 5

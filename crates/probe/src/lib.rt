@@ -20,16 +20,16 @@ ghost use lib.ListN.{length};
 ghost use Rattle.shape.specs.Shape.{Fit, widthList, total};
 ghost use Rattle.split.specs.Bits.{splitBit};
 ghost use Rattle.cell.specs.Cell.{cellAddress};
+ghost use Rattle.record.specs.Packed.{unpackedKey};
 ghost use Rattle.directory.specs.Directory.{DirectoryFits, Doubled, Filled};
 
-// The address of a key's cell in a directory of depth t.
+// The address of a packed key's cell in a directory of depth t.
 #[no_mangle]
-pub extern "C" fn probe_find_cell(widths: Widths, key: Key, t: u64) -> u64
+pub extern "C" fn probe_find_cell(widths: Widths, key: u64, t: u64) -> u64
     requires { ⌜ Fit (widthList widths) × (t ≤ total (widthList widths)) ⌝ }
-    ensures { λ r. ⌜ r ≡ cellAddress (widthList widths) t (splitBit (widthList widths) (key .values)) ⌝ }
+    ensures { λ r. ⌜ r ≡ cellAddress (widthList widths) t (splitBit (widthList widths) (unpackedKey key)) ⌝ }
 {
-    let values = key.values;
-    find_cell(widths, values, t)
+    find_cell(widths, key, t)
 }
 
 // Doubles the directory from depth t to t + 1.

@@ -8,11 +8,11 @@ use numbers::write32;
 use numbers::write64;
 use shape::Key;
 ghost use mathlib.Core.Path.{_≡_};
-ghost use Prim.Native.Nat.{_+_, _≤_};
+ghost use Prim.Native.Nat.{_+_, _<_, _≤_};
 ghost use lib.ListN.{length};
 ghost use lib.Seq.{paste};
 ghost use Rattle.record.specs.Bytes.{recordSize, numberOf, field};
-ghost use Rattle.record.specs.Packed.{SixteenBits, packedKey, contentIn, packedBytes};
+ghost use Rattle.record.specs.Packed.{SixteenBits, packedKey, packedValue, unpackedKey, contentIn, packedBytes};
 
 // The bytes of one record.
 pub const RECORD_SIZE: usize = 12;
@@ -32,6 +32,25 @@ pub fn pack_key(key: Key) -> u64
     let low = (values[0] as u64) | ((values[1] as u64) << 16);
     let high = (values[2] as u64) | ((values[3] as u64) << 16);
     low | (high << 32)
+}
+
+// The value of attribute j in a packed key.
+pub fn value_at(key: u64, j: u64) -> u64
+    requires { ⌜ j < 4 ⌝ }
+    ensures { λ r. ⌜ r ≡ packedValue key j ⌝ }
+{
+    (key >> (16 * j)) & 0xffff
+}
+
+// The four values of a packed key.
+pub fn unpack_key(key: u64) -> [u32; 4]
+    ensures { λ r. ⌜ r ≡ unpackedKey key ⌝ }
+{
+    let v0 = value_at(key, 0) as u32;
+    let v1 = value_at(key, 1) as u32;
+    let v2 = value_at(key, 2) as u32;
+    let v3 = value_at(key, 3) as u32;
+    [v0, v1, v2, v3]
 }
 
 // The packed key of the record at an offset.

@@ -8,11 +8,14 @@ use lib.Pow.{pow-mono}
 use borrow.Author.Tests.{not-true, not-false}
 use Rattle.directory_word.specs.Word.{leafOf}
 use Rattle.directory_word.specs.declared.Leaf.the-variants.{Page}
+use Rattle.record.specs.Packed.{unpackedKey}
+use Rattle.model.proofs.SetLaws.{SixteenBits-of-keyFits}
 use Rattle.store.specs.Store.{store}
 use Rattle.change.specs.Delete.{keyString}
 use Rattle.refusals.specs.Limits.{limitsHold}
 use Rattle.refusals.proofs.LimitsLaws.{limits-parts}
 use Rattle.leaf_word.specs.Hold.{wordHolds}
+use Rattle.leaf_word.proofs.PageLaws.{unpackedKey-values}
 use Rattle.leaf_word.proofs.WordLaws.{key-word-asks, key-word-is}
 use Rattle.store.proofs.ShownLaws.{wordOn}
 use Rattle.refusals.proofs.PassedLaws.{passed}
@@ -29,6 +32,23 @@ four c = sym (length-map (c .args .key .values) (λ v. v)) ∙ c .good .1 .1 .1 
 limited : (c : tie.Else1) → limitsHold (c .before .before .before .before .args .state) ≡ true
 limited c = sym (c .before .limits-hold .ensures) ∙ not-false (c .before .limits-hold .result) (c .if1 .left)
 
+pack-key-requires : tie.Need-pack-key-requires
+pack-key-requires c κs =
+    let s = c .before .before .before .before .before .before in
+    let a = s .args in
+    let p = passed (store (a .state) (a .dir .now) (a .pages .now)) (a .key .values) (s .pre) in
+    SixteenBits-of-keyFits (a .state .shape) (a .key .values) (p .shape) (p .fits) (four s)
+
+-- the key, back from its packed form
+back : (c : tie.After-pack-key)
+    → unpackedKey (c .pack-key .result) ≡ c .before .before .before .before .before .before .before .args .key .values
+back c =
+    let s = c .before .before .before .before .before .before .before in
+    let a = s .args in
+    let p = passed (store (a .state) (a .dir .now) (a .pages .now)) (a .key .values) (s .pre) in
+    ap unpackedKey (c .pack-key .ensures)
+    ∙ unpackedKey-values (a .state .shape) (a .key .values) (p .shape) (p .fits) (four s)
+
 -- the word that was found, of the state's own shape
 found : (c : tie.After-key-word)
     → let a = c .before .before .before .before .before .before .before .before .args in
@@ -36,8 +56,8 @@ found : (c : tie.After-key-word)
     c .key-word .result ≡ wordOn before (keyString before (a .key .values))
 found c =
     let a = c .before .before .before .before .before .before .before .before .args in
-    key-word-is (a .state .shape) _ (c .before .before .widths-of .ensures) (a .state .deepest) (a .dir .now)
-    (a .key .values) _ (c .key-word .ensures)
+    key-word-is (a .state .shape) _ (c .before .before .before .widths-of .ensures) (a .state .deepest) (a .dir .now)
+    (a .key .values) _ _ (back (c .before)) (c .key-word .ensures)
 
 -- it holds
 held : (c : tie.Else2)
@@ -91,7 +111,7 @@ key-word-requires c κs =
     let before = store (a .state) (a .dir .now) (a .pages .now) in
     let p = passed before (a .key .values) (s .pre) in
     let l = limits-parts (a .state) (limited (c .before .before .before)) in
-    key-word-asks (a .state .shape) _ (c .before .widths-of .ensures) (a .state .deepest) (p .shape)
+    key-word-asks (a .state .shape) _ (c .before .before .widths-of .ensures) (a .state .deepest) (p .shape)
     (le-trans (l .4) (l .3)) _ (le-trans (pow-mono (l .4)) (p .words-lent))
 
 word-holds-requires : tie.Need-word-holds-requires
@@ -151,6 +171,7 @@ plan-delete-spec =
     returns
     widths-of-requires
     cast-key-word
+    pack-key-requires
     key-word-requires
     word-holds-requires
     returns-2

@@ -1,13 +1,17 @@
 -- `delete_plan::plan_pair` meets its contract: each way that it ends is a law of a leaf and its sibling. Assumes
 -- nothing.
-use mathlib.Core.Path.{_≡_, sym, _∙_}
+use mathlib.Core.Path.{_≡_, sym, ap, _∙_, subst}
 use native.Mathlib.Omega.{arith}
 use borrow.Author.Tests.{not-true, not-false}
+use Rattle.record.specs.Packed.{unpackedKey}
 use Rattle.page.specs.Page.{countOf, pageAt}
 use Rattle.page_ends.specs.Ends.{endsAgree}
 use Rattle.page_ends.proofs.FairLaws.{Fair, fair-of-count}
+use Rattle.model.proofs.SetLaws.{SixteenBits-of-keyFits}
 use Rattle.store.specs.Store.{Store, store}
-use Rattle.delete_plan.proofs.MetLaws.{directoryLent, pageLent}
+use Rattle.refusals.proofs.PassedLaws.{passed}
+use Rattle.delete_plan.specs.Met.{JoinMade}
+use Rattle.delete_plan.proofs.MetLaws.{directoryLent, pageLent, values-back}
 use Rattle.delete_plan.proofs.PairLaws.{refused-other, refused-tally, stays-full, joinPlanned}
 use borrow.Author.Needs.{needs}
 use Rattle.delete_plan.proofs.plan_pair.Statement.{statement}
@@ -77,6 +81,14 @@ returns-3 c =
     refused-tally (given s) (a .key .values) (a .found) (a .mask) (a .other) (a .beside) (s .pre)
     (sym (holds .ensures) ∙ not-true (holds .result) (c .if3 .taken))
 
+pack-key-requires : tie.Need-pack-key-requires
+pack-key-requires c κs =
+    let s = start (c .before .before .before .before .before) in
+    let a = s .args in
+    let leaf = s .pre .leaf .found .leaf in
+    let p = passed (given s) (a .key .values) (leaf .early) in
+    SixteenBits-of-keyFits (a .state .shape) (a .key .values) (p .shape) (p .fits) (leaf .four)
+
 plan-join-requires : tie.Need-plan-join-requires
 plan-join-requires c κs =
     let s = start (c .before .before .before .before .before .before) in
@@ -94,9 +106,14 @@ returns-4 c =
     let s = start (e .before) in
     let a = s .args in
     let holds = c .before .before .before .tally-holds in
+    let back = ap unpackedKey (c .before .pack-key .ensures)
+    ∙ values-back (given s) (a .key .values) (a .found .page) (a .found .depth) (s .pre .leaf .found .leaf) in
     joinPlanned (given s) (a .key .values) (a .found) (a .mask) (a .other) (a .beside) (s .pre) _ (fair e)
     (c .before .before .before .before .if2 .left)
-    (sym (holds .ensures) ∙ not-false (holds .result) (c .before .before .if3 .left)) _ (c .plan-join .ensures)
+    (sym (holds .ensures) ∙ not-false (holds .result) (c .before .before .if3 .left)) _
+    (subst
+    (λ v. JoinMade (a .state) (a .dir .now) v (a .found .depth) (a .other) (e .before .count-on .result)
+    (c .plan-join .result)) back (c .plan-join .ensures))
 
 pub plan-pair-spec : {M : Type 1} → statement M
 plan-pair-spec =
@@ -110,5 +127,6 @@ plan-pair-spec =
     returns-2
     tally-holds-requires
     returns-3
+    pack-key-requires
     plan-join-requires
     returns-4)

@@ -12,9 +12,10 @@ use Rattle.directory_word.specs.declared.Leaf.the-variants.{Page}
 use Rattle.store.specs.Store.{Store, store}
 use Rattle.refusals.proofs.PassedLaws.{passed}
 use Rattle.model.proofs.SetLaws.{SixteenBits-of-keyFits}
+use Rattle.change.specs.Delete.{AtSibling}
 use Rattle.leaf_word.specs.Hold.{wordHolds}
 use Rattle.delete_siblings.specs.Siblings.{SiblingKey}
-use Rattle.delete_plan.proofs.MetLaws.{directoryLent, packed-fits}
+use Rattle.delete_plan.proofs.MetLaws.{directoryLent, values-back, packed-fits}
 use Rattle.delete_plan.proofs.BesideLaws.{refused-sibling, held-sibling}
 use Rattle.delete_plan.proofs.BesideLaws.{stays-empty, stays-deep, siblingMet}
 use borrow.Author.Needs.{needs}
@@ -26,7 +27,7 @@ given s = store (s .args .state) (s .args .dir .now) (s .args .pages .now)
 
 -- where the call began, from the sibling that was found
 abbrev start : tie.After-find-sibling → tie.Start
-start k = k .before .before .before .before .before .before
+start k = k .before .before .before .before .before
 
 -- the key that falls into the sibling, from the key's own packed form
 there : (k : tie.After-find-sibling)
@@ -37,6 +38,23 @@ there k =
     subst (λ key. SiblingKey (a .state .shape) key (a .found .depth - 1) (k .find-sibling .result .key))
     (k .before .before .pack-key .ensures) (k .find-sibling .ensures .beside)
 
+-- the key, back from its packed form
+back : (k : tie.After-find-sibling) → unpackedKey (k .before .before .pack-key .result) ≡ start k .args .key .values
+back k =
+    let s = start k in
+    ap unpackedKey (k .before .before .pack-key .ensures)
+    ∙ values-back (given s) (s .args .key .values) (s .args .found .page) (s .args .found .depth) (s .pre .found .leaf)
+
+-- the word of the sibling's cell
+beside : (k : tie.After-find-sibling)
+    → let s = start k in
+    AtSibling (given s) (s .args .key .values) (s .args .found .depth - 1) (λ w. k .find-sibling .result .word ≡ w)
+beside k =
+    let s = start k in
+    subst
+    (λ v. AtSibling (given s) v (s .args .found .depth - 1) (λ w. k .find-sibling .result .word ≡ w)) (back k)
+    (k .find-sibling .ensures .word)
+
 -- the word holds
 held : (c : tie.Else1)
     → let k = c .before .before in
@@ -46,7 +64,7 @@ held c =
     let s = start k in
     let holds = c .before .sibling-word-holds in
     held-sibling (given s) (s .args .key .values) (s .args .found) (s .pre .found) (s .pre .divided) _
-    (k .find-sibling .ensures .word) (sym (holds .ensures) ∙ not-false (holds .result) (c .if1 .left))
+    (beside k) (sym (holds .ensures) ∙ not-false (holds .result) (c .if1 .left))
 
 -- the leaf with a page that it names
 named : (c : tie.After-sibling)
@@ -56,7 +74,7 @@ named c = sym (c .before .before .unpack .ensures) ∙ c .sibling .given .1
 
 pack-key-requires : tie.Need-pack-key-requires
 pack-key-requires c κs =
-    let s = c .before .before .before in
+    let s = c .before .before in
     let a = s .args in
     let leaf = s .pre .found .leaf in
     let k = passed (given s) (a .key .values) (leaf .early) in
@@ -67,7 +85,7 @@ sub-find-sibling c = search needs
 
 find-sibling-requires : tie.Need-find-sibling-requires
 find-sibling-requires c κs =
-    let s = c .before .before .before .before .before in
+    let s = c .before .before .before .before in
     let a = s .args in
     let leaf = s .pre .found .leaf in
     record {
@@ -92,7 +110,7 @@ returns c =
     let s = start k in
     let holds = c .before .sibling-word-holds in
     refused-sibling (given s) (s .args .key .values) (s .args .found) (s .pre .found) (s .pre .divided) _
-    (k .find-sibling .ensures .word) (sym (holds .ensures) ∙ not-true (holds .result) (c .if1 .taken))
+    (beside k) (sym (holds .ensures) ∙ not-true (holds .result) (c .if1 .taken))
 
 unpack-requires : tie.Need-unpack-requires
 unpack-requires c κs = search needs
@@ -111,7 +129,7 @@ returns-2 c =
       found = s .pre .found;
       alone =
           stays-empty (given s) (s .args .key .values) (s .args .found) (s .pre .found) (s .pre .divided) _
-          (k .find-sibling .ensures .word) (held (c .before .before .before)) _
+          (beside k) (held (c .before .before .before)) _
           (sym (c .before .before .unpack .ensures) ∙ c .enum-told .given .1);
     }
 
@@ -123,7 +141,7 @@ returns-3 c =
       found = s .pre .found;
       alone =
           stays-deep (given s) (s .args .key .values) (s .args .found) (s .pre .found) (s .pre .divided) _
-          (k .find-sibling .ensures .word) (held (c .before .before .before .before .before .before)) _ _
+          (beside k) (held (c .before .before .before .before .before .before)) _ _
           (named (c .before .before .before)) (c .if2 .taken);
     }
 
@@ -132,7 +150,7 @@ plan-pair-requires c κs =
     let k = c .before .before .before .before .before .before .before .before in
     let s = start k in
     siblingMet (given s) (s .args .key .values) (s .args .found) (s .pre .found) (s .pre .divided) _
-    (k .find-sibling .ensures .word) (held (c .before .before .before .before .before .before)) _ _
+    (beside k) (held (c .before .before .before .before .before .before)) _ _
     (named (c .before .before .before)) (c .if2 .left) (s .args .mask) (s .pre .fixed) _ (there k)
 
 returns-4 : tie.Need-returns-4

@@ -3,18 +3,19 @@
 use Prim.Native.Nat.{_-_}
 use mathlib.Core.Path.{sym, _∙_}
 use native.Mathlib.Omega.{arith}
+use Rattle.record.specs.Packed.{unpackedKey}
 use Rattle.delete_siblings.proofs.ClimbLaws.{Rising, rising-start, rising-next, climbed-stop, climbed-end}
 use Rattle.delete_siblings.proofs.climb.Statement.{statement}
 use Rattle.delete_siblings.proofs.climb.Tie as tie
 
 abbrev Inv-loop : tie.InvT-loop
-Inv-loop state dir values m y₀ y = Rising state dir values m y
+Inv-loop state dir key m y₀ y = Rising state dir (unpackedKey key) m y
 
 abbrev μ-loop : tie.MeasureT-loop
-μ-loop state dir values m y₀ y = y
+μ-loop state dir key m y₀ y = y
 
 loop-holds : tie.Need-loop-holds Inv-loop μ-loop
-loop-holds c = let a = c .before .args in rising-start (a .state) (a .dir .now) (a .values) (a .m)
+loop-holds c = let a = c .before .args in rising-start (a .state) (a .dir .now) (unpackedKey (a .key)) (a .m)
 
 sub-word-beside : tie.Need-sub-word-beside Inv-loop μ-loop
 sub-word-beside c = omega (arith, c .loop-test .taken)
@@ -34,8 +35,9 @@ returns c =
     let called = c .before .before in
     let loop = called .before .before .loop in
     let a = called .before .before .before .before .args in
-    climbed-stop (a .state) (a .dir .now) (a .values) (a .m) (loop .y) (loop .y - 1) (called .word-beside .result)
-    (loop .inv) (omega (arith, called .before .loop-test .taken)) (called .word-beside .ensures)
+    climbed-stop (a .state) (a .dir .now) (unpackedKey (a .key)) (a .m) (loop .y) (loop .y - 1)
+    (called .word-beside .result) (loop .inv) (omega (arith, called .before .loop-test .taken))
+    (called .word-beside .ensures)
     (λ h. c .if1 .taken (h ∙ sym (c .before .pack-empty .ensures)))
 
 sub-y : tie.Need-sub-y Inv-loop μ-loop
@@ -49,15 +51,17 @@ loop-again c =
     let called = c .before .before in
     let loop = called .before .before .loop in
     let a = called .before .before .before .before .args in
-    rising-next (a .state) (a .dir .now) (a .values) (a .m) (loop .y) (loop .y - 1) (called .word-beside .result)
-    (loop .inv) (omega (arith, called .before .loop-test .taken)) (called .word-beside .ensures)
+    rising-next (a .state) (a .dir .now) (unpackedKey (a .key)) (a .m) (loop .y) (loop .y - 1)
+    (called .word-beside .result) (loop .inv) (omega (arith, called .before .loop-test .taken))
+    (called .word-beside .ensures)
     (c .if1 .left ∙ c .before .pack-empty .ensures)
 
 returns-2 : tie.Need-returns-2 Inv-loop μ-loop
 returns-2 c =
     let loop = c .before .loop in
     let a = c .before .before .before .args in
-    climbed-end (a .state) (a .dir .now) (a .values) (a .m) (loop .y) (loop .inv) (omega (arith, c .loop-test .left))
+    climbed-end (a .state) (a .dir .now) (unpackedKey (a .key)) (a .m) (loop .y) (loop .inv)
+    (omega (arith, c .loop-test .left))
 
 pub climb-spec : {M : Type 1} → statement M
 climb-spec =

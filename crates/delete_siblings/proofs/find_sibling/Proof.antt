@@ -1,6 +1,7 @@
 -- `delete_siblings::find_sibling` meets its contract: word and key are those of the place of the step. Assumes nothing.
 use mathlib.Core.Path.{sym, subst}
 use Rattle.shape.specs.Shape.{widthList}
+use Rattle.record.specs.Packed.{unpackedKey}
 use borrow.Author.Needs.{needs}
 use Rattle.delete_siblings.specs.Siblings.{SiblingKey}
 use Rattle.delete_siblings.proofs.KeyLaws.{siblingKey}
@@ -48,8 +49,8 @@ returns c =
     let a = s .args in
     record {
       word =
-          atSibling (a .state) (widthList (w .result)) (w .ensures) (a .z) (s .pre .below) (a .values) (a .dir .now)
-          (place .result) _ (place .ensures) (c .before .sibling-word .ensures);
+          atSibling (a .state) (widthList (w .result)) (w .ensures) (a .z) (s .pre .below) (unpackedKey (a .key))
+          (a .dir .now) (place .result) _ (place .ensures) (c .before .sibling-word .ensures);
       beside =
           subst (SiblingKey (a .state .shape) (a .key) (a .z)) (sym (c .flipped .ensures))
           (siblingKey (a .state .shape) (s .pre .lent .shape) (a .key) (s .pre .fits) (widthList (w .result))

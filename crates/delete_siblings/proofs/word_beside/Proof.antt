@@ -1,6 +1,7 @@
 -- `delete_siblings::word_beside` meets its contract: the widths are those of the shape, the place is that of the step.
 -- Assumes nothing.
 use Rattle.shape.specs.Shape.{widthList}
+use Rattle.record.specs.Packed.{unpackedKey}
 use borrow.Author.Needs.{needs}
 use Rattle.delete_siblings.proofs.WordLaws.{step-asked, stepWithin, atSibling}
 use Rattle.delete_siblings.proofs.word_beside.Statement.{statement}
@@ -33,8 +34,8 @@ returns c =
     let place = c .before .before .step-place in
     let w = c .before .before .before .widths-of in
     let s = c .before .before .before .before .before in
-    atSibling (s .args .state) (widthList (w .result)) (w .ensures) (s .args .z) (s .pre .1) (s .args .values)
-    (s .args .dir .now) (place .result) _ (place .ensures) (c .sibling-word .ensures)
+    atSibling (s .args .state) (widthList (w .result)) (w .ensures) (s .args .z) (s .pre .1)
+    (unpackedKey (s .args .key)) (s .args .dir .now) (place .result) _ (place .ensures) (c .sibling-word .ensures)
 
 pub word-beside-spec : {M : Type 1} → statement M
 word-beside-spec =

@@ -3,6 +3,7 @@ use mathlib.Core.Path.{ap, _∙_}
 use Rattle.shape.specs.Shape.{widthList}
 use Rattle.split.specs.Bits.{splitBit}
 use Rattle.cell.specs.Cell.{cell}
+use Rattle.record.specs.Packed.{unpackedKey}
 use borrow.Author.Needs.{needs}
 use Rattle.directory_cell.proofs.cell_of.Statement.{statement}
 use Rattle.directory_cell.proofs.cell_of.Tie as tie
@@ -21,8 +22,11 @@ returns c =
     let s = c .before .before .before .before .before .args in
     let ws = widthList (s .widths) in
     c .near-cell .ensures
-    ∙ ap (λ n. cell ws n (splitBit ws (s .key)))
+    ∙ ap (λ n. cell ws n (splitBit ws (unpackedKey (s .key))))
     (c .before .before .before .steps-before .ensures .before ∙ c .before .before .if1 .taken)
+
+unpack-key-requires : tie.Need-unpack-key-requires
+unpack-key-requires c κs = search needs
 
 place-of-requires : tie.Need-place-of-requires
 place-of-requires c κs = search needs
@@ -32,9 +36,11 @@ cell-before-requires c κs = search needs
 
 returns-2 : tie.Need-returns-2
 returns-2 c =
-    let s = c .before .before .before .before .before .args in
+    let s = c .before .before .before .before .before .before .args in
     let ws = widthList (s .widths) in
-    c .cell-before .ensures ∙ ap (λ n. cell ws n (splitBit ws (s .key))) (c .before .place-of .ensures .before)
+    c .cell-before .ensures
+    ∙ ap (λ n. cell ws n (splitBit ws (c .before .before .unpack-key .result))) (c .before .place-of .ensures .before)
+    ∙ ap (λ key. cell ws (s .t) (splitBit ws key)) (c .before .before .unpack-key .ensures)
 
 pub cell-of-spec : {M : Type 1} → statement M
 cell-of-spec =
@@ -44,6 +50,7 @@ cell-of-spec =
     steps-before-requires
     near-cell-requires
     returns
+    unpack-key-requires
     place-of-requires
     cell-before-requires
     returns-2)

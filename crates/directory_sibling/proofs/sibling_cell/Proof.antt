@@ -4,10 +4,11 @@ use Prim.Native.Nat.{ℕ, suc, _/_, _%_, _^_, _<_}
 use mathlib.Core.Path.{_≡_, refl, sym, ap, _∙_, subst}
 use mathlib.Core.Bool.{Bool}
 use mathlib.Core.List.{List}
+use native.Mathlib.Omega.{arith}
 use lib.ListN.{getD, length}
 use Rattle.shape.specs.Shape.{widthList}
 use Rattle.split.specs.Steps.{stepsBelow}
-use Rattle.split.specs.Bits.{splitBit}
+use Rattle.split.specs.Bits.{bitOf, splitBit}
 use Rattle.address.specs.Address.{address}
 use Rattle.address_formula.specs.Index.{indexList}
 use Rattle.pairs.specs.Pairs.{StepPair}
@@ -17,6 +18,9 @@ use Rattle.address_bits.specs.Bits.{bitSet}
 use Rattle.cell.proofs.HalfLaws.{inBox-cell}
 use Rattle.directory.proofs.CellLaws.{getD-cell-lt}
 use Rattle.region.specs.Strings.{sibling}
+use Rattle.record.specs.Packed.{unpackedKey}
+use Rattle.record.proofs.PackedLaws.{getD-unpackedKey}
+use Rattle.directory_sibling.proofs.BitLaws.{splitBit-place}
 use Rattle.directory_sibling.proofs.CellLaws.{cell-sibling-zero, cell-sibling-one}
 use borrow.Author.Needs.{needs}
 use Rattle.directory_sibling.proofs.sibling_cell.Statement.{statement}
@@ -26,9 +30,9 @@ abbrev ws : tie.Start → List ℕ
 ws s = widthList (s .args .widths)
 
 abbrev string : tie.Start → ℕ → Bool
-string s = splitBit (ws s) (s .args .key)
+string s = splitBit (ws s) (unpackedKey (s .args .key))
 
-abbrev start : tie.After-cell-before → tie.Start
+abbrev start : tie.After-cell-at → tie.Start
 start c = c .before
 
 -- the number of the step
@@ -39,17 +43,22 @@ step : (s : tie.Start) → StepPair (ws s) (number s) (s .args .g)
 step s = record { low = s .pre .1; live = s .pre .2; before = refl }
 
 -- the vector is the cell of the key's bits before the step
-named : (c : tie.After-cell-before) → let s = start c in
-    cell (ws s) (number s) (string s) ≡ indexList (c .cell-before .result)
-named c = sym (c .cell-before .ensures)
+named : (c : tie.After-cell-at) → let s = start c in
+    cell (ws s) (number s) (string s) ≡ indexList (c .cell-at .result)
+named c = sym (c .cell-at .ensures)
 
 -- the bit is that of the step
-bit-is : (c : tie.After-bit-at) → let s = start (c .before) in string s (number s) ≡ c .bit-at .result
-bit-is c = sym (c .bit-at .ensures)
+bit-is : (c : tie.After-pair-bit) → let s = start (c .before) in string s (number s) ≡ c .pair-bit .result
+bit-is c =
+    let s = start (c .before) in
+    let g = s .args .g in
+    splitBit-place (ws s) (unpackedKey (s .args .key)) g (s .pre .0) (s .pre .2)
+    ∙ ap (λ v. bitOf (getD (ws s) (g % 4) 0) v (g / 4)) (getD-unpackedKey (s .args .key) (g % 4) (omega arith))
+    ∙ sym (c .pair-bit .ensures)
 
 -- with bit 1 the sibling's vector is that one
 zero-half : (c : tie.Then1) → let at = c .before .before in let s = start at in
-    cell (ws s) (suc (number s)) (sibling (string s) (number s)) ≡ indexList (at .cell-before .result)
+    cell (ws s) (suc (number s)) (sibling (string s) (number s)) ≡ indexList (at .cell-at .result)
 zero-half c =
     let s = start (c .before .before) in
     cell-sibling-zero (ws s) (s .pre .0) _ _ (step s) (string s)
@@ -68,11 +77,11 @@ one-half c =
     ∙ ap (bitSet g) (named at)
     ∙ sym (c .with-bit .ensures)
 
-cell-before-requires : tie.Need-cell-before-requires
-cell-before-requires c κs = search needs
+cell-at-requires : tie.Need-cell-at-requires
+cell-at-requires c κs = search needs
 
-bit-at-requires : tie.Need-bit-at-requires
-bit-at-requires c κs = search needs
+pair-bit-requires : tie.Need-pair-bit-requires
+pair-bit-requires c κs = search needs
 
 locate-requires : tie.Need-locate-requires
 locate-requires c κs =
@@ -108,8 +117,8 @@ pub sibling-cell-spec : {M : Type 1} → statement M
 sibling-cell-spec =
     tie.close
     (tie.spec
-    cell-before-requires
-    bit-at-requires
+    cell-at-requires
+    pair-bit-requires
     locate-requires
     returns
     with-bit-requires

@@ -13,6 +13,7 @@ use Rattle.split.proofs.StepLaws.{length-steps}
 use Rattle.cell.proofs.AgreeLaws.{cut, agree-cut, agree-sym}
 use Rattle.directory.proofs.RegionLaws.{own-lt}
 use Rattle.region.specs.Strings.{sibling}
+use Rattle.record.specs.Packed.{unpackedKey}
 use Rattle.directory_sibling.proofs.CellLaws.{cellAddress-cut-deeper}
 use borrow.Author.Needs.{needs}
 use Rattle.directory_sibling.proofs.sibling_word.Statement.{statement}
@@ -27,7 +28,7 @@ number s = length (stepsBelow (ws s) (s .args .g))
 
 -- the sibling's string
 abbrev other : tie.Start → ℕ → Bool
-other s = sibling (splitBit (ws s) (s .args .key)) (number s)
+other s = sibling (splitBit (ws s) (unpackedKey (s .args .key))) (number s)
 
 deep : (s : tie.Start) → s .args .t ≤ length (steps (ws s))
 deep s =

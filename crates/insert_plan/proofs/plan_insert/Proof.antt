@@ -11,7 +11,7 @@ use Rattle.split.specs.Bits.{splitBit}
 use Rattle.record.specs.Packed.{unpackedKey}
 use Rattle.store.specs.Store.{store, wordAt}
 use Rattle.refusals.proofs.PassedLaws.{passed}
-use Rattle.leaf_word.proofs.PageLaws.{indexFits-packed}
+use Rattle.leaf_word.proofs.PageLaws.{unpackedKey-values, indexFits-packed}
 use Rattle.leaf_word.proofs.WordLaws.{key-word-asks, key-word-is}
 use Rattle.insert_planned.specs.Found.{InsertAsked}
 use Rattle.insert_planned.proofs.MetLaws.{sixteen}
@@ -47,6 +47,21 @@ returns c =
     nine-limits (store (a .state) (a .dir .now) (a .pages .now)) (a .key .values) (s .pre)
     (sym (limits .ensures) ∙ not-true (limits .result) (c .if1 .taken))
 
+pack-key-requires : tie.Need-pack-key-requires
+pack-key-requires c κs =
+    let t = told c in
+    let a = c .before .before .before .before .args in
+    sixteen (a .state .shape) (a .key .values) (record { payload = 0 }) (t .shape) (t .fits) (t .four)
+
+-- the key, back from its packed form
+back : (c : tie.After-pack-key)
+    → unpackedKey (c .pack-key .result) ≡ c .before .before .before .before .before .args .key .values
+back c =
+    let a = c .before .before .before .before .before .args in
+    let t = told (c .before) in
+    ap unpackedKey (c .pack-key .ensures)
+    ∙ unpackedKey-values (a .state .shape) (a .key .values) (t .shape) (t .fits) (t .four)
+
 -- the word that was found, of the state's own shape
 found : (c : tie.After-key-word)
     → let a = c .before .before .before .before .before .before .before .before .args in
@@ -56,7 +71,7 @@ found : (c : tie.After-key-word)
 found c =
     let a = c .before .before .before .before .before .before .before .before .args in
     key-word-is (a .state .shape) _ (c .before .before .widths-of .ensures) (a .state .deepest) (a .dir .now)
-    (a .key .values) _ (c .key-word .ensures)
+    (a .key .values) _ _ (back (c .before .before .before)) (c .key-word .ensures)
 
 widths-of-requires : tie.Need-widths-of-requires
 widths-of-requires c κs = search needs
@@ -84,34 +99,30 @@ returns-2 c =
     nine-word (store (a .state) (a .dir .now) (a .pages .now)) (a .key .values) (s .pre) _ (found (c .before .before))
     (sym (holds .ensures) ∙ not-true (holds .result) (c .if2 .taken))
 
-pack-key-requires : tie.Need-pack-key-requires
-pack-key-requires c κs =
-    let t = told (c .before .before .before .before .before .before) in
-    let a = c .before .before .before .before .before .before .before .before .before .before .args in
-    sixteen (a .state .shape) (a .key .values) (record { payload = 0 }) (t .shape) (t .fits) (t .four)
-
 plan-leaf-requires : tie.Need-plan-leaf-requires
 plan-leaf-requires c κs =
-    let t = told (c .before .before .before .before .before .before .before) in
-    let a = c .before .before .before .before .before .before .before .before .before .before .before .args in
-    let holds = c .before .before .word-holds in (
+    let packed = c .before .before .before .before .before in
+    let a = packed .before .before .before .before .before .args in
+    let t = told (packed .before) in
+    let holds = c .before .word-holds in (
       t .pages-lent,
-      sym (holds .ensures) ∙ not-false (holds .result) (c .before .if2 .left),
+      sym (holds .ensures) ∙ not-false (holds .result) (c .if2 .left),
       record {
         bits = le-trans (t .within-limit) (t .bits);
-        fits = ap (λ k. indexFits (widthsOf (a .state .shape)) (unpackedKey k)) (c .pack-key .ensures)
+        fits = ap (λ k. indexFits (widthsOf (a .state .shape)) (unpackedKey k)) (packed .pack-key .ensures)
             ∙ indexFits-packed (a .state .shape) (a .key .values) (t .shape) (t .fits) (t .four);
       },
     )
 
 returns-3 : tie.Need-returns-3
 returns-3 c =
-    let a = c .before .before .before .before .before .before .before .before .before .before .before .before .args in
+    let packed = c .before .before .before .before .before .before in
+    let a = packed .before .before .before .before .before .args in
     c .plan-leaf .ensures (a .dir .now) (a .key .values)
     (record {
-      asked = told (c .before .before .before .before .before .before .before .before);
-      key-is = c .before .pack-key .ensures;
-      found-is = sym (found (c .before .before .before .before));
+      asked = told (packed .before);
+      key-is = packed .pack-key .ensures;
+      found-is = sym (found (c .before .before .before));
     })
 
 pub plan-insert-spec : {M : Type 1} → statement M
@@ -120,11 +131,11 @@ plan-insert-spec =
     (tie.spec
     limits-hold-requires
     returns
+    pack-key-requires
     widths-of-requires
     cast-key-word
     key-word-requires
     word-holds-requires
     returns-2
-    pack-key-requires
     plan-leaf-requires
     returns-3)

@@ -6,6 +6,7 @@ use lib.ListN.{getD}
 use Rattle.shape.specs.Shape.{widthList}
 use Rattle.split.specs.Bits.{splitBit}
 use Rattle.cell.proofs.CellLaws.{cell-laws}
+use Rattle.record.specs.Packed.{unpackedKey}
 use Rattle.leaf_word.proofs.key_word.Statement.{statement}
 use Rattle.leaf_word.proofs.key_word.Tie as tie
 
@@ -15,7 +16,7 @@ below c =
     let w = s .args .widths in
     rw (c .find-cell .ensures)
     (cell-laws (w .w0) (w .w1) (w .w2) (w .w3) (s .pre .fit) .address-lt (s .args .t) (s .pre .deep)
-    (splitBit (widthList w) (s .args .values)))
+    (splitBit (widthList w) (unpackedKey (s .args .key))))
 
 find-cell-requires : tie.Need-find-cell-requires
 find-cell-requires c κs = let s = c .before in (s .pre .fit, s .pre .deep)

@@ -1,5 +1,5 @@
 -- `lookup::seek_key` meets its contract: the early refusals and the limits leave what each step asks. Assumes nothing.
-use mathlib.Core.Path.{_≡_, sym, _∙_, subst}
+use mathlib.Core.Path.{_≡_, sym, ap, _∙_, subst}
 use mathlib.Core.Bool.{true}
 use native.Mathlib.Nat.{le-trans}
 use lib.ListN.{length, length-map}
@@ -15,7 +15,7 @@ use Rattle.store.specs.Store.{store, wordAt}
 use Rattle.refusals.specs.Limits.{limitsHold}
 use Rattle.refusals.proofs.LimitsLaws.{limited}
 use Rattle.refusals.proofs.PassedLaws.{Passed, passed}
-use Rattle.leaf_word.proofs.PageLaws.{indexFits-packed}
+use Rattle.leaf_word.proofs.PageLaws.{unpackedKey-values, indexFits-packed}
 use Rattle.leaf_word.proofs.WordLaws.{key-word-asks, key-word-is}
 use Rattle.lookup.proofs.CaseLaws.{soughtAnswer-limits, soughtAnswer-word}
 use Rattle.lookup.proofs.seek_key.Statement.{statement}
@@ -44,6 +44,21 @@ returns c =
     soughtAnswer-limits (store (a .state) (a .dir .now) (a .pages .now)) (a .key .values)
     (sym (c .before .limits-hold .ensures) ∙ not-true (c .before .limits-hold .result) (c .if1 .taken))
 
+pack-key-requires : tie.Need-pack-key-requires
+pack-key-requires c κs =
+    let s = c .before .before .before .before in
+    let p = early (c .before .before) in
+    SixteenBits-of-keyFits (s .args .state .shape) (s .args .key .values) (p .shape) (p .fits) (four s)
+
+-- the key, back from its packed form
+back : (c : tie.After-pack-key)
+    → unpackedKey (c .pack-key .result) ≡ c .before .before .before .before .before .args .key .values
+back c =
+    let s = c .before .before .before .before .before in
+    let p = early (c .before .before .before) in
+    ap unpackedKey (c .pack-key .ensures)
+    ∙ unpackedKey-values (s .args .state .shape) (s .args .key .values) (p .shape) (p .fits) (four s)
+
 -- the word that was found, of the state's own shape
 found : (c : tie.After-key-word)
     → let a = c .before .before .before .before .before .before .before .before .args in
@@ -53,7 +68,7 @@ found : (c : tie.After-key-word)
 found c =
     let a = c .before .before .before .before .before .before .before .before .args in
     key-word-is (a .state .shape) _ (c .before .before .widths-of .ensures) (a .state .deepest) (a .dir .now)
-    (a .key .values) _ (c .key-word .ensures)
+    (a .key .values) _ _ (back (c .before .before .before)) (c .key-word .ensures)
 
 widths-of-requires : tie.Need-widths-of-requires
 widths-of-requires c κs = search needs
@@ -69,35 +84,30 @@ key-word-requires c κs =
     key-word-asks (st .shape) _ (c .before .widths-of .ensures) (st .deepest) (p .shape)
     (le-trans (l .depth-within) (l .depth-bits)) _ (le-trans (pow-mono (l .depth-within)) (p .words-lent))
 
-pack-key-requires : tie.Need-pack-key-requires
-pack-key-requires c κs =
-    let s = c .before .before .before .before .before .before .before .before in
-    let p = early (c .before .before .before .before .before .before) in
-    SixteenBits-of-keyFits (s .args .state .shape) (s .args .key .values) (p .shape) (p .fits) (four s)
-
 seek-by-word-requires : tie.Need-seek-by-word-requires
 seek-by-word-requires c κs =
-    let s = c .before .before .before .before .before .before .before .before .before in
+    let packed = c .before .before .before in
+    let s = packed .before .before .before .before .before in
     let st = s .args .state in
-    let p = early (c .before .before .before .before .before .before .before) in
-    let l = limited st (held (c .before .before .before .before .before)) in
+    let p = early (packed .before .before .before) in
+    let l = limited st (held (packed .before)) in
     record {
       shape = p .shape;
       few = l .most-pages;
       short = le-trans (l .depth-within) (l .depth-limit);
       bits = le-trans (l .depth-within) (l .depth-bits);
       lent = p .pages-lent;
-      fits = subst (λ k. indexFits (widthsOf (st .shape)) (unpackedKey k) ≡ true) (sym (c .pack-key .ensures))
+      fits = subst (λ k. indexFits (widthsOf (st .shape)) (unpackedKey k) ≡ true) (sym (packed .pack-key .ensures))
           (indexFits-packed (st .shape) (s .args .key .values) (p .shape) (p .fits) (four s));
     }
 
 returns-2 : tie.Need-returns-2
 returns-2 c =
-    let a = c .before .before .before .before .before .before .before .before .before .before .args in
+    let packed = c .before .before .before .before in
+    let a = packed .before .before .before .before .before .args in
     c .seek-by-word .ensures
-    ∙ soughtAnswer-word (store (a .state) (a .dir .now) (a .pages .now)) (a .key .values)
-    (held (c .before .before .before .before .before .before)) _ _ (found (c .before .before))
-    (c .before .pack-key .ensures)
+    ∙ soughtAnswer-word (store (a .state) (a .dir .now) (a .pages .now)) (a .key .values) (held (packed .before)) _ _
+    (found (c .before)) (packed .pack-key .ensures)
 
 pub seek-key-spec : {M : Type 1} → statement M
 seek-key-spec =
@@ -105,9 +115,9 @@ seek-key-spec =
     (tie.spec
     limits-hold-requires
     returns
+    pack-key-requires
     widths-of-requires
     cast-key-word
     key-word-requires
-    pack-key-requires
     seek-by-word-requires
     returns-2)

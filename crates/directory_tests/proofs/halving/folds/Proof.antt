@@ -30,8 +30,8 @@ deep s = let w = s .args .widths in fits-steps (w .w0) (w .w1) (w .w2) (w .w3) _
 loop-holds : tie.Need-loop-holds Inv-loop μ-loop
 loop-holds c = foldedFrom-start _ _ _ _ _ (c .before .pre .1)
 
-find-cell-requires : tie.Need-find-cell-requires Inv-loop μ-loop
-find-cell-requires c κs =
+locate-cell-requires : tie.Need-locate-cell-requires Inv-loop μ-loop
+locate-cell-requires c κs =
     let f = c .before .before .before .pre .0 in
     (f .fit, omega (arith, f .deep, c .loop-test .taken))
 
@@ -52,7 +52,7 @@ returns c =
     let turn = found .before in
     let s = turn .before .before .before in
     foldTold-no (ws s) _ _ _ _ _ (turn .before .loop .inv) (s .pre .0 .fit) (turn .loop-test .taken) (deep s) _
-    (found .find-cell .ensures) _ (c .before .step-folds .ensures) (not-true _ (c .if1 .taken))
+    (found .locate-cell .ensures) _ (c .before .step-folds .ensures) (not-true _ (c .if1 .taken))
 
 add-s : tie.Need-add-s Inv-loop μ-loop
 add-s c =
@@ -68,7 +68,7 @@ loop-again c =
     let turn = found .before in
     let s = turn .before .before .before in
     foldedFrom-suc (ws s) _ _ _ _ _ (turn .before .loop .inv) (s .pre .0 .fit) (turn .loop-test .taken) (deep s) _
-    (found .find-cell .ensures) _ (c .before .step-folds .ensures) (not-false _ (c .if1 .left))
+    (found .locate-cell .ensures) _ (c .before .step-folds .ensures) (not-false _ (c .if1 .left))
 
 returns-2 : tie.Need-returns-2 Inv-loop μ-loop
 returns-2 c = foldTold-yes _ _ _ _ _ _ (c .before .loop .inv) (c .loop-test .left)
@@ -80,7 +80,7 @@ folds-spec =
     Inv-loop
     μ-loop
     loop-holds
-    find-cell-requires
+    locate-cell-requires
     step-folds-requires
     returns
     add-s

@@ -1,9 +1,9 @@
--- `check_page::codes::value_at` meets its contract: a mask of 16 ones is `% 2 ^ 16`. Assumes nothing.
+-- `record::value_at` meets its contract: a mask of 16 ones is `% 2 ^ 16`. Assumes nothing.
 use Prim.Native.Nat.{_*_, _/_, _^_}
 use lib.Bits.{and-mask}
 use borrow.Author.Needs.{needs}
-use Rattle.check_page.proofs.codes.value_at.Statement.{statement}
-use Rattle.check_page.proofs.codes.value_at.Tie as tie
+use Rattle.record.proofs.value_at.Statement.{statement}
+use Rattle.record.proofs.value_at.Tie as tie
 
 mul-result : tie.Need-mul-result
 mul-result c = search needs
