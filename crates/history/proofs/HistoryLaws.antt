@@ -90,7 +90,7 @@ stepped before after S (lookupCall values) o p h =
 stepped before after S (queryCall q out) o p h =
     let f = fixedOf (before .state) in
     let sound = soundWhereRead-of-sound before _ S h in
-    let as-model = p .0 .answered-as S sound in
+    let as-model = p .0 .listed-as .answered-as S sound in
     record {
       as-model = same-outcome (as-model .0) (as-model .1);
       shown = rw (p .1, same-set f S (queryCall q out) refl) h;

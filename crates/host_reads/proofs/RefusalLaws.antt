@@ -34,8 +34,9 @@ query-not-zero s q out a out′ p z = go (queryNumber s q) refl
   where
     go : (n : ℕ) → queryNumber s q ≡ n → ⊥
     go zero e =
-        ⊎-elim (λ h. refused-zero-accepted _ (sym z ∙ h .3)) (λ f. refused-zero-suc 8 (sym z ∙ f)) (p .ordinary e)
-    go (suc n) e = refused-zero-suc n (sym z ∙ p .early-refused n e)
+        ⊎-elim (λ h. refused-zero-accepted _ (sym z ∙ h .3)) (λ f. refused-zero-suc 8 (sym z ∙ f))
+        (p .listed-as .ordinary e)
+    go (suc n) e = refused-zero-suc n (sym z ∙ p .listed-as .early-refused n e)
 
 pub check-not-zero : (s : Store) (a : Answer Bool) → CheckPromise s a → a ≡ refused 0 → ⊥
 check-not-zero s a p z = go (lentNumber s) refl

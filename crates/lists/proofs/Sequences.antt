@@ -22,9 +22,3 @@ module _ {A B : Type 0} where
   unfolding flatMap
   flatMap-ext f g h [] = refl
   flatMap-ext f g h (x ∷ xs) = cc (h x, flatMap-ext f g h xs)
-
-  pub flatMap-map : {C : Type 0} (f : B → List C) (g : A → B) (xs : List A)
-      → flatMap f (map g xs) ≡ flatMap (λ x. f (g x)) xs
-  unfolding flatMap
-  flatMap-map f g [] = refl
-  flatMap-map f g (x ∷ xs) = ap (λ l. f (g x) ++ l) (flatMap-map f g xs)

@@ -90,19 +90,26 @@ abbrev pub contentOf : List Record → Content
 contentOf [] = record { payload = 0 }
 contentOf (r ∷ rs) = r .content
 
+-- records listed into an output
+module _ (rs : List Record) (out : List ℕ) where
+  -- "written is the smaller of total and the whole records that fit the output"
+  abbrev pub writtenFor : ℕ
+  writtenFor = min (length rs) (length out / recordSize)
+
+  -- "The output begins with that many of them, the first in split order, and its other bytes are as they came."
+  abbrev pub outputFor : Shape → List ℕ
+  outputFor s = recordsBytes s (take writtenFor rs) ++ drop (recordSize * writtenFor) out
+
 module _ (f : Fixed) (S : List Record) where
   -- "Total is the number of matching records of S"
   abbrev pub matching : List (Option ℕ) → List Record
   matching q = filter (matches (f .shape) q) S
 
-  -- "written is the smaller of total and the whole records that fit the output"
   abbrev pub writtenOf : List (Option ℕ) → List ℕ → ℕ
-  writtenOf q out = min (length (matching q)) (length out / recordSize)
+  writtenOf q out = writtenFor (matching q) out
 
-  -- "The output begins with that many of them, the first in split order, and its other bytes are as they came."
   unfoldable pub outputOf : List (Option ℕ) → List ℕ → List ℕ
-  outputOf q out =
-      recordsBytes (f .shape) (take (writtenOf q out) (matching q)) ++ drop (recordSize * writtenOf q out) out
+  outputOf q out = outputFor (matching q) out (f .shape)
 
   -- "Lookup: the key's payload in S and 1 page read", "Query: .. written .. Total .. Reads"
   unfoldable pub replyTo : Call → Reply

@@ -13,6 +13,7 @@ use Rattle.shape.specs.Shape.{shapeNumber}
 use Rattle.shape.specs.Refusal.{accepted, refused}
 use Rattle.shape.specs.Key.{queryFits}
 use Rattle.shape.proofs.ShapeLaws.{inBounds-of, capacity-bounds}
+use Rattle.region.specs.Query.{queryEnters}
 use Rattle.record.specs.Record.{Record, matches}
 use Rattle.record.specs.Bytes.{recordSize, recordOf}
 use Rattle.record.proofs.ByteLaws.{AreBytes}
@@ -130,17 +131,17 @@ module _ (st : State) (words bytes : List ℕ) (q : List (Option ℕ))
         few : n ≤ 4096
         few =
             let p : 2 ^ st .deepest ≤ 2 ^ 12 = pow-mono {i = st .deepest} {j = 12} (limits-lent .depth-twelve) in
-            omega (arith, p, noted-le st words bytes (queryBits (st .shape) q) list r later o n e)
+            omega (arith, p, noted-le st words bytes (queryEnters (queryBits (st .shape) q)) list r later o n e)
 
         within : n ≤ length list
         within =
-            omega (arith, room, length-noted st words bytes (queryBits (st .shape) q) list r later o n e)
+            omega (arith, room, length-noted st words bytes (queryEnters (queryBits (st .shape) q)) list r later o n e)
 
         each-within : (i : ℕ) → i < n → PageWithin (st .shape .capacity) bytes (getD later i 0)
         each-within i l =
             PageWithin-readable (st .shape .capacity) (st .limits .pages) bytes (getD later i 0)
             (limits-lent .most-pages) (limits-lent .pages-lent)
-            (noted-readable st words bytes (queryBits (st .shape) q) list r later o n e within i l)
+            (noted-readable st words bytes (queryEnters (queryBits (st .shape) q)) list r later o n e within i l)
 
         capacity-le : st .shape .capacity ≤ 16
         capacity-le = capacity-bounds (st .shape) shape-of-none .1

@@ -1,6 +1,5 @@
--- Where words show the leaves of a division, the walk sees exactly the pages of the leaves that it enters and that are
--- not empty, in order; their number is that of the leaves opened, and their records are those of the leaves. Assumes
--- nothing.
+-- Where words show the leaves of a division, the walk sees exactly the pages of the leaves that it enters and opens, in
+-- order; their number is that of the leaves opened, and their records are those of the leaves. Assumes nothing.
 use Prim.Native.Nat.{ℕ, zero, suc, _+_, _-_, _≤_, _<_}
 use mathlib.Core.Path.{_≡_, refl, sym, ap, _∙_}
 use mathlib.Core.Bool.{Bool, true, false, cond}
@@ -8,12 +7,12 @@ use mathlib.Core.List.{List, [], _∷_, _++_, flatMap, append-nil}
 use native.Mathlib.Omega.{arith}
 use native.Mathlib.Nat.{zero-add, add-zero}
 use lib.ListN.{length, length-append}
-use Rattle.lists.specs.Filter.{filter, nonEmpty}
+use Rattle.lists.specs.Filter.{filter}
 use Rattle.lists.proofs.Sequences.{flatMap-append}
 use Rattle.cell.specs.Cell.{Agree}
 use Rattle.region.specs.Strings.{withBit, emptyString}
 use Rattle.region.specs.Division.{Division, leaf, divided, greatestDepth, leafDepth, leafRecords}
-use Rattle.region.specs.Query.{walkRecords, walkReads}
+use Rattle.region.specs.Query.{LeafTest, walkRecords, walkReads}
 use Rattle.region.proofs.StringLaws.{withBit-same, withBit-other}
 use Rattle.region.proofs.StringLeafLaws.{leafDepth-le}
 use Rattle.directory_word.specs.Word.{pageField, depthField}
@@ -79,7 +78,7 @@ after-sound false true s u gs hs h k = rw (k refl)
 after-sound false false s u gs hs h k = refl
 
 module _ {R : Type 0} (word : ℕ → (ℕ → Bool) → ℕ) (own : ℕ → (ℕ → Bool) → ℕ → Seen)
-    (enter : ℕ → (ℕ → Bool) → Bool) (T : ℕ) (D : Division R) where
+    (enter : ℕ → (ℕ → Bool) → Bool) (opens : LeafTest R) (T : ℕ) (D : Division R) where
   -- the page of the leaf that a string leads to
   abbrev pageOf : (ℕ → Bool) → ℕ
   pageOf p = pageField (word T p) - 1
@@ -90,18 +89,20 @@ module _ {R : Type 0} (word : ℕ → (ℕ → Bool) → ℕ) (own : ℕ → (�
     pub own-word : (t : ℕ) (p : ℕ → Bool) → t ≤ T → Zeros t p → word t p ≡ word T p
     pub word-depth : (p : ℕ → Bool) → depthField (word T p) ≡ leafDepth p 0 D
     pub word-noted : (p : ℕ → Bool) → enter (leafDepth p 0 D) p ≡ true
-        → own (leafDepth p 0 D) p (word T p) ≡ soundSeen (cond (nonEmpty (leafRecords p 0 D)) (pageOf p ∷ []) [])
+        → own (leafDepth p 0 D) p (word T p)
+        ≡ soundSeen (cond (opens p (leafDepth p 0 D) (leafRecords p 0 D)) (pageOf p ∷ []) [])
 
   module _ (shown : ShowsLeaves) where
     seen-leaf : (rs : List R) (f t : ℕ) (p : ℕ → Bool) → t + f ≡ T → Zeros t p → Under D t p (leaf rs)
-        → enter t p ≡ true → seen word own enter T f p t ≡ soundSeen (walkPages enter pageOf p t (leaf rs))
+        → enter t p ≡ true → seen word own enter T f p t ≡ soundSeen (walkPages enter opens pageOf p t (leaf rs))
     unfolding seen
     seen-leaf rs f t p e z h k =
         is-met f
         ∙ ap (own t p) same
         ∙ ap (λ x. own x p (word T p)) (sym at-depth)
         ∙ shown .word-noted p (rw at-depth k)
-        ∙ ap (λ l. soundSeen (cond (nonEmpty l) (pageOf p ∷ []) [])) (h p (λ s l. refl) .1)
+        ∙ ap (λ l. soundSeen (cond (opens p (leafDepth p 0 D) l) (pageOf p ∷ []) [])) (h p (λ s l. refl) .1)
+        ∙ ap (λ x. soundSeen (cond (opens p x rs) (pageOf p ∷ []) [])) at-depth
       where
         at-depth : leafDepth p 0 D ≡ t
         at-depth = h p (λ s l. refl) .0 ∙ add-zero t
@@ -117,7 +118,8 @@ module _ {R : Type 0} (word : ℕ → (ℕ → Bool) → ℕ) (own : ℕ → (�
         is-met (suc f) = met-here _
 
     pub seen-division : (E : Division R) (f t : ℕ) (p : ℕ → Bool) → t + f ≡ T → greatestDepth E ≤ f → Zeros t p
-        → Under D t p E → enter t p ≡ true → seen word own enter T f p t ≡ soundSeen (walkPages enter pageOf p t E)
+        → Under D t p E → enter t p ≡ true
+        → seen word own enter T f p t ≡ soundSeen (walkPages enter opens pageOf p t E)
     unfolding seen
     seen-division (leaf rs) f t p e d z h k = seen-leaf rs f t p e z h k
     seen-division (divided l u) zero t p e d z h k = absurd (omega arith)
@@ -141,22 +143,23 @@ module _ {R : Type 0} (word : ℕ → (ℕ → Bool) → ℕ) (own : ℕ → (�
 
     -- from the empty string
     pub seen-sound : greatestDepth D ≤ T → enter 0 emptyString ≡ true
-        → seen word own enter T T emptyString 0 ≡ soundSeen (walkPages enter pageOf emptyString 0 D)
+        → seen word own enter T T emptyString 0 ≡ soundSeen (walkPages enter opens pageOf emptyString 0 D)
     seen-sound d k = seen-division D T 0 emptyString (zero-add T) d (λ s l. refl) (Under-all D) k
 
 -- ---- how many pages, and their records
 
-module _ {R : Type 0} (enter : ℕ → (ℕ → Bool) → Bool) (page : (ℕ → Bool) → ℕ) where
+module _ {R : Type 0} (enter : ℕ → (ℕ → Bool) → Bool) (opens : LeafTest R) (page : (ℕ → Bool) → ℕ) where
   pub length-walkPages : (D : Division R) (p : ℕ → Bool) (t : ℕ)
-      → length (walkPages enter page p t D) ≡ walkReads enter nonEmpty p t D
-  length-walkPages (leaf rs) p t = one (nonEmpty rs)
+      → length (walkPages enter opens page p t D) ≡ walkReads enter opens p t D
+  length-walkPages (leaf rs) p t = one (opens p t rs)
     where
       one : (β : Bool) → length (cond β (page p ∷ []) []) ≡ cond β 1 0
       one true = refl
       one false = refl
   length-walkPages (divided l u) p t =
-      length-append (cond (enter (suc t) (withBit p t false)) (walkPages enter page (withBit p t false) (suc t) l) [])
-      (cond (enter (suc t) (withBit p t true)) (walkPages enter page (withBit p t true) (suc t) u) [])
+      length-append
+      (cond (enter (suc t) (withBit p t false)) (walkPages enter opens page (withBit p t false) (suc t) l) [])
+      (cond (enter (suc t) (withBit p t true)) (walkPages enter opens page (withBit p t true) (suc t) u) [])
       ∙ sum _ _ _ _ (side (enter (suc t) (withBit p t false)) _ _ (length-walkPages l (withBit p t false) (suc t)))
       (side (enter (suc t) (withBit p t true)) _ _ (length-walkPages u (withBit p t true) (suc t)))
     where
@@ -169,15 +172,15 @@ module _ {R : Type 0} (enter : ℕ → (ℕ → Bool) → Bool) (page : (ℕ →
 
   module _ (D : Division R) (matches : R → Bool) (records : ℕ → List R)
       -- a page that is read has its leaf's records
-      (has : (p : ℕ → Bool) → enter (leafDepth p 0 D) p ≡ true → nonEmpty (leafRecords p 0 D) ≡ true
-      → records (page p) ≡ leafRecords p 0 D) where
+      (has : (p : ℕ → Bool) → enter (leafDepth p 0 D) p ≡ true
+      → opens p (leafDepth p 0 D) (leafRecords p 0 D) ≡ true → records (page p) ≡ leafRecords p 0 D) where
     abbrev gathered : List ℕ → List R
     gathered gs = flatMap (λ g. filter matches (records g)) gs
 
     pub gathered-walkPages : (E : Division R) (p : ℕ → Bool) (t : ℕ) → Under D t p E → enter t p ≡ true
-        → gathered (walkPages enter page p t E) ≡ walkRecords enter nonEmpty matches p t E
+        → gathered (walkPages enter opens page p t E) ≡ walkRecords enter opens matches p t E
     unfolding flatMap
-    gathered-walkPages (leaf rs) p t h k = one (nonEmpty rs) refl
+    gathered-walkPages (leaf rs) p t h k = one (opens p t rs) refl
       where
         at-depth : leafDepth p 0 D ≡ t
         at-depth = h p (λ s l. refl) .0 ∙ add-zero t
@@ -185,15 +188,15 @@ module _ {R : Type 0} (enter : ℕ → (ℕ → Bool) → Bool) (page : (ℕ →
         here : leafRecords p 0 D ≡ rs
         here = h p (λ s l. refl) .1
 
-        one : (β : Bool) → nonEmpty rs ≡ β → gathered (cond β (page p ∷ []) []) ≡ cond β (filter matches rs) []
+        one : (β : Bool) → opens p t rs ≡ β → gathered (cond β (page p ∷ []) []) ≡ cond β (filter matches rs) []
         one true e =
             append-nil (filter matches (records (page p)))
-            ∙ ap (filter matches) (has p (rw at-depth k) (ap nonEmpty here ∙ e) ∙ here)
+            ∙ ap (filter matches) (has p (rw at-depth k) (rw (at-depth, here) e) ∙ here)
         one false e = refl
     gathered-walkPages (divided l u) p t h k =
         flatMap-append _
-        (cond (enter (suc t) (withBit p t false)) (walkPages enter page (withBit p t false) (suc t) l) [])
-        (cond (enter (suc t) (withBit p t true)) (walkPages enter page (withBit p t true) (suc t) u) [])
+        (cond (enter (suc t) (withBit p t false)) (walkPages enter opens page (withBit p t false) (suc t) l) [])
+        (cond (enter (suc t) (withBit p t true)) (walkPages enter opens page (withBit p t true) (suc t) u) [])
         ∙ join _ _ _ _
         (side (enter (suc t) (withBit p t false)) _ _
         (λ e. gathered-walkPages l (withBit p t false) (suc t) (Under-lower D t p l u h) e))

@@ -1,5 +1,5 @@
--- What the walk sees in a store that is sound where the query reads it (document 01, "Calls"): it is sound, notes the
--- pages of the agreeing leaves that are not empty, in order, and their matching records are those of the set. What the
+-- What the walk sees in a store that is sound where it reads it (document 01, "Calls"): it is sound, notes the pages of
+-- the leaves that it enters and that are not empty, in order, and their matching records are those of the set. What the
 -- other pages hold does not matter. Assumes nothing.
 use Prim.Native.Nat.{ℕ, _+_, _-_, _≤_, _<_}
 use mathlib.Core.Path.{_≡_, refl, sym, ap, _∙_}
@@ -10,30 +10,34 @@ use lib.ListN.{getD, length}
 use borrow.Author.Tests.{le-leb}
 use Rattle.lists.specs.Filter.{filter, all, nonEmpty}
 use Rattle.lists.proofs.Bools.{and-split, and-both}
+use Rattle.lists.proofs.FilterLaws.{all-imp}
 use Rattle.shape.specs.Shape.{Fit, widthsOf, total}
 use Rattle.shape.specs.declared.Shape.{Shape}
 use Rattle.split.specs.Steps.{steps}
 use Rattle.cell.proofs.CellLaws.{cellAddress-zero-bits}
+use Rattle.region.specs.Strings.{sameBits, emptyString}
 use Rattle.region.specs.Sets.{sorted}
 use Rattle.region.specs.Division.{Division, leafDepth, leafRecords}
-use Rattle.region.specs.Query.{QueryBit, agrees, queryEnters, reads}
+use Rattle.region.specs.Query.{LeafTest, holdsRecords, walkReads}
 use Rattle.region.proofs.StringLeafLaws.{length-leafRecords-le}
-use Rattle.region.proofs.QueryLaws.{walkFound-divide}
+use Rattle.region.proofs.WalkLaws.{goodIn, walkRecords-divide}
+use Rattle.region.proofs.QueryLaws.{no-records}
 use Rattle.record.specs.Record.{Record, recordBit}
 use Rattle.page.proofs.FieldLaws.{length-recordsFrom}
 use Rattle.page.specs.Page.{countOf, recordsOf, pageAt}
 use Rattle.directory_word.specs.Word.{wordOf, pageField, depthField}
 use Rattle.directory_word.specs.declared.Leaf.the-variants.{Page}
 use Rattle.model.specs.Sets.{inShape, isSet, divisionOf}
+use Rattle.store.specs.declared.State.{State}
 use Rattle.store.specs.Store.{Store, wordAt}
 use Rattle.store.specs.Sound.{LeafWord, Sound}
-use Rattle.store.specs.Promises.{withBytes, SoundWhereRead}
+use Rattle.store.specs.Promises.{withBytes, SoundWhere}
 use Rattle.shape.proofs.ShapeLaws.{shapeNumber-true, capacity-bounds, widthsOf-fit}
 use Rattle.page_ends.proofs.BeginLaws.{length-steps-four}
 use Rattle.page_ends.proofs.SoundLaws.{endsBegin-shown}
 use Rattle.change.proofs.BoundLaws.{leaf-counted}
-use Rattle.query_seen.specs.Pages.{pageIn, readPages}
-use Rattle.query_seen.specs.Seen.{fairPage, tallied, noted, leafSeen, walkSeen}
+use Rattle.query_seen.specs.Pages.{pageIn, readPagesBy}
+use Rattle.query_seen.specs.Seen.{fairPage, tallied, noted, leafSeen, walkSeenBy}
 use Rattle.query_seen.proofs.DivisionLaws.{soundSeen, Under-all, ShowsLeaves, seen-sound, length-walkPages}
 use Rattle.query_seen.proofs.DivisionLaws.{gathered-walkPages}
 use Rattle.query_seen.proofs.SeenLaws.{within-true, noted-none, noted-fair}
@@ -75,7 +79,10 @@ length-nonEmpty (x ∷ xs) e = omega arith
 
 -- ---- the store
 
-module _ (store : Store) (q : ℕ → QueryBit) (S : List Record) (h : SoundWhereRead store q S) where
+module _ (store : Store) (enter : ℕ → (ℕ → Bool) → Bool) (reads : LeafTest Record) (S : List Record)
+    -- a leaf that is entered and not empty is among those that are read
+    (covers : (p : ℕ → Bool) (x : ℕ) (rs : List Record) → enter x p ≡ true → nonEmpty rs ≡ true → reads p x rs ≡ true)
+    (h : SoundWhere store reads S) where
   abbrev s : Shape
   s = store .state .shape
 
@@ -110,16 +117,17 @@ module _ (store : Store) (q : ℕ → QueryBit) (S : List Record) (h : SoundWher
   leaf-word : (p : ℕ → Bool) → LeafWord s P (h .0) (leafRecords p 0 D) (leafDepth p 0 D) (wordAt s T words p)
   leaf-word p = sound .shown .word p
 
-  -- the page of an agreeing leaf has the leaf's records, whatever other pages hold
-  page-records : (p : ℕ → Bool) → queryEnters q (leafDepth p 0 D) p ≡ true → nonEmpty (leafRecords p 0 D) ≡ true
+  -- the page of a leaf that is entered has the leaf's records, whatever other pages hold
+  page-records : (p : ℕ → Bool) → enter (leafDepth p 0 D) p ≡ true → nonEmpty (leafRecords p 0 D) ≡ true
       → records (pageIn (store .state) words p) ≡ leafRecords p 0 D
   page-records p e n =
       let w = page-leafWord s P (sound .most-pages) (h .0) (leafRecords p 0 D) (leafDepth p 0 D) (wordAt s T words p)
       (leaf-word p) n in
-      ap (recordsOf s) (h .3 p e (pageIn (store .state) words p) (leafDepth p 0 D) (w .0) (w .1)) ∙ w .2
+      let read = covers p (leafDepth p 0 D) (leafRecords p 0 D) e n in
+      ap (recordsOf s) (h .3 p read (pageIn (store .state) words p) (leafDepth p 0 D) (w .0) (w .1)) ∙ w .2
 
   -- so that its count is 1 to b, and its ends are the leaf's
-  page-fair : (p : ℕ → Bool) → queryEnters q (leafDepth p 0 D) p ≡ true → nonEmpty (leafRecords p 0 D) ≡ true
+  page-fair : (p : ℕ → Bool) → enter (leafDepth p 0 D) p ≡ true → nonEmpty (leafRecords p 0 D) ≡ true
       → fairPage s (store .memory .bytes) (leafDepth p 0 D) p (pageIn (store .state) words p) ≡ true
   unfolding fairPage divisionOf
   page-fair p e n =
@@ -139,8 +147,8 @@ module _ (store : Store) (q : ℕ → QueryBit) (S : List Record) (h : SoundWher
   unfolding tallied
   leaf-tallied p = le-leb 1 _ (leaf-counted (withBytes store (h .0)) S sound p)
 
-  shows-leaves : ShowsLeaves (λ x p. wordAt s x words p) (leafSeen (store .state) (store .memory .bytes))
-      (queryEnters q) T D
+  shows-leaves : ShowsLeaves (λ x p. wordAt s x words p) (leafSeen (store .state) (store .memory .bytes)) enter
+      holdsRecords T D
   shows-leaves = record {
     own-word = λ t p l z.
         ap (λ a. getD words a 0)
@@ -152,24 +160,31 @@ module _ (store : Store) (q : ℕ → QueryBit) (S : List Record) (h : SoundWher
         (leaf-tallied p) (page-fair p e);
   }
 
-  -- the walk is sound, and notes the pages of the agreeing leaves that are not empty, in order
-  pub walkSeen-sound : walkSeen (store .state) words (store .memory .bytes) q
-      ≡ soundSeen (readPages (store .state) words q D)
-  unfolding walkSeen readPages
-  walkSeen-sound = seen-sound _ _ (queryEnters q) T D shows-leaves (omega (arith, sound .deepest)) refl
+  module _ (begins : enter 0 emptyString ≡ true) where
+    -- the walk is sound, and notes the pages of the leaves that it enters and that are not empty, in order
+    pub walkSeenBy-sound : walkSeenBy (store .state) words (store .memory .bytes) enter
+        ≡ soundSeen (readPagesBy (store .state) words enter D)
+    unfolding walkSeenBy readPagesBy
+    walkSeenBy-sound = seen-sound _ _ enter holdsRecords T D shows-leaves (omega (arith, sound .deepest)) begins
 
-  -- their number is the reads
-  pub length-readPages : length (readPages (store .state) words q D) ≡ reads q D
-  unfolding readPages
-  length-readPages = length-walkPages (queryEnters q) (pageIn (store .state) words) D _ 0
+    -- their matching records, one page after the other, are the matching records of S in split order, where the test of
+    -- regions looks at their own bits and lets in every beginning of a record that matches
+    pub records-readPagesBy : (M : Record → Bool)
+        → ((x : ℕ) (p q : ℕ → Bool) → sameBits p q x 0 ≡ true → enter x p ≡ enter x q)
+        → ((r : Record) → inShape s r ≡ true → M r ≡ true → (x : ℕ) → x ≤ total (widthsOf s)
+        → enter x (recordBit s r) ≡ true)
+        → flatMap (λ g. filter M (records g)) (readPagesBy (store .state) words enter D) ≡ filter M S
+    unfolding readPagesBy divisionOf
+    records-readPagesBy M local lets-in =
+        gathered-walkPages enter holdsRecords (pageIn (store .state) words) D M records page-records D _ 0 (Under-all D)
+        begins
+        ∙ walkRecords-divide (recordBit s) enter holdsRecords M (inShape s) (total (widthsOf s)) local lets-in
+        (λ p x rs k e. no-records M rs e) (s .capacity) (total (widthsOf s)) 0 S emptyString (omega arith)
+        (set-parts .0)
+        (all-imp (inShape s) (goodIn (recordBit s) (inShape s) emptyString 0) (λ r k. rw k) S (set-parts .1))
 
-  -- their matching records, one page after the other, are the matching records of S in split order, where a record that
-  -- matches agrees with the query's bits
-  pub records-readPages : (M : Record → Bool)
-      → ((r : Record) → inShape s r ≡ true → M r ≡ true → agrees q (recordBit s r) (total (widthsOf s)) 0 ≡ true)
-      → flatMap (λ g. filter M (records g)) (readPages (store .state) words q D) ≡ filter M S
-  unfolding readPages divisionOf
-  records-readPages M agreeing =
-      gathered-walkPages (queryEnters q) (pageIn (store .state) words) D M records page-records D _ 0 (Under-all D) refl
-      ∙ walkFound-divide (recordBit s) q M (inShape s) (total (widthsOf s)) agreeing (s .capacity) S (set-parts .0)
-      (set-parts .1)
+-- how many pages they are
+pub length-readPagesBy : (st : State) (words : List ℕ) (enter : ℕ → (ℕ → Bool) → Bool) (D : Division Record)
+    → length (readPagesBy st words enter D) ≡ walkReads enter holdsRecords emptyString 0 D
+unfolding readPagesBy
+length-readPagesBy st words enter D = length-walkPages enter holdsRecords (pageIn st words) D _ 0

@@ -1,11 +1,10 @@
--- The pages that a query reads of a store that shows a division (document 01, "Calls"). Assumes nothing.
+-- The pages that a walk reads of a store that shows a division (document 01, "Calls"). Assumes nothing.
 use Prim.Native.Nat.{ℕ, suc, _-_}
 use mathlib.Core.Bool.{Bool, true, false, cond}
 use mathlib.Core.List.{List, [], _∷_, _++_}
-use Rattle.lists.specs.Filter.{nonEmpty}
 use Rattle.region.specs.Strings.{withBit, emptyString}
 use Rattle.region.specs.Division.{Division, leaf, divided}
-use Rattle.region.specs.Query.{QueryBit, queryEnters}
+use Rattle.region.specs.Query.{QueryBit, LeafTest, holdsRecords, queryEnters}
 use Rattle.record.specs.Record.{Record}
 use Rattle.store.specs.declared.State.{State}
 use Rattle.store.specs.Store.{wordAt}
@@ -16,14 +15,18 @@ abbrev pub pageIn : State → List ℕ → (ℕ → Bool) → ℕ
 pageIn st words p = pageField (wordAt (st .shape) (st .deepest) words p) - 1
 
 -- `page p` is the page of the leaf that p leads to
-module _ {R : Type 0} (enter : ℕ → (ℕ → Bool) → Bool) (page : (ℕ → Bool) → ℕ) where
-  -- the pages of the leaves that are entered and not empty, in the order of the walk, below the first t bits of p
+module _ {R : Type 0} (enter : ℕ → (ℕ → Bool) → Bool) (opens : LeafTest R) (page : (ℕ → Bool) → ℕ) where
+  -- the pages of the leaves that are entered and opened, in the order of the walk, below the first t bits of p
   abbrev pub walkPages : (ℕ → Bool) → ℕ → Division R → List ℕ
-  walkPages p t (leaf rs) = cond (nonEmpty rs) (page p ∷ []) []
+  walkPages p t (leaf rs) = cond (opens p t rs) (page p ∷ []) []
   walkPages p t (divided l u) =
       cond (enter (suc t) (withBit p t false)) (walkPages (withBit p t false) (suc t) l) []
       ++ cond (enter (suc t) (withBit p t true)) (walkPages (withBit p t true) (suc t) u) []
 
+-- of a store's leaves, those that are not empty
+unfoldable pub readPagesBy : State → List ℕ → (ℕ → (ℕ → Bool) → Bool) → Division Record → List ℕ
+readPagesBy st words enter D = walkPages enter holdsRecords (pageIn st words) emptyString 0 D
+
 -- "the non-empty agreeing leaves": their pages
-unfoldable pub readPages : State → List ℕ → (ℕ → QueryBit) → Division Record → List ℕ
-readPages st words q D = walkPages (queryEnters q) (pageIn st words) emptyString 0 D
+abbrev pub readPages : State → List ℕ → (ℕ → QueryBit) → Division Record → List ℕ
+readPages st words q D = readPagesBy st words (queryEnters q) D

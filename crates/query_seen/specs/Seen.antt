@@ -86,8 +86,11 @@ module _ (word : ℕ → (ℕ → Bool) → ℕ) (leaf : ℕ → (ℕ → Bool) 
       (after (cond (enter (suc x) (withBit p x false)) (seen f (withBit p x false) (suc x)) nothing)
       (cond (enter (suc x) (withBit p x true)) (seen f (withBit p x true) (suc x)) nothing))
 
--- a query's walk over a store's memory, "from the empty string"
-unfoldable pub walkSeen : State → List ℕ → List ℕ → (ℕ → QueryBit) → Seen
-walkSeen st words bytes q =
-    seen (λ x p. wordAt (st .shape) x words p) (leafSeen st bytes) (queryEnters q) (st .deepest)
-    (st .deepest) emptyString 0
+-- a walk over a store's memory, "from the empty string"
+unfoldable pub walkSeenBy : State → List ℕ → List ℕ → (ℕ → (ℕ → Bool) → Bool) → Seen
+walkSeenBy st words bytes enter =
+    seen (λ x p. wordAt (st .shape) x words p) (leafSeen st bytes) enter (st .deepest) (st .deepest) emptyString 0
+
+-- a query's
+abbrev pub walkSeen : State → List ℕ → List ℕ → (ℕ → QueryBit) → Seen
+walkSeen st words bytes q = walkSeenBy st words bytes (queryEnters q)

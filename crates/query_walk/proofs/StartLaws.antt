@@ -34,7 +34,7 @@ use Rattle.query_rows.proofs.TableLaws.{fit-steps}
 use Rattle.cell.proofs.HalfLaws.{cell-lower}
 use Rattle.query_rows.proofs.VectorLaws.{packed-upper, rowAddress-cell}
 use Rattle.query_seen.specs.Seen.{Seen, nothing, damaged, after, fairPage, tallied, noted, leafSeen, met, seen}
-use Rattle.query_seen.specs.Seen.{walkSeen}
+use Rattle.query_seen.specs.Seen.{walkSeenBy, walkSeen}
 use Rattle.query_seen.proofs.SeenLaws.{after-nothing, nothing-after}
 use Rattle.query_walk.specs.Noting.{Put, Walkable}
 use Rattle.query_walk.specs.Private.{fairBy, leafBy, wantedSides, seenBy, Wrote, Turn}
@@ -200,7 +200,7 @@ module _ (st : State) (rows words bytes : List ℕ) (room : ℕ)
         λ i. noted (table .pages i) (has i) (λ g. fair-alike x p k l c g i) w
 
     byRows-walkSeen : byRows (deepestIn rows) ≡ walkSeen st words bytes q
-    unfolding walkSeen cellAddress
+    unfolding walkSeenBy cellAddress
     byRows-walkSeen =
         let T = st .deepest in
         let all : T - 0 ≡ T = omega arith in

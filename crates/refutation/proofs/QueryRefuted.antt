@@ -37,7 +37,7 @@ use Rattle.refutation.proofs.FourLeavesSound.{fourRecords-sound}
 model-answer : {store : Store} {S : List Record} {q : List (Option ℕ)} {out out′ : List ℕ} {answer : Answer Reply}
     → Sound store S → QueryPromise store q out answer out′
     → (answer ≡ outcomeOn store S (queryCall q out) .answer) × (out′ ≡ outcomeOn store S (queryCall q out) .output)
-model-answer {store = store} {S = S} sound p = p .answered-as S (soundWhereRead-of-sound store _ S sound)
+model-answer {store = store} {S = S} sound p = p .listed-as .answered-as S (soundWhereRead-of-sound store _ S sound)
 
 -- ---- counts
 
@@ -109,13 +109,14 @@ module _ (store : Store) (q : List (Option ℕ)) (out out′ : List ℕ) (k : �
   -- "All of them return the number and change nothing.": a byte of the output is written, and the call refused
   pub writes-when-refused : (n : ℕ) → QueryPromise store q out (refused n) out′
       → (getD out′ k 0 ≡ getD out k 0 → ⊥) → ⊥
-  writes-when-refused n p apart = apart (ap (λ bytes. getD bytes k 0) (p .unchanged n refl))
+  writes-when-refused n p apart = apart (ap (λ bytes. getD bytes k 0) (p .listed-as .unchanged n refl))
 
   -- "other output bytes untouched": one behind the written records is another
   pub writes-past-written : queryNumber store q ≡ 0 → (written total n : ℕ)
       → QueryPromise store q out (accepted (listed written total n)) out′
       → (getD out′ (recordSize * written + k) 0 ≡ getD out (recordSize * written + k) 0 → ⊥) → ⊥
-  writes-past-written e written total n p apart = ⊎-elim counts (λ r. refused-not-accepted _ 9 (sym r)) (p .ordinary e)
+  writes-past-written e written total n p apart =
+      ⊎-elim counts (λ r. refused-not-accepted _ 9 (sym r)) (p .listed-as .ordinary e)
     where
       counts : (w t r : ℕ)
           × (_≡_ {A = Answer Reply} (accepted (listed written total n)) (accepted (listed w t r))) × (w ≤ t)
@@ -132,7 +133,7 @@ pub three-before-eight : (out out′ : List ℕ)
     → QueryPromise wordPastPages (some 4 ∷ none ∷ some 0 ∷ none ∷ []) out (refused 3) out′ → ⊥
 unfolding firstNumber inBounds shapeConditions namesUnused recordBytes lentConditions queryNumber
 three-before-eight out out′ p =
-    let same : _≡_ {A = ℕ} 3 8 = refused-number (p .early-refused 7 refl) in
+    let same : _≡_ {A = ℕ} 3 8 = refused-number (p .listed-as .early-refused 7 refl) in
     omega (arith, same)
 
 -- ---- "one that takes its records from a scan of every page" (review, 4)
@@ -158,7 +159,8 @@ module _ (page out out′ : List ℕ) (e : length page ≡ pageSize 2) where
   -- whatever page 1 holds, one record is listed and one page read
   pub answer-but-for-page : (answer : Answer Reply) → QueryPromise (otherPage page) (givenFirst 0) out answer out′
       → answer ≡ accepted (listed (min 1 (length out / recordSize)) 1 1)
-  answer-but-for-page answer p = p .answered-as setOfThree (sound-but-for-page page e) .0 ∙ reads out .one-side-listed
+  answer-but-for-page answer p =
+      p .listed-as .answered-as setOfThree (sound-but-for-page page e) .0 ∙ reads out .one-side-listed
 
   -- a scan that finds a matching record there, or that stumbles over it
   pub scans-pages : (written n : ℕ)

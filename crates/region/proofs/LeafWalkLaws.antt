@@ -1,19 +1,18 @@
--- Walks over the leaves by their strings: what a walk finds and reads, if a region that it enters has only beginnings
--- that it enters. Assumes nothing.
+-- Walks over the leaves by their strings: what a walk reads, if a region that it enters has only beginnings that it
+-- enters. Assumes nothing.
 use Prim.Native.Nat.{ℕ, suc, _+_}
 use mathlib.Core.Path.{_≡_, refl, sym, ap, _∙_}
 use mathlib.Core.Bool.{Bool, true, false, cond, false≢true}
-use mathlib.Core.List.{List, [], _∷_, _++_, map, flatMap, append-nil}
+use mathlib.Core.List.{List, [], _∷_, _++_, map}
 use native.Mathlib.Omega.{arith}
 use native.Mathlib.Nat.{add-zero, zero-add}
 use lib.ListN.{length, length-append, length-map}
 use Rattle.lists.specs.Filter.{filter}
 use Rattle.lists.proofs.Bools.{eq-of-iff}
 use Rattle.lists.proofs.FilterLaws.{filter-ext, filter-append, filter-map, filter-false}
-use Rattle.lists.proofs.Sequences.{flatMap-append, flatMap-map}
 use Rattle.region.specs.Strings.{sameBits, withBit}
 use Rattle.region.specs.Division.{Division, leaf, divided, Leaf, depth, stringBit, onSide, leaves}
-use Rattle.region.specs.Query.{walkRecords, walkReads}
+use Rattle.region.specs.Query.{LeafTest, walkReads}
 use Rattle.region.proofs.StringLaws.{sameBits-below, withBit-other, follow, follow-whole}
 
 -- a region that is entered has only beginnings that are
@@ -85,17 +84,34 @@ module _ {R : Type 0} (enter : ℕ → (ℕ → Bool) → Bool)
           (sameBits-below (follow p 0 (l .string)) (stringBit l) (depth l) (depth l) 0 (omega arith)
           (λ s h. follow-whole p (l .string) s h)))
 
-  -- ---- what the walk reads and finds
+  -- ---- what the walk reads
 
-  module _ (opens : List R → Bool) where
-    abbrev opened : Leaf R → Bool
-    opened l = opens (l .records)
+  module _ (opens : LeafTest R)
+      -- the test of a leaf looks at its own bits only
+      (local-opens : (x : ℕ) (p q : ℕ → Bool) (rs : List R) → sameBits p q x 0 ≡ true
+      → opens p x rs ≡ opens q x rs) where
+    -- of the region of the first t bits of p
+    abbrev opened : (ℕ → Bool) → ℕ → Leaf R → Bool
+    opened p t l = opens (follow p t (l .string)) (t + depth l) (l .records)
+
+    -- a leaf of side β, as a leaf of the region
+    opened-side : (p : ℕ → Bool) (t : ℕ) (β : Bool) (l : Leaf R)
+        → opened p t (onSide β l) ≡ opened (withBit p t β) (suc t) l
+    opened-side p t β l = let next : t + suc (depth l) ≡ suc t + depth l = omega arith in rw next
+
+    opened-whole : (p : ℕ → Bool) (l : Leaf R) → opened p 0 l ≡ opens (stringBit l) (depth l) (l .records)
+    opened-whole p l =
+        rw (zero-add (depth l))
+        (local-opens (depth l) (follow p 0 (l .string)) (stringBit l) (l .records)
+        (sameBits-below (follow p 0 (l .string)) (stringBit l) (depth l) (depth l) 0 (omega arith)
+        (λ s h. follow-whole p (l .string) s h)))
 
     reads-side : (p : ℕ → Bool) (t : ℕ) (β : Bool) (D : Division R)
         → (enter (suc t) (withBit p t β) ≡ true
-        → walkReads enter opens (withBit p t β) (suc t) D ≡ length (filter opened (entered (withBit p t β) (suc t) D)))
+        → walkReads enter opens (withBit p t β) (suc t) D
+        ≡ length (filter (opened (withBit p t β) (suc t)) (entered (withBit p t β) (suc t) D)))
         → cond (enter (suc t) (withBit p t β)) (walkReads enter opens (withBit p t β) (suc t) D) 0
-        ≡ length (filter opened (enteredSide p t β D))
+        ≡ length (filter (opened p t) (enteredSide p t β D))
     reads-side p t β D ih = by-test (enter (suc t) (withBit p t β)) refl
       where
         E : List (Leaf R)
@@ -103,14 +119,19 @@ module _ {R : Type 0} (enter : ℕ → (ℕ → Bool) → Bool)
 
         by-test : (γ : Bool) → enter (suc t) (withBit p t β) ≡ γ
             → cond (enter (suc t) (withBit p t β)) (walkReads enter opens (withBit p t β) (suc t) D) 0
-            ≡ length (filter opened (enteredSide p t β D))
+            ≡ length (filter (opened p t) (enteredSide p t β D))
         by-test true e =
-            rw e (ih e ∙ sym (ap length (filter-map opened (onSide β) E) ∙ length-map (filter opened E) (onSide β)))
+            rw e
+            (ih e
+            ∙ sym (ap length (filter-map (opened p t) (onSide β) E)
+            ∙ length-map (filter (λ l. opened p t (onSide β l)) E) (onSide β)
+            ∙ ap length
+            (filter-ext (λ l. opened p t (onSide β l)) (opened (withBit p t β) (suc t)) (opened-side p t β) E)))
         by-test false e = rw e
 
     reads-entered : (p : ℕ → Bool) (t : ℕ) (D : Division R) → enter t p ≡ true
-        → walkReads enter opens p t D ≡ length (filter opened (entered p t D))
-    reads-entered p t (leaf rs) e = rw (add-zero t, e) (by-test (opens rs))
+        → walkReads enter opens p t D ≡ length (filter (opened p t) (entered p t D))
+    reads-entered p t (leaf rs) e = rw (add-zero t, e, add-zero t) (by-test (opens p t rs))
       where
         whole : Leaf R
         whole = record { string = []; records = rs }
@@ -121,7 +142,7 @@ module _ {R : Type 0} (enter : ℕ → (ℕ → Bool) → Bool)
     reads-entered p t (divided l u) e =
         rw (
           entered-divided p t l u,
-          filter-append opened (enteredSide p t false l) (enteredSide p t true u),
+          filter-append (opened p t) (enteredSide p t false l) (enteredSide p t true u),
           length-append,
           ← reads-side p t false l (reads-entered (withBit p t false) (suc t) l),
           ← reads-side p t true u (reads-entered (withBit p t true) (suc t) u),
@@ -130,43 +151,10 @@ module _ {R : Type 0} (enter : ℕ → (ℕ → Bool) → Bool)
     -- the reads are the opened leaves among the entered
     pub walkReads-leaves : (p : ℕ → Bool) (D : Division R) → enter 0 p ≡ true
         → walkReads enter opens p 0 D
-        ≡ length (filter (λ l. opens (l .records)) (filter (λ l. enter (depth l) (stringBit l)) (leaves D)))
-    walkReads-leaves p D e = reads-entered p 0 D e ∙ ap (λ ls. length (filter opened ls)) (entered-whole p D)
-
-    module _ (matches : R → Bool) where
-      abbrev taken : Leaf R → List R
-      taken l = cond (opens (l .records)) (filter matches (l .records)) []
-
-      records-side : (p : ℕ → Bool) (t : ℕ) (β : Bool) (D : Division R)
-          → (enter (suc t) (withBit p t β) ≡ true
-          → walkRecords enter opens matches (withBit p t β) (suc t) D
-          ≡ flatMap taken (entered (withBit p t β) (suc t) D))
-          → cond (enter (suc t) (withBit p t β)) (walkRecords enter opens matches (withBit p t β) (suc t) D) []
-          ≡ flatMap taken (enteredSide p t β D)
-      unfolding flatMap
-      records-side p t β D ih = by-test (enter (suc t) (withBit p t β)) refl
-        where
-          by-test : (γ : Bool) → enter (suc t) (withBit p t β) ≡ γ
-              → cond (enter (suc t) (withBit p t β)) (walkRecords enter opens matches (withBit p t β) (suc t) D) []
-              ≡ flatMap taken (enteredSide p t β D)
-          by-test true e = rw e (ih e ∙ sym (flatMap-map taken (onSide β) (entered (withBit p t β) (suc t) D)))
-          by-test false e = rw e
-
-      records-entered : (p : ℕ → Bool) (t : ℕ) (D : Division R) → enter t p ≡ true
-          → walkRecords enter opens matches p t D ≡ flatMap taken (entered p t D)
-      unfolding flatMap
-      records-entered p t (leaf rs) e = rw (add-zero t, e) (sym (append-nil (cond (opens rs) (filter matches rs) [])))
-      records-entered p t (divided l u) e =
-          rw (
-            entered-divided p t l u,
-            flatMap-append taken (enteredSide p t false l) (enteredSide p t true u),
-            ← records-side p t false l (records-entered (withBit p t false) (suc t) l),
-            ← records-side p t true u (records-entered (withBit p t true) (suc t) u),
-          )
-
-      -- the records are, leaf by leaf, those that match of the opened among the entered
-      pub walkRecords-leaves : (p : ℕ → Bool) (D : Division R) → enter 0 p ≡ true
-          → walkRecords enter opens matches p 0 D
-          ≡ flatMap (λ l. cond (opens (l .records)) (filter matches (l .records)) [])
-          (filter (λ l. enter (depth l) (stringBit l)) (leaves D))
-      walkRecords-leaves p D e = records-entered p 0 D e ∙ ap (flatMap taken) (entered-whole p D)
+        ≡ length (filter (λ l. opens (stringBit l) (depth l) (l .records))
+        (filter (λ l. enter (depth l) (stringBit l)) (leaves D)))
+    walkReads-leaves p D e =
+        reads-entered p 0 D e
+        ∙ ap (λ ls. length (filter (opened p 0) ls)) (entered-whole p D)
+        ∙ ap length
+        (filter-ext (opened p 0) _ (opened-whole p) (filter (λ l. enter (depth l) (stringBit l)) (leaves D)))

@@ -16,7 +16,7 @@ use Rattle.region.specs.Strings.{sameBits, withBit, emptyString}
 use Rattle.region.specs.Sets.{sorted}
 use Rattle.region.specs.Division.{Division, leaf, divided, divide, greatestDepth, depth, stringBit, leaves}
 use Rattle.region.specs.Query.{QueryBit, free, given, bitAgrees, agrees, isGivenBit, givenSteps, freeSteps}
-use Rattle.region.specs.Query.{walkRecords, walkReads, queryEnters, walkFound, reads}
+use Rattle.region.specs.Query.{holdsRecords, walkRecords, walkReads, queryEnters, walkFound, reads}
 use Rattle.region.proofs.StringLaws.{bit-of-sameBits, withBit-same, withBit-other}
 use Rattle.region.proofs.WalkLaws.{goodIn, walkRecords-divide}
 use Rattle.region.proofs.LeafWalkLaws.{walkReads-leaves}
@@ -70,7 +70,7 @@ module _ (q : ℕ → QueryBit) where
 
 -- ---- what it finds
 
-no-records : {R : Type 0} (matches : R → Bool) (rs : List R) → nonEmpty rs ≡ false → filter matches rs ≡ []
+pub no-records : {R : Type 0} (matches : R → Bool) (rs : List R) → nonEmpty rs ≡ false → filter matches rs ≡ []
 no-records matches [] e = refl
 no-records matches (x ∷ xs) e = absurd (false≢true (sym e))
 
@@ -80,10 +80,10 @@ module _ {R : Type 0} (bit : R → ℕ → Bool) (q : ℕ → QueryBit) (matches
   -- in the region of the first t bits of p, whose records are S
   pub walkRecords-query-divide : (b n t : ℕ) (S : List R) (p : ℕ → Bool) → t + n ≤ W → sorted bit n t S ≡ true
       → all (goodIn bit good p t) S ≡ true
-      → walkRecords (queryEnters q) nonEmpty matches p t (divide bit b n t S) ≡ filter matches S
+      → walkRecords (queryEnters q) holdsRecords matches p t (divide bit b n t S) ≡ filter matches S
   walkRecords-query-divide =
-      walkRecords-divide bit (queryEnters q) nonEmpty matches good W (λ x p p′ e. agrees-same q p p′ x 0 e)
-      (λ r g m x h. agrees-le q (bit r) x W 0 h (agreeing r g m)) (no-records matches)
+      walkRecords-divide bit (queryEnters q) holdsRecords matches good W (λ x p p′ e. agrees-same q p p′ x 0 e)
+      (λ r g m x h. agrees-le q (bit r) x W 0 h (agreeing r g m)) (λ p x rs k e. no-records matches rs e)
 
   -- the matching records of the set, in split order
   pub walkFound-divide : (b : ℕ) (S : List R) → sorted bit W 0 S ≡ true → all good S ≡ true
@@ -101,7 +101,7 @@ module _ {R : Type 0} (q : ℕ → QueryBit) (D : Division R) where
   reads-leaves =
       walkReads-leaves (queryEnters q) (λ x p p′ e. agrees-same q p p′ x 0 e)
       (λ x p e. agrees-le q p x (suc x) 0 (omega arith) e)
-      nonEmpty emptyString D refl
+      holdsRecords (λ x p p′ rs e. refl) emptyString D refl
 
 -- ---- the bound
 
@@ -123,13 +123,13 @@ two-sides (given false) x y m h k = rw (zero-add m) (omega (arith, h refl))
 module _ {R : Type 0} (q : ℕ → QueryBit) where
   -- in the region of the first t bits of p, whose leaves lie at most m deeper
   pub walkReads-query-le : (D : Division R) (p : ℕ → Bool) (t m : ℕ) → agrees q p t 0 ≡ true → greatestDepth D ≤ m
-      → walkReads (queryEnters q) nonEmpty p t D ≤ 2 ^ freeSteps q t m
+      → walkReads (queryEnters q) holdsRecords p t D ≤ 2 ^ freeSteps q t m
   walkReads-query-le (leaf rs) p t m e h = omega (arith, cond-le-one (nonEmpty rs), pow-pos (freeSteps q t m))
   walkReads-query-le (divided l u) p t zero e h = absurd (omega arith)
   walkReads-query-le (divided l u) p t (suc m) e h =
       rw (queryEnters-side q p t false e, queryEnters-side q p t true e)
-      (two-sides (q t) (walkReads (queryEnters q) nonEmpty (withBit p t false) (suc t) l)
-      (walkReads (queryEnters q) nonEmpty (withBit p t true) (suc t) u) (freeSteps q (suc t) m)
+      (two-sides (q t) (walkReads (queryEnters q) holdsRecords (withBit p t false) (suc t) l)
+      (walkReads (queryEnters q) holdsRecords (withBit p t true) (suc t) u) (freeSteps q (suc t) m)
       (λ d. walkReads-query-le l (withBit p t false) (suc t) m (queryEnters-side q p t false e ∙ d) (omega arith))
       (λ d. walkReads-query-le u (withBit p t true) (suc t) m (queryEnters-side q p t true e ∙ d) (omega arith)))
 

@@ -43,19 +43,27 @@ freeSteps q t (suc n) = cond (isGivenBit (q t)) 0 1 + freeSteps q (suc t) n
 
 -- ---- walks over the regions of a division
 
--- `enter x p` tests the region of the first x bits of p, `opens` the records of a leaf. The walk stands in the region
--- of the first t bits of p.
-module _ {R : Type 0} (enter : ℕ → (ℕ → Bool) → Bool) (opens : List R → Bool) where
+-- a test of a leaf by its string, its depth and its records
+abbrev pub LeafTest : Type 0 → Type 0
+LeafTest R = (ℕ → Bool) → ℕ → List R → Bool
+
+-- the leaf is not empty
+abbrev pub holdsRecords : {R : Type 0} → LeafTest R
+holdsRecords p x rs = nonEmpty rs
+
+-- `enter x p` tests the region of the first x bits of p, `opens` a leaf. The walk stands in the region of the first t
+-- bits of p.
+module _ {R : Type 0} (enter : ℕ → (ℕ → Bool) → Bool) (opens : LeafTest R) where
   -- "It walks the regions .. by recursion, bit 0 before bit 1": the records that match, of the leaves that it opens
   abbrev pub walkRecords : (R → Bool) → (ℕ → Bool) → ℕ → Division R → List R
-  walkRecords matches p t (leaf rs) = cond (opens rs) (filter matches rs) []
+  walkRecords matches p t (leaf rs) = cond (opens p t rs) (filter matches rs) []
   walkRecords matches p t (divided l u) =
       cond (enter (suc t) (withBit p t false)) (walkRecords matches (withBit p t false) (suc t) l) []
       ++ cond (enter (suc t) (withBit p t true)) (walkRecords matches (withBit p t true) (suc t) u) []
 
   -- how many leaves it opens
   abbrev pub walkReads : (ℕ → Bool) → ℕ → Division R → ℕ
-  walkReads p t (leaf rs) = cond (opens rs) 1 0
+  walkReads p t (leaf rs) = cond (opens p t rs) 1 0
   walkReads p t (divided l u) =
       cond (enter (suc t) (withBit p t false)) (walkReads (withBit p t false) (suc t) l) 0
       + cond (enter (suc t) (withBit p t true)) (walkReads (withBit p t true) (suc t) u) 0
@@ -69,8 +77,8 @@ queryEnters q x p = agrees q p x 0
 module _ {R : Type 0} (q : ℕ → QueryBit) where
   -- the matching records, "from the empty string": 1001, 1011
   abbrev pub walkFound : (R → Bool) → Division R → List R
-  walkFound matches D = walkRecords (queryEnters q) nonEmpty matches emptyString 0 D
+  walkFound matches D = walkRecords (queryEnters q) holdsRecords matches emptyString 0 D
 
   -- "Reads are the non-empty agreeing leaves": 3
   abbrev pub reads : Division R → ℕ
-  reads D = walkReads (queryEnters q) nonEmpty emptyString 0 D
+  reads D = walkReads (queryEnters q) holdsRecords emptyString 0 D

@@ -115,12 +115,12 @@ module _ (state : State) (words bytes : List ℕ) (q : List (Option ℕ)) where
         by-number : (n : ℕ) → queryNumber (store state words bytes) q ≡ n
             → (state .shape .attributes ≤ 4) × (written ≤ outputRecords) × (recordSize * written ≤ length out′)
         by-number (suc n) e =
-            let z : false ≡ true = ap isRefused (promise .early-refused n e) in absurd (false≢true z)
+            let z : false ≡ true = ap isRefused (promise .listed-as .early-refused n e) in absurd (false≢true z)
         by-number zero e =
             ⊎-elim
             (λ w.
             let same : written ≡ w .0 = ap writtenIn (w .3) in
             let fits : recordSize * written ≤ length out = rw same (w .5) in
-            (d-of-queryNumber e, omega (arith, fits), omega (arith, fits, promise .output-length)))
+            (d-of-queryNumber e, omega (arith, fits), omega (arith, fits, promise .listed-as .output-length)))
             (λ h. let z : false ≡ true = ap isRefused h in absurd (false≢true z))
-            (promise .ordinary e)
+            (promise .listed-as .ordinary e)

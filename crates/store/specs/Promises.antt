@@ -15,7 +15,7 @@ use Rattle.shape.specs.Shape.{widthsOf}
 use Rattle.shape.specs.declared.Shape.{Shape}
 use Rattle.split.specs.Bits.{splitBit}
 use Rattle.region.specs.Division.{Division, leafDepth, leafRecords}
-use Rattle.region.specs.Query.{QueryBit, agrees}
+use Rattle.region.specs.Query.{QueryBit, agrees, LeafTest}
 use Rattle.record.specs.declared.Content.{Content}
 use Rattle.record.specs.Record.{Record}
 use Rattle.record.specs.Bytes.{recordSize}
@@ -23,7 +23,7 @@ use Rattle.page.specs.Page.{countOf, pageAt}
 use Rattle.directory_word.specs.Word.{wordOf}
 use Rattle.directory_word.specs.declared.Leaf.the-variants.{Page}
 use Rattle.model.specs.Model.{Call, insertCall, deleteCall, lookupCall, queryCall, Reply, changed, found, listed}
-use Rattle.model.specs.Model.{outcome, next, keyConditions, queryConditions}
+use Rattle.model.specs.Model.{Outcome, outcome, next, keyConditions, queryConditions}
 use Rattle.model.specs.Sets.{divisionOf, queryBits, givenDepths}
 use Rattle.store.specs.Store.{Store, fixedOf, pagesSize, wordAt, lentConditions}
 use Rattle.store.specs.Sound.{Sound}
@@ -124,11 +124,11 @@ DeletePromise before values answer after =
 -- ---- calls that read
 
 -- "A sound store whose pages not so read are then overwritten in any way": the bytes are as those of a sound store in
--- the pages of the leaves that agree with the query
-abbrev pub SameWhereRead : Store → List ℕ → (ℕ → QueryBit) → List Record → Type 0
-SameWhereRead sound bytes q S =
+-- the pages of the leaves that `reads` tells
+abbrev pub SameWhere : Store → List ℕ → LeafTest Record → List Record → Type 0
+SameWhere sound bytes reads S =
     let s = sound .state .shape in
-    (p : ℕ → Bool) → agrees q p (leafDepth p 0 (divisionOf s S)) 0 ≡ true
+    (p : ℕ → Bool) → reads p (leafDepth p 0 (divisionOf s S)) (leafRecords p 0 (divisionOf s S)) ≡ true
     → (g x : ℕ) → g < sound .state .limits .pages
     → wordAt s (sound .state .deepest) (sound .memory .words) p ≡ wordOf (Page g x)
     → pageAt (s .capacity) bytes g ≡ pageAt (s .capacity) (sound .memory .bytes) g
@@ -137,11 +137,21 @@ SameWhereRead sound bytes q S =
 abbrev pub withBytes : Store → List ℕ → Store
 withBytes s bytes = record { state = s .state; memory = record { words = s .memory .words; bytes = bytes } }
 
--- the store is a sound one, but for pages that the query does not read
-abbrev pub SoundWhereRead : Store → (ℕ → QueryBit) → List Record → Type 0
-SoundWhereRead s q S =
+-- the store is a sound one, but for pages that are not read
+abbrev pub SoundWhere : Store → LeafTest Record → List Record → Type 0
+SoundWhere s reads S =
     (bytes : List ℕ) × (Sound (withBytes s bytes) S) × (length bytes ≡ length (s .memory .bytes))
-    × SameWhereRead (withBytes s bytes) (s .memory .bytes) q S
+    × SameWhere (withBytes s bytes) (s .memory .bytes) reads S
+
+-- a query reads the leaves that agree with it
+abbrev pub agreeing : (ℕ → QueryBit) → LeafTest Record
+agreeing q p x rs = agrees q p x 0
+
+abbrev pub SameWhereRead : Store → List ℕ → (ℕ → QueryBit) → List Record → Type 0
+SameWhereRead sound bytes q S = SameWhere sound bytes (agreeing q) S
+
+abbrev pub SoundWhereRead : Store → (ℕ → QueryBit) → List Record → Type 0
+SoundWhereRead s q S = SoundWhere s (agreeing q) S
 
 -- a key as a query that gives every attribute
 abbrev pub keyQuery : Shape → List ℕ → ℕ → QueryBit
@@ -157,22 +167,28 @@ pub record LookupPromise (store : Store) (values : List ℕ) (answer : Answer Re
   pub answered-as : (S : List Record) → SoundWhereRead store (keyQuery (store .state .shape) values) S
       → answer ≡ outcome (fixedOf (store .state)) S (lookupCall values) .answer
 
--- Shut out: an empty list, reads that are the bound or 1, a leaf listed once a cell (answered-as); a scan of every page
--- (SoundWhereRead)
-pub record QueryPromise (store : Store) (q : List (Option ℕ)) (out : List ℕ) (answer : Answer Reply)
-    (out′ : List ℕ) : Type 0 where
-  pub early-refused : (n : ℕ) → queryNumber store q ≡ suc n → answer ≡ refused (suc n)
+-- a call that lists records into its output: `early` is the number of the refusals above, `reads` tells the leaves that
+-- it reads, `model S` is what the model answers and leaves as the output
+pub record ListPromise (early : ℕ) (reads : LeafTest Record) (model : List Record → Outcome) (store : Store)
+    (out : List ℕ) (answer : Answer Reply) (out′ : List ℕ) : Type 0 where
+  pub early-refused : (n : ℕ) → early ≡ suc n → answer ≡ refused (suc n)
   pub unchanged : (n : ℕ) → answer ≡ refused n → out′ ≡ out
   -- on any store 9, or counts with "written never exceeds total", in bounds, "other output bytes untouched"
-  pub ordinary : queryNumber store q ≡ 0
+  pub ordinary : early ≡ 0
       → ((written total reads : ℕ) × (answer ≡ accepted (listed written total reads)) × (written ≤ total)
       × (recordSize * written ≤ length out) × (drop (recordSize * written) out′ ≡ drop (recordSize * written) out))
       ⊎ (answer ≡ refused 9)
   pub output-length : length out′ ≡ length out
   -- on a sound store the model's answer and output, whatever the pages hold that it does not read
-  pub answered-as : (S : List Record) → SoundWhereRead store (queryBits (store .state .shape) q) S
-      → (answer ≡ outcome (fixedOf (store .state)) S (queryCall q out) .answer)
-      × (out′ ≡ outcome (fixedOf (store .state)) S (queryCall q out) .output)
+  pub answered-as : (S : List Record) → SoundWhere store reads S
+      → (answer ≡ model S .answer) × (out′ ≡ model S .output)
+
+-- Shut out: an empty list, reads that are the bound or 1, a leaf listed once a cell (answered-as); a scan of every page
+-- (SoundWhereRead)
+pub record QueryPromise (store : Store) (q : List (Option ℕ)) (out : List ℕ) (answer : Answer Reply)
+    (out′ : List ℕ) : Type 0 where
+  pub listed-as : ListPromise (queryNumber store q) (agreeing (queryBits (store .state .shape) q))
+      (λ S. outcome (fixedOf (store .state)) S (queryCall q out)) store out answer out′
   -- and reads within the bound
   pub bounded : (S : List Record) → SoundWhereRead store (queryBits (store .state .shape) q) S
       → (written total reads : ℕ) → answer ≡ accepted (listed written total reads)

@@ -1,0 +1,134 @@
+-- Laws of the promise of a call that lists records, one for each way that the call ends, whatever it lists and reads.
+-- Assumes nothing.
+use Prim.Native.Nat.{ℕ, zero, suc, _*_, _/_, min}
+use mathlib.Core.Path.{_≡_, refl, sym, ap, _∙_, subst}
+use mathlib.Core.Bool.{Bool, true, false, true≢false}
+use mathlib.Core.List.{List, [], _∷_, map}
+use mathlib.Core.Logic.{inl, inr}
+use native.Mathlib.Omega.{arith}
+use lib.ListN.{length, take, drop, length-append, length-map}
+use lib.Seq.{drop-at, length-take-le}
+use Rattle.lists.specs.Members.{All}
+use Rattle.shape.specs.Refusal.{Answer, accepted, refused, answered}
+use Rattle.shape.specs.declared.Shape.{Shape}
+use Rattle.region.specs.Query.{LeafTest}
+use Rattle.record.specs.Record.{Record}
+use Rattle.record.specs.Bytes.{recordSize, recordOf, recordBytes, recordsBytes}
+use Rattle.record.proofs.ByteLaws.{length-recordBytes}
+use Rattle.model.specs.Model.{Reply, listed, Outcome, writtenFor, outputFor, ifAccepted}
+use Rattle.page_matches.specs.Output.{emit}
+use Rattle.page_matches.proofs.EmitLaws.{IsField, length-emit, emit-records}
+use Rattle.store.specs.Store.{Store}
+use Rattle.store.specs.Promises.{SoundWhere, ListPromise}
+
+abbrev pub isAccepted : Answer Reply → Bool
+isAccepted (accepted x) = true
+isAccepted (refused n) = false
+
+length-recordsBytes : (s : Shape) (rs : List Record) → length (recordsBytes s rs) ≡ recordSize * length rs
+length-recordsBytes s [] = refl
+length-recordsBytes s (r ∷ rs) =
+    length-append (recordBytes s r) (recordsBytes s rs)
+    ∙ omega (arith, length-recordBytes s r, length-recordsBytes s rs)
+
+-- what the model answers and leaves as the output, where `number S` is that of its refusal (0 for none), `found S` are
+-- the records of S that it lists, and `count S` are its reads
+abbrev pub listOutcome : Shape → (number count : List Record → ℕ) → (List Record → List Record) → List ℕ → List Record
+    → Outcome
+listOutcome s number count found out S = record {
+  answer = answered (number S) (listed (writtenFor (found S) out) (length (found S)) (count S));
+  output = ifAccepted (number S) (outputFor (found S) out s) out;
+}
+
+module _ (here : Store) (early : ℕ) (reads : LeafTest Record) (number count : List Record → ℕ)
+    (found : List Record → List Record) (out : List ℕ) where
+  abbrev shape : Shape
+  shape = here .state .shape
+
+  abbrev pub Lists : Answer Reply → List ℕ → Type 0
+  Lists answer out′ = ListPromise early reads (listOutcome shape number count found out) here out answer out′
+
+  -- on a sound store the number of the refusals above is the model's
+  module _ (model-number : (S : List Record) → SoundWhere here reads S → early ≡ number S) where
+    -- ---- refused early
+
+    refused-suc : (n : ℕ) → (n ≡ 0 → ⊥) → (x : Reply) (y : List ℕ)
+        → (refused n ≡ answered n x) × (out ≡ ifAccepted n y out)
+    refused-suc zero z x y = absurd (z refl)
+    refused-suc (suc n) z x y = (refl, refl)
+
+    pub list-early : (n : ℕ) → n ≡ early → (n ≡ 0 → ⊥) → Lists (refused n) out
+    list-early n e z = record {
+      early-refused = λ m d. ap refused (e ∙ d);
+      unchanged = λ m d. refl;
+      ordinary = λ d. absurd (z (e ∙ d));
+      output-length = refl;
+      answered-as = λ S h.
+          let reply = listed (writtenFor (found S) out) (length (found S)) (count S) in
+          subst (λ k. (refused n ≡ answered k reply) × (out ≡ ifAccepted k (outputFor (found S) out shape) out))
+          (e ∙ model-number S h)
+          (refused-suc n z reply (outputFor (found S) out shape));
+    }
+
+    module _ (none : early ≡ 0) where
+      -- ---- refused with 9
+
+      pub list-nine : ((S : List Record) → SoundWhere here reads S → ⊥) → Lists (refused 9) out
+      list-nine unsound = record {
+        early-refused = λ m d. absurd (omega (arith, none, d));
+        unchanged = λ m d. refl;
+        ordinary = λ d. inr refl;
+        output-length = refl;
+        answered-as = λ S h. absurd (unsound S h);
+      }
+
+      -- ---- accepted
+
+      module _ (fs : List (List ℕ)) (whole : All IsField fs) (opened : ℕ)
+          (model : (S : List Record) → SoundWhere here reads S
+          → (opened ≡ count S) × (map (recordOf shape) fs ≡ found S)) where
+        abbrev written : ℕ
+        written = min (length fs) (length out / recordSize)
+
+        abbrev rs : List Record
+        rs = map (recordOf shape) fs
+
+        same-count : length rs ≡ length fs
+        same-count = simp length-map
+
+        untouched : drop (recordSize * written) (emit out 0 fs) ≡ drop (recordSize * written) out
+        untouched =
+            let w = min (length rs) (length out / recordSize) in
+            let same : w ≡ written = ap (λ n. min n (length out / recordSize)) same-count in
+            let bytes = recordsBytes shape (take w rs) in
+            let long : length bytes ≡ recordSize * w =
+            length-recordsBytes shape (take w rs)
+            ∙ ap (λ n. recordSize * n) (length-take-le w rs (omega arith)) in
+            ap (λ n. drop (recordSize * n) (emit out 0 fs)) (sym same)
+            ∙ ap (drop (recordSize * w)) (emit-records shape fs rs out whole refl)
+            ∙ drop-at bytes (drop (recordSize * w) out) (recordSize * w) long
+            ∙ ap (λ n. drop (recordSize * n) out) same
+
+        listed-as : (S : List Record) → SoundWhere here reads S
+            → (accepted (listed written (length fs) opened) ≡ listOutcome shape number count found out S .answer)
+            × (emit out 0 fs ≡ listOutcome shape number count found out S .output)
+        listed-as S h =
+            let m = model S h in
+            let total : length fs ≡ length (found S) = sym same-count ∙ ap length (m .1) in
+            let reply = listed (writtenFor (found S) out) (length (found S)) (count S) in
+            let same : listed written (length fs) opened ≡ reply =
+            (λ i. listed (min (total i) (length out / recordSize)) (total i) (m .0 i)) in
+            subst
+            (λ k. (accepted (listed written (length fs) opened) ≡ answered k reply)
+            × (emit out 0 fs ≡ ifAccepted k (outputFor (found S) out shape) out))
+            (sym none ∙ model-number S h)
+            (ap accepted same, emit-records shape fs (found S) out whole (m .1))
+
+        pub list-listed : Lists (accepted (listed written (length fs) opened)) (emit out 0 fs)
+        list-listed = record {
+          early-refused = λ m d. absurd (omega (arith, none, d));
+          unchanged = λ m d. absurd (true≢false (ap isAccepted d));
+          ordinary = λ d. inl (written, length fs, opened, refl, omega arith, omega arith, untouched);
+          output-length = length-emit out 0 fs whole;
+          answered-as = λ S h. listed-as S h;
+        }
