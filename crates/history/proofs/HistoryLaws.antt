@@ -7,17 +7,19 @@ use lib.ListN.{length}
 use Rattle.shape.specs.Refusal.{Answer, accepted, answered}
 use Rattle.shape.specs.declared.Shape.{Shape}
 use Rattle.record.specs.Record.{Record}
+use Rattle.range_box.specs.Box.{boxOf}
 use Rattle.model.specs.Limits.{fixedBy}
-use Rattle.model.specs.Model.{Fixed, Call, insertCall, deleteCall, lookupCall, queryCall, Reply, changed, Outcome}
-use Rattle.model.specs.Model.{numberFor, outputBefore, outputAfter, outcome, next, setAfter, run, lastSet, ifAccepted}
+use Rattle.model.specs.Model.{Fixed, Call, insertCall, deleteCall, lookupCall, queryCall, rangeCall, Reply, changed}
+use Rattle.model.specs.Model.{Outcome, numberFor, outputBefore, outputAfter, outcome, next, setAfter, run, lastSet}
+use Rattle.model.specs.Model.{ifAccepted}
 use Rattle.model.specs.Sets.{readsBound}
 use Rattle.store.specs.Store.{Store, Memory, fixedOf}
 use Rattle.store.specs.declared.State.{State}
 use Rattle.store.specs.Sound.{Sound}
 use Rattle.store.specs.Fresh.{FreshPromise, freshNumber, freshState, freshMemory}
-use Rattle.store.specs.Promises.{ChangePromise}
+use Rattle.store.specs.Promises.{ChangePromise, meeting}
 use Rattle.store.proofs.FreshLaws.{fixedOf-freshState, sound-of-fresh}
-use Rattle.store.proofs.ReadLaws.{soundWhereRead-of-sound}
+use Rattle.store.proofs.ReadLaws.{soundWhere-of-sound, soundWhereRead-of-sound}
 use Rattle.history.specs.History.{Promised, Run, no-call, one-more, ReadsBounded, WithinBounds, History}
 
 -- ---- one call
@@ -95,6 +97,16 @@ stepped before after S (queryCall q out) o p h =
       as-model = same-outcome (as-model .0) (as-model .1);
       shown = rw (p .1, same-set f S (queryCall q out) refl) h;
       bounded = λ written total reads e. rw (← h .deepest) (p .0 .bounded S sound written total reads e);
+      fixed = rw (p .1);
+    }
+stepped before after S (rangeCall r out) o p h =
+    let f = fixedOf (before .state) in
+    let shape = before .state .shape in
+    let as-model = p .0 .answered-as S (soundWhere-of-sound before (meeting shape (boxOf shape r)) S h) in
+    record {
+      as-model = same-outcome (as-model .0) (as-model .1);
+      shown = rw (p .1, same-set f S (rangeCall r out) refl) h;
+      bounded = tt;
       fixed = rw (p .1);
     }
 

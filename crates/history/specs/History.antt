@@ -8,13 +8,13 @@ use Rattle.shape.specs.Refusal.{accepted}
 use Rattle.shape.specs.declared.Shape.{Shape}
 use Rattle.record.specs.Record.{Record}
 use Rattle.model.specs.Limits.{fixedBy}
-use Rattle.model.specs.Model.{Fixed, Call, insertCall, deleteCall, lookupCall, queryCall, changed, listed, Outcome}
-use Rattle.model.specs.Model.{next, run, lastSet}
+use Rattle.model.specs.Model.{Fixed, Call, insertCall, deleteCall, lookupCall, queryCall, rangeCall, changed, listed}
+use Rattle.model.specs.Model.{Outcome, next, run, lastSet}
 use Rattle.model.specs.Sets.{readsBound}
 use Rattle.store.specs.Store.{Store, Memory}
 use Rattle.store.specs.Sound.{Sound}
 use Rattle.store.specs.Fresh.{FreshPromise}
-use Rattle.store.specs.Promises.{InsertPromise, DeletePromise, LookupPromise, QueryPromise}
+use Rattle.store.specs.Promises.{InsertPromise, DeletePromise, LookupPromise, QueryPromise, RangePromise}
 
 -- ---- runs
 
@@ -27,6 +27,7 @@ Promised before (deleteCall values) o after = DeletePromise before values (o .an
 Promised before (lookupCall values) o after =
     LookupPromise before values (o .answer) × (o .output ≡ []) × (after ≡ before)
 Promised before (queryCall q out) o after = QueryPromise before q out (o .answer) (o .output) × (after ≡ before)
+Promised before (rangeCall r out) o after = RangePromise before r out (o .answer) (o .output) × (after ≡ before)
 
 -- calls one after the other, each on the store that the one before left, and the store that the last one left
 pub data Run : Store → List Call → List Outcome → Store → Type 0 where
@@ -37,13 +38,14 @@ pub data Run : Store → List Call → List Outcome → Store → Type 0 where
 -- ---- the bound of the reads
 
 -- each accepted query's reads are at most 2 ^ (T − sum of the given attributes' depths), T that of the set S at the
--- call
+-- call. "The partial-match call keeps its own bound; the range call has only the equality."
 abbrev pub ReadsBounded : Fixed → List Record → Call → Outcome → Type 0
 ReadsBounded f S (insertCall values content) o = Unit {0}
 ReadsBounded f S (deleteCall values) o = Unit {0}
 ReadsBounded f S (lookupCall values) o = Unit {0}
 ReadsBounded f S (queryCall q out) o =
     (written total reads : ℕ) → o .answer ≡ accepted (listed written total reads) → reads ≤ readsBound (f .shape) q S
+ReadsBounded f S (rangeCall r out) o = Unit {0}
 
 -- the same for every call of a list, S being the model's set before it; each call has its outcome
 abbrev pub WithinBounds : Fixed → List Record → List Call → List Outcome → Type 0

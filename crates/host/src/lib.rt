@@ -11,8 +11,10 @@ use host_map::index_result;
 use host_reads::check_result;
 use host_reads::lookup_result;
 use host_reads::query_result;
+use host_reads::range_result;
 use host_results::CheckResult;
 use host_results::HostQuery;
+use host_results::HostRange;
 use host_results::LookupResult;
 use host_results::QueryResult;
 use shape::Key;
@@ -24,10 +26,12 @@ ghost use Rattle.host_results.specs.Result.{Reports};
 ghost use Prim.Native.Nat.{_≤_};
 ghost use Rattle.model.specs.Model.{found, listed};
 ghost use Rattle.store.specs.Store.{store, memory};
-ghost use Rattle.store.specs.Promises.{LookupPromise, QueryPromise, CheckPromise, InsertPromise, DeletePromise};
+ghost use Rattle.store.specs.Promises.{LookupPromise, QueryPromise, RangePromise, CheckPromise};
+ghost use Rattle.store.specs.Promises.{InsertPromise, DeletePromise};
 ghost use Rattle.host_state.specs.Image.{stateIn};
 ghost use Rattle.host_results.specs.Result.{Reports, Keeps, isYes};
 ghost use Rattle.host_results.specs.Wanted.{wantedOf};
+ghost use Rattle.shape.specs.Range.{intervalsOf};
 ghost use Rattle.host_changes.specs.Changes.{LentChangePromise};
 ghost use Rattle.host_changes.specs.Fresh.{LentFreshPromise};
 
@@ -102,6 +106,24 @@ pub extern "C" fn mdeh_query(
         (wantedOf (wanted .given) (wanted .values)) (now (out .entry)) answer (now (out .exit))) ⌝ }
 {
     query_result(state, dir, pages, wanted, out)
+}
+
+// The records inside a box of values, written into the output in split order while whole ones fit;
+// how many were written, how many lie inside, how many pages were read. Refused with 1, 2, 8, 3, 10
+// or 9, the first that holds in this order; a refused call leaves the output as it came.
+#[no_mangle]
+pub extern "C" fn mdeh_range(
+    state: &[u32],
+    dir: &[u32],
+    pages: &[u8],
+    within: HostRange,
+    out: &mut [u8],
+) -> QueryResult
+    ensures { λ r. ⌜ Keeps (r .number) (listed (r .written) (r .total) (r .reads)) (listed 0 0 0)
+        (λ answer. RangePromise (store (stateIn (now (state .entry))) (now (dir .entry)) (now (pages .entry)))
+        (intervalsOf (within .given) (within .lows) (within .highs)) (now (out .entry)) answer (now (out .exit))) ⌝ }
+{
+    range_result(state, dir, pages, within, out)
 }
 
 // Whether the lent store is sound. Refused with 1 for a shape outside its bounds, then with 2 for

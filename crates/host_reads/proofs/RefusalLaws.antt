@@ -4,12 +4,13 @@ use mathlib.Core.Path.{_≡_, refl, sym, _∙_}
 use mathlib.Core.Bool.{Bool, false≢true, true, false}
 use mathlib.Core.List.{List}
 use mathlib.Core.Logic.{⊎-elim}
-use mathlib.Core.Option.{Option}
 use native.Mathlib.Omega.{arith}
 use Rattle.shape.specs.Refusal.{Answer, accepted, refused}
-use Rattle.model.specs.Model.{Reply}
+use Rattle.region.specs.Query.{LeafTest}
+use Rattle.record.specs.Record.{Record}
+use Rattle.model.specs.Model.{Reply, Outcome}
 use Rattle.store.specs.Store.{Store}
-use Rattle.store.specs.Promises.{lentNumber, keyNumber, queryNumber, LookupPromise, QueryPromise, CheckPromise}
+use Rattle.store.specs.Promises.{lentNumber, keyNumber, LookupPromise, ListPromise, CheckPromise}
 
 module _ {A : Type 0} where
   refused-zero-accepted : (x : A) → refused 0 ≡ accepted x → ⊥
@@ -28,15 +29,15 @@ lookup-not-zero s values a p z = go (keyNumber s values) refl
         (p .ordinary e)
     go (suc n) e = refused-zero-suc n (sym z ∙ p .early-refused n e)
 
-pub query-not-zero : (s : Store) (q : List (Option ℕ)) (out : List ℕ) (a : Answer Reply) (out′ : List ℕ)
-    → QueryPromise s q out a out′ → a ≡ refused 0 → ⊥
-query-not-zero s q out a out′ p z = go (queryNumber s q) refl
+-- of a query or a range
+pub list-not-zero : (early : ℕ) (reads : LeafTest Record) (model : List Record → Outcome) (s : Store) (out : List ℕ)
+    (a : Answer Reply) (out′ : List ℕ) → ListPromise early reads model s out a out′ → a ≡ refused 0 → ⊥
+list-not-zero early reads model s out a out′ p z = go early refl
   where
-    go : (n : ℕ) → queryNumber s q ≡ n → ⊥
+    go : (n : ℕ) → early ≡ n → ⊥
     go zero e =
-        ⊎-elim (λ h. refused-zero-accepted _ (sym z ∙ h .3)) (λ f. refused-zero-suc 8 (sym z ∙ f))
-        (p .listed-as .ordinary e)
-    go (suc n) e = refused-zero-suc n (sym z ∙ p .listed-as .early-refused n e)
+        ⊎-elim (λ h. refused-zero-accepted _ (sym z ∙ h .3)) (λ f. refused-zero-suc 8 (sym z ∙ f)) (p .ordinary e)
+    go (suc n) e = refused-zero-suc n (sym z ∙ p .early-refused n e)
 
 pub check-not-zero : (s : Store) (a : Answer Bool) → CheckPromise s a → a ≡ refused 0 → ⊥
 check-not-zero s a p z = go (lentNumber s) refl

@@ -5,23 +5,27 @@
 use check_call::check;
 use host_results::CheckResult;
 use host_results::HostQuery;
+use host_results::HostRange;
 use host_results::LookupResult;
 use host_results::QueryResult;
 use host_results::checked_result;
 use host_results::found_result;
 use host_results::listed_result;
 use host_results::store_query;
+use host_results::store_range;
 use host_state::state_in;
 use lookup::lookup;
 use query::query;
+use range::range;
 use shape::Key;
 ghost use Prim.Native.Nat.{_≤_};
 ghost use Rattle.model.specs.Model.{found, listed};
 ghost use Rattle.store.specs.Store.{store};
-ghost use Rattle.store.specs.Promises.{LookupPromise, QueryPromise, CheckPromise};
+ghost use Rattle.store.specs.Promises.{LookupPromise, QueryPromise, RangePromise, CheckPromise};
 ghost use Rattle.host_state.specs.Image.{stateIn};
 ghost use Rattle.host_results.specs.Result.{Keeps, isYes};
 ghost use Rattle.host_results.specs.Wanted.{wantedOf};
+ghost use Rattle.shape.specs.Range.{intervalsOf};
 
 // The payload of a key's record, and the pages read: 1. Refused with 1, 2, 3, 5 or 9, the first
 // that holds in this order. Writes nothing.
@@ -48,6 +52,23 @@ pub fn query_result(
         (wantedOf (wanted .given) (wanted .values)) (now (out .entry)) answer (now (out .exit))) ⌝ }
 {
     listed_result(query(state_in(state), dir, pages, store_query(wanted), out))
+}
+
+// The records inside a box of values, written into the output in split order while whole ones fit;
+// how many were written, how many lie inside, how many pages were read. Refused with 1, 2, 8, 3, 10
+// or 9, the first that holds in this order; a refused call leaves the output as it came.
+pub fn range_result(
+    state: &[u32],
+    dir: &[u32],
+    pages: &[u8],
+    within: HostRange,
+    out: &mut [u8],
+) -> QueryResult
+    ensures { λ r. ⌜ Keeps (r .number) (listed (r .written) (r .total) (r .reads)) (listed 0 0 0)
+        (λ answer. RangePromise (store (stateIn (now (state .entry))) (now (dir .entry)) (now (pages .entry)))
+        (intervalsOf (within .given) (within .lows) (within .highs)) (now (out .entry)) answer (now (out .exit))) ⌝ }
+{
+    listed_result(range(state_in(state), dir, pages, store_range(within), out))
 }
 
 // Whether the lent store is sound. Refused with 1 for a shape outside its bounds, then with 2 for

@@ -27,9 +27,8 @@ module _ {A : Type 0} (answer : Answer A) where
   keeps-reported Promise number values zeros p r =
       record { promise-kept = subst Promise (sym (r .answer-as)) p; zeros-if-refused = r .zeros-if-refused }
 
--- ---- a query's attribute
+-- ---- an attribute that is given
 
--- one that is given
 pub wantedIf-given : (given value : ℕ) → (given ≡ 0 → ⊥) → some value ≡ wantedIf given value
 wantedIf-given zero value ne = absurd (ne refl)
 wantedIf-given (suc n) value ne = refl

@@ -1,9 +1,12 @@
-// What crosses the C interface as numbers: an answer as a struct of numbers, a change as its number and
-// its state in words, a query as it comes. A number of 0 stands for an accepted call; any other is the
-// refusal's (document 01, "Refused calls"), and the values beside it are 0.
+// What crosses the C interface as numbers: an answer as a struct of numbers, a change as its number
+// and its state in words, a query and a range as they come. A number of 0 stands for an accepted
+// call; any other is the refusal's (document 01, "Refused calls"), and the values beside it are 0.
 use host_state::put_state;
 use shape::Attribute;
 use shape::Query;
+use shape::Range;
+use shape::RangeAttribute;
+use shape::Span;
 use shape::Wanted;
 use store::Change;
 use store::Changed;
@@ -14,6 +17,7 @@ ghost use mathlib.Core.Path.{_≡_};
 ghost use Prim.Native.Nat.{_<_, _≤_};
 ghost use lib.ListN.{getD, length};
 ghost use Rattle.shape.specs.Key.{wantedValue, wantedValues};
+ghost use Rattle.shape.specs.Range.{spanInterval, rangeIntervals, intervalIf, intervalsOf};
 ghost use Rattle.shape.specs.Refusal.{accepted, refused};
 ghost use Rattle.model.specs.Model.{changed, found, listed};
 ghost use Rattle.store.specs.Answers.{changedAnswer, foundAnswer, listedAnswer, checkedAnswer};
@@ -29,6 +33,15 @@ pub struct HostQuery {
     pub values: [u32; 4],
 }
 
+// A range: attribute j is to lie from `lows[j]` to `highs[j]`, both included, where `given[j]` is
+// not 0, otherwise it is free.
+#[repr(C)]
+pub struct HostRange {
+    pub given: [u32; 4],
+    pub lows: [u32; 4],
+    pub highs: [u32; 4],
+}
+
 // The payload of a key's record, and the pages read.
 #[repr(C)]
 pub struct LookupResult {
@@ -37,7 +50,7 @@ pub struct LookupResult {
     pub reads: u32,
 }
 
-// How many records a query wrote, how many match, how many pages it read.
+// How many records a query or a range wrote, how many match, how many pages it read.
 #[repr(C)]
 pub struct QueryResult {
     pub number: u32,
@@ -73,7 +86,7 @@ pub fn found_result(answer: Found) -> LookupResult
     }
 }
 
-// A query's answer as numbers.
+// A query's or a range's answer as numbers.
 pub fn listed_result(answer: Listed) -> QueryResult
     requires { ⌜ (listedAnswer answer ≡ refused 0 → ⊥) ⌝ }
     ensures { λ r. ⌜ Reports (r .number) (listed (r .written) (r .total) (r .reads)) (listed 0 0 0)
@@ -141,6 +154,18 @@ pub fn store_query(query: HostQuery) -> Query
     Query { attributes }
 }
 
+// The range as the store takes it.
+pub fn store_range(range: HostRange) -> Range
+    ensures { λ r. ⌜ rangeIntervals r ≡ intervalsOf (range .given) (range .lows) (range .highs) ⌝ }
+{
+    let a0 = span_at(range, 0);
+    let a1 = span_at(range, 1);
+    let a2 = span_at(range, 2);
+    let a3 = span_at(range, 3);
+    let attributes = [a0, a1, a2, a3];
+    Range { attributes }
+}
+
 // What a query wants of attribute j.
 fn wanted_at(query: HostQuery, j: usize) -> Attribute
     requires { ⌜ j < 4 ⌝ }
@@ -155,5 +180,22 @@ fn wanted_at(query: HostQuery, j: usize) -> Attribute
     }
     Attribute {
         wanted: Wanted::Given(values[j]),
+    }
+}
+
+// What a range says of attribute j.
+fn span_at(range: HostRange, j: usize) -> RangeAttribute
+    requires { ⌜ j < 4 ⌝ }
+    ensures { λ r. ⌜ spanInterval (r .span) ≡ intervalIf (getD (range .given) j 0) (getD (range .lows) j 0)
+        (getD (range .highs) j 0) ⌝ }
+{
+    let given = range.given;
+    let lows = range.lows;
+    let highs = range.highs;
+    if given[j] == 0 {
+        return RangeAttribute { span: Span::Free };
+    }
+    RangeAttribute {
+        span: Span::Within(lows[j], highs[j]),
     }
 }

@@ -1,1 +1,3 @@
+pub mod LentLaws
 pub mod ListPromiseLaws
+pub mod PageLaws

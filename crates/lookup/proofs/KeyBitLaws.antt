@@ -1,6 +1,6 @@
 -- Laws of a key's split bits: those of its values and of their encodings; the query that a key is agrees with them.
 -- Assumes nothing.
-use Prim.Native.Nat.{ℕ, zero, suc, _≤_, _<_}
+use Prim.Native.Nat.{ℕ, _≤_, _<_}
 use mathlib.Core.Path.{_≡_, refl, sym}
 use mathlib.Core.Bool.{true}
 use mathlib.Core.List.{List}
@@ -9,8 +9,9 @@ use native.Mathlib.Omega.{arith}
 use lib.ListN.{getD}
 use Rattle.lists.proofs.Bools.{beq-refl}
 use Rattle.shape.specs.Shape.{shapeNumber, widthsOf, total}
-use Rattle.shape.specs.Key.{perAttribute, encodings}
+use Rattle.shape.specs.Key.{encodings}
 use Rattle.shape.specs.declared.Shape.{Shape}
+use Rattle.shape.proofs.AttributeLaws.{getD-perAttribute}
 use Rattle.shape.proofs.ShapeLaws.{widthsOf-fit}
 use Rattle.split.specs.Steps.{step}
 use Rattle.split.specs.Bits.{bitOf, splitBit}
@@ -23,13 +24,6 @@ use Rattle.record.proofs.PackedLaws.{unpackedKey-packedKey}
 use Rattle.model.specs.Sets.{queryBits}
 use Rattle.model.proofs.MatchLaws.{agrees-of-bits}
 use Rattle.store.specs.Promises.{keyQuery}
-
-pub getD-perAttribute : {A : Type 0} (f : ℕ → A) (d : A) (j : ℕ) → j < 4 → getD (perAttribute f) j d ≡ f j
-getD-perAttribute f d zero l = refl
-getD-perAttribute f d (suc zero) l = refl
-getD-perAttribute f d (suc (suc zero)) l = refl
-getD-perAttribute f d (suc (suc (suc zero))) l = refl
-getD-perAttribute f d (suc (suc (suc (suc j)))) l = absurd (omega arith)
 
 module _ (s : Shape) (values : List ℕ) where
   pub packedKey-encodings : packedKey values ≡ packedKey (encodings s values)

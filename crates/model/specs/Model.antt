@@ -1,5 +1,5 @@
--- The plain model of demand 3 (document 01, "The plain model of demand 3"): calls, their refusals, answers and the set
--- after them. It takes nothing from a state, words, pages or answers. Assumes nothing.
+-- The plain model of demand 3 (document 01, "The plain model of demand 3"; document 02, request 1): calls, their
+-- refusals, answers and the set after them. It takes nothing from a state, words, pages or answers. Assumes nothing.
 use Prim.Native.Nat.{ℕ, zero, suc, _*_, _/_, min}
 use mathlib.Core.Bool.{not}
 use mathlib.Core.List.{List, [], _∷_, _++_}
@@ -9,12 +9,14 @@ use lib.ListN.{length, take, drop}
 use Rattle.lists.specs.Filter.{filter, nonEmpty}
 use Rattle.shape.specs.Refusal.{Condition, Answer, answered, refusal, firstNumber}
 use Rattle.shape.specs.Key.{keyFits, encodings, namesUnused, queryFits}
+use Rattle.shape.specs.Range.{Interval, rangeFits, rangeRises}
 use Rattle.shape.specs.declared.Shape.{Shape}
 use Rattle.region.specs.Division.{nonEmptyLeaves}
 use Rattle.record.specs.declared.Content.{Content}
 use Rattle.record.specs.Record.{Record, matches}
 use Rattle.record.specs.Bytes.{recordSize, recordsBytes}
-use Rattle.model.specs.Sets.{stored, withRecord, withoutKey, sharing, divisionOf, readsOf}
+use Rattle.range_box.specs.Box.{boxOf, inBox}
+use Rattle.model.specs.Sets.{stored, withRecord, withoutKey, sharing, divisionOf, readsOf, rangeReadsOf}
 
 -- "The plain model is given that Fresh's shape and slice lengths, which set P and L": what stays fixed afterwards
 pub record Fixed : Type 0 where
@@ -31,6 +33,8 @@ pub data Call : Type 0 where
   lookupCall : List ℕ → Call
   -- a query and its output as it came
   queryCall : List (Option ℕ) → List ℕ → Call
+  -- a range and its output as it came
+  rangeCall : List (Option Interval) → List ℕ → Call
 
 -- what an accepted call returns
 pub data Reply : Type 0 where
@@ -59,6 +63,11 @@ keyConditions s values = refusal 3 (not (keyFits s values)) ∷ []
 abbrev pub queryConditions : Shape → List (Option ℕ) → List Condition
 queryConditions s q = refusal 8 (namesUnused s q) ∷ refusal 3 (not (queryFits s q)) ∷ []
 
+-- 8, 3, and 10 "low above high in some attribute, checked after 3"
+abbrev pub rangeConditions : Shape → List (Option Interval) → List Condition
+rangeConditions s r =
+    refusal 8 (namesUnused s r) ∷ refusal 3 (not (rangeFits s r)) ∷ refusal 10 (not (rangeRises s r)) ∷ []
+
 module _ (f : Fixed) (S : List Record) where
   -- 4 "key stored already", 6 "b stored keys share their first L split bits with it", 7 "the new set has more than P
   -- non-empty leaves"
@@ -82,6 +91,7 @@ module _ (f : Fixed) (S : List Record) where
   numberFor (deleteCall values) = firstNumber (storedConditions values)
   numberFor (lookupCall values) = firstNumber (storedConditions values)
   numberFor (queryCall q out) = firstNumber (queryConditions (f .shape) q)
+  numberFor (rangeCall r out) = firstNumber (rangeConditions (f .shape) r)
 
 -- ---- accepted calls
 
@@ -111,12 +121,17 @@ module _ (f : Fixed) (S : List Record) where
   unfoldable pub outputOf : List (Option ℕ) → List ℕ → List ℕ
   outputOf q out = outputFor (matching q) out (f .shape)
 
+  -- "Total counts the stored records inside the box"
+  abbrev pub inside : List (Option Interval) → List Record
+  inside r = filter (λ x. inBox (boxOf (f .shape) r) (x .key)) S
+
   -- "Lookup: the key's payload in S and 1 page read", "Query: .. written .. Total .. Reads"
   unfoldable pub replyTo : Call → Reply
   replyTo (insertCall values content) = changed
   replyTo (deleteCall values) = changed
   replyTo (lookupCall values) = found (contentOf (stored (encodings (f .shape) values) S)) 1
   replyTo (queryCall q out) = listed (writtenOf q out) (length (matching q)) (readsOf (f .shape) q S)
+  replyTo (rangeCall r out) = listed (writtenFor (inside r) out) (length (inside r)) (rangeReadsOf (f .shape) r S)
 
   -- "Insert: the record joins S. Delete: the key's record leaves S." "S stays."
   unfoldable pub setAfter : Call → List Record
@@ -124,12 +139,14 @@ module _ (f : Fixed) (S : List Record) where
   setAfter (deleteCall values) = withoutKey (encodings (f .shape) values) S
   setAfter (lookupCall values) = S
   setAfter (queryCall q out) = S
+  setAfter (rangeCall r out) = S
 
   unfoldable pub outputAfter : Call → List ℕ
   outputAfter (insertCall values content) = []
   outputAfter (deleteCall values) = []
   outputAfter (lookupCall values) = []
   outputAfter (queryCall q out) = outputOf q out
+  outputAfter (rangeCall r out) = outputFor (inside r) out (f .shape)
 
 -- a call's output as it came
 abbrev pub outputBefore : Call → List ℕ
@@ -137,6 +154,7 @@ outputBefore (insertCall values content) = []
 outputBefore (deleteCall values) = []
 outputBefore (lookupCall values) = []
 outputBefore (queryCall q out) = out
+outputBefore (rangeCall r out) = out
 
 -- ---- one call
 

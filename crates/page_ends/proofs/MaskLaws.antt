@@ -97,6 +97,17 @@ highBits-lt k (suc (suc zero)) = omega (arith, pow-pos (k 2))
 highBits-lt k (suc (suc (suc zero))) = omega (arith, pow-pos (k 3))
 highBits-lt k (suc (suc (suc (suc j)))) = omega arith
 
+packedValue-highBits : (k : ℕ → ℕ) (a j : ℕ) → j < 4
+    → packedValue (bitAnd a (packedKey (perAttribute (highBits k)))) j ≡ bitAnd (packedValue a j) (highBits k j)
+packedValue-highBits k a j l =
+    packedValue-and a (packedKey (perAttribute (highBits k))) j
+    ∙ ap (bitAnd (packedValue a j)) (packedValue-packedKey (highBits k) (highBits-lt k) j l)
+
+pub packedValue-masked : (k : ℕ → ℕ) → ((j : ℕ) → k j ≤ 16) → (a j : ℕ) → j < 4
+    → packedValue (bitAnd a (packedKey (perAttribute (highBits k)))) j ≡ packedValue a j / 2 ^ k j * 2 ^ k j
+packedValue-masked k h a j l =
+    packedValue-highBits k a j l ∙ and-lane (packedValue a j) (k j) (h j) (omega arith)
+
 -- two keys agree with a third in the value of attribute j
 abbrev pub AgreeFrom : (ℕ → ℕ) → ℕ → ℕ → ℕ → ℕ → Type 0
 AgreeFrom k a b c j =
@@ -113,8 +124,7 @@ agree-packed k h a b c = (to, from)
     value : (j : ℕ) → j < 4 → packedValue (bitAnd (differing a b c) mask) j
         ≡ bitAnd (differing (packedValue a j) (packedValue b j) (packedValue c j)) (highBits k j)
     value j l =
-        packedValue-and (differing a b c) mask j
-        ∙ (λ i. bitAnd (packedValue-differing a b c j i) (packedValue-packedKey (highBits k) (highBits-lt k) j l i))
+        packedValue-highBits k (differing a b c) j l ∙ ap (λ v. bitAnd v (highBits k j)) (packedValue-differing a b c j)
 
     lane : (j : ℕ) → (bitAnd (differing (packedValue a j) (packedValue b j) (packedValue c j)) (highBits k j) ≡ 0)
         ↔ AgreeFrom k a b c j

@@ -1,10 +1,9 @@
--- Laws of the records of a page that match a pattern: they are whole records, those that match the query, and all where
--- nothing is given; all written at once. Assumes nothing.
+-- Laws of the records of a page that pass a test: they are whole records, and those that pass a test of records; all
+-- where nothing is given; all written at once. Assumes nothing.
 use Prim.Native.Nat.{ℕ, zero, suc, _+_, _-_, _*_, _/_, _≤_, min}
 use mathlib.Core.Path.{_≡_, refl, sym, ap, _∙_}
 use mathlib.Core.Bool.{Bool, true}
 use mathlib.Core.List.{List, [], _∷_, _++_, map}
-use mathlib.Core.Option.{Option}
 use native.Mathlib.Omega.{arith}
 use lib.Bits.{bitAnd, and-zero-r}
 use lib.Dec.{eqb}
@@ -17,7 +16,7 @@ use Rattle.lists.proofs.Bools.{and-split}
 use Rattle.lists.proofs.FilterLaws.{filter-ext, filter-true, filter-map, length-filter-le}
 use Rattle.lists.proofs.MemberLaws.{All-imp, All-filter}
 use Rattle.shape.specs.declared.Shape.{Shape}
-use Rattle.record.specs.Record.{matches}
+use Rattle.record.specs.Record.{Record}
 use Rattle.record.specs.Bytes.{recordSize, field, recordOf}
 use Rattle.record.specs.Packed.{keyIn}
 use Rattle.record.proofs.ByteLaws.{AreBytes, AreBytes-field, field-append-field}
@@ -25,9 +24,8 @@ use Rattle.page.specs.Page.{recordsFrom}
 use Rattle.page.specs.Fields.{recordOffset, fieldsFrom}
 use Rattle.page.proofs.FieldLaws.{recordsFrom-fields, length-fieldsFrom, take-fieldsFrom}
 use Rattle.page_matches.specs.declared.Pattern.{Pattern}
-use Rattle.page_matches.specs.Pattern.{GivenSixteenBits, patternOf, givesNothing, passes}
+use Rattle.page_matches.specs.Pattern.{givesNothing, passes}
 use Rattle.page_matches.specs.Output.{hits, emit}
-use Rattle.page_matches.proofs.PatternLaws.{passes-matches}
 use Rattle.page_matches.proofs.EmitLaws.{IsField, joined, emit-joined, take-min}
 
 -- ---- whole records
@@ -44,40 +42,43 @@ IsField-fieldsFrom (suc n) offset page b h = (
   IsField-fieldsFrom n (offset + recordSize) page b (omega arith),
 )
 
-pub IsField-hits : (p : Pattern) (n : ℕ) (page : List ℕ) → AreBytes page → recordOffset n ≤ length page
-    → All IsField (hits p n page)
+pub IsField-hits : (test : List ℕ → Bool) (n : ℕ) (page : List ℕ) → AreBytes page → recordOffset n ≤ length page
+    → All IsField (hits test n page)
 unfolding hits
-IsField-hits p n page b h =
-    All-imp _ IsField (λ f k. k .0) (hits p n page)
-    (All-filter IsField (passes p) (fieldsFrom n 2 page) (IsField-fieldsFrom n 2 page b h))
+IsField-hits test n page b h =
+    All-imp _ IsField (λ f k. k .0) (hits test n page)
+    (All-filter IsField test (fieldsFrom n 2 page) (IsField-fieldsFrom n 2 page b h))
 
-pub length-hits-le : (p : Pattern) (n : ℕ) (page : List ℕ) → length (hits p n page) ≤ n
+pub length-hits-le : (test : List ℕ → Bool) (n : ℕ) (page : List ℕ) → length (hits test n page) ≤ n
 unfolding hits
-length-hits-le p n page =
-    omega (arith, length-filter-le (passes p) (fieldsFrom n 2 page), length-fieldsFrom n 2 page)
+length-hits-le test n page =
+    omega (arith, length-filter-le test (fieldsFrom n 2 page), length-fieldsFrom n 2 page)
 
--- ---- the records that match the query
+-- ---- the records that pass
 
 filter-All : {A : Type 0} (f g : A → Bool) (xs : List A) → All (λ x. f x ≡ g x) xs → filter f xs ≡ filter g xs
 filter-All f g [] h = refl
 filter-All f g (x ∷ xs) h = rw (h .0, filter-All f g xs (h .1))
 
-pub map-hits : (s : Shape) (q : List (Option ℕ)) (n : ℕ) (page : List ℕ) → GivenSixteenBits q → AreBytes page
-    → recordOffset n ≤ length page
-    → map (recordOf s) (hits (patternOf q) n page) ≡ filter (matches s q) (recordsFrom s n 2 page)
+-- a test of bytes that is a test of the record which they hold
+pub map-hits : (s : Shape) (test : List ℕ → Bool) (wanted : Record → Bool)
+    → ((bytes : List ℕ) → AreBytes bytes → test bytes ≡ wanted (recordOf s bytes))
+    → (n : ℕ) (page : List ℕ) → AreBytes page → recordOffset n ≤ length page
+    → map (recordOf s) (hits test n page) ≡ filter wanted (recordsFrom s n 2 page)
 unfolding hits
-map-hits s q n page g b h =
+map-hits s test wanted same n page b h =
     let fields = fieldsFrom n 2 page in
     ap (map (recordOf s))
-    (filter-All (passes (patternOf q)) (λ f. matches s q (recordOf s f)) fields
-    (All-imp IsField _ (λ f k. passes-matches s q f g (k .1)) fields (IsField-fieldsFrom n 2 page b h)))
-    ∙ sym (filter-map (matches s q) (recordOf s) fields)
-    ∙ ap (filter (matches s q)) (sym (recordsFrom-fields s n 2 page))
+    (filter-All test (λ f. wanted (recordOf s f)) fields
+    (All-imp IsField _ (λ f k. same f (k .1)) fields (IsField-fieldsFrom n 2 page b h)))
+    ∙ sym (filter-map wanted (recordOf s) fields)
+    ∙ ap (filter wanted) (sym (recordsFrom-fields s n 2 page))
 
 -- ---- all records
 
 -- a pattern that gives nothing
-pub hits-all : (p : Pattern) (n : ℕ) (page : List ℕ) → givesNothing p ≡ true → hits p n page ≡ fieldsFrom n 2 page
+pub hits-all : (p : Pattern) (n : ℕ) (page : List ℕ) → givesNothing p ≡ true
+    → hits (passes p) n page ≡ fieldsFrom n 2 page
 unfolding hits passes givesNothing
 hits-all p n page e =
     let parts = and-split (eqb (p .mask) 0) (eqb (p .value) 0) e in

@@ -6,3 +6,4 @@ pub mod PatternLaws
 pub mod PlaceLaws
 pub mod PutLaws
 pub mod StoredLaws
+pub mod WithinLaws

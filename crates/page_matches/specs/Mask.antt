@@ -1,18 +1,16 @@
--- The records of a page that match, as bits of one number. Assumes nothing.
+-- The records of a page that pass a test of their bytes, as bits of one number. Assumes nothing.
 use Prim.Native.Nat.{ℕ, zero, suc, _+_, _-_, _*_, _/_, _%_}
-use mathlib.Core.Bool.{cond}
+use mathlib.Core.Bool.{Bool, cond}
 use mathlib.Core.List.{List, [], _∷_, _++_}
 use lib.Dec.{eqb}
 use lib.ListN.{length}
 use Rattle.record.specs.Bytes.{recordSize}
 use Rattle.page.specs.Fields.{recordField}
-use Rattle.page_matches.specs.declared.Pattern.{Pattern}
-use Rattle.page_matches.specs.Pattern.{passes}
 
--- of the k records from record i on: bit j is set if record i + j matches
-unfoldable pub matchMask : Pattern → List ℕ → ℕ → ℕ → ℕ
-matchMask p page zero i = 0
-matchMask p page (suc k) i = cond (passes p (recordField page i)) 1 0 + 2 * matchMask p page k (suc i)
+-- of the k records from record i on: bit j is set if record i + j passes
+unfoldable pub matchMask : (List ℕ → Bool) → List ℕ → ℕ → ℕ → ℕ
+matchMask test page zero i = 0
+matchMask test page (suc k) i = cond (test (recordField page i)) 1 0 + 2 * matchMask test page k (suc i)
 
 -- the records whose bits are set, of the k from record i on
 unfoldable pub picked : List ℕ → ℕ → ℕ → ℕ → List (List ℕ)

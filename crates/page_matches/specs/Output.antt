@@ -1,7 +1,7 @@
--- The output of a query (document 01, "Calls"): "It writes 12-byte records into the output while whole ones fit, other
--- output bytes untouched". Records are given as their bytes. Assumes nothing.
+-- The output of a query or a range (document 01, "Calls"): "It writes 12-byte records into the output while whole ones
+-- fit, other output bytes untouched". Records are given as their bytes. Assumes nothing.
 use Prim.Native.Nat.{ℕ, suc, _+_, _*_}
-use mathlib.Core.Bool.{cond}
+use mathlib.Core.Bool.{Bool, cond}
 use mathlib.Core.List.{List, [], _∷_}
 use lib.Dec.{leb}
 use lib.ListN.{length}
@@ -9,12 +9,10 @@ use lib.Seq.{paste}
 use Rattle.lists.specs.Filter.{filter}
 use Rattle.record.specs.Bytes.{recordSize}
 use Rattle.page.specs.Fields.{fieldsFrom}
-use Rattle.page_matches.specs.declared.Pattern.{Pattern}
-use Rattle.page_matches.specs.Pattern.{passes}
 
--- the records that match a pattern, of the n of a page
-unfoldable pub hits : Pattern → ℕ → List ℕ → List (List ℕ)
-hits p n page = filter (passes p) (fieldsFrom n 2 page)
+-- the records that pass a test of their bytes, of the n of a page
+unfoldable pub hits : (List ℕ → Bool) → ℕ → List ℕ → List (List ℕ)
+hits test n page = filter test (fieldsFrom n 2 page)
 
 -- a record written into the output as its record i, if it fits
 unfoldable pub emitOne : ℕ → List ℕ → List ℕ → List ℕ

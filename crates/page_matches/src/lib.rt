@@ -1,5 +1,7 @@
-// The records of a page that match a query, written into the output (document 01, "Calls"), and the
-// record with a key. The four values of a record are compared at once, as its packed key.
+// The records of a page that match a query, written into the output (document 01, "Calls"), those
+// whose key lies between two others, and the record with a key. The four values of a record are
+// compared at once, as its packed key.
+use key_between::lies_between;
 use page::content_at;
 use page::key_at;
 use record::RECORD_SIZE;
@@ -17,7 +19,8 @@ ghost use Rattle.shape.specs.Key.{wantedValues};
 ghost use Rattle.record.specs.Bytes.{recordSize};
 ghost use Rattle.page.specs.Fields.{recordOffset, recordField, fieldsFrom};
 ghost use Rattle.page_matches.specs.Pattern.{GivenSixteenBits, wantedMask, wantedBits};
-ghost use Rattle.page_matches.specs.Pattern.{patternOf, givesNothing};
+ghost use Rattle.page_matches.specs.Pattern.{patternOf, givesNothing, passes};
+ghost use Rattle.page_matches.specs.Within.{liesIn};
 ghost use Rattle.page_matches.specs.Mask.{matchMask, slotsOf, pickedBy};
 ghost use Rattle.page_matches.specs.Output.{hits, emitOne, emit};
 ghost use Rattle.page_matches.specs.KeyPlace.{keyPlace};
@@ -68,8 +71,8 @@ pub fn gives_nothing(pattern: Pattern) -> bool
 // while whole ones fit. Returns how many match, with the `total` before.
 pub fn put_matches(page: &[u8], n: usize, pattern: Pattern, out: &mut [u8], total: usize) -> usize
     requires { ⌜ (n < 64) × (recordOffset n ≤ length (now page)) × (total + n ≤ 2 ^ 32) ⌝ }
-    ensures { λ r. ⌜ r ≡ total + length (hits pattern n (now (page .entry))) ⌝ }
-    ensures { λ _. ⌜ now (out .exit) ≡ emit (now (out .entry)) total (hits pattern n (now (page .entry))) ⌝ }
+    ensures { λ r. ⌜ r ≡ total + length (hits (passes pattern) n (now (page .entry))) ⌝ }
+    ensures { λ _. ⌜ now (out .exit) ≡ emit (now (out .entry)) total (hits (passes pattern) n (now (page .entry))) ⌝ }
 {
     if gives_nothing(pattern) {
         return put_all(page, n, out, total);
@@ -96,7 +99,7 @@ pub fn find_key(page: &[u8], n: usize, key: u64) -> usize
 // is a constant, and the compiler unrolls the loop over them.
 pub fn match_mask(page: &[u8], n: usize, pattern: Pattern) -> u64
     requires { ⌜ (n < 64) × (recordOffset n ≤ length (now page)) ⌝ }
-    ensures { λ r. ⌜ r ≡ matchMask pattern (now (page .entry)) n 0 ⌝ }
+    ensures { λ r. ⌜ r ≡ matchMask (passes pattern) (now (page .entry)) n 0 ⌝ }
 {
     let mask = if page.len() == SIXTEEN_RECORDS {
         match_among(page, 16, pattern)
@@ -104,6 +107,20 @@ pub fn match_mask(page: &[u8], n: usize, pattern: Pattern) -> u64
         match_among(page, (page.len() - 2) / RECORD_SIZE, pattern)
     };
     mask & ((1u64 << n) - 1)
+}
+
+// The n records of a page whose packed key lies between two others, value by value: bit i for
+// record i. As many are compared as by match_mask.
+pub fn within_mask(page: &[u8], n: usize, low: u64, high: u64) -> u64
+    requires { ⌜ (n < 64) × (recordOffset n ≤ length (now page)) ⌝ }
+    ensures { λ r. ⌜ r ≡ matchMask (liesIn low high) (now (page .entry)) n 0 ⌝ }
+{
+    let between = if page.len() == SIXTEEN_RECORDS {
+        lie_among(page, 16, low, high)
+    } else {
+        lie_among(page, (page.len() - 2) / RECORD_SIZE, low, high)
+    };
+    between & ((1u64 << n) - 1)
 }
 
 // Writes the n records of a page into the output from its record `total` on, while whole ones fit.
@@ -160,7 +177,7 @@ fn find_among(page: &[u8], k: usize, key: u64) -> usize
 // The k records of a page that match, bit i for record i; of more than 64, the low 64 bits.
 fn match_among(page: &[u8], k: usize, pattern: Pattern) -> u64
     requires { ⌜ recordOffset k ≤ length (now page) ⌝ }
-    ensures { λ r. ⌜ r ≡ matchMask pattern (now (page .entry)) k 0 % 2 ^ 64 ⌝ }
+    ensures { λ r. ⌜ r ≡ matchMask (passes pattern) (now (page .entry)) k 0 % 2 ^ 64 ⌝ }
 {
     let mut mask: u64 = 0;
     let mut i = k;
@@ -168,6 +185,22 @@ fn match_among(page: &[u8], k: usize, pattern: Pattern) -> u64
         i -= 1;
         let matched = key_at(page, i) & pattern.mask == pattern.value;
         mask = (mask << 1) | (matched as u64);
+    }
+    mask
+}
+
+// The k records of a page whose packed key lies between two others, bit i for record i; of more
+// than 64, the low 64 bits.
+fn lie_among(page: &[u8], k: usize, low: u64, high: u64) -> u64
+    requires { ⌜ recordOffset k ≤ length (now page) ⌝ }
+    ensures { λ r. ⌜ r ≡ matchMask (liesIn low high) (now (page .entry)) k 0 % 2 ^ 64 ⌝ }
+{
+    let mut mask: u64 = 0;
+    let mut i = k;
+    while 0 < i {
+        i -= 1;
+        let between = lies_between(low, high, key_at(page, i));
+        mask = (mask << 1) | (between as u64);
     }
     mask
 }

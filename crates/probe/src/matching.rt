@@ -8,7 +8,7 @@ ghost use mathlib.Core.Path.{_≡_};
 ghost use Prim.Native.Nat.{_+_, _^_, _<_, _≤_};
 ghost use lib.ListN.{length};
 ghost use Rattle.page.specs.Fields.{recordOffset};
-ghost use Rattle.page_matches.specs.Pattern.{GivenSixteenBits, patternOf};
+ghost use Rattle.page_matches.specs.Pattern.{GivenSixteenBits, patternOf, passes};
 ghost use Rattle.page_matches.specs.Output.{hits, emit};
 ghost use Rattle.host_results.specs.Wanted.{wantedOf};
 
@@ -32,8 +32,8 @@ pub extern "C" fn probe_put_matches(
     total: usize,
 ) -> usize
     requires { ⌜ (n < 64) × (recordOffset n ≤ length (now page)) × (total + n ≤ 2 ^ 32) ⌝ }
-    ensures { λ r. ⌜ r ≡ total + length (hits pattern n (now (page .entry))) ⌝ }
-    ensures { λ _. ⌜ now (out .exit) ≡ emit (now (out .entry)) total (hits pattern n (now (page .entry))) ⌝ }
+    ensures { λ r. ⌜ r ≡ total + length (hits (passes pattern) n (now (page .entry))) ⌝ }
+    ensures { λ _. ⌜ now (out .exit) ≡ emit (now (out .entry)) total (hits (passes pattern) n (now (page .entry))) ⌝ }
 {
     put_matches(page, n, pattern, out, total)
 }

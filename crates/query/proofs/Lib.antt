@@ -1,4 +1,2 @@
 pub mod CallLaws
-pub mod EarlyLaws
-pub mod NotedLaws
 pub mod PromiseLaws

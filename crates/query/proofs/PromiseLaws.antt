@@ -4,7 +4,6 @@ use mathlib.Core.Path.{_≡_, sym, ap, _∙_, subst}
 use mathlib.Core.Bool.{false≢true}
 use mathlib.Core.List.{List, map}
 use mathlib.Core.Option.{Option}
-use native.Mathlib.Omega.{arith}
 use lib.ListN.{length}
 use Rattle.lists.specs.Members.{All}
 use Rattle.shape.specs.Refusal.{Answer, accepted, refused}
@@ -21,11 +20,10 @@ use Rattle.page_matches.proofs.EmitLaws.{IsField}
 use Rattle.store.specs.declared.State.{State}
 use Rattle.store.specs.Store.{Store, store, fixedOf}
 use Rattle.store.specs.Promises.{QueryPromise, agreeing, SoundWhereRead, queryNumber}
-use Rattle.refusals.specs.Lengths.{lentNumberBy}
-use Rattle.refusals.proofs.LentLaws.{lentNumberBy-none}
+use Rattle.list_call.proofs.LentLaws.{lentNumberBy-sound}
 use Rattle.list_call.proofs.ListPromiseLaws.{isAccepted, Lists, list-early, list-nine, list-listed}
-use Rattle.query.specs.Private.{queryNumberBy}
-use Rattle.query.proofs.EarlyLaws.{queryNumberBy-query, queryNumber-by}
+use Rattle.query_number.specs.Number.{queryNumberBy}
+use Rattle.query_number.proofs.EarlyLaws.{queryNumberBy-query, queryNumber-by}
 
 -- ---- answers
 
@@ -48,19 +46,11 @@ module _ (st : State) (words bytes : List ℕ) (q : List (Option ℕ)) (out : Li
     shape-sound : shapeNumber (st .shape) ≡ 0
     shape-sound = shapeNumber-true (st .shape) (h .1 .shape)
 
-    lent-sound : lentNumberBy st (length words) (length bytes) ≡ 0
-    lent-sound =
-        lentNumberBy-none st (length words) (length bytes)
-        (record {
-          shape = shape-sound;
-          words-lent = h .1 .words-lent;
-          pages-lent = omega (arith, h .1 .pages-lent, h .2);
-        })
-
     model-number : queryNumber here q ≡ numberFor (fixedOf st) S (queryCall q out)
     unfolding numberFor
     model-number =
-        queryNumber-by st words bytes q ∙ queryNumberBy-query st (length words) (length bytes) q lent-sound
+        queryNumber-by st words bytes q ∙ queryNumberBy-query st (length words) (length bytes) q
+        (lentNumberBy-sound st words bytes (agreeing (queryBits (st .shape) q)) S h)
 
   abbrev matched : List Record → List Record
   matched S = matching (fixedOf st) S q

@@ -1,2 +1,3 @@
-pub mod MatchedLaws
+pub mod ListHitLaws
 pub mod ListLaws
+pub mod MatchedLaws

@@ -1,11 +1,12 @@
--- The pages that a query's walk noted and the records that match in them, one page after the other. Assumes nothing.
+-- The pages that a walk noted and the records in them that pass a test of their bytes, one page after the other.
+-- Assumes nothing.
 use Prim.Native.Nat.{ℕ, _+_, _*_, _/_, _%_, _^_, _≤_, _<_}
 use mathlib.Core.Path.{_≡_}
+use mathlib.Core.Bool.{Bool}
 use mathlib.Core.List.{List, flatMap}
 use lib.ListN.{length, getD}
 use Rattle.page.specs.Page.{countOf, pageSize, pageAt}
 use Rattle.page.specs.Fields.{fieldsFrom}
-use Rattle.page_matches.specs.declared.Pattern.{Pattern}
 use Rattle.page_matches.specs.Mask.{matchMask, pickedBy}
 use Rattle.page_matches.specs.Output.{hits, emit}
 
@@ -44,17 +45,17 @@ pub record PutAsked (P : ℕ → Type 0) (b x total : ℕ) : Type 0 where
 
 -- ---- records
 
--- the records of a page that match
-abbrev pub pageHits : Pattern → List ℕ → List (List ℕ)
-pageHits p page = hits p (countOf page) page
+-- the records of a page that pass
+abbrev pub pageHits : (List ℕ → Bool) → List ℕ → List (List ℕ)
+pageHits test page = hits test (countOf page) page
 
 -- those of some pages
-unfoldable pub listHits : Pattern → ℕ → List ℕ → List ℕ → List (List ℕ)
-listHits p b bytes gs = flatMap (λ g. pageHits p (pageAt b bytes g)) gs
+unfoldable pub listHits : (List ℕ → Bool) → ℕ → List ℕ → List ℕ → List (List ℕ)
+listHits test b bytes gs = flatMap (λ g. pageHits test (pageAt b bytes g)) gs
 
--- the mask of the records of a page that match
-abbrev pub pageMask : Pattern → List ℕ → ℕ
-pageMask p page = matchMask p page (countOf page) 0
+-- the mask of the records of a page that pass
+abbrev pub pageMask : (List ℕ → Bool) → List ℕ → ℕ
+pageMask test page = matchMask test page (countOf page) 0
 
 -- all records of page g, and those of a matched page that match
 abbrev pub pageFields : ℕ → List ℕ → ℕ → List (List ℕ)

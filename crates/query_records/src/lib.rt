@@ -13,6 +13,7 @@ ghost use Prim.Native.Nat.{_+_, _^_, _<_, _≤_};
 ghost use mathlib.Core.List.{flatMap};
 ghost use lib.ListN.{length, take};
 ghost use Rattle.page.specs.Page.{pageAt};
+ghost use Rattle.page_matches.specs.Pattern.{passes};
 ghost use Rattle.page_matches.specs.Output.{emit};
 ghost use Rattle.query_records.specs.Records.{PageWithin, MatchedWithin, ListOf, PutAsked, Emitted, listHits};
 ghost use Rattle.query_records.specs.Records.{pageFields, pageMask, matchedFields};
@@ -32,10 +33,11 @@ pub fn put_pages(
     out: &mut [u8],
 ) -> usize
     requires { ⌜ ListOf (PageWithin capacity (now pages)) capacity n (now list) ⌝ }
-    ensures { λ r. ⌜ (r ≡ length (listHits pattern capacity (now (pages .entry)) (take n (now (list .entry)))))
-        × (r ≤ 65536) ⌝ }
+    ensures { λ r. ⌜ (r ≡ length (listHits (passes pattern) capacity (now (pages .entry))
+        (take n (now (list .entry))))) × (r ≤ 65536) ⌝ }
     ensures { λ _. ⌜ now (out .exit)
-        ≡ emit (now (out .entry)) 0 (listHits pattern capacity (now (pages .entry)) (take n (now (list .entry)))) ⌝ }
+        ≡ emit (now (out .entry)) 0
+        (listHits (passes pattern) capacity (now (pages .entry)) (take n (now (list .entry)))) ⌝ }
 {
     if gives_nothing(pattern) {
         return put_whole(pages, capacity, list, n, out);
@@ -79,7 +81,7 @@ fn match_pages(pages: &[u8], capacity: usize, pattern: Pattern, list: &mut [u32]
     requires { ⌜ ListOf (PageWithin capacity (now pages)) capacity n (now list) ⌝ }
     ensures { λ r. ⌜ ListOf (MatchedWithin capacity (now (pages .entry))) capacity r (now (list .exit)) ⌝ }
     ensures { λ r. ⌜ flatMap (matchedFields capacity (now (pages .entry))) (take r (now (list .exit)))
-        ≡ listHits pattern capacity (now (pages .entry)) (take n (now (list .entry))) ⌝ }
+        ≡ listHits (passes pattern) capacity (now (pages .entry)) (take n (now (list .entry))) ⌝ }
 {
     let mut m = 0;
     let mut i = 0;
@@ -96,7 +98,7 @@ fn match_pages(pages: &[u8], capacity: usize, pattern: Pattern, list: &mut [u32]
 // The records of page g that match, bit i for record i.
 fn match_at(pages: &[u8], capacity: usize, g: usize, pattern: Pattern) -> u32
     requires { ⌜ (capacity ≤ 16) × PageWithin capacity (now pages) g ⌝ }
-    ensures { λ r. ⌜ (r ≡ pageMask pattern (pageAt capacity (now (pages .entry)) g)) × (r < 2 ^ capacity) ⌝ }
+    ensures { λ r. ⌜ (r ≡ pageMask (passes pattern) (pageAt capacity (now (pages .entry)) g)) × (r < 2 ^ capacity) ⌝ }
 {
     let start = page_start(capacity, g);
     let end = start + page_size(capacity);

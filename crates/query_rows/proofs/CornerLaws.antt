@@ -222,11 +222,11 @@ module _ (ws : List ℕ) (fit : Fit ws) (x : ℕ) (p : ℕ → Bool) (key : ℕ)
   pub Corner-lt : key < 2 ^ 64
   Corner-lt = rw (c .packs) (packedKey-lt (perAttribute value) sixteen)
 
+  pub packedValue-corner : (j : ℕ) → j < 4 → packedValue key j ≡ value j
+  packedValue-corner j l = ap (λ n. packedValue n j) (c .packs) ∙ packedValue-packedKey value sixteen j l
+
   unpacked : (j : ℕ) → j < 4 → getD (unpackedKey key) j 0 ≡ value j
-  unpacked j l =
-      getD-unpackedKey key j l
-      ∙ ap (λ n. packedValue n j) (c .packs)
-      ∙ packedValue-packedKey value sixteen j l
+  unpacked j l = getD-unpackedKey key j l ∙ packedValue-corner j l
 
   module _ (four : length ws ≡ 4) (within : x ≤ total ws) where
     fits : indexFits ws (unpackedKey key) ≡ true

@@ -4,7 +4,7 @@ use mathlib.Core.Bool.{Bool, true, false, cond}
 use mathlib.Core.List.{List, [], _∷_, _++_}
 use Rattle.region.specs.Strings.{withBit, emptyString}
 use Rattle.region.specs.Division.{Division, leaf, divided}
-use Rattle.region.specs.Query.{QueryBit, LeafTest, holdsRecords, queryEnters}
+use Rattle.region.specs.Query.{LeafTest, holdsRecords}
 use Rattle.record.specs.Record.{Record}
 use Rattle.store.specs.declared.State.{State}
 use Rattle.store.specs.Store.{wordAt}
@@ -26,7 +26,3 @@ module _ {R : Type 0} (enter : ℕ → (ℕ → Bool) → Bool) (opens : LeafTes
 -- of a store's leaves, those that are not empty
 unfoldable pub readPagesBy : State → List ℕ → (ℕ → (ℕ → Bool) → Bool) → Division Record → List ℕ
 readPagesBy st words enter D = walkPages enter holdsRecords (pageIn st words) emptyString 0 D
-
--- "the non-empty agreeing leaves": their pages
-abbrev pub readPages : State → List ℕ → (ℕ → QueryBit) → Division Record → List ℕ
-readPages st words q D = readPagesBy st words (queryEnters q) D

@@ -12,7 +12,8 @@ use Rattle.query_rows.specs.Rows.{pagesIn, talliedIn, hasDepth, mostPages}
 use Rattle.query_rows.proofs.MostLaws.{mostPages-pos}
 use Rattle.query_seen.specs.Seen.{Seen, damaged, after}
 use Rattle.query_seen.proofs.BoundLaws.{length-noted-le, length-met-le, length-after-le, OnePage}
-use Rattle.query_walk.specs.Private.{leafBy, wantedSides, seenBy}
+use Rattle.query_walk.specs.Private.{wantedSides, seenBy}
+use Rattle.query_walk.specs.Turns.{leafBy}
 
 pub OnePage-leafBy : (rows bytes : List ℕ) → OnePage (leafBy rows bytes)
 OnePage-leafBy rows bytes x key word = length-noted-le (pagesIn rows) (hasDepth (talliedIn rows) x) _ word

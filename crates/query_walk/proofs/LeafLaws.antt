@@ -11,7 +11,7 @@ use Rattle.shape.specs.Shape.{within}
 use Rattle.page.specs.Page.{countOf}
 use Rattle.page_ends.specs.Ends.{endsAgree}
 use Rattle.page_ends.specs.Fair.{fairCount}
-use Rattle.query_walk.specs.Private.{fairBy}
+use Rattle.query_walk.specs.Turns.{fairBy}
 
 module _ (b mask key : ℕ) (page : List ℕ) (n : ℕ)
     (e : n ≡ fairCount b (endsAgree mask key page (countOf page)) page) where

@@ -27,7 +27,7 @@ use Rattle.query_walk.specs.declared.Noted.{Noted}
 use Rattle.query_walk.specs.declared.Noted.the-variants.{Pages, Damaged}
 use lib.Seq.{sets}
 use Rattle.query_rows.proofs.StoreRunLaws.{getD-sets, take-sets}
-use Rattle.query_seen.specs.Pages.{readPagesBy, readPages}
+use Rattle.query_seen.specs.Pages.{readPagesBy}
 use Rattle.query_seen.specs.Seen.{Seen, fairPage, leafSeen, walkSeenBy, walkSeen}
 use Rattle.query_seen.proofs.BoundLaws.{length-noted-le, length-seen-le, Readable, All-noted, All-seen}
 use Rattle.query_seen.proofs.StoreLaws.{walkSeenBy-sound, length-readPagesBy, records-readPagesBy}
@@ -158,14 +158,6 @@ module _ (store : Store) (wanted : List (Option ℕ)) (S : List Record)
     unfolding readsOf
     noted-reads =
         noted-reads-by store (queryEnters bits) (agreeing bits) S (λ p x rs e n. e) h refl list r later o
-
-    -- the pages noted are those of the agreeing leaves that are not empty, in order
-    pub noted-pages : readsOf shape wanted S ≤ length list
-        → take (readsOf shape wanted S) later
-        ≡ readPages (store .state) (store .memory .words) bits (divisionOf shape S)
-    unfolding readsOf
-    noted-pages room =
-        noted-pages-by store (queryEnters bits) (agreeing bits) S (λ p x rs e n. e) h refl list r later o room
 
     -- their matching records, one page after the other, are the matching records of S
     pub noted-records : readsOf shape wanted S ≤ length list → MatchesBits shape wanted

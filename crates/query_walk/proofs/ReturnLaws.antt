@@ -11,11 +11,13 @@ use Rattle.query_rows.specs.Vectors.{rowAddress}
 use Rattle.query_rows.proofs.MostLaws.{mostPages-free, mostPages-le}
 use Rattle.query_seen.specs.Seen.{Seen, damaged, after, met}
 use Rattle.query_seen.proofs.BoundLaws.{OnePage}
-use Rattle.query_seen.proofs.SeenLaws.{met-leaf, met-above, met-deep, met-divided}
-use Rattle.query_walk.specs.Private.{wantedSides, givenSide, seenBy, Wrote, Turn}
+use Rattle.query_seen.proofs.SeenLaws.{met-divided}
+use Rattle.query_walk.specs.Private.{wantedSides, givenSide, seenBy}
+use Rattle.query_walk.specs.Turns.{Wrote, Turn}
 use Rattle.query_walk.proofs.BoundLaws.{length-seenBy-le}
 use Rattle.query_walk.proofs.TurnLaws.{Inside, upperVector, upperCorner, fuel, fuel-halves, Turn-upper}
-use Rattle.query_walk.proofs.WroteLaws.{Wrote-damaged, sound-of-next, Wrote-after, Wrote-stop}
+use Rattle.query_walk.proofs.WroteLaws.{sound-of-next, Wrote-after, Wrote-stop}
+use Rattle.query_walk.proofs.WroteLaws.{Wrote-met-leaf, Wrote-met-above, Wrote-met-deep}
 
 -- ---- a divided region
 
@@ -119,7 +121,7 @@ module _ {rows words : List ℕ} {bytes room v corner x n word : ℕ}
 module _ (rows words : List ℕ) (leaf : ℕ → ℕ → ℕ → Seen) (T x v corner word : ℕ) (list : List ℕ) (n : ℕ) where
   -- a turn meets its region's word
   seenBy-met : (f : ℕ)
-      → (below : Seen) × (seenBy rows words leaf T f x v corner word ≡ met T x word (leaf x corner word) below)
+      → (below : Seen) × (met T x word (leaf x corner word) below ≡ seenBy rows words leaf T f x v corner word)
   unfolding seenBy
   seenBy-met zero = (damaged, refl)
   seenBy-met (suc f) = (_, refl)
@@ -128,16 +130,15 @@ module _ (rows words : List ℕ) (leaf : ℕ → ℕ → ℕ → Seen) (T x v co
       → Wrote list n (seenBy rows words leaf T (T - x) x v corner word) r later
   Wrote-leaf later r e o =
       let m = seenBy-met (T - x) in
-      subst (λ s. Wrote list n s r later) (sym (m .1 ∙ met-leaf T x word _ (m .0) e)) o
+      subst (λ s. Wrote list n s r later) (m .1) (Wrote-met-leaf T x word _ (m .0) list n later r e o)
 
   pub Wrote-above : depthField word < x → Wrote list n (seenBy rows words leaf T (T - x) x v corner word) 65535 list
   Wrote-above h =
       let m = seenBy-met (T - x) in
-      rw (m .1 ∙ met-above T x word _ (m .0) h) (Wrote-damaged list n)
+      subst (λ s. Wrote list n s 65535 list) (m .1) (Wrote-met-above T x word _ (m .0) list n h)
 
   pub Wrote-deep : x ≤ depthField word → (depthField word ≡ x → ⊥) → T < depthField word
       → Wrote list n (seenBy rows words leaf T (T - x) x v corner word) 65535 list
   Wrote-deep k d u =
       let m = seenBy-met (T - x) in
-      let below : x < depthField word = omega arith in
-      rw (m .1 ∙ met-deep T x word _ (m .0) below u) (Wrote-damaged list n)
+      subst (λ s. Wrote list n s 65535 list) (m .1) (Wrote-met-deep T x word _ (m .0) list n k d u)

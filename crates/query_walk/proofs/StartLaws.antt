@@ -4,8 +4,7 @@ use mathlib.Core.Path.{_≡_, refl, sym, ap, _∙_, subst}
 use mathlib.Core.Bool.{Bool, true, false, cond, _&&_}
 use mathlib.Core.List.{List}
 use native.Mathlib.Omega.{arith}
-use native.Mathlib.Nat.{zero-add, le-trans}
-use native.Mathlib.Numerals.{add-one}
+use native.Mathlib.Nat.{le-trans}
 use lib.Pow.{pow-mono}
 use lib.ListN.{getD, length}
 use Rattle.shape.specs.Shape.{Fit, widthsOf, within}
@@ -16,12 +15,10 @@ use Rattle.cell.specs.Cell.{cell, cellAddress}
 use Rattle.cell.proofs.CellLaws.{cell-zero}
 use Rattle.region.specs.Strings.{withBit, emptyString}
 use Rattle.region.specs.Query.{QueryBit, free, given, bitAgrees, agrees, queryEnters}
-use Rattle.region.proofs.StringLaws.{withBit-same}
 use Rattle.region.proofs.QueryLaws.{queryEnters-side}
 use Rattle.page.specs.Page.{countOf, pageAt}
 use Rattle.store.specs.declared.State.{State}
 use Rattle.shape.proofs.ShapeLaws.{shapeNumber-true, capacity-bounds}
-use Rattle.query_walk.specs.declared.Noted.the-variants.{Pages, Damaged}
 use Rattle.query_rows.specs.Corners.{Corner}
 use Rattle.query_rows.specs.Rows.{wantedNumber, valueBit, stepRow, bitIn, wantedBitIn, valueIn, fixedIn, Rows}
 use Rattle.query_rows.specs.Rows.{capacityIn, deepestIn, talliedIn, hasDepth}
@@ -31,15 +28,14 @@ use Rattle.query_rows.proofs.CornerLaws.{Corner-lower, Corner-upper, Corner-zer
 use Rattle.query_rows.proofs.DepthLaws.{hasDepth-talliedDepths}
 use Rattle.query_rows.proofs.MostLaws.{mostPages-le}
 use Rattle.query_rows.proofs.TableLaws.{fit-steps}
-use Rattle.cell.proofs.HalfLaws.{cell-lower}
-use Rattle.query_rows.proofs.VectorLaws.{packed-upper, rowAddress-cell}
 use Rattle.query_seen.specs.Seen.{Seen, nothing, damaged, after, fairPage, tallied, noted, leafSeen, met, seen}
 use Rattle.query_seen.specs.Seen.{walkSeenBy, walkSeen}
 use Rattle.query_seen.proofs.SeenLaws.{after-nothing, nothing-after}
-use Rattle.query_walk.specs.Noting.{Put, Walkable}
-use Rattle.query_walk.specs.Private.{fairBy, leafBy, wantedSides, seenBy, Wrote, Turn}
+use Rattle.query_walk.specs.Noting.{Walkable}
+use Rattle.query_walk.specs.Private.{wantedSides, seenBy}
+use Rattle.query_walk.specs.Turns.{fairBy, leafBy, Turn}
 use Rattle.query_walk.proofs.BoundLaws.{OnePage-leafBy, length-seenBy-le}
-use Rattle.query_walk.proofs.WroteLaws.{sound-of-next, damaged-of-next}
+use Rattle.query_walk.proofs.SideLaws.{by-lower, by-upper}
 
 -- ---- by rows and over strings
 
@@ -98,30 +94,13 @@ module _ (ws : List ℕ) (fit : Fit ws) (q : ℕ → QueryBit) (T : ℕ) (bits :
 
       lower : by (x + 1) (packed (cell ws x p)) k (wordOver x p)
           ≡ by (suc x) (packed (cell ws (suc x) (withBit p x false))) k (wordOver (suc x) (withBit p x false))
-      lower =
-          ap (λ y. by y (packed (cell ws x p)) k (wordOver x p)) (add-one x)
-          ∙ ap (λ v. by (suc x) (packed v) k (getD words (address ws v) 0)) (sym (cell-lower ws fit x step-lt p))
+      lower = by-lower ws fit x step-lt p words (λ y v w. by y v k w)
 
-      upperVector : ℕ
-      upperVector = packed (cell ws (suc x) (withBit p x true))
-
-      vector : packed (cell ws x p) + bitIn rows x ≡ upperVector
-      vector =
-          ap (λ y. packed (cell ws x p) + y) (table .row x 2 inner (omega arith))
-          ∙ sym (packed-upper ws fit x step-lt p)
-
-      -- the 1-side of depth y with this vector and the bit b in its corner
-      upperBy : ℕ → ℕ → ℕ → Seen
-      upperBy y v b = by y v (k + b) (getD words (rowAddress rows (x * 6) v) 0)
-
-      upper : upperBy (x + 1) (packed (cell ws x p) + bitIn rows x) (valueIn rows x)
-          ≡ by (suc x) upperVector (k + valueBit ws x) (wordOver (suc x) (withBit p x true))
-      upper =
-          ap (λ y. upperBy y (packed (cell ws x p) + bitIn rows x) (valueIn rows x)) (add-one x)
-          ∙ ap (λ v. upperBy (suc x) v (valueIn rows x)) vector
-          ∙ ap (upperBy (suc x) upperVector) (table .row x 4 inner (omega arith))
-          ∙ ap (λ a. by (suc x) upperVector (k + valueBit ws x) (getD words a 0))
-          (rowAddress-cell ws fit x step-lt (withBit p x true) q T rows table inner twelve (withBit-same p x true))
+      upper : by (x + 1) (packed (cell ws x p) + bitIn rows x) (k + valueIn rows x)
+          (getD words (rowAddress rows (x * 6) (packed (cell ws x p) + bitIn rows x)) 0)
+          ≡ by (suc x) (packed (cell ws (suc x) (withBit p x true))) (k + valueBit ws x)
+          (wordOver (suc x) (withBit p x true))
+      upper = by-upper ws fit x step-lt p words by q T rows table inner twelve k
 
 -- ---- from the empty string
 
@@ -130,7 +109,7 @@ module _ (st : State) (rows words bytes : List ℕ) (room : ℕ)
   abbrev ws : List ℕ
   ws = widthsOf (st .shape)
 
-  fits : (Fit ws) × (st .deepest ≤ length (steps ws))
+  pub fits : (Fit ws) × (st .deepest ≤ length (steps ws))
   unfolding widthsOf
   fits = fit-steps (st .shape) _ _ _ _ (st .deepest) (h .shape) refl (h .depth-bits)
 
@@ -159,6 +138,22 @@ module _ (st : State) (rows words bytes : List ℕ) (room : ℕ)
         count = rw all (omega arith);
         left = rw all (omega (arith, h .list-lent));
       }
+
+  -- a walk to depth t with f steps left from the cell of vector v with word w: from the zero vector it starts at the
+  -- empty string
+  pub from-start : (by : ℕ → ℕ → ℕ → ℕ → Seen)
+      → by (deepestIn rows) (deepestIn rows - 0) 0 (getD words 0 0)
+      ≡ by (st .deepest) (st .deepest) (packed (cell ws 0 emptyString)) (getD words (cellAddress ws 0 emptyString) 0)
+  unfolding cellAddress
+  from-start by =
+      let T = st .deepest in
+      let all : T - 0 ≡ T = omega arith in
+      let none = cell-zero ws emptyString in
+      ap (λ t. by t (t - 0) 0 (getD words 0 0)) (h .table .depth-of)
+      ∙ ap (λ f. by T f 0 (getD words 0 0)) all
+      ∙ ap (λ v. by T T v (getD words 0 0)) (sym (ap packed none))
+      ∙ ap (λ a. by T T (packed (cell ws 0 emptyString)) (getD words a 0))
+      (sym (ap (address ws) none ∙ address-zero ws))
 
   -- the walk by rows from the zero vector and the zero corner, to depth T
   abbrev pub byRows : ℕ → Seen
@@ -191,7 +186,8 @@ module _ (st : State) (rows words bytes : List ℕ) (room : ℕ)
         ∙ ap (λ β. within 1 b (countOf page) && β)
         (endsAgree-corner ws (fits .0) x p k c refl (le-trans l (h .depth-bits)) page (countOf page))
 
-    leaf-alike : (x : ℕ) (p : ℕ → Bool) (k w : ℕ) → x ≤ st .deepest → Corner ws x p k
+    -- and its word
+    pub leaf-alike : (x : ℕ) (p : ℕ → Bool) (k w : ℕ) → x ≤ st .deepest → Corner ws x p k
         → leafBy rows bytes x k w ≡ leafSeen st bytes x p w
     unfolding tallied
     leaf-alike x p k w l c =
@@ -199,17 +195,11 @@ module _ (st : State) (rows words bytes : List ℕ) (room : ℕ)
         ap (λ d. hasDepth d x) (table .depths) ∙ hasDepth-talliedDepths (st .tally .leaves) x in
         λ i. noted (table .pages i) (has i) (λ g. fair-alike x p k l c g i) w
 
-    byRows-walkSeen : byRows (deepestIn rows) ≡ walkSeen st words bytes q
-    unfolding walkSeenBy cellAddress
+    pub byRows-walkSeen : byRows (deepestIn rows) ≡ walkSeen st words bytes q
+    unfolding walkSeenBy
     byRows-walkSeen =
         let T = st .deepest in
-        let all : T - 0 ≡ T = omega arith in
-        let none = cell-zero ws emptyString in
-        ap byRows (table .depth-of)
-        ∙ ap (λ f. seenBy rows words (leafBy rows bytes) T f 0 0 0 (getD words 0 0)) all
-        ∙ ap (λ v. seenBy rows words (leafBy rows bytes) T T 0 v 0 (getD words 0 0)) (sym (ap packed none))
-        ∙ ap (λ a. seenBy rows words (leafBy rows bytes) T T 0 (packed (cell ws 0 emptyString)) 0 (getD words a 0))
-        (sym (ap (address ws) none ∙ address-zero ws))
+        from-start (λ t f v w. seenBy rows words (leafBy rows bytes) t f 0 v 0 w)
         ∙ seenBy-seen ws (fits .0) q T (fits .1) (h .depth-twelve) rows (table .rows-of) words (leafSeen st bytes)
         (leafBy rows bytes) leaf-alike T 0 emptyString 0 (omega arith) refl (Corner-zero ws)
 
@@ -219,19 +209,3 @@ module _ (st : State) (rows words bytes : List ℕ) (room : ℕ)
     length-walkSeen-le =
         subst (λ s. (length (s .pages) ≤ room) × (length (s .pages) ≤ 4096))
         (ap byRows (sym (table .depth-of)) ∙ byRows-walkSeen) length-byRows-le
-
-    module _ (list later : List ℕ) (r : ℕ) (o : Wrote list 0 (byRows (deepestIn rows)) r later) where
-      here : Wrote list 0 (walkSeen st words bytes q) r later
-      here = subst (λ s. Wrote list 0 s r later) byRows-walkSeen o
-
-      pub Put-pages : r ≤ 4096 → Put list (walkSeen st words bytes q) (Pages r) later
-      Put-pages k =
-          let s = walkSeen st words bytes q in
-          let d = sound-of-next list later 0 s r here k in
-          record { answer = ap Pages (d .1 ∙ zero-add (length (s .pages))) ∙ rw (d .0); lines = here .lines }
-
-      pub Put-damaged : 4096 < r → Put list (walkSeen st words bytes q) Damaged later
-      Put-damaged k =
-          let d = damaged-of-next list later 0 (walkSeen st words bytes q) r here k
-          (omega (arith, length-walkSeen-le .1)) in
-          record { answer = rw d; lines = here .lines }

@@ -22,7 +22,8 @@ use Rattle.query_rows.proofs.CornerLaws.{Corner-lower, Corner-upper, Corner-lt}
 use Rattle.query_rows.proofs.MostLaws.{mostPages-next, mostPages-pos}
 use Rattle.cell.proofs.HalfLaws.{cell-lower}
 use Rattle.query_rows.proofs.VectorLaws.{Addressable-row, packed-cell-lt, packed-upper, rowAddress-cell}
-use Rattle.query_walk.specs.Private.{NoteAsked, givenSide, Turn}
+use Rattle.query_walk.specs.Private.{givenSide}
+use Rattle.query_walk.specs.Turns.{NoteAsked, Turn}
 
 -- ---- a divided region
 

@@ -1,5 +1,5 @@
--- Laws of what a part of the walk writes: nothing, one page, one part after another, and what each return of `note`
--- writes. Assumes nothing.
+-- Laws of what a part of the walk writes: nothing, one page, one part after another, a leaf or damage, and what each
+-- return of `note` writes. Assumes nothing.
 use Prim.Native.Nat.{ℕ, _+_, _-_, _≤_, _<_}
 use mathlib.Core.Path.{_≡_, refl, sym, ap, _∙_, subst}
 use mathlib.Core.Bool.{Bool, true, false, cond}
@@ -7,11 +7,12 @@ use mathlib.Core.List.{List, _++_}
 use native.Mathlib.Omega.{arith}
 use native.Mathlib.Nat.{add-zero}
 use lib.ListN.{length, set, length-append}
-use Rattle.directory_word.specs.Word.{pageField}
+use Rattle.directory_word.specs.Word.{pageField, depthField}
 use Rattle.query_rows.proofs.StoreRunLaws.{sets-append}
-use Rattle.query_seen.specs.Seen.{Seen, nothing, damaged, single, after, noted}
+use Rattle.query_seen.specs.Seen.{Seen, nothing, damaged, single, after, noted, met}
+use Rattle.query_seen.proofs.SeenLaws.{met-leaf, met-above, met-deep}
 use Rattle.query_seen.proofs.SeenLaws.{noted-untold, noted-none, noted-past, noted-unfair, noted-fair}
-use Rattle.query_walk.specs.Private.{Wrote}
+use Rattle.query_walk.specs.Turns.{Wrote}
 
 pub Wrote-nothing : (list : List ℕ) (n : ℕ) → Wrote list n nothing n list
 Wrote-nothing list n = record { next = sym (add-zero n); lines = refl }
@@ -63,6 +64,21 @@ module _ (list mid : List ℕ) (n : ℕ) (s : Seen) (r : ℕ) (p : Wrote list n 
   Wrote-stop u h l =
       subst (λ β. Wrote list n (cond β (record { pages = s .pages ++ u .pages; sound = u .sound }) s) r mid)
       (sym (damaged-of-next h l)) p
+
+-- a region that meets its word: a leaf, and damage
+module _ (T x word : ℕ) (own below : Seen) (list : List ℕ) (n : ℕ) where
+  pub Wrote-met-leaf : (later : List ℕ) (r : ℕ) → depthField word ≡ x → Wrote list n own r later
+      → Wrote list n (met T x word own below) r later
+  Wrote-met-leaf later r e o = subst (λ s. Wrote list n s r later) (sym (met-leaf T x word own below e)) o
+
+  pub Wrote-met-above : depthField word < x → Wrote list n (met T x word own below) 65535 list
+  Wrote-met-above h = rw (met-above T x word own below h) (Wrote-damaged list n)
+
+  pub Wrote-met-deep : x ≤ depthField word → (depthField word ≡ x → ⊥) → T < depthField word
+      → Wrote list n (met T x word own below) 65535 list
+  Wrote-met-deep k d u =
+      let inner : x < depthField word = omega arith in
+      rw (met-deep T x word own below inner u) (Wrote-damaged list n)
 
 -- the returns of `note`: field is the word's
 pub Wrote-noted-untold : (list : List ℕ) (n P : ℕ) (has : Bool) (fair : ℕ → Bool) (word : ℕ) → has ≡ false

@@ -24,14 +24,14 @@ ghost use lib.ListN.{length};
 ghost use Rattle.directory_word.specs.Word.{depthField};
 ghost use Rattle.query_rows.specs.Rows.{deepestIn};
 ghost use Rattle.query_walk.specs.Noting.{Noting, Walkable};
-ghost use Rattle.query_walk.specs.Private.{Wrote, NoteAsked, PageAsked, Turn, seenBy, leafBy, pageFair};
-ghost use Rattle.query_walk.specs.Private.{givenSide};
+ghost use Rattle.query_walk.specs.Private.{PageAsked, seenBy, givenSide};
+ghost use Rattle.query_walk.specs.Turns.{Wrote, NoteAsked, Turn, leafBy, pageFair};
 
 // No store has more pages, so that no walk notes more.
-const MOST_PAGES: usize = 4096;
+pub const MOST_PAGES: usize = 4096;
 
 // What a part of the walk returns in place of a number of pages.
-const DAMAGED: usize = 65535;
+pub const DAMAGED: usize = 65535;
 
 // What a walk answers: how many pages it noted, or that it met what no sound store has.
 pub enum Noted {
@@ -128,7 +128,7 @@ fn walk(
 }
 
 // Whether a region of depth x with this word is a leaf: the word names this depth.
-fn is_leaf(word: u32, x: usize) -> bool
+pub fn is_leaf(word: u32, x: usize) -> bool
     ensures { λ r. ⌜ r ≡ eqb (depthField word) x ⌝ }
 {
     let depth = depth_of(word) as usize;
@@ -137,7 +137,7 @@ fn is_leaf(word: u32, x: usize) -> bool
 
 // Notes the page of the word of a leaf of depth x with this corner at place n, if it has one, and
 // returns the next place, or DAMAGED.
-fn note(
+pub fn note(
     rows: &[u64; TABLE],
     pages: &[u8],
     list: &mut [u32],

@@ -35,13 +35,13 @@ parity x y false e k =
     let even : (z : ℕ) → (z % 2 ≡ 1 → ⊥) → z % 2 ≡ 0 = λ z n. omega arith in
     even x (eqb-false (x % 2) 1 e) ∙ sym (even y (eqb-false (y % 2) 1 k))
 
-bitOf-half : (w v k : ℕ) → k < w → bitOf w (v / 2) k ≡ bitOf (suc w) v k
+pub bitOf-half : (w v k : ℕ) → k < w → bitOf w (v / 2) k ≡ bitOf (suc w) v k
 bitOf-half w v k h =
     let up : suc (w - suc k) ≡ suc w - suc k = omega arith in
     ap (λ x. eqb (x % 2) 1)
     (div-div-eq-div-mul v 2 (2 ^ (w - suc k)) ∙ ap (λ x. v / x) (sym (pow-succ' 2 (w - suc k)) ∙ ap (λ x. 2 ^ x) up))
 
-bitOf-last : (w v : ℕ) → bitOf (suc w) v w ≡ eqb (v % 2) 1
+pub bitOf-last : (w v : ℕ) → bitOf (suc w) v w ≡ eqb (v % 2) 1
 bitOf-last w v =
     let none : suc w - suc w ≡ 0 = omega arith in
     ap (λ x. eqb (x % 2) 1) (ap (λ x. v / 2 ^ x) none ∙ ap (λ x. v / x) (pow-zero 2) ∙ div-one v)

@@ -12,5 +12,6 @@ pub mod InsertRefuted
 pub mod LookupRefuted
 pub mod OneLeafSound
 pub mod QueryRefuted
+pub mod RangeRefuted
 pub mod TableStoreLaws
 pub mod TwoLeavesSound

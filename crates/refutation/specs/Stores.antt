@@ -4,6 +4,7 @@ use Prim.Native.Nat.{ℕ, _-_, _*_}
 use mathlib.Core.List.{List, [], _∷_, _++_}
 use mathlib.Core.Option.{Option, none, some}
 use lib.ListN.{length, replicate}
+use Rattle.shape.specs.Range.{Interval}
 use Rattle.region.specs.Division.{Division}
 use Rattle.record.specs.Record.{Record}
 use Rattle.record.specs.Bytes.{recordSize, littleEndian, recordsBytes}
@@ -147,7 +148,7 @@ zeroedWord = otherWord 0 (0 ∷ 1 ∷ 1 ∷ 2 ∷ [])
 abbrev pub lowTally : Store
 lowTally = otherWord (wordOf (Empty 2)) (0 ∷ 1 ∷ 1 ∷ 0 ∷ [])
 
--- ---- lent memory, queries, and what the model says
+-- ---- lent memory, queries, ranges, and what the model says
 
 -- 8 words and 3 pages, every byte 1
 abbrev pub ones : Memory
@@ -162,6 +163,13 @@ givenFirst v = some v ∷ none ∷ none ∷ none ∷ []
 
 abbrev pub givenSecond : ℕ → List (Option ℕ)
 givenSecond v = none ∷ some v ∷ none ∷ none ∷ []
+
+-- a given interval, and the range that gives attribute 0 alone one
+abbrev pub interval : ℕ → ℕ → Option Interval
+interval low high = some (record { low = low; high = high })
+
+abbrev pub firstWithin : ℕ → ℕ → List (Option Interval)
+firstWithin low high = interval low high ∷ none ∷ none ∷ none ∷ []
 
 -- the outcome of a call on a store that shows the set S, and the leaves after it
 abbrev pub outcomeOn : Store → List Record → Call → Outcome

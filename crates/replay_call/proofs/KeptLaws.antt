@@ -6,14 +6,16 @@ use mathlib.Core.Option.{Option}
 use native.Mathlib.Omega.{arith}
 use lib.ListN.{length}
 use Rattle.shape.specs.Refusal.{Answer}
+use Rattle.shape.specs.Range.{Interval}
 use Rattle.model.specs.Model.{Call, Reply}
 use Rattle.store.specs.Store.{Store, store}
 use Rattle.store.specs.declared.State.{State}
-use Rattle.store.specs.Promises.{InsertPromise, DeletePromise, LookupPromise, QueryPromise}
+use Rattle.store.specs.Promises.{InsertPromise, DeletePromise, LookupPromise, QueryPromise, RangePromise}
 use Rattle.history.specs.History.{Promised}
 use Rattle.replay_encoding.specs.declared.Request.{Request}
-use Rattle.replay_encoding.specs.Encoding.{wantedIn, callOf, requestSize, answerWords}
-use Rattle.replay_encoding.proofs.EncodingLaws.{callOf-insert, callOf-delete, callOf-lookup, callOf-query, no-output}
+use Rattle.replay_encoding.specs.Encoding.{wantedIn, intervalsIn, callOf, requestSize, answerWords}
+use Rattle.replay_encoding.proofs.EncodingLaws.{callOf-insert, callOf-delete, callOf-lookup, callOf-query, callOf-range}
+use Rattle.replay_encoding.proofs.EncodingLaws.{no-output}
 use Rattle.replay_call.specs.Promise.{CallKept}
 
 module _ (before : Store) (r : Request) (out ws : List ℕ) (a : Answer Reply) (e-words : ws ≡ answerWords a) where
@@ -50,9 +52,15 @@ module _ (before : Store) (r : Request) (out ws : List ℕ) (a : Answer Reply) (
     pub kept-lookup : r .kind ≡ 2 → LookupPromise before (r .values) a → CallKept before (callOf r out) ws out before
     kept-lookup e p = kept-as _ out before (callOf-lookup r out e) (p, no-output r out (omega arith) lent, refl)
 
-  pub kept-query : (q : List (Option ℕ)) (out′ : List ℕ)
-      → (r .kind ≡ 0 → ⊥) → (r .kind ≡ 1 → ⊥) → (r .kind ≡ 2 → ⊥) → q ≡ wantedIn r
+  pub kept-query : (q : List (Option ℕ)) (out′ : List ℕ) → r .kind ≡ 3 → q ≡ wantedIn r
       → QueryPromise before q out a out′ → CallKept before (callOf r out) ws out′ before
-  kept-query q out′ h0 h1 h2 e p =
-      kept-as _ out′ before (callOf-query r out h0 h1 h2)
+  kept-query q out′ k e p =
+      kept-as _ out′ before (callOf-query r out k)
       (subst (λ (q : List (Option ℕ)). QueryPromise before q out a out′) e p, refl)
+
+  pub kept-range : (i : List (Option Interval)) (out′ : List ℕ)
+      → (r .kind ≡ 0 → ⊥) → (r .kind ≡ 1 → ⊥) → (r .kind ≡ 2 → ⊥) → (r .kind ≡ 3 → ⊥) → i ≡ intervalsIn r
+      → RangePromise before i out a out′ → CallKept before (callOf r out) ws out′ before
+  kept-range i out′ h0 h1 h2 h3 e p =
+      kept-as _ out′ before (callOf-range r out h0 h1 h2 h3)
+      (subst (λ (i : List (Option Interval)). RangePromise before i out a out′) e p, refl)

@@ -1,14 +1,17 @@
-// One encoded call, run on a store (document 01, "The plain model of demand 3").
+// One encoded call, run on a store (document 01, "The plain model of demand 3"; document 02,
+// request 1).
 use delete::delete;
 use insert::insert;
 use lookup::lookup;
 use query::query;
+use range::range;
 use record::Content;
 use replay_encoding::Request;
 use replay_encoding::changed_words;
 use replay_encoding::found_words;
 use replay_encoding::listed_words;
 use replay_encoding::query_of;
+use replay_encoding::range_of;
 use shape::Key;
 use store::Change;
 use store::State;
@@ -25,7 +28,7 @@ pub struct Step {
     pub words: [u64; 4],
 }
 
-// Runs one call on a store. A call other than a query has no output.
+// Runs one call on a store. A call other than a query or a range has no output.
 pub fn run_call(
     state: State,
     dir: &mut [u32],
@@ -53,7 +56,11 @@ pub fn run_call(
         let words = found_words(lookup(state, dir, pages, key));
         return Step { state, words };
     }
-    let words = listed_words(query(state, dir, pages, query_of(request), out));
+    if request.kind == 3 {
+        let words = listed_words(query(state, dir, pages, query_of(request), out));
+        return Step { state, words };
+    }
+    let words = listed_words(range(state, dir, pages, range_of(request), out));
     Step { state, words }
 }
 

@@ -10,13 +10,14 @@ use lib.Seq.{getD-append-add, append-snoc, take-append-seam, drop-at}
 use Rattle.lists.specs.Members.{All}
 use Rattle.lists.proofs.MemberLaws.{All-append}
 use Rattle.shape.specs.Key.{perAttribute}
-use Rattle.model.specs.Model.{Call, insertCall, deleteCall, lookupCall, queryCall, outputBefore}
+use Rattle.shape.specs.Range.{Interval, intervalIf, intervalsOf}
+use Rattle.model.specs.Model.{Call, insertCall, deleteCall, lookupCall, queryCall, rangeCall, outputBefore}
 use Rattle.replay_encoding.specs.declared.Request.{Request}
 use Rattle.replay_encoding.specs.Encoding.{callSize, requestAt, valueIf, wantedIn}
 use Rattle.replay_encoding.specs.Encoding.{callOf, requestSize, outputStart}
 use Rattle.replay_encoding.specs.Encoding.{outputSizeAt, outputAt, callsIn, callCount, answerSize}
-use Rattle.replay_encoding.specs.Encoded.{givenValue, givenMark, FourWords, Encodable, keyRequest, requestOf}
-use Rattle.replay_encoding.specs.Encoded.{requestWords, encoded, outputsBefore, EveryList}
+use Rattle.replay_encoding.specs.Encoded.{givenValue, givenMark, givenLow, givenHigh, FourWords, Encodable}
+use Rattle.replay_encoding.specs.Encoded.{keyRequest, requestOf, requestWords, encoded, outputsBefore, EveryList}
 
 -- ---- one call
 
@@ -32,9 +33,13 @@ valueIf-givenMark : (o : Option ℕ) → valueIf (givenMark o) (givenValue o) �
 valueIf-givenMark none = refl
 valueIf-givenMark (some v) = refl
 
+intervalIf-givenMark : (o : Option Interval) → intervalIf (givenMark o) (givenLow o) (givenHigh o) ≡ o
+intervalIf-givenMark none = refl
+intervalIf-givenMark (some i) = refl
+
 -- a call is what its request asks
 pub callOf-requestOf : (c : Call) → Encodable c → callOf (requestOf c) (outputBefore c) ≡ c
-unfolding callOf requestOf wantedIn
+unfolding callOf requestOf wantedIn intervalsOf
 callOf-requestOf (insertCall values content) e =
     ap (λ vs. insertCall vs content) (perAttribute-getD 0 values (e .0 .0))
 callOf-requestOf (deleteCall values) e = ap deleteCall (perAttribute-getD 0 values (e .0))
@@ -47,6 +52,14 @@ callOf-requestOf (queryCall q out) e =
       valueIf-givenMark (getD q 3 none),
     )
     (ap (λ w. queryCall w out) (perAttribute-getD none q (e .0)))
+callOf-requestOf (rangeCall r out) e =
+    rw (
+      intervalIf-givenMark (getD r 0 none),
+      intervalIf-givenMark (getD r 1 none),
+      intervalIf-givenMark (getD r 2 none),
+      intervalIf-givenMark (getD r 3 none),
+    )
+    (ap (λ w. rangeCall w out) (perAttribute-getD none r (e .0)))
 
 -- and its output has as many bytes as its request says
 requestSize-requestOf : (c : Call) (room : ℕ) → length (outputBefore c) ≤ room
@@ -56,6 +69,7 @@ requestSize-requestOf (insertCall values content) room h = refl
 requestSize-requestOf (deleteCall values) room h = refl
 requestSize-requestOf (lookupCall values) room h = refl
 requestSize-requestOf (queryCall q out) room h = omega arith
+requestSize-requestOf (rangeCall r out) room h = omega arith
 
 -- ---- its words
 
@@ -65,6 +79,7 @@ requestAt-requestWords (insertCall values content) words = refl
 requestAt-requestWords (deleteCall values) words = refl
 requestAt-requestWords (lookupCall values) words = refl
 requestAt-requestWords (queryCall q out) words = refl
+requestAt-requestWords (rangeCall r out) words = refl
 
 length-requestWords : (r : Request) → length (requestWords r) ≡ callSize
 unfolding requestWords
@@ -75,7 +90,23 @@ requestAt-suc : (first words : List ℕ) (k : ℕ) → length first ≡ callSize
     → requestAt (first ++ words) (suc k) ≡ requestAt words k
 unfolding requestAt
 requestAt-suc first words k l =
-    cc (word 0, word 1, word 2, word 3, word 4, word 5, word 6, word 7, word 8, word 9, word 10)
+    cc (
+      word 0,
+      word 1,
+      word 2,
+      word 3,
+      word 4,
+      word 5,
+      word 6,
+      word 7,
+      word 8,
+      word 9,
+      word 10,
+      word 11,
+      word 12,
+      word 13,
+      word 14,
+    )
   where
     word : (j : ℕ) → getD (first ++ words) (callSize * suc k + j) 0 ≡ getD words (callSize * k + j) 0
     word j =
@@ -194,18 +225,12 @@ callCount-encoded cs answers h = omega (arith, length-encoded cs)
 
 -- ---- words of 32 bits, bytes of 8
 
-getD-lt : (b : ℕ) → 0 < b → (l : List ℕ) → All (λ v. v < b) l → (j : ℕ) → getD l j 0 < b
-getD-lt b h [] a j = h
-getD-lt b h (v ∷ l) a zero = a .0
-getD-lt b h (v ∷ l) a (suc j) = getD-lt b h l (a .1) j
+All-getD : {A : Type 0} (P : A → Type 0) (d : A) → P d → (l : List A) → All P l → (j : ℕ) → P (getD l j d)
+All-getD P d h [] a j = h
+All-getD P d h (x ∷ l) a zero = a .0
+All-getD P d h (x ∷ l) a (suc j) = All-getD P d h l (a .1) j
 
-givenValue-lt : (q : List (Option ℕ)) → All (λ o. givenValue o < 2 ^ 32) q → (j : ℕ)
-    → givenValue (getD q j none) < 2 ^ 32
-givenValue-lt [] a j = omega arith
-givenValue-lt (o ∷ q) a zero = a .0
-givenValue-lt (o ∷ q) a (suc j) = givenValue-lt q (a .1) j
-
-givenMark-lt : (o : Option ℕ) → givenMark o < 2 ^ 32
+givenMark-lt : {A : Type 0} (o : Option A) → givenMark o < 2 ^ 32
 givenMark-lt none = omega arith
 givenMark-lt (some v) = omega arith
 
@@ -213,9 +238,9 @@ module _ (kind payload : ℕ) (values : List ℕ) (hk : kind < 3) (hp : payload 
   All-keyRequest : FourWords values → All (λ w. w < 2 ^ 32) (requestWords (keyRequest kind values payload))
   unfolding requestWords
   All-keyRequest f =
-      let v : (j : ℕ) → getD values j 0 < 2 ^ 32 = getD-lt (2 ^ 32) (omega arith) values (f .1) in
       let z : 0 < 2 ^ 32 = omega arith in
-      (omega (arith, hk), (v 0, (v 1, (v 2, (v 3, (z, (z, (z, (z, (hp, (z, tt)))))))))))
+      let v : (j : ℕ) → getD values j 0 < 2 ^ 32 = All-getD (λ v. v < 2 ^ 32) 0 z values (f .1) in
+      (omega (arith, hk), (v 0, (v 1, (v 2, (v 3, (z, (z, (z, (z, (hp, (z, (z, (z, (z, (z, tt)))))))))))))))
 
 All-requestWords : (c : Call) → Encodable c → All (λ w. w < 2 ^ 32) (requestWords (requestOf c))
 unfolding requestOf requestWords
@@ -223,9 +248,48 @@ All-requestWords (insertCall values content) e = All-keyRequest 0 (content .payl
 All-requestWords (deleteCall values) e = All-keyRequest 1 0 values (omega arith) (omega arith) e
 All-requestWords (lookupCall values) e = All-keyRequest 2 0 values (omega arith) (omega arith) e
 All-requestWords (queryCall q out) e =
-    let v = givenValue-lt q (e .1) in
+    let z : 0 < 2 ^ 32 = omega arith in
+    let v : (j : ℕ) → givenValue (getD q j none) < 2 ^ 32 = All-getD (λ o. givenValue o < 2 ^ 32) none z q (e .1) in
     let m : (j : ℕ) → givenMark (getD q j none) < 2 ^ 32 = λ j. givenMark-lt (getD q j none) in
-    (omega arith, (v 0, (v 1, (v 2, (v 3, (m 0, (m 1, (m 2, (m 3, (omega arith, (e .2, tt)))))))))))
+    (omega arith, (v 0, (v 1, (v 2, (v 3, (m 0, (m 1, (m 2, (m 3, (z, (e .2 .0, (z, (z, (z, (z, tt)))))))))))))))
+All-requestWords (rangeCall r out) e =
+    let z : 0 < 2 ^ 32 = omega arith in
+    let v : (j : ℕ) → (givenLow (getD r j none) < 2 ^ 32) × (givenHigh (getD r j none) < 2 ^ 32) =
+    All-getD (λ o. (givenLow o < 2 ^ 32) × (givenHigh o < 2 ^ 32)) none (z, z) r (e .1) in
+    let m : (j : ℕ) → givenMark (getD r j none) < 2 ^ 32 = λ j. givenMark-lt (getD r j none) in (
+      omega arith,
+      (
+        v 0 .0,
+        (
+          v 1 .0,
+          (
+            v 2 .0,
+            (
+              v 3 .0,
+              (
+                m 0,
+                (
+                  m 1,
+                  (
+                    m 2,
+                    (
+                      m 3,
+                      (
+                        z,
+                        (
+                          e .2 .0,
+                          (v 0 .1, (v 1 .1, (v 2 .1, (v 3 .1, tt)))),
+                        ),
+                      ),
+                    ),
+                  ),
+                ),
+              ),
+            ),
+          ),
+        ),
+      ),
+    )
 
 All-encoded : (cs : List Call) → All Encodable cs → All (λ w. w < 2 ^ 32) (encoded cs)
 unfolding encoded
@@ -243,7 +307,8 @@ All-outputsBefore (c ∷ cs) a =
     own (insertCall values content) e = tt
     own (deleteCall values) e = tt
     own (lookupCall values) e = tt
-    own (queryCall q out) e = e .3
+    own (queryCall q out) e = e .2 .1
+    own (rangeCall r out) e = e .2 .1
 
 -- ---- all together
 

@@ -8,16 +8,19 @@ use native.Mathlib.Omega.{arith}
 use lib.ListN.{length, take, drop, getD, set}
 use lib.Seq.{sets-eq}
 use Rattle.shape.specs.Refusal.{Answer, accepted, refused}
-use Rattle.model.specs.Model.{insertCall, deleteCall, lookupCall, queryCall, Reply, changed, found, listed, Outcome}
+use Rattle.model.specs.Model.{insertCall, deleteCall, lookupCall, queryCall, rangeCall, Reply, changed, found, listed}
+use Rattle.model.specs.Model.{Outcome}
 use Rattle.replay_encoding.specs.declared.Request.{Request}
-use Rattle.replay_encoding.specs.Encoding.{callSize, requestAt, valueIf, wantedIn, callOfKind, callOf, sizeOfKind}
-use Rattle.replay_encoding.specs.Encoding.{requestSize, answerWords, answersOf, outputsOf}
+use Rattle.replay_encoding.specs.Encoding.{callSize, requestAt, valueIf, wantedIn, intervalsIn}
+use Rattle.replay_encoding.specs.Encoding.{callOfKind, callOf, sizeOfKind, requestSize}
+use Rattle.replay_encoding.specs.Encoding.{answerWords, answersOf, outputsOf}
 use Rattle.replay_encoding.specs.Words.{fourAt}
 
 -- ---- calls
 
-pub requestAt-read : (words vs gs : List ℕ) (i : ℕ)
+pub requestAt-read : (words vs gs hs : List ℕ) (i : ℕ)
     → vs ≡ fourAt words (callSize * i + 1) → gs ≡ fourAt words (callSize * i + 5)
+    → hs ≡ fourAt words (callSize * i + 11)
     → _≡_ {A = Request}
     (record {
       kind = getD words (callSize * i) 0;
@@ -25,10 +28,11 @@ pub requestAt-read : (words vs gs : List ℕ) (i : ℕ)
       given = gs;
       payload = getD words (callSize * i + 9) 0;
       size = getD words (callSize * i + 10) 0;
+      highs = hs;
     })
     (requestAt words i)
 unfolding requestAt
-requestAt-read words vs gs i ev eg =
+requestAt-read words vs gs hs i ev eg eh =
     let at = callSize * i in
     let a0 : at ≡ at + 0 = omega arith in
     let a2 : at + 1 + 1 ≡ at + 2 = omega arith in
@@ -37,6 +41,9 @@ requestAt-read words vs gs i ev eg =
     let a6 : at + 5 + 1 ≡ at + 6 = omega arith in
     let a7 : at + 5 + 2 ≡ at + 7 = omega arith in
     let a8 : at + 5 + 3 ≡ at + 8 = omega arith in
+    let a12 : at + 11 + 1 ≡ at + 12 = omega arith in
+    let a13 : at + 11 + 2 ≡ at + 13 = omega arith in
+    let a14 : at + 11 + 3 ≡ at + 14 = omega arith in
     cc
 
 pub valueIf-given : (given v : ℕ) → (given ≡ 0 → ⊥) → some v ≡ valueIf given v
@@ -58,16 +65,22 @@ pub callOf-lookup : (r : Request) (out : List ℕ) → r .kind ≡ 2 → callOf 
 unfolding callOf
 callOf-lookup r out e = ap (λ k. callOfKind k r out) e
 
-pub callOf-query : (r : Request) (out : List ℕ) → (r .kind ≡ 0 → ⊥) → (r .kind ≡ 1 → ⊥) → (r .kind ≡ 2 → ⊥)
-    → callOf r out ≡ queryCall (wantedIn r) out
+pub callOf-query : (r : Request) (out : List ℕ) → r .kind ≡ 3 → callOf r out ≡ queryCall (wantedIn r) out
 unfolding callOf
-callOf-query r out h0 h1 h2 = of-kind (r .kind) h0 h1 h2
+callOf-query r out e = ap (λ k. callOfKind k r out) e
+
+pub callOf-range : (r : Request) (out : List ℕ) → (r .kind ≡ 0 → ⊥) → (r .kind ≡ 1 → ⊥) → (r .kind ≡ 2 → ⊥)
+    → (r .kind ≡ 3 → ⊥) → callOf r out ≡ rangeCall (intervalsIn r) out
+unfolding callOf
+callOf-range r out h0 h1 h2 h3 = of-kind (r .kind) h0 h1 h2 h3
   where
-    of-kind : (k : ℕ) → (k ≡ 0 → ⊥) → (k ≡ 1 → ⊥) → (k ≡ 2 → ⊥) → callOfKind k r out ≡ queryCall (wantedIn r) out
-    of-kind zero h0 h1 h2 = absurd (h0 refl)
-    of-kind (suc zero) h0 h1 h2 = absurd (h1 refl)
-    of-kind (suc (suc zero)) h0 h1 h2 = absurd (h2 refl)
-    of-kind (suc (suc (suc n))) h0 h1 h2 = refl
+    of-kind : (k : ℕ) → (k ≡ 0 → ⊥) → (k ≡ 1 → ⊥) → (k ≡ 2 → ⊥) → (k ≡ 3 → ⊥)
+        → callOfKind k r out ≡ rangeCall (intervalsIn r) out
+    of-kind zero h0 h1 h2 h3 = absurd (h0 refl)
+    of-kind (suc zero) h0 h1 h2 h3 = absurd (h1 refl)
+    of-kind (suc (suc zero)) h0 h1 h2 h3 = absurd (h2 refl)
+    of-kind (suc (suc (suc zero))) h0 h1 h2 h3 = absurd (h3 refl)
+    of-kind (suc (suc (suc (suc n)))) h0 h1 h2 h3 = refl
 
 -- ---- bytes of an output
 
@@ -81,9 +94,9 @@ requestSize-none r room h = of-kind (r .kind) h
     of-kind (suc (suc zero)) h = refl
     of-kind (suc (suc (suc n))) h = absurd (omega arith)
 
-pub requestSize-query : (r : Request) (room : ℕ) → (r .kind < 3 → ⊥) → requestSize r room ≡ min (r .size) room
+pub requestSize-listed : (r : Request) (room : ℕ) → (r .kind < 3 → ⊥) → requestSize r room ≡ min (r .size) room
 unfolding requestSize
-requestSize-query r room h = of-kind (r .kind) h
+requestSize-listed r room h = of-kind (r .kind) h
   where
     of-kind : (k : ℕ) → (k < 3 → ⊥) → sizeOfKind k (r .size) room ≡ min (r .size) room
     of-kind zero h = absurd (h (omega arith))
@@ -91,7 +104,7 @@ requestSize-query r room h = of-kind (r .kind) h
     of-kind (suc (suc zero)) h = absurd (h (omega arith))
     of-kind (suc (suc (suc n))) h = refl
 
--- a call other than a query has no output
+-- a call other than a query or a range has no output
 pub no-output : (r : Request) (out : List ℕ) → r .kind < 3 → length out ≡ requestSize r (length out) → out ≡ []
 no-output r out h e = none-of out (e ∙ requestSize-none r (length out) h)
   where

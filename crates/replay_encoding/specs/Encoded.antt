@@ -7,7 +7,8 @@ use mathlib.Core.Option.{Option, none, some}
 use lib.ListN.{length, getD}
 use Rattle.lists.specs.Members.{All}
 use Rattle.shape.specs.Key.{perAttribute}
-use Rattle.model.specs.Model.{Call, insertCall, deleteCall, lookupCall, queryCall, outputBefore}
+use Rattle.shape.specs.Range.{Interval}
+use Rattle.model.specs.Model.{Call, insertCall, deleteCall, lookupCall, queryCall, rangeCall, outputBefore}
 use Rattle.replay_encoding.specs.declared.Request.{Request}
 use Rattle.replay_encoding.specs.Encoding.{callsIn, callCount, answerSize}
 
@@ -18,22 +19,37 @@ abbrev pub givenValue : Option ℕ → ℕ
 givenValue none = 0
 givenValue (some v) = v
 
-abbrev pub givenMark : Option ℕ → ℕ
+abbrev pub givenMark : {A : Type 0} → Option A → ℕ
 givenMark none = 0
 givenMark (some v) = 1
+
+-- the ends of a given interval, 0 for a free attribute
+abbrev pub givenLow : Option Interval → ℕ
+givenLow none = 0
+givenLow (some i) = i .low
+
+abbrev pub givenHigh : Option Interval → ℕ
+givenHigh none = 0
+givenHigh (some i) = i .high
 
 -- a value for each of the four attributes, of 32 bits
 abbrev pub FourWords : List ℕ → Type 0
 FourWords values = (length values ≡ 4) × All (λ v. v < 2 ^ 32) values
 
--- the calls that words and bytes can say: those of four values, as all calls of the running code are, each value and
--- the payload below 2^32; the bytes of a query's output fewer than 2^32
+-- bytes, fewer than 2^32
+abbrev pub Output : List ℕ → Type 0
+Output out = (length out < 2 ^ 32) × All (λ byte. byte < 2 ^ 8) out
+
+-- the calls that words and bytes can say: those of four values or intervals, as all calls of the running code are, each
+-- value, each end and the payload below 2^32; the bytes of an output fewer than 2^32
 abbrev pub Encodable : Call → Type 0
 Encodable (insertCall values content) = FourWords values × (content .payload < 2 ^ 32)
 Encodable (deleteCall values) = FourWords values
 Encodable (lookupCall values) = FourWords values
 Encodable (queryCall q out) =
-    (length q ≡ 4) × All (λ o. givenValue o < 2 ^ 32) q × (length out < 2 ^ 32) × All (λ byte. byte < 2 ^ 8) out
+    (length q ≡ 4) × All (λ o. givenValue o < 2 ^ 32) q × Output out
+Encodable (rangeCall r out) =
+    (length r ≡ 4) × All (λ o. (givenLow o < 2 ^ 32) × (givenHigh o < 2 ^ 32)) r × Output out
 
 -- ---- what is handed to a replay
 
@@ -46,6 +62,7 @@ keyRequest kind values payload =
       given = 0 ∷ 0 ∷ 0 ∷ 0 ∷ [];
       payload = payload;
       size = 0;
+      highs = 0 ∷ 0 ∷ 0 ∷ 0 ∷ [];
     }
 
 -- the request that asks a call
@@ -60,15 +77,26 @@ requestOf (queryCall q out) =
       given = perAttribute (λ j. givenMark (getD q j none));
       payload = 0;
       size = length out;
+      highs = 0 ∷ 0 ∷ 0 ∷ 0 ∷ [];
+    }
+requestOf (rangeCall r out) =
+    record {
+      kind = 4;
+      values = perAttribute (λ j. givenLow (getD r j none));
+      given = perAttribute (λ j. givenMark (getD r j none));
+      payload = 0;
+      size = length out;
+      highs = perAttribute (λ j. givenHigh (getD r j none));
     }
 
--- its 11 words: an insert of (2,1) with payload 13 is 0, 2, 1, 0, 0, 0, 0, 0, 0, 13, 0
+-- its 15 words: an insert of (2,1) with payload 13 is 0, 2, 1, 0, 0, 0, 0, 0, 0, 13, 0, 0, 0, 0, 0
 unfoldable pub requestWords : Request → List ℕ
 requestWords r =
     r .kind
     ∷ getD (r .values) 0 0 ∷ getD (r .values) 1 0 ∷ getD (r .values) 2 0 ∷ getD (r .values) 3 0
     ∷ getD (r .given) 0 0 ∷ getD (r .given) 1 0 ∷ getD (r .given) 2 0 ∷ getD (r .given) 3 0
-    ∷ r .payload ∷ r .size ∷ []
+    ∷ r .payload ∷ r .size
+    ∷ getD (r .highs) 0 0 ∷ getD (r .highs) 1 0 ∷ getD (r .highs) 2 0 ∷ getD (r .highs) 3 0 ∷ []
 
 -- the words of some calls, one after the other
 unfoldable pub encoded : List Call → List ℕ

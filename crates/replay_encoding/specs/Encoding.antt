@@ -1,15 +1,17 @@
--- Calls and answers as numbers (document 01, "The plain model of demand 3").
+-- Calls and answers as numbers (document 01, "The plain model of demand 3"; document 02, request 1).
 --
---     a call is 11 words                                       an answer is 4 words
---     0      kind: 0 insert, 1 delete, 2 lookup, else query    0    number of the refusal, 0 for an accepted call
---     1-4    values of attributes 0 to 3                       1-3  lookup: payload, reads, 0
---     5-8    query: not 0 where the attribute is given              query: written, total, reads
---     9      insert: payload                                        other calls, and a refused one: 0, 0, 0
---     10     query: bytes of its output
+--     a call is 15 words                                       an answer is 4 words
+--     0      kind: 0 insert, 1 delete, 2 lookup, 3 query,      0    number of the refusal, 0 for an accepted call
+--            else range                                        1-3  lookup: payload, reads, 0
+--     1-4    values of attributes 0 to 3; range: low ends           query, range: written, total, reads
+--     5-8    query, range: not 0 where an attribute is given        other calls, and a refused one: 0, 0, 0
+--     9      insert: payload
+--     10     query, range: bytes of its output
+--     11-14  range: high ends of attributes 0 to 3
 --
--- The outputs of the queries follow each other in the lent bytes: each begins where the one before ended, and has the
--- size that its call says, at most what is left. As many calls are run as there are whole ones, and as many as the lent
--- answers have room for.
+-- The outputs of queries and ranges follow each other in the lent bytes: each begins where the one before ended, and
+-- has the size that its call says, at most what is left. As many calls are run as there are whole ones, and as many as
+-- the lent answers have room for.
 --
 -- Assumes nothing.
 use Prim.Native.Nat.{ℕ, zero, suc, _+_, _-_, _*_, _/_, min}
@@ -18,14 +20,15 @@ use mathlib.Core.Option.{Option, none, some}
 use lib.ListN.{length, take, drop, getD}
 use Rattle.shape.specs.Refusal.{Answer, accepted, refused}
 use Rattle.shape.specs.Key.{perAttribute}
-use Rattle.model.specs.Model.{Call, insertCall, deleteCall, lookupCall, queryCall, Reply, changed, found, listed}
-use Rattle.model.specs.Model.{Outcome}
+use Rattle.shape.specs.Range.{Interval, intervalsOf}
+use Rattle.model.specs.Model.{Call, insertCall, deleteCall, lookupCall, queryCall, rangeCall}
+use Rattle.model.specs.Model.{Reply, changed, found, listed, Outcome}
 use Rattle.replay_encoding.specs.declared.Request.{Request}
 
 -- ---- calls
 
 abbrev pub callSize : ℕ
-callSize = 11
+callSize = 15
 
 -- word j of call i
 abbrev pub callWord : List ℕ → ℕ → ℕ → ℕ
@@ -40,6 +43,7 @@ requestAt words i =
       given = callWord words i 5 ∷ callWord words i 6 ∷ callWord words i 7 ∷ callWord words i 8 ∷ [];
       payload = callWord words i 9;
       size = callWord words i 10;
+      highs = callWord words i 11 ∷ callWord words i 12 ∷ callWord words i 13 ∷ callWord words i 14 ∷ [];
     }
 
 -- a value, where it is given
@@ -51,13 +55,18 @@ valueIf (suc g) v = some v
 unfoldable pub wantedIn : Request → List (Option ℕ)
 wantedIn r = perAttribute (λ j. valueIf (getD (r .given) j 0) (getD (r .values) j 0))
 
+-- what a range of these words asks
+abbrev pub intervalsIn : Request → List (Option Interval)
+intervalsIn r = intervalsOf (r .given) (r .values) (r .highs)
+
 abbrev pub callOfKind : ℕ → Request → List ℕ → Call
 callOfKind zero r out = insertCall (r .values) (record { payload = r .payload })
 callOfKind (suc zero) r out = deleteCall (r .values)
 callOfKind (suc (suc zero)) r out = lookupCall (r .values)
-callOfKind (suc (suc (suc n))) r out = queryCall (wantedIn r) out
+callOfKind (suc (suc (suc zero))) r out = queryCall (wantedIn r) out
+callOfKind (suc (suc (suc (suc n)))) r out = rangeCall (intervalsIn r) out
 
--- the call of these words; a query with its output as it came
+-- the call of these words; a query and a range with its output as it came
 unfoldable pub callOf : Request → List ℕ → Call
 callOf r out = callOfKind (r .kind) r out
 
@@ -66,7 +75,7 @@ callAt words i out = callOf (requestAt words i) out
 
 -- ---- outputs
 
--- the bytes of the output of a call of some kind, where so many are left: none but for a query
+-- the bytes of the output of a call of some kind, where so many are left: none but for a query and a range
 abbrev pub sizeOfKind : ℕ → ℕ → ℕ → ℕ
 sizeOfKind zero size room = 0
 sizeOfKind (suc zero) size room = 0

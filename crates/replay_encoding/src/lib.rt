@@ -1,8 +1,11 @@
 // Calls and answers as numbers, as a replay takes and gives them (document 01, "The plain model of
-// demand 3").
+// demand 3"; document 02, request 1).
 use numbers::smaller_length;
 use shape::Attribute;
 use shape::Query;
+use shape::Range;
+use shape::RangeAttribute;
+use shape::Span;
 use shape::Wanted;
 use store::Changed;
 use store::Found;
@@ -12,25 +15,28 @@ ghost use mathlib.Core.List.{_++_};
 ghost use Prim.Native.Nat.{_+_, _*_, _≤_};
 ghost use lib.ListN.{length, take, drop};
 ghost use Rattle.shape.specs.Key.{wantedValues, wantedValue};
+ghost use Rattle.shape.specs.Range.{rangeIntervals, spanInterval, intervalIf};
 ghost use Rattle.store.specs.Answers.{changedAnswer, foundAnswer, listedAnswer};
 ghost use Rattle.replay_encoding.specs.Encoding.{callSize, requestAt, valueIf, wantedIn, requestSize};
-ghost use Rattle.replay_encoding.specs.Encoding.{answerSize, answerWords};
+ghost use Rattle.replay_encoding.specs.Encoding.{intervalsIn, answerSize, answerWords};
 ghost use Rattle.replay_encoding.specs.Words.{fourAt};
 
 // The words of one call.
-pub const CALL_SIZE: usize = 11;
+pub const CALL_SIZE: usize = 15;
 
 // The words of one answer.
 pub const ANSWER_SIZE: usize = 4;
 
-// A call as its words say it: 0 insert, 1 delete, 2 lookup, any other kind a query; a value for each
-// attribute; for a query whether it is given (not 0), and the bytes of its output.
+// A call as its words say it: 0 insert, 1 delete, 2 lookup, 3 query, any other kind a range; a
+// value for each attribute, of a range the low end; for a query and a range whether it is given
+// (not 0), and the bytes of the output; for a range the high ends.
 pub struct Request {
     pub kind: u32,
     pub values: [u32; 4],
     pub given: [u32; 4],
     pub payload: u32,
     pub size: u32,
+    pub highs: [u32; 4],
 }
 
 // Call i of the encoded ones.
@@ -45,6 +51,7 @@ pub fn read_request(calls: &[u32], i: usize) -> Request
         given: four_words(calls, at + 5),
         payload: calls[at + 9],
         size: calls[at + 10],
+        highs: four_words(calls, at + 11),
     }
 }
 
@@ -73,6 +80,22 @@ pub fn query_of(request: Request) -> Query
     Query { attributes }
 }
 
+// The range that a call asks.
+pub fn range_of(request: Request) -> Range
+    ensures { λ r. ⌜ rangeIntervals r ≡ intervalsIn request ⌝ }
+{
+    let given = request.given;
+    let lows = request.values;
+    let highs = request.highs;
+    let attributes = [
+        range_attribute_of(given[0], lows[0], highs[0]),
+        range_attribute_of(given[1], lows[1], highs[1]),
+        range_attribute_of(given[2], lows[2], highs[2]),
+        range_attribute_of(given[3], lows[3], highs[3]),
+    ];
+    Range { attributes }
+}
+
 // The words of an insert's or a delete's answer.
 pub fn changed_words(answer: Changed) -> [u64; 4]
     ensures { λ r. ⌜ r ≡ answerWords (changedAnswer answer) ⌝ }
@@ -93,7 +116,7 @@ pub fn found_words(answer: Found) -> [u64; 4]
     }
 }
 
-// The words of a query's answer.
+// The words of a query's or a range's answer.
 pub fn listed_words(answer: Listed) -> [u64; 4]
     ensures { λ r. ⌜ r ≡ answerWords (listedAnswer answer) ⌝ }
 {
@@ -135,5 +158,17 @@ fn attribute_of(given: u32, value: u32) -> Attribute
     }
     Attribute {
         wanted: Wanted::Given(value),
+    }
+}
+
+// An attribute of a range: its interval where it is given, else free.
+fn range_attribute_of(given: u32, low: u32, high: u32) -> RangeAttribute
+    ensures { λ r. ⌜ spanInterval (r .span) ≡ intervalIf given low high ⌝ }
+{
+    if given == 0 {
+        return RangeAttribute { span: Span::Free };
+    }
+    RangeAttribute {
+        span: Span::Within(low, high),
     }
 }

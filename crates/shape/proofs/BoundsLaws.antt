@@ -1,6 +1,6 @@
 -- Laws of bounds: a test on each number below n; ranges; when a shape is within its bounds. Assumes nothing.
 use Prim.Native.Nat.{ℕ, zero, suc, _≤_, _<_}
-use mathlib.Core.Path.{_≡_, sym, ap, subst, _∙_}
+use mathlib.Core.Path.{_≡_, refl, sym, ap, subst, _∙_}
 use mathlib.Core.Logic.{_⊎_, inl, inr}
 use mathlib.Core.Bool.{Bool, true, false, _&&_, and-false}
 use native.Mathlib.Omega.{arith}
@@ -37,6 +37,10 @@ module _ (test : ℕ → Bool) where
       go (inl q) below = subst (λ i. test i ≡ true) (sym q) (parts .1)
       go (inr q) below = below (omega arith)
 
+pub allBelow-ext : (n : ℕ) (f g : ℕ → Bool) → ((j : ℕ) → j < n → f j ≡ g j) → allBelow n f ≡ allBelow n g
+allBelow-ext zero f g h = refl
+allBelow-ext (suc n) f g h = cc (allBelow-ext n f g (λ j l. h j (omega arith)), h n (omega arith))
+
 -- ---- ranges
 
 pub within-le : (lo hi x : ℕ) → within lo hi x ≡ true → x ≤ hi
@@ -70,3 +74,7 @@ module _ (s : Shape) where
       let all = allBelow (s .attributes) test in
       let rest = and-split (within 1 4 (s .attributes)) (all && within 1 16 (s .capacity)) e .1 in
       test-of-allBelow test (s .attributes) j (and-split all (within 1 16 (s .capacity)) rest .0) l
+
+  pub attributes-le : inBounds s ≡ true → s .attributes ≤ 4
+  unfolding inBounds
+  attributes-le e = within-le 1 4 (s .attributes) (and-split (within 1 4 (s .attributes)) _ e .0)

@@ -1,3 +1,4 @@
+pub mod AttributeLaws
 pub mod BoundsLaws
 pub mod RefusalLaws
 pub mod ShapeLaws

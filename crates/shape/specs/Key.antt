@@ -51,17 +51,17 @@ wantedValue Free = none
 unfoldable pub wantedValues : Query → List (Option ℕ)
 wantedValues q = perAttribute (λ j. wantedValue (getD (q .attributes) j (record { wanted = Free }) .wanted))
 
-abbrev pub isGiven : Option ℕ → Bool
+abbrev pub isGiven : {A : Type 0} → Option A → Bool
 isGiven none = false
 isGiven (some v) = true
 
 -- what holds of a given value; "A value of a free attribute is ignored."
-abbrev pub ifGiven : (ℕ → Bool) → Option ℕ → Bool
+abbrev pub ifGiven : {A : Type 0} → (A → Bool) → Option A → Bool
 ifGiven test none = true
 ifGiven test (some v) = test v
 
 -- "8 | query names attribute d or above"
-unfoldable pub namesUnused : Shape → List (Option ℕ) → Bool
+unfoldable pub namesUnused : {A : Type 0} → Shape → List (Option A) → Bool
 namesUnused s q = not (allBelow 4 (λ j. ltb j (s .attributes) || not (isGiven (getD q j none))))
 
 -- no given "value .. of 2^w_j or more"

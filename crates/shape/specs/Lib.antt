@@ -1,3 +1,4 @@
 pub mod Key
+pub mod Range
 pub mod Refusal
 pub mod Shape

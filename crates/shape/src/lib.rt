@@ -1,4 +1,4 @@
-// Shapes of a store, keys and queries (document 01, "Shape and split steps", "Calls").
+// Shapes of a store, keys, queries and ranges (document 01, "Shape and split steps", "Calls").
 ghost use mathlib.Core.Path.{_≡_};
 ghost use Prim.Native.Nat.{_<_, _≤_};
 ghost use Rattle.shape.specs.Shape.{within, inBounds, shapeNumber, widthOf, widthsOf, widthList, Fit, total};
@@ -40,6 +40,21 @@ pub struct Attribute {
 // A partial-match query, attribute by attribute.
 pub struct Query {
     pub attributes: [Attribute; 4],
+}
+
+// What a range says of an attribute: nothing, or its lowest and its highest value, both included.
+pub enum Span {
+    Free,
+    Within(u32, u32),
+}
+
+pub struct RangeAttribute {
+    pub span: Span,
+}
+
+// A range query, attribute by attribute: a box of values (document 02, request 1).
+pub struct Range {
+    pub attributes: [RangeAttribute; 4],
 }
 
 // The number of the first refusal that a shape meets: 1 outside its bounds, 0 for none.

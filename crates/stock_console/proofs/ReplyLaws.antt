@@ -8,11 +8,9 @@ use mathlib.Core.Logic.{⊎-elim}
 use mathlib.Core.Option.{Option}
 use native.Mathlib.Omega.{arith}
 use lib.ListN.{length}
-use Rattle.lists.proofs.Bools.{and-split}
 use Rattle.shape.specs.Refusal.{Answer, accepted, refused, firstNumber}
-use Rattle.shape.specs.Shape.{within, inBounds, shapeConditions}
-use Rattle.shape.specs.declared.Shape.{Shape}
-use Rattle.shape.proofs.BoundsLaws.{within-le}
+use Rattle.shape.specs.Shape.{inBounds, shapeConditions}
+use Rattle.shape.proofs.BoundsLaws.{attributes-le}
 use Rattle.record.specs.Bytes.{recordSize}
 use Rattle.record.specs.declared.Content.{Content}
 use Rattle.model.specs.Model.{Reply, changed, found, listed}
@@ -79,15 +77,11 @@ reply-asked session line m m′ text text′ at next asks e promise = rw (← e)
 
 -- ---- a query's answer
 
-d-of-inBounds : (s : Shape) → inBounds s ≡ true → s .attributes ≤ 4
-unfolding inBounds
-d-of-inBounds s h = within-le 1 4 (s .attributes) (and-split (within 1 4 (s .attributes)) _ h .0)
-
 module _ (state : State) (words bytes : List ℕ) (q : List (Option ℕ)) where
   -- no refusal 1 among the early ones: d is at most 4
   d-of-queryNumber : queryNumber (store state words bytes) q ≡ 0 → state .shape .attributes ≤ 4
   unfolding queryNumber lentConditions shapeConditions firstNumber
-  d-of-queryNumber e = d-of-inBounds (state .shape) (go (inBounds (state .shape)) _ e)
+  d-of-queryNumber e = attributes-le (state .shape) (go (inBounds (state .shape)) _ e)
     where
       go : (β : Bool) (n : ℕ) → _≡_ {A = ℕ} (cond (not β) 1 n) 0 → β ≡ true
       go true n h = refl

@@ -11,6 +11,7 @@ use Rattle.lists.specs.Filter.{nonEmpty}
 use Rattle.lists.specs.Members.{Member}
 use Rattle.shape.specs.Refusal.{Answer, accepted, refused, firstNumber}
 use Rattle.shape.specs.Key.{perAttribute, encodings}
+use Rattle.shape.specs.Range.{Interval}
 use Rattle.shape.specs.Shape.{widthsOf}
 use Rattle.shape.specs.declared.Shape.{Shape}
 use Rattle.split.specs.Bits.{splitBit}
@@ -19,11 +20,13 @@ use Rattle.region.specs.Query.{QueryBit, agrees, LeafTest}
 use Rattle.record.specs.declared.Content.{Content}
 use Rattle.record.specs.Record.{Record}
 use Rattle.record.specs.Bytes.{recordSize}
+use Rattle.range_box.specs.Box.{Box, boxOf, boxMeets}
 use Rattle.page.specs.Page.{countOf, pageAt}
 use Rattle.directory_word.specs.Word.{wordOf}
 use Rattle.directory_word.specs.declared.Leaf.the-variants.{Page}
-use Rattle.model.specs.Model.{Call, insertCall, deleteCall, lookupCall, queryCall, Reply, changed, found, listed}
-use Rattle.model.specs.Model.{Outcome, outcome, next, keyConditions, queryConditions}
+use Rattle.model.specs.Model.{Call, insertCall, deleteCall, lookupCall, queryCall, rangeCall}
+use Rattle.model.specs.Model.{Reply, changed, found, listed, Outcome, outcome, next}
+use Rattle.model.specs.Model.{keyConditions, queryConditions, rangeConditions}
 use Rattle.model.specs.Sets.{divisionOf, queryBits, givenDepths}
 use Rattle.store.specs.Store.{Store, fixedOf, pagesSize, wordAt, lentConditions}
 use Rattle.store.specs.Sound.{Sound}
@@ -41,6 +44,10 @@ keyNumber s values = firstNumber (lentConditions s ++ keyConditions (s .state .s
 -- 1, 2, 8, 3
 unfoldable pub queryNumber : Store → List (Option ℕ) → ℕ
 queryNumber s q = firstNumber (lentConditions s ++ queryConditions (s .state .shape) q)
+
+-- 1, 2, 8, 3, 10
+unfoldable pub rangeNumber : Store → List (Option Interval) → ℕ
+rangeNumber s r = firstNumber (lentConditions s ++ rangeConditions (s .state .shape) r)
 
 -- ---- pages of leaves
 
@@ -73,6 +80,7 @@ joins (insertCall values content) = false
 joins (deleteCall values) = true
 joins (lookupCall values) = false
 joins (queryCall q out) = false
+joins (rangeCall r out) = false
 
 -- `values` are those of the call's key, `early` is the number of the refusals above, `numbers` are the others that the
 -- call may give. Left free on an accepted change of a store that is not sound: T and the tally; the words of the key's
@@ -193,6 +201,18 @@ pub record QueryPromise (store : Store) (q : List (Option ℕ)) (out : List ℕ)
   pub bounded : (S : List Record) → SoundWhereRead store (queryBits (store .state .shape) q) S
       → (written total reads : ℕ) → answer ≡ accepted (listed written total reads)
       → reads ≤ 2 ^ (store .state .deepest - givenDepths (store .state .shape) q (store .state .deepest))
+
+-- a range reads the leaves whose "box of values meets the query's"
+abbrev pub meeting : Shape → Box → LeafTest Record
+meeting s box p x rs = boxMeets s box p x
+
+-- "the range call has only the equality". Shut out: leaves inside the box alone, a high end left out (answered-as); 10
+-- before 3 (early-refused); a scan of every page (SoundWhere)
+abbrev pub RangePromise : Store → List (Option Interval) → List ℕ → Answer Reply → List ℕ → Type 0
+RangePromise store r out answer out′ =
+    let s = store .state .shape in
+    ListPromise (rangeNumber store r) (meeting s (boxOf s r))
+    (λ S. outcome (fixedOf (store .state)) S (rangeCall r out)) store out answer out′
 
 -- "says yes exactly for a sound store and otherwise no; it never gives 9". Shut out: always yes, always no
 pub record CheckPromise (store : Store) (answer : Answer Bool) : Type 0 where

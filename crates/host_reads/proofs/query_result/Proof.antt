@@ -9,7 +9,7 @@ use Rattle.store.specs.Promises.{QueryPromise}
 use Rattle.store.specs.declared.State.{State}
 use Rattle.host_results.specs.Wanted.{wantedOf}
 use Rattle.host_results.proofs.ResultLaws.{keeps-reported}
-use Rattle.host_reads.proofs.RefusalLaws.{query-not-zero}
+use Rattle.host_reads.proofs.RefusalLaws.{list-not-zero}
 use borrow.Author.Needs.{needs}
 use Rattle.host_reads.proofs.query_result.Statement.{statement}
 use Rattle.host_reads.proofs.query_result.Tie as tie
@@ -31,7 +31,7 @@ query-requires : tie.Need-query-requires
 query-requires c κs = search needs
 
 listed-result-requires : tie.Need-listed-result-requires
-listed-result-requires c κs = query-not-zero _ _ _ _ _ (c .before .before .query .ensures)
+listed-result-requires c κs = list-not-zero _ _ _ _ _ _ _ (c .before .before .query .ensures .listed-as)
 
 same-length : tie.Need-same-length
 same-length c = search needs

@@ -3,13 +3,16 @@
 use Prim.Native.Nat.{_-_, _%_, _^_, _≤_}
 use mathlib.Core.Path.{_≡_, sym, ap, _∙_}
 use native.Mathlib.Omega.{arith}
+use lib.Bits.{bitAnd}
+use lib.Dec.{eqb}
+use Rattle.page_matches.specs.Pattern.{passes}
 use Rattle.page_matches.specs.Mask.{matchMask}
 use Rattle.page_matches.proofs.MaskLaws.{matchMask-below}
 use Rattle.page_matches.proofs.match_among.Statement.{statement}
 use Rattle.page_matches.proofs.match_among.Tie as tie
 
 abbrev Inv-loop : tie.InvT-loop
-Inv-loop page k pattern mask₀ i₀ mask i = (i ≤ k) × (mask ≡ matchMask pattern page (k - i) i % 2 ^ 64)
+Inv-loop page k pattern mask₀ i₀ mask i = (i ≤ k) × (mask ≡ matchMask (passes pattern) page (k - i) i % 2 ^ 64)
 
 abbrev μ-loop : tie.MeasureT-loop
 μ-loop page k pattern mask₀ i₀ mask i = i
@@ -19,7 +22,7 @@ unfolding matchMask
 loop-holds c =
     let a = c .before .args in
     let none : a .k - a .k ≡ 0 = omega arith in
-    (omega arith, sym (ap (λ m. matchMask (a .pattern) (a .page .now) m (a .k) % 2 ^ 64) none))
+    (omega arith, sym (ap (λ m. matchMask (passes (a .pattern)) (a .page .now) m (a .k) % 2 ^ 64) none))
 
 sub-i : tie.Need-sub-i Inv-loop μ-loop
 sub-i c = omega arith
@@ -34,13 +37,15 @@ loop-less : tie.Need-loop-less Inv-loop μ-loop
 loop-less c = omega arith
 
 loop-again : tie.Need-loop-again Inv-loop μ-loop
+unfolding passes
 loop-again c =
     let loop = c .before .before .before .before .loop in
-    let a = c .before .before .before .before .before .before .args in (
+    let a = c .before .before .before .before .before .before .args in
+    let p = a .pattern in (
       omega arith,
-      matchMask-below (a .pattern) (a .page .now) (a .k) (loop .i) (loop .mask) _
+      matchMask-below (passes p) (a .page .now) (a .k) (loop .i) (loop .mask) _
           (c .before .before .before .loop-test .taken) (loop .inv .0) (loop .inv .1)
-          (c .before .before .key-at .ensures),
+          (ap (λ k. eqb (bitAnd k (p .mask)) (p .value)) (c .before .before .key-at .ensures)),
     )
 
 returns : tie.Need-returns Inv-loop μ-loop
@@ -50,8 +55,8 @@ returns c =
     let end : loop .i ≡ 0 = omega arith in
     let all : a .k - 0 ≡ a .k = omega arith in
     loop .inv .1
-    ∙ (λ j. matchMask (a .pattern) (a .page .now) (a .k - end j) (end j) % 2 ^ 64)
-    ∙ ap (λ k. matchMask (a .pattern) (a .page .now) k 0 % 2 ^ 64) all
+    ∙ (λ j. matchMask (passes (a .pattern)) (a .page .now) (a .k - end j) (end j) % 2 ^ 64)
+    ∙ ap (λ k. matchMask (passes (a .pattern)) (a .page .now) k 0 % 2 ^ 64) all
 
 pub match-among-spec : {M : Type 1} → statement M
 match-among-spec =

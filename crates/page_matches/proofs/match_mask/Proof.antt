@@ -5,6 +5,7 @@ use mathlib.Core.Logic.{⊎-elim}
 use native.Mathlib.Omega.{arith}
 use lib.ListN.{length}
 use Rattle.record.specs.Bytes.{recordSize}
+use Rattle.page_matches.specs.Pattern.{passes}
 use Rattle.page_matches.proofs.MaskLaws.{matchMask-cut, one-le-bit}
 use borrow.Author.Needs.{needs}
 use Rattle.page_matches.proofs.match_mask.Statement.{statement}
@@ -31,10 +32,11 @@ returns c =
     let s = c .before .before .before in
     let a = s .args in
     let page = a .page .now in
+    let test = passes (a .pattern) in
     let slots = (length page - 2) / recordSize in
     ⊎-elim
-    (λ w. matchMask-cut (a .pattern) page (a .n) 16 _ (s .pre .0) (omega (arith, w .0 .taken)) (w .2 ∙ w .1 .ensures))
-    (λ w. matchMask-cut (a .pattern) page (a .n) slots _ (s .pre .0) (omega arith) (w .2 ∙ w .1 .ensures))
+    (λ w. matchMask-cut test page (a .n) 16 _ (s .pre .0) (omega (arith, w .0 .taken)) (w .2 ∙ w .1 .ensures))
+    (λ w. matchMask-cut test page (a .n) slots _ (s .pre .0) (omega arith) (w .2 ∙ w .1 .ensures))
     (c .before .if1 .came)
 
 pub match-mask-spec : {M : Type 1} → statement M

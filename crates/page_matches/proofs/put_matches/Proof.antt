@@ -5,6 +5,7 @@ use mathlib.Core.Path.{_≡_, sym, ap, subst, _∙_}
 use native.Mathlib.Omega.{arith}
 use lib.ListN.{length}
 use Rattle.page.proofs.FieldLaws.{length-fieldsFrom}
+use Rattle.page_matches.specs.Pattern.{passes}
 use Rattle.page_matches.specs.Output.{hits, emit}
 use Rattle.page_matches.specs.Mask.{slotsOf, pickedBy}
 use Rattle.page_matches.proofs.MaskLaws.{matchMask-lt-slots, pickedBy-matchMask}
@@ -41,12 +42,12 @@ match-mask-requires c κs = search needs
 -- the mask picks the records that match
 picks : (c : tie.After-match-mask)
     → let a = c .before .before .before .before .before .args in
-    pickedBy (c .match-mask .result) (a .page .now) ≡ hits (a .pattern) (a .n) (a .page .now)
+    pickedBy (c .match-mask .result) (a .page .now) ≡ hits (passes (a .pattern)) (a .n) (a .page .now)
 picks c =
     let s = c .before .before .before .before .before in
     let a = s .args in
     ap (λ m. pickedBy m (a .page .now)) (c .match-mask .ensures)
-    ∙ pickedBy-matchMask (a .pattern) (a .page .now) (a .n) (s .pre .1)
+    ∙ pickedBy-matchMask (passes (a .pattern)) (a .page .now) (a .n) (s .pre .1)
 
 put-picked-requires : tie.Need-put-picked-requires
 put-picked-requires c κs =
@@ -55,8 +56,8 @@ put-picked-requires c κs =
     let page = a .page .now in
     let few = ap length (picks (c .before)) in (
       subst (λ m. m < 2 ^ slotsOf page) (sym (c .before .match-mask .ensures))
-          (matchMask-lt-slots (a .pattern) page (a .n) (s .pre .1)),
-      omega (arith, few, length-hits-le (a .pattern) (a .n) page),
+          (matchMask-lt-slots (passes (a .pattern)) page (a .n) (s .pre .1)),
+      omega (arith, few, length-hits-le (passes (a .pattern)) (a .n) page),
     )
 
 same-length-2 : tie.Need-same-length-2

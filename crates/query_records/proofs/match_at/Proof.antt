@@ -7,6 +7,7 @@ use lib.Pow.{pow-mono}
 use borrow.Rule.Slice.PartMut.{midOf}
 use Rattle.page.specs.Page.{countOf, pageAt}
 use Rattle.page.proofs.PartLaws.{midOf-page}
+use Rattle.page_matches.specs.Pattern.{passes}
 use Rattle.page_matches.specs.Mask.{matchMask}
 use Rattle.page_matches.proofs.MaskLaws.{matchMask-lt}
 use Rattle.query_records.specs.Records.{pageMask}
@@ -67,16 +68,16 @@ match-mask-requires c κs =
 masked : (c : tie.After-match-mask)
     → let a = c .before .before .before .before .before .before .before .args in
     let mask = c .match-mask .result in
-    (mask ≡ pageMask (a .pattern) (pageAt (a .capacity) (a .pages .now) (a .g))) × (mask < 2 ^ a .capacity)
+    (mask ≡ pageMask (passes (a .pattern)) (pageAt (a .capacity) (a .pages .now) (a .g))) × (mask < 2 ^ a .capacity)
 masked c =
     let sized = c .before .before .before .before in
     let s = sized .before .before .before in
     let a = s .args in
     let page = pageAt (a .capacity) (a .pages .now) (a .g) in
     let n = c .before .before .count .ensures .0 ∙ ap countOf (part sized) in
-    let same : c .match-mask .result ≡ pageMask (a .pattern) page =
-    c .match-mask .ensures ∙ (λ i. matchMask (a .pattern) (part sized i) (n i) 0) in
-    let below = lt-of-lt-of-le (matchMask-lt (a .pattern) page (countOf page) 0)
+    let same : c .match-mask .result ≡ pageMask (passes (a .pattern)) page =
+    c .match-mask .ensures ∙ (λ i. matchMask (passes (a .pattern)) (part sized i) (n i) 0) in
+    let below = lt-of-lt-of-le (matchMask-lt (passes (a .pattern)) page (countOf page) 0)
     (pow-mono {i = countOf page} {j = a .capacity} (s .pre .1 .counted)) in
     (same, rw same below)
 

@@ -6,13 +6,15 @@ use native.Mathlib.Nat.{lt-of-lt-of-le}
 use native.Mathlib.Omega.{arith}
 use lib.Dec.{eqb}
 use lib.Pow.{pow-mono}
+use Rattle.page_matches.specs.Pattern.{passes}
 use Rattle.query_records.proofs.MatchedLaws.{MatchedTo, matchedTo-none, matchedTo-next}
 use Rattle.query_records.proofs.MatchedLaws.{matchedTo-all, boolByte-le}
 use Rattle.query_records.proofs.match_pages.Statement.{statement}
 use Rattle.query_records.proofs.match_pages.Tie as tie
 
 abbrev Inv-loop : tie.InvT-loop
-Inv-loop pages capacity pattern list₀ n m₀ i₀ list m i = (i ≤ n) × MatchedTo capacity pages pattern list₀ i list m
+Inv-loop pages capacity pattern list₀ n m₀ i₀ list m i =
+    (i ≤ n) × MatchedTo capacity pages (passes pattern) list₀ i list m
 
 abbrev μ-loop : tie.MeasureT-loop
 μ-loop pages capacity pattern list₀ n m₀ i₀ list m i = n - i
@@ -20,7 +22,7 @@ abbrev μ-loop : tie.MeasureT-loop
 loop-holds : tie.Need-loop-holds Inv-loop μ-loop
 loop-holds c =
     let a = c .before .before .args in
-    (omega arith, matchedTo-none (a .capacity) (a .pages .now) (a .pattern) (a .list .now))
+    (omega arith, matchedTo-none (a .capacity) (a .pages .now) (passes (a .pattern)) (a .list .now))
 
 mul-g : tie.Need-mul-g Inv-loop μ-loop
 mul-g c =
@@ -95,7 +97,7 @@ loop-again c =
     let loop = c .before .before .before .loop in
     let lt = c .before .before .loop-test .taken in (
       omega (arith, lt),
-      matchedTo-next (a .capacity) (a .pages .now) (a .pattern) (a .list .now) (loop .i) (loop .m) (loop .list)
+      matchedTo-next (a .capacity) (a .pages .now) (passes (a .pattern)) (a .list .now) (loop .i) (loop .m) (loop .list)
           (loop .inv .1) (omega (arith, s .pre .within, lt)) (s .pre .each (loop .i) lt) _ (c .match-at .ensures .0)
           (c .match-at .ensures .1),
     )
@@ -108,7 +110,8 @@ returns c =
     let s = c .before .before .before .before in
     let a = s .args in
     let loop = c .before .loop in
-    matchedTo-all (a .capacity) (a .pages .now) (a .pattern) (a .list .now) (a .n) (loop .i) (loop .m) (loop .list)
+    matchedTo-all (a .capacity) (a .pages .now) (passes (a .pattern)) (a .list .now) (a .n) (loop .i) (loop .m)
+    (loop .list)
     (loop .inv .0) (c .loop-test .left) (s .pre) (loop .inv .1)
 
 pub match-pages-spec : {M : Type 1} → statement M

@@ -12,7 +12,8 @@ use Rattle.directory_word.specs.Word.{depthField}
 use Rattle.query_rows.specs.Rows.{wantedBitIn, deepestIn}
 use Rattle.query_seen.specs.Seen.{Seen}
 use Rattle.query_seen.proofs.BoundLaws.{OnePage}
-use Rattle.query_walk.specs.Private.{leafBy, seenBy, Wrote, Turn}
+use Rattle.query_walk.specs.Private.{seenBy}
+use Rattle.query_walk.specs.Turns.{leafBy, Wrote, Turn}
 use Rattle.query_walk.proofs.BoundLaws.{OnePage-leafBy}
 use Rattle.query_walk.proofs.ReturnLaws.{Wrote-given, Turn-upper-next, Wrote-first, Wrote-both, Wrote-leaf}
 use Rattle.query_walk.proofs.ReturnLaws.{Wrote-above, Wrote-deep}

@@ -7,7 +7,7 @@ use native.Mathlib.Omega.{arith}
 use borrow.Author.Tests.{not-true, not-false}
 use Rattle.query_rows.specs.Rows.{pagesIn, talliedIn, hasDepth}
 use Rattle.query_rows.proofs.DepthLaws.{hasDepth-some, hasDepth-none}
-use Rattle.query_walk.specs.Private.{pageFair}
+use Rattle.query_walk.specs.Turns.{pageFair}
 use Rattle.query_walk.proofs.WroteLaws.{Wrote-noted-untold, Wrote-noted-none, Wrote-noted-past}
 use Rattle.query_walk.proofs.WroteLaws.{Wrote-noted-unfair, Wrote-noted-fair}
 use borrow.Author.Needs.{needs}

@@ -1,15 +1,19 @@
 -- `query_walk::note_pages` meets its contract: the walk by rows starts at the empty string, whose region is noted
 -- where it is a leaf. Assumes nothing.
-use mathlib.Core.Path.{_≡_, sym, ap, _∙_}
+use Prim.Native.Nat.{ℕ}
+use mathlib.Core.Path.{_≡_, sym, ap, _∙_, subst}
 use mathlib.Core.Logic.{⊎-elim}
 use native.Mathlib.Omega.{arith}
 use lib.ListN.{getD, length}
 use lib.Pow.{pow-pos}
 use borrow.Author.Tests.{eqb-true, eqb-false}
-use Rattle.query_rows.specs.Rows.{deepestIn}
-use Rattle.query_walk.specs.Private.{leafBy, Wrote, Turn}
+use Rattle.region.specs.Query.{QueryBit}
+use Rattle.query_rows.specs.Rows.{deepestIn, Table}
+use Rattle.query_seen.specs.Seen.{walkSeen}
+use Rattle.query_walk.specs.Turns.{leafBy, Wrote, Turn}
 use Rattle.query_walk.proofs.ReturnLaws.{Wrote-leaf}
-use Rattle.query_walk.proofs.StartLaws.{Turn-start, byRows, Put-pages, Put-damaged}
+use Rattle.query_walk.proofs.PutLaws.{Put-pages, Put-damaged}
+use Rattle.query_walk.proofs.StartLaws.{Turn-start, byRows, byRows-walkSeen, length-walkSeen-le}
 use Rattle.query_walk.proofs.TurnLaws.{leaf-asked}
 use Rattle.query_walk.proofs.WroteLaws.{Wrote-same}
 use Rattle.query_walk.proofs.note_pages.Statement.{statement}
@@ -67,20 +71,33 @@ walk-requires c κs = (
 same-length : tie.Need-same-length
 same-length c = same (c .before)
 
+-- for each query whose table this is
+seen-wrote : (c : tie.Joined1) (q : ℕ → QueryBit)
+    → let a = start c .args in
+    Table (a .state) q (a .rows .now)
+    → Wrote (a .list .now) 0 (walkSeen (a .state) (a .dir .now) (a .pages .now) q) (c .if1 .count) (c .if1 .list)
+seen-wrote c q table =
+    let s = start c in
+    let a = s .args in
+    subst (λ u. Wrote (a .list .now) 0 u (c .if1 .count) (c .if1 .list))
+    (byRows-walkSeen (a .state) (a .rows .now) (a .dir .now) (a .pages .now) (length (a .list .now)) (s .pre) q table)
+    (wrote c)
+
 returns : tie.Need-returns
 returns c =
-    let s = start (c .before) in λ q table.
-    Put-damaged (s .args .state) (s .args .rows .now) (s .args .dir .now) (s .args .pages .now)
-    (length (s .args .list .now)) (s .pre) q table (s .args .list .now) _ _ (wrote (c .before)) (c .if2 .taken)
+    let s = start (c .before) in
+    let a = s .args in λ q table.
+    Put-damaged (a .list .now) _ _ _ (seen-wrote (c .before) q table)
+    (length-walkSeen-le (a .state) (a .rows .now) (a .dir .now) (a .pages .now) (length (a .list .now)) (s .pre) q table
+    .1)
+    (c .if2 .taken)
 
 same-length-2 : tie.Need-same-length-2
 same-length-2 c = same (c .before)
 
 returns-2 : tie.Need-returns-2
-returns-2 c =
-    let s = start (c .before) in λ q table.
-    Put-pages (s .args .state) (s .args .rows .now) (s .args .dir .now) (s .args .pages .now)
-    (length (s .args .list .now)) (s .pre) q table (s .args .list .now) _ _ (wrote (c .before)) (c .if2 .left)
+returns-2 c = λ q table.
+    Put-pages (start (c .before) .args .list .now) _ _ _ (seen-wrote (c .before) q table) (c .if2 .left)
 
 pub note-pages-spec : {M : Type 1} → statement M
 note-pages-spec =

@@ -8,7 +8,7 @@ use borrow.Rule.Slice.PartMut.{midOf}
 use Rattle.page.specs.Page.{pageSize, pageAt}
 use Rattle.page.proofs.PartLaws.{page-end-le, length-pageAt, midOf-page}
 use Rattle.query_rows.specs.Rows.{fixedIn, pagesIn, capacityIn}
-use Rattle.query_walk.specs.Private.{fairBy}
+use Rattle.query_walk.specs.Turns.{fairBy}
 use Rattle.query_walk.proofs.LeafLaws.{fairBy-zero, fairBy-some}
 use borrow.Author.Needs.{needs}
 use Rattle.query_walk.proofs.page_fair.Statement.{statement}

@@ -1,7 +1,8 @@
 -- `replay_call::run_call` meets its contract: each kind of call keeps its promise. Assumes nothing.
 use Rattle.shape.specs.Key.{wantedValues}
+use Rattle.shape.specs.Range.{rangeIntervals}
 use Rattle.store.specs.Store.{store}
-use Rattle.replay_call.proofs.KeptLaws.{kept-insert, kept-delete, kept-lookup, kept-query}
+use Rattle.replay_call.proofs.KeptLaws.{kept-insert, kept-delete, kept-lookup, kept-query, kept-range}
 use borrow.Author.Needs.{needs}
 use Rattle.replay_call.proofs.run_call.Statement.{statement}
 use Rattle.replay_call.proofs.run_call.Tie as tie
@@ -93,12 +94,44 @@ returns-4 c =
     let call = c .before .before .before in
     let asked = call .before .before in
     let test = asked .before .before .before in
-    let s = test .before .before .before .before .before .before .before .before .before .before in
+    let s = test .before .before .before .before .before .before .before .before .before .before .before .before in
     let a = s .args in
     kept-query (store (a .state) (a .dir .now) (a .pages .now)) (a .request) (a .out .now) _ _
-    (c .listed-words .ensures) (wantedValues (asked .query-of .result)) _
-    (test .before .before .before .before .if1 .left) (test .before .before .if2 .left) (test .if3 .left)
+    (c .listed-words .ensures) (wantedValues (asked .query-of .result)) _ (test .if4 .taken)
     (asked .query-of .ensures) (call .query .ensures)
+
+range-of-requires : tie.Need-range-of-requires
+range-of-requires c κs = search needs
+
+range-requires : tie.Need-range-requires
+range-requires c κs = search needs
+
+listed-words-requires-2 : tie.Need-listed-words-requires-2
+listed-words-requires-2 c κs = search needs
+
+same-length-10 : tie.Need-same-length-10
+same-length-10 c = search needs
+
+same-length-11 : tie.Need-same-length-11
+same-length-11 c = search needs
+
+same-length-12 : tie.Need-same-length-12
+same-length-12 c = search needs
+
+returns-5 : tie.Need-returns-5
+returns-5 c =
+    let call = c .before .before .before in
+    let asked = call .before .before in
+    let test = asked .before .before .before in
+    let lookup-test = test .before .before in
+    let delete-test = lookup-test .before .before in
+    let insert-test = delete-test .before .before in
+    let s = insert-test .before .before .before .before .before .before in
+    let a = s .args in
+    kept-range (store (a .state) (a .dir .now) (a .pages .now)) (a .request) (a .out .now) _ _
+    (c .listed-words2 .ensures) (rangeIntervals (asked .range-of .result)) _
+    (insert-test .if1 .left) (delete-test .if2 .left) (lookup-test .if3 .left) (test .if4 .left)
+    (asked .range-of .ensures) (call .range .ensures)
 
 pub run-call-spec : {M : Type 1} → statement M
 run-call-spec =
@@ -125,4 +158,11 @@ run-call-spec =
     same-length-7
     same-length-8
     same-length-9
-    returns-4)
+    returns-4
+    range-of-requires
+    range-requires
+    listed-words-requires-2
+    same-length-10
+    same-length-11
+    same-length-12
+    returns-5)

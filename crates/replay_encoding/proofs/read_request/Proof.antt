@@ -43,11 +43,19 @@ mul-t16 c = search needs
 shared-slice-read-t18 : tie.Need-shared-slice-read-t18
 shared-slice-read-t18 c = search needs
 
+add-four-words-3 : tie.Need-add-four-words-3
+add-four-words-3 c = search needs
+
+four-words-requires-3 : tie.Need-four-words-requires-3
+four-words-requires-3 c κs = search needs
+
 returns : tie.Need-returns
 returns c =
-    let a = c .before .before .before .before .before .before .args in
-    requestAt-read (a .calls .now) _ _ (a .i) (c .before .before .before .four-words .ensures)
-    (c .before .before .four-words2 .ensures)
+    let given = c .before .before .before in
+    let values = given .before in
+    let a = values .before .before .before .args in
+    requestAt-read (a .calls .now) _ _ _ (a .i) (values .four-words .ensures) (given .four-words2 .ensures)
+    (c .four-words3 .ensures)
 
 pub read-request-spec : {M : Type 1} → statement M
 read-request-spec =
@@ -66,4 +74,6 @@ read-request-spec =
     add-t15
     mul-t16
     shared-slice-read-t18
+    add-four-words-3
+    four-words-requires-3
     returns)

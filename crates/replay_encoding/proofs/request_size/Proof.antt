@@ -2,7 +2,7 @@
 use Prim.Native.Nat.{_<_}
 use mathlib.Core.Path.{sym, _∙_}
 use native.Mathlib.Omega.{arith}
-use Rattle.replay_encoding.proofs.EncodingLaws.{requestSize-none, requestSize-query}
+use Rattle.replay_encoding.proofs.EncodingLaws.{requestSize-none, requestSize-listed}
 use borrow.Author.Needs.{needs}
 use Rattle.replay_encoding.proofs.request_size.Statement.{statement}
 use Rattle.replay_encoding.proofs.request_size.Tie as tie
@@ -21,8 +21,8 @@ smaller-length-requires c κs = search needs
 returns-2 : tie.Need-returns-2
 returns-2 c =
     let a = c .before .before .before .before .args in
-    let query : a .request .kind < 3 → ⊥ = λ h. omega (arith, h, c .before .before .if1 .left) in (
-      c .smaller-length .ensures ∙ sym (requestSize-query (a .request) (a .room) query),
+    let listed : a .request .kind < 3 → ⊥ = λ h. omega (arith, h, c .before .before .if1 .left) in (
+      c .smaller-length .ensures ∙ sym (requestSize-listed (a .request) (a .room) listed),
       omega (arith, c .smaller-length .ensures),
     )
 

@@ -1,0 +1,3 @@
+pub mod BoxLaws
+pub mod CallLaws
+pub mod PromiseLaws

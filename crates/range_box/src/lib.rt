@@ -1,0 +1,1 @@
+// Boxes: intervals of encodings and the regions that they meet; no code.
