@@ -1,6 +1,6 @@
 /*
  * A gateway's records: which display code came from which container slot under which image release, and how often.
- * Fills a store, checks it, asks for code 30, and prints the slots and releases.
+ * Fills a store, checks it, asks for code 30, then for its releases from 400 to 479, and prints the slots and releases.
  */
 #include "mdeh.h"
 
@@ -51,20 +51,12 @@ static uint32_t ready(void) {
     return found.number == MDEH_ACCEPTED && found.sound ? MDEH_ACCEPTED : fill();
 }
 
-int main(void) {
-    static const MdehQuery code_30 = {{1, 0, 0, 0}, {30, 0, 0, 0}};
-    uint8_t out[16 * MDEH_RECORD_BYTES];
-    MdehQueryResult found;
+/* Prints what a list has of slots and releases, or why it was refused, as the program's status. */
+static int show(const char *asked, MdehQueryResult found, const uint8_t *out) {
     uint64_t i;
-    uint32_t number = fill();
-    if (number == MDEH_ACCEPTED)
-        number = ready();
-    if (number != MDEH_ACCEPTED)
-        return refused("fill", number);
-    found = mdeh_query(state, MDEH_STATE_WORDS, directory, WORDS, pages, sizeof pages, code_30, out, sizeof out);
     if (found.number != MDEH_ACCEPTED)
-        return refused("query", found.number);
-    printf("code 30: %" PRIu64 " records, %" PRIu64 " pages read\n", found.total, found.reads);
+        return refused(asked, found.number);
+    printf("%s: %" PRIu64 " records, %" PRIu64 " pages read\n", asked, found.total, found.reads);
     for (i = 0; i < found.written; i++) {
         MdehRecord record = mdeh_record(out, i);
         printf("slot %" PRIu32 ", release %" PRIu32 ", count %" PRIu32 "\n", record.values[1], record.values[2],
@@ -73,4 +65,23 @@ int main(void) {
     if (found.written < found.total)
         printf("and %" PRIu64 " more\n", found.total - found.written);
     return 0;
+}
+
+int main(void) {
+    static const MdehQuery code = {{1, 0, 0, 0}, {30, 0, 0, 0}};
+    static const MdehRange releases = {{1, 0, 1, 0}, {30, 0, 400, 0}, {30, 0, 479, 0}};
+    uint8_t out[16 * MDEH_RECORD_BYTES];
+    MdehQueryResult found;
+    int status;
+    uint32_t number = fill();
+    if (number == MDEH_ACCEPTED)
+        number = ready();
+    if (number != MDEH_ACCEPTED)
+        return refused("fill", number);
+    found = mdeh_query(state, MDEH_STATE_WORDS, directory, WORDS, pages, sizeof pages, code, out, sizeof out);
+    status = show("code 30", found, out);
+    if (status != 0)
+        return status;
+    found = mdeh_range(state, MDEH_STATE_WORDS, directory, WORDS, pages, sizeof pages, releases, out, sizeof out);
+    return show("code 30, releases 400 to 479", found, out);
 }

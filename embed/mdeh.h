@@ -1,9 +1,9 @@
 /*
  * A multidimensional extendible hash store in memory that its host lends: the C interface.
  *
- * Records have a key of one to four values and a payload of 32 bits. A query gives some of the values and leaves the
- * others free. Link target/staticlib/libhost.a, which `rt staticlib host` writes: code for x86-64 (System V) that calls
- * memcpy, memmove and memset alone. C99 or later, or C++.
+ * Records have a key of one to four values and a payload of 32 bits. A query gives some of the values, a range the
+ * intervals of some, and both leave the others free. Link target/staticlib/libhost.a, which `rt staticlib host` writes:
+ * code for x86-64 (System V) that calls memcpy, memmove and memset alone. C99 or later, or C++.
  *
  * SLICES. A lent slice is two arguments, a pointer and how many elements it has. The memory is the host's, of any kind:
  * it is lent for the call, and no call keeps a pointer, allocates or frees.
@@ -31,18 +31,19 @@
  *
  * CHECK, THEN ASK. A call reads a part of the store, and tests of it the words and each page's count, first and last
  * record; on damaged memory a list with number 0 may still lack records or show wrong ones. Before people act on a
- * list, ask mdeh_check, then mdeh_query, and let nothing write in between. Check reads the whole store, some 15 ns a
- * record: a third of a millisecond for 20,000; what it does not tell stands under KEEPING. Where it says no, or a call
- * gives 9, the memory was damaged: do not act on it; make a fresh store and insert the event records again.
+ * list, ask mdeh_check, then mdeh_query or mdeh_range, and let nothing write in between. Check reads the whole store,
+ * some 15 ns a record: a third of a millisecond for 20,000; what it does not tell stands under KEEPING. Where it says
+ * no, or a call gives 9, the memory was damaged: do not act on it; make a fresh store and insert the event records
+ * again.
  *
  * KEEPING. A store is its 22 state words, its directory and its pages, as they are; it has no pointers, and may be
  * copied, moved and written to a file. Words of the directory from 2^T on need not be kept (T is state word 8). To open
  * it again, read the three into slices that are as long as before or longer and ask mdeh_check: number 0 and sound 1.
  * It does not tell a changed payload or an older copy; add a sum of your own where the medium may alter bytes.
  *
- * THREADS. There is no hidden state. Calls on different stores may run at once; on one store, lookups, checks and
- * queries with outputs of their own may, while mdeh_fresh, mdeh_insert and mdeh_delete need it alone. A call takes up
- * to 32 KiB of stack (measured), never a signal, a lock or a system call.
+ * THREADS. There is no hidden state. Calls on different stores may run at once; on one store, lookups, checks, queries
+ * and ranges with outputs of their own may, while mdeh_fresh, mdeh_insert and mdeh_delete need it alone. A call takes
+ * up to 32 KiB of stack (measured), never a signal, a lock or a system call.
  *
  * LAYOUTS. Bit 0 is the least significant; numbers of several bytes are little-endian.
  *   state      word 0 attribute count d; 1-4 widths (mdeh_fresh writes 0 past d; those past d are ignored); 5 page
@@ -89,13 +90,15 @@ enum {
                                    words, which show no shape */
     MDEH_REFUSED_MEMORY = 2,    /* fresh: fewer than 22 state words, no directory word, no whole page; later: fewer than
                                    2^L words or P pages */
-    MDEH_REFUSED_VALUE = 3,     /* value or index of 2^width or more, address past the last, unused value not 0 */
+    MDEH_REFUSED_VALUE = 3,     /* value, end of an interval or index of 2^width or more, address past the last, unused
+                                   value not 0 */
     MDEH_REFUSED_STORED = 4,    /* insert: the key is stored already */
     MDEH_REFUSED_ABSENT = 5,    /* lookup, delete: the key is not stored */
     MDEH_REFUSED_DEPTH = 6,     /* insert: `capacity` stored keys agree with this one in their first L split bits */
     MDEH_REFUSED_PAGES = 7,     /* insert: the records would need more than P pages */
-    MDEH_REFUSED_ATTRIBUTE = 8, /* query: an attribute is given that the shape does not have */
-    MDEH_REFUSED_UNSOUND = 9    /* the store is not sound, and the call met it: rebuild it from the event records */
+    MDEH_REFUSED_ATTRIBUTE = 8, /* query, range: an attribute is given that the shape does not have */
+    MDEH_REFUSED_UNSOUND = 9,   /* the store is not sound, and the call met it: rebuild it from the event records */
+    MDEH_REFUSED_INTERVAL = 10  /* range: the low end of an interval is above its high end */
 };
 
 /* What records look like. In bounds: 1 to 4 attributes, widths of 1 to 16 bits, a capacity of 1 to 16 records. */
@@ -115,6 +118,14 @@ typedef struct {
     uint32_t given[4];
     uint32_t values[4]; /* ignored where free */
 } MdehQuery;
+
+/* A range: attribute j is to have a value from low[j] to high[j], both included, where given[j] is not 0, and is free
+   where it is 0. Equal ends give a single value. */
+typedef struct {
+    uint32_t given[4];
+    uint32_t low[4];  /* ignored where free */
+    uint32_t high[4]; /* ignored where free */
+} MdehRange;
 
 /* An index for each attribute: a cell of the directory; 0 for an unused attribute. */
 typedef struct {
@@ -171,6 +182,12 @@ MdehLookupResult mdeh_lookup(const uint32_t *state, size_t state_words, const ui
 MdehQueryResult mdeh_query(const uint32_t *state, size_t state_words, const uint32_t *directory, size_t words,
                            const uint8_t *pages, size_t bytes, MdehQuery query, uint8_t *out, size_t out_bytes);
 
+/* The same for a range: the records whose values all lie in their intervals. Reads the non-empty leaves whose box of
+   values, that of all keys with their split bits, meets the range's: with equal ends as many pages as the query, in
+   general up to all in use. Refused with 1, 2, 8, 3, 10, 9: 8 whatever the ends are, 10 where no end gives 3. */
+MdehQueryResult mdeh_range(const uint32_t *state, size_t state_words, const uint32_t *directory, size_t words,
+                           const uint8_t *pages, size_t bytes, MdehRange range, uint8_t *out, size_t out_bytes);
+
 /* Whether the slices hold a sound store: to be asked before people act on a list. Reads all of it, writes nothing.
    Refused with 1, 2. */
 MdehCheckResult mdeh_check(const uint32_t *state, size_t state_words, const uint32_t *directory, size_t words,
@@ -211,8 +228,9 @@ static inline const char *mdeh_reason(uint32_t number) {
     case MDEH_REFUSED_ABSENT: return "the key is not stored";
     case MDEH_REFUSED_DEPTH: return "the directory cannot grow deep enough to tell the keys apart";
     case MDEH_REFUSED_PAGES: return "there are too few pages";
-    case MDEH_REFUSED_ATTRIBUTE: return "the query gives an attribute that the shape does not have";
+    case MDEH_REFUSED_ATTRIBUTE: return "the query or range gives an attribute that the shape does not have";
     case MDEH_REFUSED_UNSOUND: return "the store is not sound";
+    case MDEH_REFUSED_INTERVAL: return "an interval's low end is above its high end";
     default: return "no number of this library";
     }
 }

@@ -1,7 +1,8 @@
 //! The proved store's calls on lent memory: of the library that is linked, and of another build of it.
 use crate::dynamic::{function, Address, Library};
+use crate::packed::Intervals;
 use crate::step::{EARLIER, PROVED};
-use mdeh_tests::host::{CheckResult, HostQuery, Key, LookupResult, QueryResult, Shape};
+use mdeh_tests::host::{CheckResult, HostQuery, HostRange, Key, LookupResult, QueryResult, Shape};
 use std::ffi::{CStr, CString};
 
 /// The variable that names a shared library with the calls of another build.
@@ -25,6 +26,8 @@ pub struct Build {
     lookup: Lookup,
     query: Query,
     check: Check,
+    /// which earlier builds may lack
+    range: Option<Range>,
 }
 
 type Fresh = unsafe extern "C" fn(Shape, *mut u32, usize, *mut u32, usize, *mut u8, usize) -> u32;
@@ -36,6 +39,10 @@ type Lookup =
 type Query = unsafe extern "C" fn(
     *const u32, usize, *const u32, usize, *const u8, usize, HostQuery, *mut u8, usize,
 ) -> QueryResult;
+#[rustfmt::skip]
+type Range = unsafe extern "C" fn(
+    *const u32, usize, *const u32, usize, *const u8, usize, HostRange, *mut u8, usize,
+) -> QueryResult;
 type Check = unsafe extern "C" fn(*const u32, usize, *const u32, usize, *const u8, usize) -> CheckResult;
 
 // The functions of the linked library, for their addresses.
@@ -46,9 +53,10 @@ extern "C" {
     fn mdeh_lookup();
     fn mdeh_query();
     fn mdeh_check();
+    fn mdeh_range();
 }
 
-/// Their names, in the same order.
+/// Their names, in the same order, but for the range.
 const NAMES: [&CStr; 6] =
     [c"mdeh_fresh", c"mdeh_insert", c"mdeh_delete", c"mdeh_lookup", c"mdeh_query", c"mdeh_check"];
 
@@ -57,23 +65,29 @@ impl Build {
     pub fn all() -> Vec<Build> {
         let linked = [mdeh_fresh, mdeh_insert, mdeh_delete, mdeh_lookup, mdeh_query, mdeh_check];
         // SAFETY: the functions are those of the store's header.
-        let proved = unsafe { Build::at(PROVED, linked.map(|function| function as Address)) };
+        let proved = unsafe {
+            Build::at(PROVED, linked.map(|function| function as Address), Some(mdeh_range as Address))
+        };
         let mut all = vec![proved];
         if let Ok(path) = std::env::var(EARLIER_BUILD) {
             let name = CString::new(path.clone()).expect("no zero byte");
             let library = Library::open(&name).unwrap_or_else(|| panic!("{path} is no shared library"));
             let address = |name| library.address(name).unwrap_or_else(|| panic!("{path} lacks {name:?}"));
             // SAFETY: as above.
-            all.push(unsafe { Build::at(EARLIER, NAMES.map(address)) });
+            all.push(unsafe { Build::at(EARLIER, NAMES.map(address), library.address(c"mdeh_range")) });
         }
         all
     }
 
-    /// The build with functions at these addresses, in the order of `NAMES`.
+    /// The build with functions at these addresses, in the order of `NAMES`, and the range.
     ///
     /// # Safety
     /// They have the types that the store's header gives them, and no `requires`.
-    unsafe fn at(name: &'static str, [fresh, insert, delete, lookup, query, check]: [Address; 6]) -> Build {
+    unsafe fn at(
+        name: &'static str,
+        [fresh, insert, delete, lookup, query, check]: [Address; 6],
+        range: Option<Address>,
+    ) -> Build {
         // SAFETY: as above.
         unsafe {
             Build {
@@ -84,6 +98,7 @@ impl Build {
                 lookup: function(lookup),
                 query: function(query),
                 check: function(check),
+                range: range.map(|range| function(range)),
             }
         }
     }
@@ -144,6 +159,22 @@ impl Build {
         let (out, room) = (out.as_mut_ptr(), out.len());
         // SAFETY: see `fresh`.
         unsafe { (self.query)(state, words, dir, size, pages.as_ptr(), pages.len(), query, out, room) }
+    }
+
+    /// Whether the build has ranges.
+    pub fn has_range(&self) -> bool {
+        self.range.is_some()
+    }
+
+    /// What a range writes and counts, as the library returns it.
+    #[inline]
+    pub fn range(&self, Lent { state, dir, pages }: &Lent, range: Intervals, out: &mut [u8]) -> QueryResult {
+        let call = self.range.expect("the build has ranges");
+        let (state, words, range) = (state.as_ptr(), state.len(), HostRange::new(range));
+        let (dir, size) = (dir.as_ptr(), dir.len());
+        let (out, room) = (out.as_mut_ptr(), out.len());
+        // SAFETY: see `fresh`.
+        unsafe { call(state, words, dir, size, pages.as_ptr(), pages.len(), range, out, room) }
     }
 
     /// Whether the store is sound.

@@ -3,7 +3,7 @@ use crate::builds::Build;
 use crate::measure::{answers, Table};
 use crate::records::{Forms, Sample};
 use crate::step::{Step, PLAIN, SQLITE};
-use crate::{changes, lookups, queries};
+use crate::{changes, lookups, queries, ranges};
 use mdeh_tests::random::Random;
 
 /// Adds the rows of all calls; the records, if there is a row.
@@ -14,13 +14,14 @@ pub fn rows(
     sample: Sample,
 ) -> Option<Forms> {
     let mut names = ["lookup, hit", "lookup, miss", "check", "insert", "delete"].map(String::from).to_vec();
-    names.extend(queries::names());
+    names.extend(queries::names().chain(ranges::names()));
     if !names.iter().any(|name| table.has(name)) {
         return None;
     }
     let forms = Forms::new(random, builds, sample);
     lookups::rows(table, random, forms);
     queries::rows(table, random, forms);
+    ranges::rows(table, random, forms);
     check(table, forms);
     changes::rows(table, random, forms);
     Some(forms)

@@ -1,6 +1,7 @@
 //! The records in SQLite: the key primary, and for each attribute an index that begins with it and has the others and
 //! the payload, so that every query is answered by one range of one index. Attribute 0's is the table itself.
-use crate::packed::{self, Record, ATTRIBUTES};
+use crate::packed::{self, Intervals, Record, ATTRIBUTES};
+use crate::ranges::Part;
 use crate::sqlite::{Database, Statement};
 
 const TABLES: &str =
@@ -35,16 +36,45 @@ pub fn numbers(key: [u32; 4], payload: u32) -> [i64; ATTRIBUTES + 1] {
 
 /// The statement of queries that give these attributes.
 pub fn select(database: &Database, given: &[usize]) -> Statement {
-    let condition: Vec<String> = given.iter().map(|j| format!("a{j} = ?")).collect();
-    let condition = if given.is_empty() { "1".into() } else { condition.join(" AND ") };
+    select_where(database, given.iter().map(|j| format!("a{j} = ?")).collect())
+}
+
+/// The statement of ranges that ask this of the attributes.
+pub fn select_range(database: &Database, parts: [Part; ATTRIBUTES]) -> Statement {
+    let condition = |(j, part)| match part {
+        Part::Free => None,
+        Part::One => Some(format!("a{j} = ?")),
+        Part::Of64(_) => Some(format!("a{j} BETWEEN ? AND ?")),
+    };
+    select_where(database, parts.into_iter().enumerate().filter_map(condition).collect())
+}
+
+/// The statement of the records that meet all conditions.
+fn select_where(database: &Database, conditions: Vec<String>) -> Statement {
+    let condition = if conditions.is_empty() { "1".into() } else { conditions.join(" AND ") };
     database.prepare(&format!("SELECT a0, a1, a2, payload FROM r WHERE {condition}"))
 }
 
 /// Writes the matching records, in the order of an index, into the output while whole ones fit; how many match.
 pub fn query(select: &Statement, query: [Option<u32>; 4], out: &mut [u8]) -> u64 {
+    list(select, query.into_iter().flatten().map(i64::from), out)
+}
+
+/// The same of the records inside a range, which asks this of the attributes.
+pub fn range(select: &Statement, parts: [Part; ATTRIBUTES], range: Intervals, out: &mut [u8]) -> u64 {
+    let ends = |(part, ends): (Part, Option<(u32, u32)>)| {
+        let (low, high) = ends.unwrap_or_default();
+        [(part != Part::Free).then_some(low), matches!(part, Part::Of64(_)).then_some(high)]
+    };
+    list(select, parts.into_iter().zip(range).flat_map(ends).flatten().map(i64::from), out)
+}
+
+/// The same of a statement with these numbers.
+#[inline]
+fn list(select: &Statement, numbers: impl Iterator<Item = i64>, out: &mut [u8]) -> u64 {
     let out: &mut [Record] = out.as_chunks_mut().0;
     let mut total = 0;
-    select.run(query.into_iter().flatten().map(i64::from), |row| {
+    select.run(numbers, |row| {
         if let Some(place) = out.get_mut(total) {
             for j in 0..3 {
                 place[2 * j..2 * j + 2].copy_from_slice(&(row.number(j as i32) as u16).to_le_bytes());

@@ -10,6 +10,7 @@ mod database;
 mod directory;
 mod dynamic;
 mod inputs;
+mod lists;
 mod lookups;
 mod measure;
 mod numbers;
@@ -17,6 +18,7 @@ mod packed;
 mod pages;
 mod plain;
 mod queries;
+mod ranges;
 mod records;
 mod scans;
 mod single;
@@ -58,6 +60,9 @@ fn main() {
     let builds: &'static [Build] = Build::all().leak();
     table.section("Calls", Layout::Forms);
     let calls = calls::rows(&mut table, &mut random, builds, Sample::random(CALLS, CALLS_WIDTHS));
+    if let Some(forms) = calls {
+        ranges::other_rows(&mut table, &mut random, forms);
+    }
     if let (Some(forms), false) = (calls, counting) {
         lookups::repeated_row(&mut table, &mut random, forms);
         queries::repeated_row(&mut table, &mut random, forms);

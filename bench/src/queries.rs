@@ -1,13 +1,13 @@
 //! Queries beside the plain store, scans and SQLite.
 use crate::database;
 use crate::inputs::repeated;
-use crate::measure::{answers, Answers, Table};
-use crate::packed::{Record, ATTRIBUTES};
+use crate::lists::{average, compare, form, Form};
+use crate::measure::Table;
+use crate::packed::ATTRIBUTES;
 use crate::records::{Forms, Key};
 use crate::scans::packed_query;
-use crate::step::{Found, Step, COLUMNS, PACKED, PLAIN, SQLITE};
+use crate::step::{Step, COLUMNS, PACKED, PLAIN, SQLITE};
 use mdeh_tests::random::Random;
-use std::slice;
 
 /// How many queries a row has where one attribute is given, and where more are, which takes less time a query.
 const ONE_GIVEN: usize = 400;
@@ -16,14 +16,10 @@ const MORE_GIVEN: usize = 4_000;
 /// How many queries a row has that asks the same again and again.
 const FEW: usize = 16;
 
-/// How many of a row's queries are asked of all forms and compared.
-const COMPARED: usize = 400;
-
 /// How many sets of attributes a query can give. Attribute j is in set n if bit j of n is 1.
 const SUBSETS: usize = 1 << ATTRIBUTES;
 
 type Query = [Option<u32>; 4];
-type Form = Answers<Query, Vec<u8>>;
 
 /// Queries that give the values of stored keys, in random order, for each set of attributes.
 pub fn rows(table: &mut Table, random: &mut Random, forms: Forms) {
@@ -70,7 +66,7 @@ fn row(table: &mut Table, forms: Forms, subset: usize, name: String, queries: &'
         return;
     }
     let Forms { sample, builds, lent, plain, records, columns, database } = forms;
-    let mut all: Vec<Form> = builds
+    let mut all: Vec<Form<Query>> = builds
         .iter()
         .map(|build| form(build.name, |query, out| build.query(lent, query, out).total))
         .collect();
@@ -82,35 +78,7 @@ fn row(table: &mut Table, forms: Forms, subset: usize, name: String, queries: &'
         all.push(form(SQLITE, move |query, out| database::query(&select, query, out)));
     }
     let out = vec![0; 12 * sample.records];
-    compare(&name, &mut all, &queries[..queries.len().min(COMPARED)], &out);
-    let found = Some(average(forms, queries));
+    compare(&name, &mut all, queries, &out);
+    let found = Some(average(queries, |query| plain.query(query, &mut [])));
     table.answering(Step { found, ..Step::call(name, sample.shown()) }, queries, out, all);
-}
-
-/// A form by how it writes the records that match, and how many these are.
-fn form(name: &'static str, mut ask: impl FnMut(Query, &mut [u8]) -> u64 + 'static) -> Form {
-    answers(name, move |&query, out: &mut Vec<u8>| ask(query, out))
-}
-
-/// Panics unless all forms find the same records, whatever their order.
-fn compare(name: &str, forms: &mut [Form], queries: &[Query], out: &[u8]) {
-    let mut out = out.to_vec();
-    for query in queries {
-        let mut found = forms.iter_mut().map(|(_, all)| {
-            let total = all(slice::from_ref(query), &mut out) as usize;
-            let mut records: Vec<Record> = out.as_chunks().0[..total].to_vec();
-            records.sort();
-            records
-        });
-        let first = found.next();
-        assert!(found.all(|records| Some(records) == first), "{name}, {query:?}: other records");
-    }
-}
-
-/// What queries find on average.
-fn average(forms: Forms, queries: &[Query]) -> Found {
-    let found = queries.iter().map(|&query| forms.plain.query(query, &mut []).expect("accepted"));
-    let (total, reads) = found.fold((0, 0), |(t, r), (_, total, reads)| (t + total, r + reads));
-    let each = |sum: usize| sum as f64 / queries.len() as f64;
-    Found { records: each(total), reads: each(reads) }
 }

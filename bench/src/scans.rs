@@ -1,5 +1,5 @@
-//! Queries answered by a scan of all records: of packed ones, and of columns.
-use crate::packed::{key, pack, packed, payload, Record, ATTRIBUTES};
+//! Queries and ranges answered by a scan of all records: of packed ones, and of columns.
+use crate::packed::{key, pack, packed, payload, Intervals, Lanes, Record, ATTRIBUTES};
 use std::array;
 use std::collections::HashSet;
 
@@ -45,7 +45,33 @@ impl Columns {
             }
         };
         match given.iter().flatten().max_by_key(|(column, _)| column.distinct) {
-            Some(&(column, value)) => column.scan(value, self.payloads.len(), visit),
+            Some(&(column, value)) => column.scan(|own| own == value, self.payloads.len(), visit),
+            None => (0..self.payloads.len()).for_each(&mut visit),
+        }
+        total as u64
+    }
+
+    /// The same of the records inside a range; the array of the attribute with the smallest part of its values inside
+    /// is scanned.
+    #[inline(never)]
+    pub fn range(&self, range: Intervals, out: &mut [u8]) -> u64 {
+        let out = out.as_chunks_mut().0;
+        let ends =
+            |j: usize| range[j].map(|(low, high)| (&self.attributes[j], low as u16, (high - low) as u16));
+        let given: [Option<(&Column, u16, u16)>; ATTRIBUTES] = [0, 1, 2].map(ends);
+        let mut total = 0;
+        let mut visit = |i: usize| {
+            if given.iter().flatten().all(|&(column, low, more)| column.value(i).wrapping_sub(low) <= more) {
+                self.write(i, total, out);
+                total += 1;
+            }
+        };
+        let rarity =
+            |&&(column, _, more): &&(&Column, u16, u16)| (column.distinct << 16) / (more as usize + 1);
+        match given.iter().flatten().max_by_key(rarity) {
+            Some(&(column, low, more)) => {
+                column.scan(|own| own.wrapping_sub(low) <= more, self.payloads.len(), visit)
+            }
             None => (0..self.payloads.len()).for_each(&mut visit),
         }
         total as u64
@@ -68,14 +94,15 @@ impl Column {
         self.blocks[i / BLOCK][i % BLOCK]
     }
 
-    /// Visits the places below `count` that have a value. Blocks without it, which most are, are passed over.
+    /// Visits the places below `count` that have a wanted value. Blocks without one, which most are for a single value,
+    /// are passed over.
     #[inline]
-    fn scan(&self, value: u16, count: usize, mut visit: impl FnMut(usize)) {
+    fn scan(&self, wanted: impl Fn(u16) -> bool, count: usize, mut visit: impl FnMut(usize)) {
         for (n, block) in self.blocks.iter().enumerate() {
-            if block.iter().map(|&own| u16::from(own == value)).sum::<u16>() == 0 {
+            if block.iter().map(|&own| u16::from(wanted(own))).sum::<u16>() == 0 {
                 continue;
             }
-            let same = block.map(|own| u8::from(own == value));
+            let same = block.map(|own| u8::from(wanted(own)));
             for (k, eight) in same.as_chunks().0.iter().enumerate() {
                 let mut bits = u64::from_le_bytes(*eight);
                 while bits != 0 {
@@ -99,6 +126,23 @@ pub fn packed_query(records: &[Record], query: [Option<u32>; 4], out: &mut [u8])
     let mut total = 0;
     for record in records {
         if packed(record) & mask == pattern {
+            if let Some(place) = out.get_mut(total) {
+                *place = *record;
+            }
+            total += 1;
+        }
+    }
+    total as u64
+}
+
+/// The same of the records inside a range.
+#[inline(never)]
+pub fn packed_range(records: &[Record], range: Intervals, out: &mut [u8]) -> u64 {
+    let lanes = Lanes::new(range);
+    let out = out.as_chunks_mut().0;
+    let mut total = 0;
+    for record in records {
+        if lanes.hold(packed(record)) {
             if let Some(place) = out.get_mut(total) {
                 *place = *record;
             }

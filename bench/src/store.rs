@@ -5,6 +5,7 @@ mod check;
 mod map;
 mod page;
 mod query;
+mod range;
 
 use crate::plain::Widths;
 use map::Map;

@@ -8,6 +8,7 @@
 LAID(shape_laid, sizeof(MdehShape) == 24 && offsetof(MdehShape, widths) == 4 && offsetof(MdehShape, capacity) == 20);
 LAID(key_laid, sizeof(MdehKey) == 16 && sizeof(MdehIndex) == 32);
 LAID(query_laid, sizeof(MdehQuery) == 32 && offsetof(MdehQuery, values) == 16);
+LAID(range_laid, sizeof(MdehRange) == 48 && offsetof(MdehRange, low) == 16 && offsetof(MdehRange, high) == 32);
 LAID(lookup_laid, sizeof(MdehLookupResult) == 12 && offsetof(MdehLookupResult, reads) == 8);
 LAID(listed_laid, sizeof(MdehQueryResult) == 32 && offsetof(MdehQueryResult, written) == 8);
 LAID(counts_laid, offsetof(MdehQueryResult, total) == 16 && offsetof(MdehQueryResult, reads) == 24);
@@ -18,6 +19,7 @@ LAID(index_laid, sizeof(MdehIndexResult) == 40 && offsetof(MdehIndexResult, inde
 static const MdehShape small = {2, {2, 2, 0, 0}, 2};
 static const MdehKey key = {{2, 1, 0, 0}};
 static const MdehQuery all = {{0, 0, 0, 0}, {0, 0, 0, 0}};
+static const MdehRange any = {{0, 0, 0, 0}, {0, 0, 0, 0}, {0, 0, 0, 0}};
 
 void empty_slices(void) {
     uint32_t state[MDEH_STATE_WORDS], directory[8], gone;
@@ -34,10 +36,58 @@ void empty_slices(void) {
         HOLDS(mdeh_lookup(s, n, d, words, p, bytes, key).number == number);
         HOLDS(mdeh_check(s, n, d, words, p, bytes).number == number);
         HOLDS(mdeh_query(s, n, d, words, p, bytes, all, out, sizeof out).number == number);
+        HOLDS(mdeh_range(s, n, d, words, p, bytes, any, out, sizeof out).number == number);
     }
     HOLDS(mdeh_insert(state, MDEH_STATE_WORDS, directory, 8, pages, sizeof pages, key, 13) == MDEH_ACCEPTED);
     found = mdeh_query(state, MDEH_STATE_WORDS, directory, 8, pages, sizeof pages, all, NULL, 0);
     HOLDS(found.number == MDEH_ACCEPTED && found.written == 0 && found.total == 1 && found.reads == 1);
+    found = mdeh_range(state, MDEH_STATE_WORDS, directory, 8, pages, sizeof pages, any, NULL, 0);
+    HOLDS(found.number == MDEH_ACCEPTED && found.written == 0 && found.total == 1 && found.reads == 1);
+}
+
+/* Ranges over a store of the leaves 0 (one record), 100 (two), 101 (one) and 11 (none). */
+static const struct {
+    MdehRange range;
+    uint32_t number, total, reads;
+} ranged[] = {
+    {{{0, 0, 0, 0}, {9, 3, 7, 4}, {4, 2, 6, 5}}, MDEH_ACCEPTED, 4, 3}, /* the ends of free attributes */
+    {{{1, 1, 0, 0}, {0, 0, 0, 0}, {3, 3, 0, 0}}, MDEH_ACCEPTED, 4, 3}, /* whole intervals */
+    {{{1, 0, 0, 0}, {2, 0, 0, 0}, {2, 0, 0, 0}}, MDEH_ACCEPTED, 2, 1}, /* equal ends */
+    {{{1, 1, 0, 0}, {2, 1, 0, 0}, {2, 1, 0, 0}}, MDEH_ACCEPTED, 1, 1},
+    {{{1, 0, 0, 0}, {1, 0, 0, 0}, {2, 0, 0, 0}}, MDEH_ACCEPTED, 2, 2}, /* leaf 0 is met at its edge */
+    {{{0, 1, 0, 0}, {0, 1, 0, 0}, {0, 2, 0, 0}}, MDEH_ACCEPTED, 2, 3},
+    {{{0, 1, 0, 0}, {0, 2, 0, 0}, {0, 3, 0, 0}}, MDEH_ACCEPTED, 0, 1}, /* leaf 11 is met too, and is empty */
+    {{{1, 1, 0, 0}, {3, 2, 0, 0}, {3, 3, 0, 0}}, MDEH_ACCEPTED, 0, 0},
+    {{{1, 0, 0, 0}, {3, 0, 0, 0}, {2, 0, 0, 0}}, MDEH_REFUSED_INTERVAL, 0, 0},
+    {{{1, 1, 0, 0}, {0, 1, 0, 0}, {3, 0, 0, 0}}, MDEH_REFUSED_INTERVAL, 0, 0},
+    {{{1, 0, 0, 0}, {0, 0, 0, 0}, {4, 0, 0, 0}}, MDEH_REFUSED_VALUE, 0, 0},
+    {{{1, 0, 0, 0}, {4, 0, 0, 0}, {0, 0, 0, 0}}, MDEH_REFUSED_VALUE, 0, 0},
+    {{{1, 1, 0, 0}, {3, 0, 0, 0}, {2, 4, 0, 0}}, MDEH_REFUSED_VALUE, 0, 0}, /* 3 in attribute 1, 10 in attribute 0 */
+    {{{0, 0, 1, 0}, {0, 0, 0, 0}, {0, 0, 0, 0}}, MDEH_REFUSED_ATTRIBUTE, 0, 0},
+    {{{0, 0, 0, 1}, {0, 0, 0, 2}, {0, 0, 0, 1}}, MDEH_REFUSED_ATTRIBUTE, 0, 0},
+    {{{1, 1, 1, 0}, {4, 1, 9, 0}, {9, 0, 3, 0}}, MDEH_REFUSED_ATTRIBUTE, 0, 0}, /* 8 beside 3 and 10 */
+};
+
+void ranges(void) {
+    static const MdehKey keys[4] = {{{0, 0, 0, 0}}, {{2, 0, 0, 0}}, {{3, 1, 0, 0}}, {{2, 1, 0, 0}}};
+    static const uint32_t outputs[6] = {0, 11, 12, 23, 24, 60};
+    uint32_t state[MDEH_STATE_WORDS], directory[8], i, n;
+    uint8_t pages[4 * MDEH_PAGE_BYTES(2)];
+    uint64_t seed = 1;
+    HOLDS(mdeh_fresh(small, state, MDEH_STATE_WORDS, directory, 8, pages, sizeof pages) == MDEH_ACCEPTED);
+    for (i = 0; i < 4; i++)
+        HOLDS(mdeh_insert(state, MDEH_STATE_WORDS, directory, 8, pages, sizeof pages, keys[i], i) == MDEH_ACCEPTED);
+    for (i = 0; i < sizeof ranged / sizeof *ranged; i++)
+        for (n = 0; n < 6; n++) {
+            uint32_t room = outputs[n] / MDEH_RECORD_BYTES, total = ranged[i].total;
+            Lent out = lend_bytes(&seed, outputs[n]);
+            MdehQueryResult found = mdeh_range(state, MDEH_STATE_WORDS, directory, 8, pages, sizeof pages,
+                                               ranged[i].range, bytes_of(&out), out.bytes);
+            HOLDS(found.number == ranged[i].number && found.total == total && found.reads == ranged[i].reads);
+            HOLDS(found.written == (total < room ? total : room));
+            HOLDS(unchanged_from(&out, MDEH_RECORD_BYTES * (size_t)found.written));
+            take_back(&out);
+        }
 }
 
 static int same(const MdehIndex *a, const MdehIndex *b) {

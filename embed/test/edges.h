@@ -5,6 +5,9 @@
 /* Each slice of each call without elements and without a pointer. */
 void empty_slices(void);
 
+/* Ranges at the ends of what is stored, of the widths, of the output and of the numbers. */
+void ranges(void);
+
 /* The address map of all small shapes beside the doubling array. */
 void addresses(void);
 

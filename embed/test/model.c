@@ -2,6 +2,12 @@
 
 #include <string.h>
 
+/* A non-empty leaf: the split bits of a record of it, and how many of them are the leaf's. */
+typedef struct {
+    uint64_t code;
+    uint32_t depth;
+} Leaf;
+
 uint32_t model_bits(const MdehShape *shape) {
     uint32_t j, bits = 0;
     for (j = 0; j < shape->attributes; j++)
@@ -32,6 +38,18 @@ static uint64_t code_of(const MdehShape *shape, const uint32_t *values) {
     return code;
 }
 
+/* The values whose split bits these are. */
+static MdehKey key_of(const MdehShape *shape, uint64_t code) {
+    MdehKey key = {{0, 0, 0, 0}};
+    uint32_t place, t = 0;
+    for (place = 0; place < 64; place++) {
+        uint32_t k = place / 4, j = place % 4;
+        if (j < shape->attributes && k < shape->widths[j])
+            key.values[j] = key.values[j] << 1 | (uint32_t)(code >> (63 - t++) & 1);
+    }
+    return key;
+}
+
 /* Whether some value is 2^w_j or more, or that of an unused attribute not 0. */
 static int too_large(const MdehShape *shape, const uint32_t *values) {
     uint32_t j;
@@ -54,21 +72,26 @@ static int is_stored(const Model *model, uint64_t code) {
     return i < model->count && model->records[i].code == code;
 }
 
-/* The non-empty leaves that agree with the wanted bits where they are given, of a region of depth x with these records:
-   more than the capacity are divided by their next bit. */
-static uint32_t leaves(const Model *model, size_t from, size_t end, uint32_t x, uint64_t given, uint64_t wanted) {
+/* Puts the non-empty leaves of a region of depth x with these records at a place, and returns the one after them;
+   more records than the capacity are divided by their next bit. */
+static Leaf *put_leaves(const Model *model, size_t from, size_t end, uint32_t x, Leaf *place) {
     size_t middle = from;
-    uint32_t found = 0;
-    uint64_t bit = (uint64_t)1 << (63 - x);
-    if (end - from <= model->shape.capacity)
-        return end > from;
-    while (middle < end && !(model->records[middle].code & bit))
-        middle++;
-    if (!(given & bit) || !(wanted & bit))
-        found += leaves(model, from, middle, x + 1, given, wanted);
-    if (!(given & bit) || (wanted & bit))
-        found += leaves(model, middle, end, x + 1, given, wanted);
-    return found;
+    if (end - from > model->shape.capacity) {
+        while (middle < end && !(model->records[middle].code >> (63 - x) & 1))
+            middle++;
+        return put_leaves(model, middle, end, x + 1, put_leaves(model, from, middle, x + 1, place));
+    }
+    if (end > from) {
+        place->code = model->records[from].code;
+        place->depth = x;
+        place++;
+    }
+    return place;
+}
+
+/* The non-empty leaves of the model's set, and how many they are. */
+static size_t leaves(const Model *model, Leaf *found) {
+    return (size_t)(put_leaves(model, 0, model->count, 0, found) - found);
 }
 
 uint32_t model_fresh(Model *model, MdehShape shape, size_t words, size_t bytes) {
@@ -115,6 +138,7 @@ static void drop(Model *model, uint64_t code) {
 
 uint32_t model_insert(Model *model, MdehKey key, uint32_t payload) {
     uint64_t code = code_of(&model->shape, key.values);
+    Leaf found[MOST_RECORDS];
     if (too_large(&model->shape, key.values))
         return MDEH_REFUSED_VALUE;
     if (is_stored(model, code))
@@ -122,7 +146,7 @@ uint32_t model_insert(Model *model, MdehKey key, uint32_t payload) {
     if (sharing(model, code) >= model->shape.capacity)
         return MDEH_REFUSED_DEPTH;
     add(model, code, key, payload);
-    if (leaves(model, 0, model->count, 0, 0, 0) <= model->page_limit)
+    if (leaves(model, found) <= model->page_limit)
         return MDEH_ACCEPTED;
     drop(model, code);
     return MDEH_REFUSED_PAGES;
@@ -172,29 +196,84 @@ static int matches(const MdehQuery *query, const MdehRecord *record) {
     return 1;
 }
 
+/* Whether a leaf's split bits agree with those wanted, where they are given. */
+static int agrees(const Leaf *leaf, uint64_t given, uint64_t wanted) {
+    return leaf->depth == 0 || ((leaf->code ^ wanted) & given) >> (64 - leaf->depth) == 0;
+}
+
 static void put(uint8_t *place, const MdehRecord *record) {
     uint32_t j;
     for (j = 0; j < 12; j++)
         place[j] = (uint8_t)(j < 8 ? record->values[j / 2] >> j % 2 * 8 : record->payload >> (j - 8) * 8);
 }
 
+/* Counts a record, and puts it into the output if it fits there. */
+static void list(MdehQueryResult *result, const MdehRecord *record, uint8_t *out, size_t out_bytes) {
+    if (result->total++ < out_bytes / MDEH_RECORD_BYTES)
+        put(out + MDEH_RECORD_BYTES * result->written++, record);
+}
+
 MdehQueryResult model_query(const Model *model, MdehQuery query, uint8_t *out, size_t out_bytes) {
     MdehQueryResult result = {0, 0, 0, 0};
     uint32_t given[4], wanted[4], j;
-    size_t i;
+    Leaf found[MOST_RECORDS];
+    size_t i, count = leaves(model, found);
     result.number = query_number(&model->shape, &query);
     if (result.number != MDEH_ACCEPTED)
         return result;
-    for (i = 0; i < model->count; i++) {
-        if (!matches(&query, &model->records[i].record))
-            continue;
-        if (result.total++ < out_bytes / MDEH_RECORD_BYTES)
-            put(out + MDEH_RECORD_BYTES * result.written++, &model->records[i].record);
-    }
+    for (i = 0; i < model->count; i++)
+        if (matches(&query, &model->records[i].record))
+            list(&result, &model->records[i].record, out, out_bytes);
     for (j = 0; j < 4; j++) {
         given[j] = query.given[j] ? UINT32_MAX : 0;
         wanted[j] = query.given[j] ? query.values[j] : 0;
     }
-    result.reads = leaves(model, 0, model->count, 0, code_of(&model->shape, given), code_of(&model->shape, wanted));
+    for (i = 0; i < count; i++)
+        result.reads += agrees(found + i, code_of(&model->shape, given), code_of(&model->shape, wanted));
+    return result;
+}
+
+/* The number of a range: 8 whatever the ends, then 3 for any end, then 10; the ends of a free attribute are ignored. */
+static uint32_t range_number(const MdehShape *shape, const MdehRange *range) {
+    uint32_t j, large = 0, falls = 0;
+    for (j = 0; j < 4; j++) {
+        if (!range->given[j])
+            continue;
+        if (j >= shape->attributes)
+            return MDEH_REFUSED_ATTRIBUTE;
+        large |= (range->low[j] | range->high[j]) >> shape->widths[j];
+        falls |= range->low[j] > range->high[j];
+    }
+    return large ? MDEH_REFUSED_VALUE : falls ? MDEH_REFUSED_INTERVAL : MDEH_ACCEPTED;
+}
+
+/* Whether the box from the values `low` to the values `high` has a point of the range. */
+static int meets(const MdehRange *range, const uint32_t *low, const uint32_t *high) {
+    uint32_t j;
+    for (j = 0; j < 4; j++)
+        if (range->given[j] && (high[j] < range->low[j] || low[j] > range->high[j]))
+            return 0;
+    return 1;
+}
+
+/* Whether a leaf's box of values meets the range's: the lowest have 0 for each further split bit, the highest 1. */
+static int leaf_meets(const MdehShape *shape, const MdehRange *range, const Leaf *leaf) {
+    uint64_t further = UINT64_MAX >> leaf->depth;
+    MdehKey low = key_of(shape, leaf->code & ~further), high = key_of(shape, leaf->code | further);
+    return meets(range, low.values, high.values);
+}
+
+MdehQueryResult model_range(const Model *model, MdehRange range, uint8_t *out, size_t out_bytes) {
+    MdehQueryResult result = {0, 0, 0, 0};
+    Leaf found[MOST_RECORDS];
+    size_t i, count = leaves(model, found);
+    result.number = range_number(&model->shape, &range);
+    if (result.number != MDEH_ACCEPTED)
+        return result;
+    for (i = 0; i < model->count; i++)
+        if (meets(&range, model->records[i].record.values, model->records[i].record.values))
+            list(&result, &model->records[i].record, out, out_bytes);
+    for (i = 0; i < count; i++)
+        result.reads += leaf_meets(&model->shape, &range, found + i);
     return result;
 }

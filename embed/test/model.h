@@ -30,5 +30,6 @@ uint32_t model_insert(Model *model, MdehKey key, uint32_t payload);
 uint32_t model_delete(Model *model, MdehKey key);
 MdehLookupResult model_lookup(const Model *model, MdehKey key);
 MdehQueryResult model_query(const Model *model, MdehQuery query, uint8_t *out, size_t out_bytes);
+MdehQueryResult model_range(const Model *model, MdehRange range, uint8_t *out, size_t out_bytes);
 
 #endif

@@ -89,22 +89,59 @@ static MdehQuery random_query(Run *run) {
     return query;
 }
 
+/* Some attributes are given, in any number but 0: from one key's value to another's, with equal ends, or all values of
+   the width; one interval in sixteen falls. The others have any ends. */
+static MdehRange random_range(Run *run) {
+    MdehKey one = random_key(run), other = random_key(run);
+    MdehRange range;
+    uint32_t j;
+    for (j = 0; j < 4; j++) {
+        int used = j < run->model.shape.attributes, given = below(&run->seed, used ? 2 : 40) == 0;
+        uint32_t kind = below(&run->seed, 16), low = one.values[j], high = kind < 4 ? low : other.values[j];
+        int swapped = (low > high) != (kind == 15);
+        range.given[j] = given ? 1 + below(&run->seed, UINT32_MAX) : 0;
+        range.low[j] = given ? (swapped ? high : low) : (uint32_t)number64(&run->seed);
+        range.high[j] = given ? (swapped ? low : high) : (uint32_t)number64(&run->seed);
+        if (given && used && kind == 4) {
+            range.low[j] = 0;
+            range.high[j] = ((uint32_t)1 << run->model.shape.widths[j]) - 1;
+        }
+    }
+    return range;
+}
+
 /* The bytes of the P pages. */
 static size_t lent_pages(const Run *run) {
     return run->model.page_limit * MDEH_PAGE_BYTES(run->model.shape.capacity);
 }
 
-/* A query into an output of any bytes, which is compared whole. */
-static void compare_query(Run *run, MdehQuery query, uint32_t out_bytes) {
-    Lent out = lend_bytes(&run->seed, out_bytes);
-    uint8_t *wanted = out.before + out.start;
-    MdehQueryResult found = mdeh_query(STORE(run), query, bytes_of(&out), out_bytes);
-    MdehQueryResult model = model_query(&run->model, query, wanted, out_bytes);
+/* After a call that lists records: its counts, and its output whole, whose copy the model wrote. */
+static void compare_listed(Run *run, Lent *out, MdehQueryResult found, MdehQueryResult model) {
     HOLDS(found.number == model.number);
     HOLDS(found.written == model.written && found.total == model.total && found.reads == model.reads);
-    HOLDS(unchanged_from(&out, 0));
+    HOLDS(unchanged_from(out, 0));
     HOLDS(unchanged(run));
-    take_back(&out);
+    take_back(out);
+}
+
+/* A range into an output of any bytes. */
+static void compare_range(Run *run, MdehRange range, uint32_t out_bytes) {
+    Lent out = lend_bytes(&run->seed, out_bytes);
+    MdehQueryResult found = mdeh_range(STORE(run), range, bytes_of(&out), out_bytes);
+    compare_listed(run, &out, found, model_range(&run->model, range, out.before + out.start, out_bytes));
+}
+
+/* A query into an output of any bytes, and the range with its values as equal ends: the same answer. */
+static void compare_query(Run *run, MdehQuery query, uint32_t out_bytes) {
+    Lent out = lend_bytes(&run->seed, out_bytes), again = lend_bytes(&run->seed, out_bytes);
+    MdehQueryResult found = mdeh_query(STORE(run), query, bytes_of(&out), out_bytes);
+    MdehRange range;
+    memcpy(range.given, query.given, sizeof range.given);
+    memcpy(range.low, query.values, sizeof range.low);
+    memcpy(range.high, query.values, sizeof range.high);
+    compare_listed(run, &out, found, model_query(&run->model, query, out.before + out.start, out_bytes));
+    found = mdeh_range(STORE(run), range, bytes_of(&again), out_bytes);
+    compare_listed(run, &again, found, model_query(&run->model, query, again.before + again.start, out_bytes));
 }
 
 /* A lookup, and the record found by the layouts. */
@@ -154,7 +191,7 @@ static void reopen(Run *run) {
 
 /* One call of any kind. */
 static void call(Run *run) {
-    uint32_t kind = below(&run->seed, 20), payload = (uint32_t)number64(&run->seed);
+    uint32_t kind = below(&run->seed, 23), payload = (uint32_t)number64(&run->seed);
     MdehKey key = random_key(run);
     if (kind < 9) {
         compare_change(run, mdeh_insert(STORE(run), key, payload), model_insert(&run->model, key, payload));
@@ -165,6 +202,9 @@ static void call(Run *run) {
     } else if (kind < 19) {
         MdehQuery query = random_query(run);
         compare_query(run, query, below(&run->seed, 200));
+    } else if (kind < 22) {
+        MdehRange range = random_range(run);
+        compare_range(run, range, below(&run->seed, 200));
     } else {
         reopen(run);
     }
@@ -183,6 +223,7 @@ static void compare_damaged(Run *run, uint32_t number) {
 static void calls_on_damage(Run *run) {
     MdehKey key = random_key(run);
     MdehQuery query = random_query(run);
+    MdehRange range = random_range(run);
     uint8_t out[100];
     MdehQueryResult found;
     uint32_t small = below(&run->seed, 5), word = below(&run->seed, 2) ? small : (uint32_t)number64(&run->seed);
@@ -194,6 +235,8 @@ static void calls_on_damage(Run *run) {
     keep(run);
     found = mdeh_query(STORE(run), query, out, sizeof out);
     HOLDS(found.number <= MDEH_REFUSED_UNSOUND && found.written <= found.total && found.written <= sizeof out / 12);
+    found = mdeh_range(STORE(run), range, out, sizeof out);
+    HOLDS(found.number <= MDEH_REFUSED_INTERVAL && found.written <= found.total && found.written <= sizeof out / 12);
     HOLDS(mdeh_lookup(STORE(run), key).number <= MDEH_REFUSED_UNSOUND);
     HOLDS(mdeh_check(STORE(run)).number <= MDEH_REFUSED_MEMORY);
     HOLDS(unchanged(run));
@@ -230,6 +273,7 @@ int main(int count, char **arguments) {
         return 0;
     }
     empty_slices();
+    ranges();
     addresses();
     for (seed = 1; seed <= 1500; seed++)
         list(seed * 0x9e3779b97f4a7c15);

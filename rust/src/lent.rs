@@ -1,8 +1,9 @@
 //! Slices lent to calls, between guards that no call may change.
-use crate::host::{self, CheckResult, HostQuery, LookupResult, QueryResult};
+use crate::host::{self, CheckResult, HostQuery, HostRange, LookupResult, QueryResult};
 use crate::plain::image::{Image, Laid, DEPTH, DEPTH_LIMIT, PAGE_LIMIT, STATE};
 use crate::plain::kept::Change;
 use crate::plain::model::Model;
+use crate::plain::range::Intervals;
 use crate::random::Random;
 use std::fmt::Debug;
 use std::hint::black_box;
@@ -108,8 +109,24 @@ impl LentStore {
         let values = [0, 1, 2, 3].map(|j| query[j].unwrap_or([u32::MAX, 1, 1 << 16, 0][j]));
         let query = HostQuery { given, values };
         let (state, dir, pages) = (self.state.slice(), self.dir.slice(), self.pages.slice());
-        let QueryResult { number, written, total, reads } =
-            host::query_result(state, dir, pages, query, out.slice_mut());
+        let result = host::query_result(state, dir, pages, query, out.slice_mut());
+        self.listed(result, out)
+    }
+
+    /// Written, total and reads, or the number of the refusal. Attributes are given by any number but 0, and have
+    /// any ends where they are free.
+    pub fn range(&self, range: Intervals, out: &mut Lent<u8>) -> Result<(u64, u64, u64), u32> {
+        let given = [0, 1, 2, 3].map(|j| if range[j].is_some() { [u32::MAX, 1 << 31, 2, 1][j] } else { 0 });
+        let ends = [0, 1, 2, 3].map(|j| range[j].unwrap_or([(1, 0), (u32::MAX, 0), (0, 1 << 16), (5, 2)][j]));
+        let range = HostRange { given, low: ends.map(|(low, _)| low), high: ends.map(|(_, high)| high) };
+        let (state, dir, pages) = (self.state.slice(), self.dir.slice(), self.pages.slice());
+        let result = host::range_result(state, dir, pages, range, out.slice_mut());
+        self.listed(result, out)
+    }
+
+    /// What a query or a range returned, which leaves the store and the output's guards alone.
+    fn listed(&self, result: QueryResult, out: &Lent<u8>) -> Result<(u64, u64, u64), u32> {
+        let QueryResult { number, written, total, reads } = result;
         self.assert_unchanged();
         assert!(out.guards_stay(), "a guard of the output is changed");
         answer(number, (written, total, reads), (0, 0, 0))
@@ -167,7 +184,7 @@ impl LentStore {
         answer
     }
 
-    /// "Query, lookup and check write nothing in the store, sound or not", and no refused call does.
+    /// "Query, lookup and check write nothing in the store, sound or not", nor does a range, and no refused call does.
     fn assert_unchanged(&self) {
         assert!(self.state.unchanged(), "the state is changed");
         assert!(self.dir.unchanged(), "the directory is changed");

@@ -1,15 +1,18 @@
 //! The safe crate: random lists of all calls on `mdeh::Store` compared with the plain model, and on stores of any kind
 //! with the calls on lent slices.
-use mdeh::{Key, Query, Record, Refusal, Shape, Store, RECORD_BYTES};
+use mdeh::{Key, Listing, Query, Range, Record, Refusal, Shape, Store, RECORD_BYTES};
 use mdeh_tests::compare::Comparisons;
 use mdeh_tests::host;
 use mdeh_tests::lent::{lend_bytes, lend_words, Lent};
 use mdeh_tests::plain::image::{state_words, Image, Laid};
 use mdeh_tests::plain::model::Model;
-use mdeh_tests::plain::samples::{early_refused, query_of, random_key, random_model};
+use mdeh_tests::plain::range::Intervals;
+use mdeh_tests::plain::samples::{early_refused, query_of, random_key, random_model, range_of};
 use mdeh_tests::plain::unsound;
 use mdeh_tests::random::Random;
 use mdeh_tests::shapes::random_shape;
+use std::fmt::Arguments;
+use std::ops::Bound::{self, Excluded, Included, Unbounded};
 
 const SEED: u64 = 0x6d64_6568_2d30_3134;
 
@@ -48,6 +51,23 @@ fn query_from(count: &mut Comparisons, wanted: [Option<u32>; 4]) -> Query {
     query
 }
 
+/// The range of these intervals, each in one of the forms that Rust has for it.
+fn range_from(random: &mut Random, model: &Model, intervals: Intervals) -> Range {
+    let mut range = Range::all();
+    for (j, ends) in intervals.into_iter().enumerate() {
+        let Some((low, high)) = ends else { continue };
+        let greatest = model.widths().get(j).map(|&width| (1 << width) - 1);
+        range = match random.below(5) {
+            0 if high < u32::MAX => range.within(j, low..high + 1),
+            1 if low == 0 => range.within(j, ..=high),
+            2 if Some(high) == greatest => range.within(j, low..),
+            3 if low > 0 => range.within(j, (Excluded(low - 1), Included(high))),
+            _ => range.within(j, low..=high),
+        };
+    }
+    range
+}
+
 /// A query into so many bytes: counts, records and every byte of the output.
 fn compare_query(count: &mut Comparisons, random: &mut Random, store: &Store, model: &Model) {
     let wanted = query_of(random.below(16), any_key(random, model));
@@ -55,23 +75,63 @@ fn compare_query(count: &mut Comparisons, random: &mut Random, store: &Store, mo
     let length = random.below(200);
     let mut expected = random.bytes(length);
     let mut out = lend_bytes(random, &expected);
-    let found = store.query(query, out.slice_mut());
-    let records: Vec<Record> = found.iter().flat_map(|listing| listing.records()).collect();
-    let counts = found.map(|listing| (listing.written, listing.total, listing.reads));
-    let about = format_args!("{wanted:?}, {model:?}");
-    count.same(counts.map_err(Refusal::number), model.query(wanted, &mut expected), about);
-    count.same(out.slice(), &expected[..], about);
+    let found = store.query(query, out.slice_mut()).map(Listed::from);
+    let answer = model.query(wanted, &mut expected);
+    compare_list(count, found, answer, &out, &expected, model, format_args!("{wanted:?}, {model:?}"));
+}
+
+/// The same of a range.
+fn compare_range(count: &mut Comparisons, random: &mut Random, store: &Store, model: &Model) {
+    let keys = [0; 2].map(|_| any_key(random, model));
+    let subset = random.below(16);
+    let wanted = range_of(random, model, subset, keys);
+    let range = range_from(random, model, wanted);
+    let length = random.below(200);
+    let mut expected = random.bytes(length);
+    let mut out = lend_bytes(random, &expected);
+    let found = store.range(range, out.slice_mut()).map(Listed::from);
+    let answer = model.range(wanted, &mut expected);
+    compare_list(count, found, answer, &out, &expected, model, format_args!("{range:?}, {model:?}"));
+}
+
+/// A listing's counts and records.
+struct Listed {
+    counts: (u64, u64, u64),
+    records: Vec<Record>,
+}
+
+impl From<Listing<'_>> for Listed {
+    fn from(listing: Listing) -> Listed {
+        let Listing { written, total, reads, .. } = listing;
+        Listed { counts: (written, total, reads), records: listing.records().collect() }
+    }
+}
+
+/// Counts, records and every byte of the output.
+fn compare_list(
+    count: &mut Comparisons,
+    found: Result<Listed, Refusal>,
+    answer: Result<(u64, u64, u64), u32>,
+    out: &Lent<u8>,
+    expected: &[u8],
+    model: &Model,
+    about: Arguments,
+) {
+    let counts = found.as_ref().map(|listed| listed.counts).map_err(|refusal| refusal.number());
+    count.same(counts, answer, about);
+    count.same(out.slice(), expected, about);
     assert!(out.guards_stay(), "a guard of the output is changed");
     let written =
         expected.chunks_exact(RECORD_BYTES).take(counts.map_or(0, |(written, ..)| written as usize));
-    let listed = records.iter().map(|record| model.record(record.values, record.payload).bytes());
+    let records = found.iter().flat_map(|listed| &listed.records);
+    let listed = records.map(|record| model.record(record.values, record.payload).bytes());
     count.same(listed.collect::<Vec<_>>(), written.map(Vec::from).collect(), about);
 }
 
 /// The comparisons of one turn.
-const COMPARED: u64 = 1 + 1 + 4 + 2;
+const COMPARED: u64 = 1 + 1 + 4 + 3 + 2;
 
-/// One change, one lookup, one query, check and state.
+/// One change, one lookup, one query, one range, check and state.
 fn turn(count: &mut Comparisons, random: &mut Random, store: &mut Store, model: &mut Model) {
     let key = any_key(random, model);
     let payload = random.number() as u32;
@@ -85,6 +145,7 @@ fn turn(count: &mut Comparisons, random: &mut Random, store: &mut Store, model: 
     let found = store.lookup(key).map(|found| (found.payload, found.reads));
     count.same(found.map_err(Refusal::number), model.lookup(key), about);
     compare_query(count, random, store, model);
+    compare_range(count, random, store, model);
     count.same(store.check(), Ok(true), about);
     count.same(store.state()[..].to_vec(), state_words(model, &model.leaves()), about);
 }
@@ -164,6 +225,18 @@ fn same_answers(count: &mut Comparisons, random: &mut Random, model: &Model, ima
     let plain = plain.map(|plain| (plain.written, plain.total, plain.reads));
     count.same(counts.map_err(Refusal::number), plain, about);
     count.same(out, expected, about);
+    let keys = [key, any_key(random, model)];
+    let subset = random.below(16);
+    let wanted = range_of(random, model, subset, keys);
+    let range = (0..4).fold(Range::all(), |range, j| {
+        wanted[j].map_or(range, |(low, high)| range.within(j, (Included(low), Included(high))))
+    });
+    let found = store.range(range, &mut out);
+    let counts = found.map(|listing| (listing.written, listing.total, listing.reads));
+    let plain = host::range(state, dir, pages, wanted, &mut expected);
+    let plain = plain.map(|plain| (plain.written, plain.total, plain.reads));
+    count.same(counts.map_err(Refusal::number), plain, about);
+    count.same(out, expected, about);
     let found = store.insert(key, 9).map_err(Refusal::number);
     count.same(found, host::insert(state, dir, pages, key, 9), about);
     count.same(store.delete(key).map_err(Refusal::number), host::delete(state, dir, pages, key), about);
@@ -180,7 +253,7 @@ fn any_memory_as_the_calls_on_slices() {
         |random: &mut Random, model: &Model, image: &Image| same_answers(&mut count, random, model, image);
     unsound::random_memory(&mut random, 1000, 0x0003_000f, &mut each);
     unsound::random_states(&mut random, 1000, &mut each);
-    count.end(2000 * 8);
+    count.end(2000 * 10);
 }
 
 // ---- what only the crate has
@@ -200,10 +273,63 @@ fn an_attribute_that_no_shape_has() {
                 let query = Query::all().given(0, u32::MAX).given(attribute, 0);
                 let found = store.query(query, &mut []);
                 count.same(found.err().map(Refusal::number), Some(number), format_args!("{attribute}"));
+                let range = Range::all().within(0, u32::MAX..).within(attribute, ..);
+                let found = store.range(range, &mut []);
+                count.same(found.err().map(Refusal::number), Some(number), format_args!("{attribute}"));
             }
         }
     }
-    count.end(100 * 7 * 4);
+    count.end(100 * 7 * 4 * 2);
+}
+
+/// Every form of a range of Rust on an attribute of four bits that has all its values: the values that it contains are
+/// counted, an end past the width is refused, and so is a range that contains no value.
+#[test]
+fn ranges_of_every_form() {
+    let mut count = Comparisons::default();
+    let (mut directory, mut pages) = ([0; 16], [0; 16 * 26]);
+    let mut store = Store::fresh(Shape::new(&[4], 2), &mut directory, &mut pages).expect("accepted");
+    (0..16).for_each(|value| store.insert([value], value).expect("accepted"));
+    let bounds =
+        || (0..20).chain([u32::MAX - 1, u32::MAX]).flat_map(|value| [Included(value), Excluded(value)]);
+    for start in bounds().chain([Unbounded]) {
+        for end in bounds().chain([Unbounded]) {
+            let range = Range::all().within(0, (start, end));
+            let found = store.range(range, &mut []).map(|listing| listing.total);
+            let (low, high) = (lowest(start), highest(end));
+            let expected = match (low, high) {
+                _ if low >= 16 || high >= 16 => Err(Refusal::Value),
+                _ if low > high => Err(Refusal::Interval),
+                _ => Ok((high - low + 1) as u64),
+            };
+            count.same(found, expected, format_args!("{start:?}, {end:?}"));
+        }
+    }
+    count.end(45 * 45);
+}
+
+/// The least value past a start of a range, as wide as it may be.
+fn lowest(start: Bound<u32>) -> i64 {
+    match start {
+        Included(low) => low.into(),
+        Excluded(before) => i64::from(before) + 1,
+        Unbounded => 0,
+    }
+}
+
+/// The greatest value of an attribute of four bits before an end.
+fn highest(end: Bound<u32>) -> i64 {
+    match end {
+        Included(high) => high.into(),
+        Excluded(past) => i64::from(past) - 1,
+        Unbounded => 15,
+    }
+}
+
+#[test]
+fn a_later_interval_takes_the_place_of_an_earlier_one() {
+    let range = Range::all().within(1, 7..).within(1, 3..5).within(0, ..);
+    assert_eq!(range, Range::all().within(0, ..).within(1, 3..=4));
 }
 
 #[test]
@@ -229,6 +355,7 @@ fn reasons_as_in_the_header() {
         ("PAGES", Pages),
         ("ATTRIBUTE", Attribute),
         ("UNSOUND", Unsound),
+        ("INTERVAL", Interval),
     ];
     for (name, reason) in reasons {
         let numbered = format!("MDEH_REFUSED_{name} = {}", reason.number());

@@ -1,8 +1,9 @@
 //! The call query on sound stores and on what it meets of unsound ones, compared with a list scanned in full.
 use mdeh_tests::compare::Comparisons;
 use mdeh_tests::lent::{lend_bytes, LentStore};
-use mdeh_tests::plain::image::{word_of, Image, Laid, Placed};
-use mdeh_tests::plain::met::{each_damaged_count, each_damaged_word, DAMAGED_COUNTS, DAMAGED_WORDS};
+use mdeh_tests::plain::image::{Image, Laid, Placed};
+use mdeh_tests::plain::met::{each_damaged_count, each_damaged_word, each_shallow_word};
+use mdeh_tests::plain::met::{DAMAGED_COUNTS, DAMAGED_WORDS, SHALLOW_WORDS};
 use mdeh_tests::plain::model::Model;
 use mdeh_tests::plain::samples::{query_of, random_key, random_model};
 use mdeh_tests::random::Random;
@@ -185,26 +186,13 @@ fn a_damaged_word_gives_9() {
     count.end(DAMAGED_WORDS * 3 * 2);
 }
 
-/// The word of a leaf that is a 1-side says less than its depth: the walk comes to it by the 0-side's word.
 #[test]
 fn a_depth_below_the_region_gives_9() {
     let mut count = Comparisons::default();
-    let mut random = Random::new(SEED);
-    let mut stores = 0;
-    while stores < 500 {
-        let model = random_model(&mut random);
-        let laid = Laid::new(&mut random, &model);
-        let placed = &laid.leaves[random.below(laid.leaves.len())];
-        if placed.leaf.bits.last() != Some(&true) {
-            continue;
-        }
-        stores += 1;
-        let depth = random.below(placed.leaf.depth());
-        let mut image = laid.image.clone();
-        placed.cells.iter().for_each(|&a| image.dir[a] = word_of(placed.page, depth));
-        all_damaged(&mut count, &mut random, &model, placed, &image);
-    }
-    count.end(500 * 3 * 2);
+    each_shallow_word(SEED, |random, model, placed, image| {
+        all_damaged(&mut count, random, model, placed, image);
+    });
+    count.end(SHALLOW_WORDS * 3 * 2);
 }
 
 #[test]

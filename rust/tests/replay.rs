@@ -1,13 +1,14 @@
 //! Demand 3 on the running code: random lists of calls, encoded in words and replayed on lent memory, answer by answer
-//! and byte by byte as the plain model gives them (document 01, "The plain model of demand 3").
+//! and byte by byte as the plain model gives them (document 01, "The plain model of demand 3"; document 02, request 1).
 use mdeh_tests::cells::Cells;
 use mdeh_tests::compare::Comparisons;
 use mdeh_tests::host::{self, CheckResult, Shape};
 use mdeh_tests::lent::{lend_bytes, lend_words, Lent};
 use mdeh_tests::plain::image::Image;
 use mdeh_tests::plain::model::Model;
+use mdeh_tests::plain::range::Intervals;
 use mdeh_tests::plain::refusal::page_size;
-use mdeh_tests::plain::samples::{query_of, random_key};
+use mdeh_tests::plain::samples::{query_of, random_key, range_of};
 use mdeh_tests::plain::shown::pages_shown;
 use mdeh_tests::probe::calls::{replay, Replayed, ANSWER_SIZE, CALL_SIZE};
 use mdeh_tests::random::Random;
@@ -17,17 +18,18 @@ const SEED: u64 = 0x6d64_6568_2d30_3137;
 
 // ---- calls
 
-/// A call as the model is given it; a query with the bytes of its output.
+/// A call as the model is given it; a query and a range with the bytes of its output.
 #[derive(Clone, Copy, Debug)]
 enum Call {
     Insert([u32; 4], u32),
     Delete([u32; 4]),
     Lookup([u32; 4]),
     Query([Option<u32>; 4], usize),
+    Range(Intervals, usize),
 }
 
-/// The 11 words of a call. What the kind does not use is random, so is a query's kind from 3 on, what says that an
-/// attribute is given, and the value of a free one.
+/// The 15 words of a call. What the kind does not use is random, so is a range's kind from 4 on, what says that an
+/// attribute is given, and the value or the ends of a free one.
 fn words_of(random: &mut Random, call: Call) -> Vec<u32> {
     let mut words = random.words(CALL_SIZE);
     match call {
@@ -44,18 +46,25 @@ fn words_of(random: &mut Random, call: Call) -> Vec<u32> {
             words[1..5].copy_from_slice(&key);
         }
         Call::Query(query, size) => {
-            (words[0], words[10]) = ([3, 4, 1 << 31, u32::MAX][random.below(4)], size as u32);
+            (words[0], words[10]) = (3, size as u32);
             for (j, value) in query.into_iter().enumerate() {
                 words[1 + j] = value.unwrap_or(words[1 + j]);
                 words[5 + j] = if value.is_some() { words[5 + j].max(1) } else { 0 };
+            }
+        }
+        Call::Range(range, size) => {
+            (words[0], words[10]) = ([4, 5, 1 << 31, u32::MAX][random.below(4)], size as u32);
+            for (j, ends) in range.into_iter().enumerate() {
+                (words[1 + j], words[11 + j]) = ends.unwrap_or((words[1 + j], words[11 + j]));
+                words[5 + j] = if ends.is_some() { words[5 + j].max(1) } else { 0 };
             }
         }
     }
     words
 }
 
-/// A random call: a key is near those stored, one in sixteen is out of bounds; a query gives any attributes, unused
-/// ones too, and its output has up to 120 bytes.
+/// A random call: a key is near those stored, one in sixteen is out of bounds; a query and a range give any attributes,
+/// unused ones too, and their output has up to 120 bytes.
 fn random_call(random: &mut Random, model: &Model, inserts: usize) -> Call {
     let mut key = random_key(random, model);
     if random.below(16) == 0 {
@@ -65,14 +74,26 @@ fn random_call(random: &mut Random, model: &Model, inserts: usize) -> Call {
         turn if turn < inserts => Call::Insert(key, random.number() as u32),
         turn if turn < 10 => Call::Delete(key),
         turn if turn < 12 => Call::Lookup(key),
-        _ => Call::Query(random_query(random, model, key), random.below(121)),
+        turn if turn < 14 => Call::Query(query_of(given(random, model), key), random.below(121)),
+        _ => Call::Range(random_range(random, model), random.below(121)),
     }
 }
 
-/// A query for the values of a key: in one of four cases any attributes are given, else those in use.
-fn random_query(random: &mut Random, model: &Model, key: [u32; 4]) -> [Option<u32>; 4] {
+/// The attributes that a query or a range gives: in one of four cases any, else some of those in use.
+fn given(random: &mut Random, model: &Model) -> usize {
     let used = (1 << model.shape.attributes) - 1;
-    query_of(random.below(16) & [15, used, used, used][random.below(4)], key)
+    random.below(16) & [15, used, used, used][random.below(4)]
+}
+
+/// A range at the values of two keys near those stored. One in sixteen has an interval with any ends of 32 bits.
+fn random_range(random: &mut Random, model: &Model) -> Intervals {
+    let keys = [random_key(random, model), random_key(random, model)];
+    let subset = given(random, model);
+    let mut range = range_of(random, model, subset, keys);
+    if random.below(16) == 0 {
+        range[random.below(4)] = Some((random.short(32) as u32, random.short(32) as u32));
+    }
+    range
 }
 
 // ---- the model's side
@@ -85,6 +106,9 @@ fn answer(model: &mut Model, call: Call, out: &mut [u8]) -> [u64; ANSWER_SIZE] {
         Call::Lookup(key) => model.lookup(key).map(|(payload, reads)| [0, payload.into(), reads.into(), 0]),
         Call::Query(query, _) => {
             model.query(query, out).map(|(written, total, reads)| [0, written, total, reads])
+        }
+        Call::Range(range, _) => {
+            model.range(range, out).map(|(written, total, reads)| [0, written, total, reads])
         }
     };
     words.unwrap_or_else(|number| [number.into(), 0, 0, 0])
@@ -101,8 +125,8 @@ struct Script {
 }
 
 impl Script {
-    /// A list of so many calls. One list in four has less output than its queries ask for, one in four less room for
-    /// answers than calls, and every list may end with part of a call or an answer.
+    /// A list of so many calls. One list in four has less output than its queries and ranges ask for, one in four less
+    /// room for answers than calls, and every list may end with part of a call or an answer.
     fn new(random: &mut Random, mut model: Model, calls: usize) -> Script {
         let room = if random.below(4) == 0 { random.below(20 * calls + 1) } else { 121 * calls };
         let asked = if random.below(4) == 0 { random.below(calls + 1) } else { calls };
@@ -120,7 +144,10 @@ impl Script {
                 continue;
             }
             // each output begins where the one before ended, and has at most what is left
-            let size = if let Call::Query(_, size) = call { size.min(room - start) } else { 0 };
+            let size = match call {
+                Call::Query(_, size) | Call::Range(_, size) => size.min(room - start),
+                _ => 0,
+            };
             let told = answer(&mut model, call, &mut expected_out[start..start + size]);
             expected_answers[ANSWER_SIZE * turn..][..ANSWER_SIZE].copy_from_slice(&told);
             start += size;
@@ -191,7 +218,7 @@ fn compare(
 fn random_lists_on_small_stores() {
     let mut count = Comparisons::default();
     let mut random = Random::new(SEED);
-    let mut met = [0u64; 10];
+    let mut met = [0u64; 11];
     let mut expected = 0;
     for list in 0..1500 {
         let mut shape = random_shape(&mut random, 14, 4);
@@ -204,10 +231,13 @@ fn random_lists_on_small_stores() {
         let about = format_args!("seed {SEED:#x}, list {list}: {shape:?}, {words} words, {bytes} bytes");
         let numbers = compare(&mut count, &mut random, shape, (words, bytes), calls, about);
         expected += if Model::fresh(shape, words, bytes).is_ok() { 6 } else { 2 };
-        numbers.iter().for_each(|&number| met[number.min(9) as usize] += 1);
+        numbers.iter().for_each(|&number| met[number as usize] += 1);
     }
     println!("answers by number: {met:?}");
-    assert!(met[..9].iter().all(|&times| times > 0), "a number is not met: {met:?}");
+    assert!(
+        (0..11).all(|number| (met[number] > 0) == (number != 9)),
+        "a number is not met, or 9 is: {met:?}"
+    );
     count.end(expected);
 }
 

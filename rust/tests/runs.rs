@@ -8,7 +8,7 @@ use mdeh_tests::plain::image::{Image, STATE};
 use mdeh_tests::plain::model::Model;
 use mdeh_tests::plain::ordered::Ordered;
 use mdeh_tests::plain::refusal::page_size;
-use mdeh_tests::plain::samples::{query_of, random_key};
+use mdeh_tests::plain::samples::{query_of, random_key, range_of};
 use mdeh_tests::random::Random;
 use mdeh_tests::shapes::random_shape;
 
@@ -43,9 +43,16 @@ fn every_word_and_page_of_small_stores() {
             let found = followed.store.query(query, &mut out);
             count.same(found, followed.model.query(query, &mut expected), about);
             count.same(out.slice(), &expected[..], about);
+            let keys = [key, random_key(&mut random, &followed.model)];
+            let subset = random.below(16);
+            let range = range_of(&mut random, &followed.model, subset, keys);
+            let about = format_args!("turn {turn}, {range:?}: {:?}", followed.model);
+            let found = followed.store.range(range, &mut out);
+            count.same(found, followed.model.range(range, &mut expected), about);
+            count.same(out.slice(), &expected[..], about);
         }
     }
-    count.end(300 * 300 * (COMPARED + 3));
+    count.end(300 * 300 * (COMPARED + 5));
 }
 
 // ---- a list in split order
@@ -133,6 +140,20 @@ impl Run {
         self.calls += 1;
     }
 
+    /// A range of some attributes whose output has room for up to so many records.
+    fn range(&mut self, count: &mut Comparisons, given: usize, most: usize) {
+        let keys = [self.key(), self.key()];
+        let range = range_of(&mut self.random, &self.list.model, given, keys);
+        let length = self.random.below(12 * most + 1);
+        let mut expected = self.random.bytes(length);
+        let mut out = lend_bytes(&mut self.random, &expected);
+        let found = self.store.range(range, &mut out);
+        let about = format_args!("call {}: {range:?}, {:?}", self.calls, self.list.model);
+        count.same(found, self.list.range(range, &mut expected), about);
+        count.same(out.slice(), &expected[..], about);
+        self.calls += 1;
+    }
+
     /// Deletes all records.
     fn empty(&mut self, count: &mut Comparisons) -> u64 {
         let mut deletes = 0;
@@ -165,13 +186,15 @@ fn runs(seed: u64, stores: usize, bits: u32, most_capacity: u64, most_pages: usi
             run.lookup(&mut count);
             let given = run.random.below(16);
             run.query(&mut count, given, 20);
+            let given = run.random.below(16);
+            run.range(&mut count, given, 20);
         }
         deletes += run.empty(&mut count);
         run.check(&mut count);
         calls += run.calls;
     }
     println!("{calls} calls");
-    count.end((stores * (turns * 6 + 1)) as u64 + deletes);
+    count.end((stores * (turns * 8 + 1)) as u64 + deletes);
 }
 
 #[test]
@@ -189,7 +212,7 @@ fn stores_of_many_records() {
     runs(SEED + 2, 10, 64, 16, 300, 8000);
 }
 
-/// The greatest store: 4,096 words and pages. Check and a query of everything come every 500 calls.
+/// The greatest store: 4,096 words and pages. Check, a query of everything and a range come every 500 calls.
 #[test]
 fn the_greatest_store() {
     let mut count = Comparisons::default();
@@ -200,11 +223,12 @@ fn the_greatest_store() {
         if turn % 500 == 0 {
             run.check(&mut count);
             run.query(&mut count, 0, 40_000);
+            run.range(&mut count, turn / 500 % 8, 40_000);
         }
     }
     println!("{} records", run.list.len());
     let deletes = run.empty(&mut count);
     run.check(&mut count);
     println!("{} calls", run.calls);
-    count.end(40_000 * 2 + 80 * 3 + deletes + 1);
+    count.end(40_000 * 2 + 80 * 5 + deletes + 1);
 }

@@ -1,5 +1,5 @@
 //! What `embed/mdeh.h` says of threads: calls that read share a store, and a call needs little stack.
-use mdeh::{Query, Shape, Store, RECORD_BYTES};
+use mdeh::{Query, Range, Shape, Store, RECORD_BYTES};
 use mdeh_tests::random::Random;
 use std::thread;
 
@@ -35,6 +35,8 @@ fn threads_share_a_store() {
             .all(|&[a, b, c]| store.lookup([a, b, c]).is_ok_and(|found| found.payload == a ^ b ^ c)));
         let found = store.query(Query::all().given(0, code), &mut out).expect("accepted");
         assert_eq!(found.total, keys.iter().filter(|key| key[0] == code).count() as u64);
+        let found = store.range(Range::all().within(2, code..480), &mut out).expect("accepted");
+        assert_eq!(found.total, keys.iter().filter(|key| (code..480).contains(&key[2])).count() as u64);
         assert_eq!(store.check(), Ok(true));
     };
     thread::scope(|scope| (0..4).for_each(|code| drop(scope.spawn(move || read(code)))));
@@ -49,6 +51,8 @@ fn every_call_on_a_small_stack() {
         let keys = fill(&mut store, &mut Random::new(SEED));
         let listed = store.query(Query::all(), &mut out).expect("accepted").records().count();
         assert_eq!((listed, store.check()), (keys.len(), Ok(true)));
+        let listed = store.range(Range::all().within(1, 1..), &mut out).expect("accepted").records().count();
+        assert_eq!(listed, keys.iter().filter(|key| key[1] > 0).count());
         assert!(keys.iter().all(|&key| store.lookup(key).is_ok() && store.delete(key).is_ok()));
     };
     thread::Builder::new().stack_size(STACK).spawn(calls).expect("a thread").join().expect("the calls end");

@@ -13,7 +13,7 @@ use mdeh_tests::plain::kept::Change;
 use mdeh_tests::plain::leaves::{greatest_depth, Record};
 use mdeh_tests::plain::model::Model;
 use mdeh_tests::plain::reading::{sibling, Reading};
-use mdeh_tests::plain::samples::{query_of, random_key, random_model};
+use mdeh_tests::plain::samples::{query_of, random_key, random_model, range_of};
 use mdeh_tests::random::Random;
 
 const SEED: u64 = 0x6d64_6568_2d30_3133;
@@ -147,6 +147,7 @@ impl Damaged<'_> {
         match name {
             "lookup" => answer(store.lookup(key), model.lookup(key), before.lookup_told(key)),
             "query" => self.query(random, &store, key),
+            "range" => self.range(random, &store, key),
             "insert" => {
                 let told = before.insert_told(key);
                 let found = answer(store.insert(key, payload), model.insert(key, payload), told);
@@ -173,6 +174,23 @@ impl Damaged<'_> {
         Answer { right: answer.right && out.slice() == expected, ..answer }
     }
 
+    /// A range between some of the values of the key and of another, and an output as of a query.
+    fn range(&self, random: &mut Random, store: &LentStore, key: [u32; 4]) -> Answer {
+        let subset = random.below(1 << self.model.widths().len());
+        let keys = [key, some_key(random, self.model)];
+        let range = range_of(random, self.model, subset, keys);
+        let length = 12 * random.below(self.model.records.len() + 3) + random.below(12);
+        let mut expected = random.bytes(length);
+        let mut out = lend_bytes(random, &expected);
+        let found = store.range(range, &mut out);
+        assert!(found.is_ok() || out.unchanged(), "a refused range writes: {range:?}, {:?}", self.image);
+        let expected_answer = self.model.range(range, &mut expected);
+        // 3 and 10 come first
+        let told = expected_answer.is_ok() && Reading::new(self.image, self.cells).range_told(range);
+        let answer = answer(found, expected_answer, told);
+        Answer { right: answer.right && out.slice() == expected, ..answer }
+    }
+
     /// The answer to a change of a key, with what it lost of other leaves if it is accepted.
     fn contained(&self, answer: Answer, before: Reading, image: &Image, key: [u32; 4]) -> Answer {
         if image == self.image {
@@ -191,7 +209,7 @@ fn damage_of_each_kind() {
     let mut faults = vec![];
     let mut depths = [0; 13];
     for Kind { name: kind, harm, told_by } in KINDS {
-        let mut shares = [Share::default(); 4];
+        let mut shares = [Share::default(); CALLS.len()];
         let mut stores = 0;
         while stores < STORES {
             let (model, aged) = aged_store(&mut random);
@@ -201,10 +219,10 @@ fn damage_of_each_kind() {
             let damaged = Damaged { model: &model, image: &image, cells: &cells };
             let harmed = harmed_cells(&cells, &aged.now, &image);
             depths[aged.now.state[DEPTH] as usize] += 1;
-            for turn in 0..4 * TURNS {
-                let (call, key) = (CALLS[turn % 4], near_key(&mut random, &model, &harmed));
+            for turn in 0..CALLS.len() * TURNS {
+                let (call, key) = (CALLS[turn % CALLS.len()], near_key(&mut random, &model, &harmed));
                 let answer = damaged.call(&mut random, call, key);
-                shares[turn % 4].add(&answer);
+                shares[turn % CALLS.len()].add(&answer);
                 let Answer { right, nine, untold, lost } = answer;
                 if untold || lost.is_some() || told_by.contains(&call) && !nine && !right {
                     faults.push(format!("{kind}: {call} {key:?}, untold {untold}, lost {lost:?}: {image:?}"));
@@ -225,8 +243,8 @@ fn sound_stores() {
         let (model, Aged { now, .. }) = aged_store(&mut random);
         let cells = Cells::of_store(&now);
         let sound = Damaged { model: &model, image: &now, cells: &cells };
-        for turn in 0..4 * TURNS {
-            let (call, key) = (CALLS[turn % 4], some_key(&mut random, &model));
+        for turn in 0..CALLS.len() * TURNS {
+            let (call, key) = (CALLS[turn % CALLS.len()], some_key(&mut random, &model));
             let Answer { right, untold, lost, .. } = sound.call(&mut random, call, key);
             assert!(right && !untold && lost.is_none(), "{call} {key:?}, {lost:?}: {now:?}");
         }
@@ -252,7 +270,7 @@ fn all_keys() -> impl Iterator<Item = [u32; 4]> {
 }
 
 #[test]
-fn word_0_zeroed_is_told_by_every_query() {
+fn word_0_zeroed_is_told_by_every_query_and_range() {
     let mut count = Comparisons::default();
     let mut random = Random::new(SEED);
     let (model, mut image) = table_store(&mut random);
@@ -270,10 +288,12 @@ fn word_0_zeroed_is_told_by_every_query() {
             let content = random.bytes(60);
             let mut out = lend_bytes(&mut random, &content);
             count.same(store.query(query_of(subset, key), &mut out), Err(9), about);
+            let range = query_of(subset, key).map(|low| low.map(|low| (low, 3)));
+            count.same(store.range(range, &mut out), Err(9), about);
             count.same(out.unchanged(), true, about);
         }
     }
-    count.end(16 * (1 + 4 * 2) + 2 * 2);
+    count.end(16 * (1 + 4 * 3) + 2 * 2);
 }
 
 #[test]

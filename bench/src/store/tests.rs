@@ -5,7 +5,7 @@ use mdeh_tests::plain::image::Image;
 use mdeh_tests::plain::judge::judge;
 use mdeh_tests::plain::model::Model;
 use mdeh_tests::plain::refusal::page_size;
-use mdeh_tests::plain::samples::{query_of, random_key};
+use mdeh_tests::plain::samples::{query_of, random_key, range_of};
 use mdeh_tests::random::Random;
 use mdeh_tests::shapes::random_shape;
 
@@ -41,7 +41,15 @@ fn random_calls_are_answered_as_the_list_answers_them() {
             let found = found.map(|(written, total, reads)| (written as u64, total as u64, reads as u64));
             count.same(found, model.query(query, &mut out[1]), about);
             count.same(&out[0], &out[1], about);
+            let keys = [key, random_key(&mut random, &model)];
+            let subset = random.below(16);
+            let range = range_of(&mut random, &model, subset, keys);
+            let about = format_args!("{shape:?}, {words} words, {bytes} bytes, turn {turn}, {range:?}");
+            let found = store.range(range, &mut out[0]);
+            let found = found.map(|(written, total, reads)| (written as u64, total as u64, reads as u64));
+            count.same(found, model.range(range, &mut out[1]), about);
+            count.same(&out[0], &out[1], about);
         }
     }
-    count.end(400 * 200 * 6);
+    count.end(400 * 200 * 8);
 }

@@ -1,6 +1,6 @@
 //! A gateway's records: which display code came from which container slot under which image release, and how often.
-//! Fills a store, checks it, asks for code 30, and prints the slots and releases.
-use mdeh::{Query, Refusal, Shape, Store, RECORD_BYTES};
+//! Fills a store, checks it, asks for code 30, then for its releases from 400 to 479, and prints the slots and releases.
+use mdeh::{Listing, Query, Range, Refusal, Shape, Store, RECORD_BYTES};
 
 /// Codes are below 2^7, slots below 2^5, releases below 2^9; a page holds four records.
 const SHAPE: Shape = Shape::new(&[7, 5, 9], 4);
@@ -43,8 +43,15 @@ fn main() -> Result<(), Refusal> {
         return Err(Refusal::Unsound);
     }
     let mut out = [0; 16 * RECORD_BYTES];
-    let found = store.query(Query::all().given(0, 30), &mut out)?;
-    println!("code 30: {} records, {} pages read", found.total, found.reads);
+    show("code 30", store.query(Query::all().given(0, 30), &mut out)?);
+    let releases = Range::all().within(0, 30..=30).within(2, 400..=479);
+    show("code 30, releases 400 to 479", store.range(releases, &mut out)?);
+    Ok(())
+}
+
+/// Prints what a list has of slots and releases.
+fn show(asked: &str, found: Listing) {
+    println!("{asked}: {} records, {} pages read", found.total, found.reads);
     for record in found.records() {
         let [_, slot, release, _] = record.values;
         println!("slot {slot}, release {release}, count {}", record.payload);
@@ -52,5 +59,4 @@ fn main() -> Result<(), Refusal> {
     if found.written < found.total {
         println!("and {} more", found.total - found.written);
     }
-    Ok(())
 }

@@ -1,8 +1,9 @@
 //! A multidimensional extendible hash store in memory that its host lends, behind safe types.
 //!
 //! Records have a key of one to four values and a payload of 32 bits. A [`Query`] gives some of the values and leaves
-//! the others open; it reads only the pages whose records can match. The store needs no heap and never panics; each
-//! call is answered as its proved contract says, whatever the memory holds. This crate adds types and no copies.
+//! the others open, a [`Range`] gives intervals of them; both read only the pages whose records can match. The store
+//! needs no heap and never panics; each call is answered as its proved contract says, whatever the memory holds. This
+//! crate adds types and no copies.
 //!
 //! ```
 //! use mdeh::{Query, Refusal, Shape, Store};
@@ -74,6 +75,7 @@
 
 mod key;
 mod query;
+mod range;
 #[allow(unsafe_code)]
 pub mod raw;
 mod record;
@@ -83,6 +85,7 @@ mod store;
 
 pub use key::{Index, Key};
 pub use query::Query;
+pub use range::Range;
 pub use record::{Record, Records, RECORD_BYTES};
 pub use refusal::Refusal;
 pub use shape::Shape;

@@ -1,11 +1,14 @@
 //! The calls of the C interface on slices, safe and nothing more: a refusal is its number, and the state lies in words
 //! that the caller lends. [`Store`](crate::Store) stands on them, and so do tests that want every slice in their hands.
 //!
-//! Here is the address map; `store` has Fresh and the calls that read, `changes` insert and delete.
+//! Here is the address map; `store` has Fresh and the calls that read, `range` the range call, `changes` insert and
+//! delete.
 mod changes;
+mod range;
 mod store;
 
 pub use changes::*;
+pub use range::*;
 pub use store::*;
 
 pub use crate::{Index, Key, Shape};

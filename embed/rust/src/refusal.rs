@@ -35,11 +35,13 @@ pub enum Refusal {
     Depth = 6,
     /// Insert: the records would need more pages than are lent.
     Pages = 7,
-    /// Query: an attribute is given that the shape does not have.
+    /// Query and range: an attribute is given that the shape does not have.
     Attribute = 8,
     /// The memory does not hold a sound store, as [`Store::check`](crate::Store::check) finds it: it was damaged, and
     /// the store is to be rebuilt from the event records.
     Unsound = 9,
+    /// Range: the low end of an interval is above its high end.
+    Interval = 10,
 }
 
 impl Refusal {
@@ -49,7 +51,7 @@ impl Refusal {
         self as u32
     }
 
-    /// The reason with a number from 1 to 9; the library gives no other.
+    /// The reason with a number from 1 to 10; the library gives no other.
     #[inline]
     pub(crate) fn of(number: u32) -> Refusal {
         match number {
@@ -61,6 +63,7 @@ impl Refusal {
             6 => Refusal::Depth,
             7 => Refusal::Pages,
             8 => Refusal::Attribute,
+            10 => Refusal::Interval,
             _ => Refusal::Unsound,
         }
     }
@@ -76,8 +79,9 @@ impl Display for Refusal {
             Refusal::Absent => "the key is not stored",
             Refusal::Depth => "the directory cannot grow deep enough to tell the keys apart",
             Refusal::Pages => "there are too few pages",
-            Refusal::Attribute => "the query gives an attribute that the shape does not have",
+            Refusal::Attribute => "the query or range gives an attribute that the shape does not have",
             Refusal::Unsound => "the store is not sound",
+            Refusal::Interval => "an interval's low end is above its high end",
         })
     }
 }

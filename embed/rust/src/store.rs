@@ -1,6 +1,7 @@
 //! A store over borrowed memory.
 use crate::key::Key;
 use crate::query::Query;
+use crate::range::Range;
 use crate::raw::{self, LookupResult, QueryResult};
 use crate::record::{Record, Records};
 use crate::refusal::Refusal;
@@ -29,7 +30,7 @@ pub struct Found {
     pub reads: u32,
 }
 
-/// What a query finds: its counts, and the records that fit the output.
+/// What a query or a range finds: its counts, and the records that fit the output.
 #[derive(Clone, Copy, Debug)]
 pub struct Listing<'o> {
     /// how many records were written into the output
@@ -138,10 +139,40 @@ impl<'m> Store<'m> {
             // after the reasons that check has too
             return Err(self.check().err().unwrap_or(Refusal::Attribute));
         }
-        match raw::query_result(&self.state, self.directory, self.pages, query.raw, out) {
-            QueryResult { number: 0, written, total, reads } => Ok(Listing { written, total, reads, out }),
-            QueryResult { number, .. } => Err(Refusal::of(number)),
+        Listing::of(raw::query_result(&self.state, self.directory, self.pages, query.raw, out), out)
+    }
+
+    /// Writes the records that lie in a range into `out`, in split order, while whole ones fit.
+    ///
+    /// A short output is no refusal: [`Listing::total`] then is more than [`Listing::written`]. Refused with
+    /// [`Refusal::Shape`], [`Refusal::Memory`], [`Refusal::Attribute`], [`Refusal::Value`], [`Refusal::Interval`] or
+    /// [`Refusal::Unsound`]; `out` is then as it was.
+    ///
+    /// ```
+    /// use mdeh::{Range, Shape, Store, RECORD_BYTES};
+    ///
+    /// let (mut directory, mut pages) = ([0; 8], [0; 60]);
+    /// let mut store = Store::fresh(Shape::new(&[7, 9], 2), &mut directory, &mut pages)?;
+    /// store.insert([30, 398], 1)?;
+    /// store.insert([30, 431], 17)?;
+    /// store.insert([41, 431], 3)?;
+    ///
+    /// let mut out = [0; 4 * RECORD_BYTES];
+    /// let listing = store.range(Range::all().within(0, 30..=30).within(1, 400..=479), &mut out)?;
+    /// assert_eq!(listing.total, 1);
+    /// for record in listing.records() {
+    ///     assert_eq!((record.values, record.payload), ([30, 431, 0, 0], 17));
+    /// }
+    /// # Ok::<(), mdeh::Refusal>(())
+    /// ```
+    #[inline]
+    pub fn range<'o>(&self, range: Range, out: &'o mut [u8]) -> Result<Listing<'o>, Refusal> {
+        if range.beyond {
+            // after the reasons that check has too
+            return Err(self.check().err().unwrap_or(Refusal::Attribute));
         }
+        let range = range.closed(self.shape());
+        Listing::of(raw::range_result(&self.state, self.directory, self.pages, range, out), out)
     }
 
     /// Whether the memory holds a sound store: state, words and pages show one set of records, from which every call is
@@ -191,6 +222,15 @@ impl Debug for Store<'_> {
 }
 
 impl<'o> Listing<'o> {
+    /// What the library returned of an output.
+    #[inline]
+    fn of(result: QueryResult, out: &'o [u8]) -> Result<Listing<'o>, Refusal> {
+        match result {
+            QueryResult { number: 0, written, total, reads } => Ok(Listing { written, total, reads, out }),
+            QueryResult { number, .. } => Err(Refusal::of(number)),
+        }
+    }
+
     /// The records that were written, in split order.
     #[inline]
     pub fn records(&self) -> Records<'o> {

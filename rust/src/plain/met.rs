@@ -27,6 +27,28 @@ pub fn each_damaged_word(seed: u64, mut test: impl FnMut(&mut Random, &Model, &P
     }
 }
 
+/// How many stores `each_shallow_word` tries.
+pub const SHALLOW_WORDS: u64 = 500;
+
+/// The word of a leaf that is a 1-side says less than its depth: a walk comes to it by the 0-side's word.
+pub fn each_shallow_word(seed: u64, mut test: impl FnMut(&mut Random, &Model, &Placed, &Image)) {
+    let mut random = Random::new(seed);
+    let mut stores = 0;
+    while stores < SHALLOW_WORDS {
+        let model = random_model(&mut random);
+        let laid = Laid::new(&mut random, &model);
+        let placed = &laid.leaves[random.below(laid.leaves.len())];
+        if placed.leaf.bits.last() != Some(&true) {
+            continue;
+        }
+        stores += 1;
+        let depth = random.below(placed.leaf.depth());
+        let mut image = laid.image.clone();
+        placed.cells.iter().for_each(|&a| image.dir[a] = word_of(placed.page, depth));
+        test(&mut random, &model, placed, &image);
+    }
+}
+
 /// Words that no leaf of a sound store can have where a leaf is placed.
 fn damaged_words(random: &mut Random, laid: &Laid, placed: &Placed) -> [u32; 10] {
     let (t, p) = (laid.image.state[DEPTH] as usize, laid.image.state[PAGE_LIMIT] as usize);

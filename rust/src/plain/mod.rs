@@ -11,6 +11,7 @@ pub mod lines;
 pub mod met;
 pub mod model;
 pub mod ordered;
+pub mod range;
 pub mod reading;
 pub mod refusal;
 pub mod samples;

@@ -1,5 +1,6 @@
 //! The plain model (document 01, "The plain model of demand 3"): a list of records, scanned in full for every answer.
 use super::leaves::{greatest_depth, leaves, Leaf, Record};
+use super::range::{range_refused, Intervals};
 use super::refusal::{key_refused, page_size, query_refused, shape_refused, used_widths};
 use crate::host::Shape;
 use crate::reference::steps;
@@ -57,6 +58,12 @@ impl Model {
             key[j] |= u32::from(bit) << (self.widths[j] - 1 - k);
         }
         key
+    }
+
+    /// The attribute of a split step, and what its bit counts in a value.
+    pub fn split_step(&self, t: usize) -> (usize, u32) {
+        let (k, j) = self.steps[t];
+        (j, 1 << (self.widths[j] - 1 - k))
     }
 
     pub fn record(&self, key: [u32; 4], payload: u32) -> Record {
@@ -135,13 +142,27 @@ impl Model {
         if let Some(number) = query_refused(self.shape, query) {
             return Err(number);
         }
-        let mut found: Vec<&Record> = self.records.iter().filter(|record| record.matches(query)).collect();
+        Ok(self.list(|record| record.matches(query), &self.agreeing(query), out))
+    }
+
+    /// Written, total and reads.
+    pub fn range(&self, range: Intervals, out: &mut [u8]) -> Result<(u64, u64, u64), u32> {
+        if let Some(number) = range_refused(self.shape, range) {
+            return Err(number);
+        }
+        Ok(self.list(|record| record.lies_in(range), &self.meeting(range), out))
+    }
+
+    /// Writes the wanted records in split order while whole ones fit, and counts written, all of them, and those of the
+    /// leaves that are not empty.
+    fn list(&self, wanted: impl Fn(&Record) -> bool, leaves: &[Leaf], out: &mut [u8]) -> (u64, u64, u64) {
+        let mut found: Vec<&Record> = self.records.iter().filter(|record| wanted(record)).collect();
         found.sort_by(|r, s| r.bits.cmp(&s.bits));
         let written = found.len().min(out.len() / 12);
         for (i, record) in found[..written].iter().enumerate() {
             out[12 * i..12 * i + 12].copy_from_slice(&record.bytes());
         }
-        let reads = self.agreeing(query).iter().filter(|leaf| !leaf.records.is_empty()).count();
-        Ok((written as u64, found.len() as u64, reads as u64))
+        let reads = leaves.iter().filter(|leaf| !leaf.records.is_empty()).count();
+        (written as u64, found.len() as u64, reads as u64)
     }
 }

@@ -3,6 +3,7 @@
 use super::image::STATE;
 use super::leaves::Record;
 use super::model::Model;
+use super::range::{range_refused, Intervals};
 use super::refusal::{key_refused, query_refused};
 
 /// The model's shape, P and L; its own list of records is not used.
@@ -134,18 +135,33 @@ impl Ordered {
         if let Some(number) = query_refused(self.model.shape, query) {
             return Err(number);
         }
+        let (written, total) = self.list(|record| record.matches(query), out);
+        Ok((written, total, self.reads(query)))
+    }
+
+    /// Written, total and reads.
+    pub fn range(&self, range: Intervals, out: &mut [u8]) -> Result<(u64, u64, u64), u32> {
+        if let Some(number) = range_refused(self.model.shape, range) {
+            return Err(number);
+        }
+        let (written, total) = self.list(|record| record.lies_in(range), out);
+        let greatest = self.key_of(u64::MAX);
+        Ok((written, total, self.reads_met(&self.records, 0, [0; 4], greatest, range)))
+    }
+
+    /// Writes the wanted records while whole ones fit, and counts written and all of them.
+    fn list(&self, wanted: impl Fn(&Record) -> bool, out: &mut [u8]) -> (u64, u64) {
         let mut total = 0;
         for &(_, key, payload) in &self.records {
             let record = Record { bits: vec![], key, payload };
-            if record.matches(query) {
+            if wanted(&record) {
                 if let Some(place) = out.get_mut(12 * total..12 * total + 12) {
                     place.copy_from_slice(&record.bytes());
                 }
                 total += 1;
             }
         }
-        let written = total.min(out.len() / 12);
-        Ok((written as u64, total as u64, self.reads(query)))
+        (total.min(out.len() / 12) as u64, total as u64)
     }
 
     /// The leaves that are not empty and agree with a query.
@@ -167,6 +183,30 @@ impl Ordered {
             false => self.reads_below(records, x + 1, given, wanted),
         };
         side(zeros, false) + side(ones, true)
+    }
+
+    /// The leaves that are not empty and meet a range, below a region of depth x with these least and greatest values.
+    fn reads_met(
+        &self,
+        records: &[(u64, [u32; 4], u32)],
+        x: usize,
+        least: [u32; 4],
+        greatest: [u32; 4],
+        range: Intervals,
+    ) -> u64 {
+        if (0..4).any(|j| range[j].is_some_and(|(low, high)| greatest[j] < low || high < least[j])) {
+            return 0;
+        }
+        if records.len() <= self.model.shape.capacity as usize {
+            return u64::from(!records.is_empty());
+        }
+        let (zeros, ones) = records.split_at(records.partition_point(|record| record.0 >> (63 - x) & 1 == 0));
+        let (j, counts) = self.model.split_step(x);
+        let (mut middle, mut next) = (greatest, least);
+        middle[j] -= counts;
+        next[j] += counts;
+        self.reads_met(zeros, x + 1, least, middle, range)
+            + self.reads_met(ones, x + 1, next, greatest, range)
     }
 
     /// Where some split bits are, or would be.

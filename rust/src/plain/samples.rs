@@ -1,6 +1,7 @@
 //! Random models and keys.
 use super::image::Image;
 use super::model::Model;
+use super::range::Intervals;
 use crate::host::Shape;
 use crate::random::Random;
 use crate::shapes::random_widths;
@@ -42,6 +43,30 @@ pub fn random_key(random: &mut Random, model: &Model) -> [u32; 4] {
 /// A query that gives the attributes of a subset (bit j for attribute j) the values of a key.
 pub fn query_of(subset: usize, key: [u32; 4]) -> [Option<u32>; 4] {
     [0, 1, 2, 3].map(|j| (subset >> j & 1 == 1).then_some(key[j]))
+}
+
+/// A range that gives the attributes of a subset (bit j for attribute j) intervals at the values of two keys: from one
+/// to the other, one value, or with an end at 0, at the greatest value or one value off. One in forty has its ends
+/// reversed or one past the width.
+pub fn range_of(random: &mut Random, model: &Model, subset: usize, keys: [[u32; 4]; 2]) -> Intervals {
+    [0, 1, 2, 3].map(|j| {
+        let greatest = model.widths().get(j).map_or(0, |&width| (1 << width) - 1);
+        let [low, high] = [keys[0][j].min(keys[1][j]), keys[0][j].max(keys[1][j])];
+        let ends = match random.below(8) {
+            0 => (low, low),
+            1 => (0, high),
+            2 => (low, greatest),
+            3 => (low.saturating_sub(1), high),
+            4 => (low, greatest.min(high + 1)),
+            _ => (low, high),
+        };
+        let ends = match random.below(80) {
+            0 => (ends.1, ends.0),
+            1 => (ends.0, greatest + 1),
+            _ => ends,
+        };
+        (subset >> j & 1 == 1).then_some(ends)
+    })
 }
 
 /// A store with a bad shape, too few state words, words or pages, or both, and the number that refuses each.

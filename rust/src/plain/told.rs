@@ -1,6 +1,7 @@
 //! Damage that a call meets and has to tell, with 9: words and pages that no sound store has, and a region that a
 //! change would set although other words stand in it. On any other store a call answers 9 or what is ordinary for it.
 use super::image::{depth_of, page_of, word_of, STATE, TALLY};
+use super::range::Intervals;
 use super::reading::{sibling, Reading};
 use crate::cells::Cell;
 
@@ -13,7 +14,12 @@ impl Reading<'_> {
 
     /// Whether a query has to be answered with 9, after 1, 2, 8 and 3.
     pub fn query_told(&self, query: [Option<u32>; 4]) -> bool {
-        self.walk_told(query, &[])
+        self.walk_told(&[], &|side| self.model.agrees(side, query))
+    }
+
+    /// Whether a range has to be answered with 9, after 1, 2, 8, 3 and 10.
+    pub fn range_told(&self, range: Intervals) -> bool {
+        self.walk_told(&[], &|side| self.model.meets(side, range))
     }
 
     /// Whether an insert of a key has to be answered with 9, after 1, 2 and 3.
@@ -65,9 +71,9 @@ impl Reading<'_> {
         !self.word_fair(word) || page_of(word).is_some_and(|g| !self.page_fair(g, &bits[..depth_of(word)]))
     }
 
-    /// The same of the leaves below a region that agree with a query: "It walks the regions from the empty string". A
-    /// word that names less than its region's depth is none of a sound store.
-    fn walk_told(&self, query: [Option<u32>; 4], region: &[bool]) -> bool {
+    /// The same of the leaves below a region that a query or a range enters: "It walks the regions from the empty
+    /// string". A word that names less than its region's depth is none of a sound store.
+    fn walk_told(&self, region: &[bool], enters: &dyn Fn(&[bool]) -> bool) -> bool {
         let word = self.word(region);
         if depth_of(word) > self.depth() || depth_of(word) < region.len() {
             return true;
@@ -77,7 +83,7 @@ impl Reading<'_> {
         }
         [false, true].into_iter().any(|bit| {
             let side = [region, &[bit]].concat();
-            self.model.agrees(&side, query) && self.walk_told(query, &side)
+            enters(&side) && self.walk_told(&side, enters)
         })
     }
 

@@ -3,7 +3,7 @@ use crate::host::Shape;
 use crate::plain::image::STATE;
 
 /// The words of a call.
-pub const CALL_SIZE: usize = 11;
+pub const CALL_SIZE: usize = 15;
 
 /// The words of an answer.
 pub const ANSWER_SIZE: usize = 4;

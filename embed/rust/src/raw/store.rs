@@ -28,8 +28,8 @@ pub struct LookupResult {
     pub reads: u32,
 }
 
-/// Number 0 and how many records were written, how many match, how many pages were read, or the number of
-/// the refusal and zeros.
+/// Of a query or a range: number 0 and how many records were written, how many match, how many pages were read, or the
+/// number of the refusal and zeros.
 #[repr(C)]
 #[derive(Clone, Copy, Debug, PartialEq, Eq)]
 pub struct QueryResult {
@@ -53,7 +53,7 @@ pub struct CheckResult {
     pub sound: u32,
 }
 
-/// What an accepted query counts.
+/// What an accepted query or range counts.
 #[derive(Clone, Copy, Debug, PartialEq, Eq)]
 pub struct Counts {
     /// records in the output

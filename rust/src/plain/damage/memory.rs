@@ -20,7 +20,7 @@ pub struct Kind {
 }
 
 /// The calls, by name.
-pub const CALLS: [&str; 4] = ["lookup", "query", "insert", "delete"];
+pub const CALLS: [&str; 5] = ["lookup", "query", "range", "insert", "delete"];
 
 /// The kinds of damage. A copied page may be one that was free, or pass for a free one, so that an insert finds too few
 /// or too many of them.
@@ -32,7 +32,11 @@ pub const KINDS: [Kind; 10] = [
     Kind { name: "an older directory", harm: older_directory, told_by: &[] },
     Kind { name: "an older directory and state", harm: older_directory_and_state, told_by: &[] },
     Kind { name: "older pages", harm: older_pages, told_by: &[] },
-    Kind { name: "a page copied over another", harm: page_copied, told_by: &["lookup", "query", "delete"] },
+    Kind {
+        name: "a page copied over another",
+        harm: page_copied,
+        told_by: &["lookup", "query", "range", "delete"],
+    },
     Kind { name: "one bit of a page", harm: page_bit, told_by: &[] },
     Kind { name: "one entry of the tally", harm: tally_entry, told_by: &CALLS },
 ];

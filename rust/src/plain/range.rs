@@ -1,0 +1,55 @@
+//! Ranges (document 02, request 1), by intervals of values.
+use super::leaves::{Leaf, Record};
+use super::model::Model;
+use super::refusal::used_widths;
+use crate::host::Shape;
+
+/// "leaves each attribute free or gives it an interval, low to high, both included".
+pub type Intervals = [Option<(u32, u32)>; 4];
+
+/// 8 for an interval of attribute d or above, then 3 for an end of 2^w_j or more in any attribute, then "10, low above
+/// high in some attribute, checked after 3".
+pub fn range_refused(shape: Shape, range: Intervals) -> Option<u32> {
+    let widths = used_widths(shape);
+    if range[widths.len()..].iter().any(Option::is_some) {
+        return Some(8);
+    }
+    let given: Vec<((u32, u32), u32)> =
+        range.iter().zip(widths).filter_map(|(ends, width)| Some(((*ends)?, width))).collect();
+    if given.iter().any(|&((low, high), width)| low >= 1 << width || high >= 1 << width) {
+        return Some(3);
+    }
+    given.iter().any(|&((low, high), _)| low > high).then_some(10)
+}
+
+impl Record {
+    /// "inside the box".
+    pub fn lies_in(&self, range: Intervals) -> bool {
+        range
+            .iter()
+            .zip(self.key)
+            .all(|(ends, value)| ends.is_none_or(|(low, high)| low <= value && value <= high))
+    }
+}
+
+impl Model {
+    /// The "box of values" of a region: the least and the greatest value of each attribute that its keys have.
+    pub fn box_of(&self, region: &[bool]) -> ([u32; 4], [u32; 4]) {
+        let total = self.widths().iter().sum::<u32>() as usize;
+        let filled = |bit| [region, &vec![bit; total - region.len()]].concat();
+        (self.key_of(&filled(false)), self.key_of(&filled(true)))
+    }
+
+    /// Whether a region's "box of values meets the query's".
+    pub fn meets(&self, region: &[bool], range: Intervals) -> bool {
+        let (least, greatest) = self.box_of(region);
+        (0..4).all(|j| range[j].is_none_or(|(low, high)| low <= greatest[j] && least[j] <= high))
+    }
+
+    /// The leaves that meet a range.
+    pub fn meeting(&self, range: Intervals) -> Vec<Leaf> {
+        let mut leaves = self.leaves();
+        leaves.retain(|leaf| self.meets(&leaf.bits, range));
+        leaves
+    }
+}

@@ -1,0 +1,445 @@
+//! The call range on sound stores and on what it meets of unsound ones, compared with a list scanned in full.
+use mdeh_tests::compare::Comparisons;
+use mdeh_tests::host::Shape;
+use mdeh_tests::lent::{lend_bytes, LentStore};
+use mdeh_tests::plain::image::{Image, Laid, Placed};
+use mdeh_tests::plain::met::{each_damaged_count, each_damaged_word, each_shallow_word};
+use mdeh_tests::plain::met::{DAMAGED_COUNTS, DAMAGED_WORDS, SHALLOW_WORDS};
+use mdeh_tests::plain::model::Model;
+use mdeh_tests::plain::range::Intervals;
+use mdeh_tests::plain::samples::{early_refused, query_of, random_key, random_model, range_of};
+use mdeh_tests::random::Random;
+use mdeh_tests::shapes::all_widths;
+
+const SEED: u64 = 0x6d64_6568_2d30_3138;
+
+/// Compares answer and output of a range, with an output of so many random bytes between guards.
+fn compare(
+    count: &mut Comparisons,
+    random: &mut Random,
+    model: &Model,
+    store: &LentStore,
+    range: Intervals,
+    bytes: usize,
+) {
+    let mut expected = random.bytes(bytes);
+    let mut out = lend_bytes(random, &expected);
+    let answer = store.range(range, &mut out);
+    let about = format_args!("{:?}, {range:?}, {bytes} bytes", model.shape);
+    count.same(answer, model.range(range, &mut expected), about);
+    count.same(out.slice() == expected, true, about);
+}
+
+/// A random range of the shape's attributes.
+fn random_range(random: &mut Random, model: &Model) -> Intervals {
+    let subset = random.below(1 << model.widths().len());
+    let keys = [0; 2].map(|_| random_key(random, model));
+    range_of(random, model, subset, keys)
+}
+
+/// How many bytes a range's output takes.
+fn output_size(model: &Model, range: Intervals) -> usize {
+    12 * model.records.iter().filter(|record| record.lies_in(range)).count()
+}
+
+/// A store of these widths with random limits and as many records as a random number of inserts leaves.
+fn model_of(random: &mut Random, widths: &[u32]) -> Model {
+    let total = widths.iter().sum::<u32>().min(12) as usize;
+    let shape = Shape::new(widths, random.between(1, 3) as u32);
+    let mut model = Model::new(shape, 1 + random.below(40), total - random.below(2));
+    for payload in 0..random.between(0, 60) as u32 {
+        let key = random_key(random, &model);
+        // a refused record is left out
+        let _ = model.insert(key, payload);
+    }
+    model
+}
+
+/// An attribute of this width free, and all of its intervals.
+fn intervals(width: u32) -> Vec<Option<(u32, u32)>> {
+    let values = 0..1u32 << width;
+    let of_low = |low: u32| values.clone().skip(low as usize).map(move |high| Some((low, high)));
+    [None].into_iter().chain(values.clone().flat_map(of_low)).collect()
+}
+
+/// All ranges of these widths.
+fn all_ranges(widths: &[u32]) -> Vec<Intervals> {
+    let mut all = vec![[None; 4]];
+    for (j, &width) in widths.iter().enumerate() {
+        let intervals = intervals(width);
+        let with = |range: Intervals, ends| std::array::from_fn(|i| if i == j { ends } else { range[i] });
+        all = all.iter().flat_map(|&range| intervals.iter().map(move |&ends| with(range, ends))).collect();
+    }
+    all
+}
+
+// ---- the model
+
+/// "Reads are the non-empty leaves whose box of values meets the query's": some key begins with the region and lies
+/// inside, of all keys of a shape.
+#[test]
+fn a_region_meets_if_some_key_of_it_is_inside() {
+    let mut count = Comparisons::default();
+    let mut random = Random::new(SEED);
+    let mut regions = 0;
+    for widths in (1..=4).flat_map(|d| all_widths(d, 6)) {
+        let total = widths.iter().sum::<u32>() as usize;
+        let model = Model::new(Shape::new(&widths, 1), 1, 0);
+        let strings = |x: usize| (0..1usize << x).map(move |n| (0..x).map(|t| n >> t & 1 == 1).collect());
+        let keys: Vec<_> =
+            strings(total).map(|bits: Vec<bool>| model.record(model.key_of(&bits), 0)).collect();
+        for region in (0..=total).flat_map(strings) {
+            for _ in 0..10 {
+                regions += 1;
+                let range = [0, 1, 2, 3].map(|j| any_interval(&mut random, widths.get(j)));
+                let inside = keys.iter().any(|key| key.bits.starts_with(&region) && key.lies_in(range));
+                let about = format_args!("{widths:?}, {region:?}, {range:?}");
+                count.same(model.meets(&region, range), inside, about);
+            }
+        }
+    }
+    count.end(regions);
+}
+
+// ---- sound stores
+
+/// All ranges of shapes that have few, and many of the others, of all shapes up to nine bits.
+#[test]
+fn every_range_of_small_shapes() {
+    let mut count = Comparisons::default();
+    let mut random = Random::new(SEED);
+    let (mut ranges, mut exhausted) = (0, 0);
+    for widths in (1..=4).flat_map(|d| all_widths(d, 9)) {
+        let model = model_of(&mut random, &widths);
+        let store = LentStore::of(&mut random, &model);
+        let number: usize = widths.iter().map(|&width| intervals(width).len()).product();
+        let chosen = match number {
+            ..=2100 => all_ranges(&widths),
+            _ => (0..1000).map(|_| [0, 1, 2, 3].map(|j| any_interval(&mut random, widths.get(j)))).collect(),
+        };
+        exhausted += u64::from(number <= 2100);
+        ranges += chosen.len() as u64;
+        for range in chosen {
+            let bytes = random.below(output_size(&model, range) + 30);
+            compare(&mut count, &mut random, &model, &store, range, bytes);
+        }
+    }
+    println!("{exhausted} shapes with all ranges");
+    count.end(ranges * 2);
+}
+
+/// One of an attribute's intervals, or none.
+fn any_interval(random: &mut Random, width: Option<&u32>) -> Option<(u32, u32)> {
+    let values = 1 << width?;
+    let [a, b] = [0; 2].map(|_| random.below(values) as u32);
+    (random.below(4) > 0).then_some((a.min(b), a.max(b)))
+}
+
+/// Random stores of up to 64 bits, each subset of attributes.
+#[test]
+fn every_subset_of_given_attributes() {
+    let mut count = Comparisons::default();
+    let mut random = Random::new(SEED);
+    let mut subsets = 0;
+    for _ in 0..1000 {
+        let model = random_model(&mut random);
+        let store = LentStore::of(&mut random, &model);
+        for subset in 0..1 << model.widths().len() {
+            subsets += 1;
+            for _ in 0..4 {
+                let keys = [0; 2].map(|_| random_key(&mut random, &model));
+                let range = range_of(&mut random, &model, subset, keys);
+                let bytes = random.below(output_size(&model, range) + 30);
+                compare(&mut count, &mut random, &model, &store, range, bytes);
+            }
+        }
+    }
+    count.end(subsets * 4 * 2);
+}
+
+/// Intervals at the ends of attributes of one bit and of sixteen.
+#[test]
+fn the_least_and_the_greatest_width() {
+    let mut count = Comparisons::default();
+    let mut random = Random::new(SEED);
+    let ends = |width: u32| match width {
+        1 => vec![None, Some((0, 0)), Some((0, 1)), Some((1, 1))],
+        _ => [(0, 0), (0, 1), (1, 0x7fff), (0x7fff, 0x8000), (0x8000, 0xfffe), (0xffff, 0xffff), (0, 0xffff)]
+            .map(Some)
+            .to_vec(),
+    };
+    let mut ranges = 0;
+    for widths in (1..=4).flat_map(|d| all_of(&[1, 16], d)) {
+        for _ in 0..3 {
+            let model = model_of(&mut random, &widths);
+            let store = LentStore::of(&mut random, &model);
+            for _ in 0..200 {
+                ranges += 1;
+                let choose = |j: usize| widths.get(j).map(|&width| ends(width));
+                let choices = [0, 1, 2, 3].map(|j| choose(j).unwrap_or(vec![None]));
+                let range = choices.map(|choices| choices[random.below(choices.len())]);
+                compare(&mut count, &mut random, &model, &store, range, 300);
+            }
+        }
+    }
+    count.end(ranges * 2);
+}
+
+/// All lists of so many of these.
+fn all_of(items: &[u32], count: usize) -> Vec<Vec<u32>> {
+    let longer =
+        |list: &Vec<u32>| items.iter().map(|&item| [&list[..], &[item]].concat()).collect::<Vec<_>>();
+    (0..count).fold(vec![vec![]], |all, _| all.iter().flat_map(longer).collect())
+}
+
+/// The ends of an interval at a leaf's least and greatest value, and one value off.
+#[test]
+fn ends_at_and_beside_a_leafs_edge() {
+    let mut count = Comparisons::default();
+    let mut random = Random::new(SEED);
+    let mut ranges = 0;
+    for _ in 0..300 {
+        let model = random_model(&mut random);
+        let store = LentStore::of(&mut random, &model);
+        let leaves = model.leaves();
+        for _ in 0..4 {
+            let (least, greatest) = model.box_of(&leaves[random.below(leaves.len())].bits);
+            for (j, &width) in model.widths().iter().enumerate() {
+                let most = (1 << width) - 1;
+                let edges = [least[j].saturating_sub(1), least[j], greatest[j], most.min(greatest[j] + 1)];
+                let mut ends: Vec<(u32, u32)> = edges.iter().flat_map(|&a| edges.map(|b| (a, b))).collect();
+                ends.extend(edges.iter().flat_map(|&edge| [(0, edge), (edge, most)]));
+                ends.retain(|(low, high)| low <= high);
+                let others = random_range(&mut random, &model);
+                for (ends, rest) in ends.iter().flat_map(|&ends| [(ends, [None; 4]), (ends, others)]) {
+                    ranges += 1;
+                    let range = [0, 1, 2, 3].map(|i| if i == j { Some(ends) } else { rest[i] });
+                    compare(&mut count, &mut random, &model, &store, range, 120);
+                }
+            }
+        }
+    }
+    count.end(ranges * 2);
+}
+
+#[test]
+fn outputs_of_every_length() {
+    let mut count = Comparisons::default();
+    let mut random = Random::new(SEED);
+    let mut lengths = 0;
+    for _ in 0..200 {
+        let model = random_model(&mut random);
+        let store = LentStore::of(&mut random, &model);
+        let range = random_range(&mut random, &model);
+        // 0, 11, 12 and 24 among them
+        let most = output_size(&model, range).min(40 * 12) + 25;
+        for bytes in 0..=most {
+            lengths += 1;
+            compare(&mut count, &mut random, &model, &store, range, bytes);
+        }
+    }
+    count.end(lengths * 2);
+}
+
+/// "A single value is the interval with equal ends": total, list and reads of the query. All values are as good as
+/// free.
+#[test]
+fn equal_ends_as_the_query_and_all_values_as_free() {
+    let mut count = Comparisons::default();
+    let mut random = Random::new(SEED);
+    for _ in 0..1000 {
+        let model = random_model(&mut random);
+        let store = LentStore::of(&mut random, &model);
+        let d = model.widths().len();
+        for _ in 0..6 {
+            let bytes = random.below(12 * model.records.len() + 30);
+            let content = random.bytes(bytes);
+            let mut outs = [0; 2].map(|_| lend_bytes(&mut random, &content));
+            let query = query_of(random.below(1 << d), random_key(&mut random, &model));
+            let range = query.map(|wanted| wanted.map(|value| (value, value)));
+            let about = format_args!("{:?}, {query:?}, {bytes} bytes", model.shape);
+            let found = store.range(range, &mut outs[0]);
+            count.same(found, store.query(query, &mut outs[1]), about);
+            count.same(outs[0].slice(), outs[1].slice(), about);
+            let mut outs = [0; 2].map(|_| lend_bytes(&mut random, &content));
+            let range = random_range(&mut random, &model);
+            let all = |j: usize| model.widths().get(j).map(|&width| (0, (1 << width) - 1));
+            let full = [0, 1, 2, 3].map(|j| range[j].or(all(j)));
+            let about = format_args!("{:?}, {range:?}, {bytes} bytes", model.shape);
+            let found = store.range(range, &mut outs[0]);
+            count.same(found, store.range(full, &mut outs[1]), about);
+            count.same(outs[0].slice(), outs[1].slice(), about);
+        }
+    }
+    count.end(1000 * 6 * 4);
+}
+
+#[test]
+fn pages_not_read_overwritten() {
+    let mut count = Comparisons::default();
+    let mut random = Random::new(SEED);
+    for _ in 0..1000 {
+        let model = random_model(&mut random);
+        let laid = Laid::new(&mut random, &model);
+        for _ in 0..6 {
+            let range = random_range(&mut random, &model);
+            let meeting = model.meeting(range);
+            let read: Vec<usize> = laid
+                .leaves
+                .iter()
+                .filter(|placed| meeting.contains(&placed.leaf))
+                .filter_map(|placed| placed.page)
+                .collect();
+            let mut image = laid.image.clone();
+            for g in (0..model.page_limit).filter(|g| !read.contains(g)) {
+                let bytes = random.bytes(image.page(g).len());
+                image.page(g).copy_from_slice(&bytes);
+            }
+            let store = LentStore::new(&mut random, &image);
+            let bytes = random.below(output_size(&model, range) + 30);
+            compare(&mut count, &mut random, &model, &store, range, bytes);
+        }
+    }
+    count.end(1000 * 6 * 2);
+}
+
+// ---- refused calls
+
+/// Compares a range with a refusal, the output as it came.
+fn compare_refused(
+    count: &mut Comparisons,
+    random: &mut Random,
+    store: &LentStore,
+    range: Intervals,
+    number: u32,
+) {
+    let content = random.bytes(60);
+    let mut out = lend_bytes(random, &content);
+    let about = format_args!("{:?}, {range:?}", store.state.slice());
+    count.same(store.range(range, &mut out), Err(number), about);
+    count.same(out.unchanged(), true, about);
+}
+
+/// An attribute free, an interval, one whose low or high end is past the width, one with its ends reversed, and one
+/// with both faults, in each attribute.
+#[test]
+fn refusals_8_3_and_10_in_every_combination() {
+    let mut count = Comparisons::default();
+    let mut random = Random::new(SEED);
+    let mut refused = 0;
+    for stores in 0..16 {
+        let mut model = random_model(&mut random);
+        while model.widths().len() != stores % 4 + 1 {
+            model = random_model(&mut random);
+        }
+        let store = LentStore::of(&mut random, &model);
+        let d = model.widths().len();
+        for turn in 0..7usize.pow(4) {
+            let kinds = [0, 1, 2, 3].map(|j| turn / 7usize.pow(j) % 7);
+            let range = [0, 1, 2, 3].map(|j| {
+                let past = 1u32 << model.shape.widths[j];
+                let large = [past, past + 1, 1 << 16, 1 << 31, u32::MAX][random.below(5)];
+                [None, Some((0, past - 1)), Some((0, large)), Some((large, past - 1)), Some((large, large))]
+                    .into_iter()
+                    .chain([Some((past.max(2) - 1, 0)), Some((u32::MAX, past))])
+                    .nth(kinds[j])
+                    .expect("one of seven")
+            });
+            let number = match kinds {
+                kinds if kinds[d..].iter().any(|&kind| kind != 0) => 8,
+                kinds if kinds[..d].iter().any(|&kind| [2, 3, 4, 6].contains(&kind)) => 3,
+                kinds if kinds[..d].contains(&5) => 10,
+                _ => continue,
+            };
+            refused += 1;
+            compare_refused(&mut count, &mut random, &store, range, number);
+        }
+    }
+    count.end(refused * 2);
+}
+
+#[test]
+fn refusal_3_in_attribute_1_beats_10_in_attribute_0() {
+    let mut count = Comparisons::default();
+    let mut random = Random::new(SEED);
+    let model = Model::new(Shape::new(&[4, 4], 2), 4, 2);
+    let store = LentStore::of(&mut random, &model);
+    let [reversed, large, good] = [Some((5, 3)), Some((3, 16)), Some((3, 5))];
+    for (range, number) in [
+        ([reversed, None, None, None], 10),
+        ([None, reversed, None, None], 10),
+        ([reversed, good, None, None], 10),
+        ([reversed, large, None, None], 3),
+        ([large, reversed, None, None], 3),
+        ([Some((16, 15)), None, None, None], 3),
+        ([Some((15, 14)), None, None, None], 10),
+        ([reversed, large, good, None], 8),
+        ([reversed, None, None, reversed], 8),
+        ([None, None, large, None], 8),
+    ] {
+        compare_refused(&mut count, &mut random, &store, range, number);
+    }
+    count.end(10 * 2);
+}
+
+#[test]
+fn refusals_1_and_2_come_before_8_3_and_10() {
+    let mut count = Comparisons::default();
+    let mut random = Random::new(SEED);
+    for _ in 0..300 {
+        let model = random_model(&mut random);
+        let laid = Laid::new(&mut random, &model);
+        for (image, number) in early_refused(&laid.image, &model) {
+            let store = LentStore::new(&mut random, &image);
+            let random_one = random_range(&mut random, &model);
+            for range in
+                [[None; 4], [Some((0, 0)); 4], [Some((1, 0)); 4], [Some((u32::MAX, 0)); 4], random_one]
+            {
+                compare_refused(&mut count, &mut random, &store, range, number);
+            }
+        }
+    }
+    count.end(300 * 8 * 5 * 2);
+}
+
+// ---- damage that a range meets
+
+/// Compares ranges that meet a leaf's region with 9, the output as it came.
+fn all_damaged(count: &mut Comparisons, random: &mut Random, model: &Model, leaf: &Placed, image: &Image) {
+    let store = LentStore::new(random, image);
+    for subset in [0, random.below(1 << model.widths().len()), (1 << model.widths().len()) - 1] {
+        let mut bits = model.split_bits(random_key(random, model));
+        bits[..leaf.leaf.depth()].copy_from_slice(&leaf.leaf.bits);
+        let (inside, other) = (model.key_of(&bits), random_key(random, model));
+        let ends = |j: usize| (inside[j].min(other[j]), inside[j].max(other[j]));
+        let range = [0, 1, 2, 3].map(|j| (subset >> j & 1 == 1).then(|| ends(j)));
+        compare_refused(count, random, &store, range, 9);
+    }
+}
+
+#[test]
+fn a_damaged_word_gives_9() {
+    let mut count = Comparisons::default();
+    each_damaged_word(SEED, |random, model, placed, image| {
+        all_damaged(&mut count, random, model, placed, image);
+    });
+    count.end(DAMAGED_WORDS * 3 * 2);
+}
+
+#[test]
+fn a_depth_below_the_region_gives_9() {
+    let mut count = Comparisons::default();
+    each_shallow_word(SEED, |random, model, placed, image| {
+        all_damaged(&mut count, random, model, placed, image);
+    });
+    count.end(SHALLOW_WORDS * 3 * 2);
+}
+
+#[test]
+fn a_damaged_count_gives_9() {
+    let mut count = Comparisons::default();
+    each_damaged_count(SEED, |random, model, placed, image| {
+        all_damaged(&mut count, random, model, placed, image);
+    });
+    count.end(DAMAGED_COUNTS * 3 * 2);
+}
