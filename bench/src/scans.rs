@@ -122,27 +122,33 @@ impl Column {
 pub fn packed_query(records: &[Record], query: [Option<u32>; 4], out: &mut [u8]) -> u64 {
     let pattern = pack(query.map(|wanted| wanted.unwrap_or(0)));
     let mask = pack(query.map(|wanted| if wanted.is_some() { 0xffff } else { 0 }));
-    let out = out.as_chunks_mut().0;
-    let mut total = 0;
-    for record in records {
-        if packed(record) & mask == pattern {
-            if let Some(place) = out.get_mut(total) {
-                *place = *record;
-            }
-            total += 1;
-        }
-    }
-    total as u64
+    packed_copy(records, |record| packed(record) & mask == pattern, out)
 }
 
-/// The same of the records inside a range.
+/// The same of the records inside a range. Where one attribute alone is given, only its values are compared.
 #[inline(never)]
 pub fn packed_range(records: &[Record], range: Intervals, out: &mut [u8]) -> u64 {
-    let lanes = Lanes::new(range);
+    let mut given = range.into_iter().enumerate().filter_map(|(j, ends)| ends.map(|ends| (j, ends)));
+    match (given.next(), given.next()) {
+        (Some((j, (low, high))), None) => {
+            let (low, more) = (low as u16, (high - low) as u16);
+            let inside = |record: &Record| ((packed(record) >> (16 * j)) as u16).wrapping_sub(low) <= more;
+            packed_copy(records, inside, out)
+        }
+        _ => {
+            let lanes = Lanes::new(range);
+            packed_copy(records, |record| lanes.hold(packed(record)), out)
+        }
+    }
+}
+
+/// Writes the wanted records into `out` while whole ones fit. Returns how many are wanted.
+#[inline]
+fn packed_copy(records: &[Record], wanted: impl Fn(&Record) -> bool, out: &mut [u8]) -> u64 {
     let out = out.as_chunks_mut().0;
     let mut total = 0;
     for record in records {
-        if lanes.hold(packed(record)) {
+        if wanted(record) {
             if let Some(place) = out.get_mut(total) {
                 *place = *record;
             }
