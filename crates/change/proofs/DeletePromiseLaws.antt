@@ -17,7 +17,7 @@ use Rattle.directory_word.specs.Word.{wordOf}
 use Rattle.directory_word.specs.declared.Leaf.the-variants.{Page}
 use Rattle.directory_word.proofs.WordLaws.{wordOf-page}
 use Rattle.model.specs.Sets.{stored, withoutKey}
-use Rattle.model.specs.Model.{Fixed, Call, deleteCall, numberFor, replyTo, setAfter, changed}
+use Rattle.model.specs.Model.{Fixed, deleteCall, numberFor, replyTo, setAfter, changed, outcome, next}
 use Rattle.model.proofs.SetLaws.{length-encodings, indexFits-encodings}
 use Rattle.store.specs.Store.{Store, Memory, memory, store, fixedOf}
 use Rattle.store.specs.Sound.{Sound}
@@ -30,7 +30,7 @@ use Rattle.change.proofs.RegionLaws.{changedStore}
 use Rattle.change.proofs.PromiseLaws.{keyFits-of-keyNumber, keyNumber-suc, KeepsPast, KeepsOthers}
 use Rattle.change.proofs.PromiseLaws.{ShowsNext, ModelNumber}
 use Rattle.change.proofs.PromiseLaws.{promise-early, promise-refused, promise-accepted}
-use Rattle.change.proofs.InsertPromiseLaws.{OnSound}
+use Rattle.change.proofs.AddPromiseLaws.{OnSound}
 use Rattle.change.proofs.DeleteKeyLaws.{stored-record}
 use Rattle.change.proofs.DeleteLeafLaws.{showsNext-deleted}
 use Rattle.change.proofs.DeleteShownLaws.{showsNext-joined}
@@ -59,8 +59,12 @@ module _ (before : Store) (values : List ℕ) where
   abbrev key : List ℕ
   key = encodings s values
 
-  abbrev call : Call
-  call = deleteCall values
+  -- the model's number, and its set if there is none
+  abbrev modelNumber : List Record → ℕ
+  modelNumber S = numberFor (fixedOf (before .state)) S (deleteCall values)
+
+  abbrev modelSet : List Record → List Record
+  modelSet S = withoutKey key S
 
   -- those after the early ones
   abbrev numbers : List ℕ
@@ -71,8 +75,9 @@ module _ (before : Store) (values : List ℕ) where
   recordsOn g = pageRecords s (before .memory .bytes) g
 
   pub delete-early : (n : ℕ) → keyNumber before values ≡ suc n → DeletePromise before values (refused (suc n)) before
+  unfolding outcome replyTo next setAfter
   delete-early n e =
-      promise-early call values (keyNumber before values) numbers before n
+      promise-early true values (keyNumber before values) numbers modelNumber modelSet before n
       (λ S sound. let k = keyNumber-suc before values S sound n e in
       numberFor-delete-out (fixedOf (before .state)) S values (k .0) ∙ sym (k .1)) e
 
@@ -82,11 +87,12 @@ module _ (before : Store) (values : List ℕ) where
 
     -- ---- refused
 
-    refuse : (n : ℕ) → ModelNumber call values (keyNumber before values) numbers before (suc n)
+    refuse : (n : ℕ) → ModelNumber true values (keyNumber before values) numbers modelNumber modelSet before (suc n)
         → Member (suc n) numbers
         → DeletePromise before values (refused (suc n)) before
+    unfolding outcome replyTo next setAfter
     refuse n number member =
-        promise-refused call values (keyNumber before values) numbers before n number early member
+        promise-refused true values (keyNumber before values) numbers modelNumber modelSet before n number early member
 
     -- 9: the store is not sound
     pub delete-unsound : OnSound before ⊥ → DeletePromise before values (refused 9) before
@@ -129,10 +135,11 @@ module _ (before : Store) (values : List ℕ) where
         → ((S : List Record) → Sound before S → (r : Record) → r .key ≡ key → stored (r .key) S ≡ r ∷ []
         → ShowsNext before (changedStore before T′ tally′ m′) S (withoutKey (r .key) S))
         → DeletePromise before values (accepted changed) (changedStore before T′ tally′ m′)
-    unfolding replyTo setAfter
+    unfolding outcome replyTo next setAfter
     accept T′ tally′ m′ past others met shows =
-        promise-accepted call values (keyNumber before values) numbers before T′ tally′ m′ early past others
-        (λ S sound. numberFor-delete-stored (fixedOf (before .state)) S values fits (has S sound)) (λ S. refl)
+        promise-accepted true values (keyNumber before values) numbers modelNumber modelSet before T′ tally′ m′ early
+        past others
+        (λ S sound. numberFor-delete-stored (fixedOf (before .state)) S values fits (has S sound))
         (λ S sound.
         let k = stored-record s (shape-of-Sound before S sound) S (sound .set) key (length-encodings s values)
         (indexFits-encodings s values ∙ fits) (has S sound) in

@@ -23,7 +23,7 @@ use Rattle.directory_word.specs.declared.Leaf.the-variants.{Page}
 use Rattle.directory_word.proofs.WordLaws.{wordOf-one-to-one, wordOf-apart}
 use Rattle.model.specs.Sets.{inShape, stored, withRecord}
 use Rattle.model.proofs.SetLaws.{isSet-withRecord}
-use Rattle.model.proofs.InsertRefusalLaws.{differing-bounds, greatestDepth-withRecord-full}
+use Rattle.model.proofs.AddRefusalLaws.{differing-bounds, greatestDepth-withRecord-full}
 use Rattle.store.specs.Store.{Store, Memory, memory, wordAt}
 use Rattle.store.specs.Sound.{LeafWord, Sound}
 use Rattle.store.specs.declared.Tally.{Tally}

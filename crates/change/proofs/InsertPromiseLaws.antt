@@ -1,179 +1,77 @@
--- The promise of insert, for each way that it ends: refused early, with 4, 6, 7 or 9, or accepted. What the code hands
--- over need hold on sound stores alone, save that nothing changes past the words and pages in use, nor outside the
--- leaves that change. Assumes nothing.
-use Prim.Native.Nat.{ℕ, suc, _<_, _≤_}
-use mathlib.Core.Path.{_≡_, refl, sym, _∙_}
-use mathlib.Core.Bool.{true, false}
-use mathlib.Core.List.{List, [], _∷_}
-use mathlib.Core.Logic.{inl, inr}
-use lib.ListN.{length}
-use Rattle.lists.specs.Filter.{nonEmpty}
-use Rattle.lists.specs.Members.{Member}
-use Rattle.shape.specs.Refusal.{accepted, refused}
-use Rattle.shape.specs.Key.{keyFits}
-use Rattle.shape.specs.declared.Shape.{Shape}
+-- The promise of insert: refused early, with 1, 2, 3 or 11, or that of the record that is added. Assumes nothing.
+use Prim.Native.Nat.{ℕ, suc}
+use mathlib.Core.Path.{_≡_, sym, _∙_}
+use mathlib.Core.Bool.{false}
+use mathlib.Core.List.{List, [], _∷_, _++_}
+use native.Mathlib.Omega.{arith}
+use Rattle.shape.specs.Refusal.{Condition, Answer, refused}
+use Rattle.shape.specs.Shape.{shapeConditions}
 use Rattle.record.specs.declared.Content.{Content}
-use Rattle.record.specs.Record.{Record, recordBit}
-use Rattle.directory_word.specs.Word.{wordOf}
-use Rattle.directory_word.specs.declared.Leaf.the-variants.{Empty}
-use Rattle.model.specs.Sets.{inShape, stored, withRecord}
-use Rattle.model.specs.Model.{Call, insertCall, recordFor, replyTo, setAfter, changed}
-use Rattle.model.proofs.SetLaws.{inShape-recordFor}
-use Rattle.model.proofs.InsertRefusalLaws.{numberFor-insert-out}
-use Rattle.store.specs.Store.{Store, Memory, memory, store, fixedOf}
+use Rattle.record.specs.Record.{Record}
+use Rattle.model.specs.Model.{Fixed, Reply, insertCall, recordFor, keyConditions, payloadConditions, addConditions}
+use Rattle.model.specs.Model.{numberFor, replyTo, setAfter, outcome, next}
+use Rattle.model.specs.Sets.{withRecord}
+use Rattle.model.proofs.ConditionLaws.{firstNumber-first, firstNumber-rest}
+use Rattle.model.proofs.InsertLaws.{outcome-insert-other, next-insert-other}
+use Rattle.store.specs.Store.{Store, fixedOf, lentConditions}
 use Rattle.store.specs.Sound.{Sound}
-use Rattle.store.specs.Promises.{keyNumber, InsertPromise}
-use Rattle.store.specs.declared.Tally.{Tally}
-use Rattle.store.proofs.ShownLaws.{wordOn}
-use Rattle.change.proofs.RegionLaws.{changedStore}
-use Rattle.change.proofs.PromiseLaws.{keyFits-of-keyNumber, keyNumber-suc, KeepsPast, KeepsOthers}
-use Rattle.change.proofs.PromiseLaws.{ShowsNext, ModelNumber}
-use Rattle.change.proofs.PromiseLaws.{promise-early, promise-refused, promise-accepted}
-use Rattle.change.proofs.MeetLaws.{allHave, recordsOn, MeetsPage}
-use Rattle.change.proofs.NumberLaws.{NoFreePage, new-of-empty, room-of-empty, number-empty-none}
-use Rattle.change.proofs.NumberLaws.{number-empty-free, number-stored, new-of-page, number-page, alike-leaf}
-use Rattle.change.proofs.NumberLaws.{number-alike, differ-leaf, number-full-none, number-full-free}
-use Rattle.change.proofs.InsertLaws.{TookRecord, GotPage, MeetsFull, DividedLeaf}
-use Rattle.change.proofs.InsertLaws.{showsNext-taken, showsNext-got, showsNext-divided}
-
--- what holds if the store is sound
-abbrev pub OnSound : Store → Type 0 → Type 0
-OnSound before X = (S : List Record) → Sound before S → X
+use Rattle.store.specs.Promises.{keyNumber, insertNumber, AddPromise, InsertPromise}
+use Rattle.store.proofs.InsertNumberLaws.{insertNumber-key, insertNumber-zero, insertNumber-other}
+use Rattle.change.proofs.PromiseLaws.{numbered-lent, lent-of-sound, promise-early}
 
 module _ (before : Store) (values : List ℕ) (content : Content) where
-  abbrev s : Shape
-  s = before .state .shape
+  abbrev f : Fixed
+  f = fixedOf (before .state)
 
-  abbrev r : Record
-  r = recordFor s values content
+  -- 3, then 11
+  abbrev others : List Condition
+  others = keyConditions (f .shape) values ++ payloadConditions content
 
-  abbrev call : Call
-  call = insertCall values content
+  -- on a sound store the early number is the model's
+  model-number : (S : List Record) → Sound before S → (n : ℕ) → insertNumber before values content ≡ suc n
+      → numberFor f S (insertCall values content) ≡ suc n
+  unfolding insertNumber numberFor lentConditions shapeConditions
+  model-number S sound n e =
+      firstNumber-first others (addConditions f S (recordFor (f .shape) values content)) n
+      (sym (firstNumber-rest (lentConditions before) others (numbered-lent before) (lent-of-sound before S sound)) ∙ e)
 
-  -- those after the early ones
-  abbrev numbers : List ℕ
-  numbers = 4 ∷ 6 ∷ 7 ∷ 9 ∷ []
+  early : (n : ℕ) → insertNumber before values content ≡ suc n
+      → InsertPromise before values content (refused (suc n)) before
+  unfolding outcome replyTo next setAfter
+  early n e =
+      promise-early false values (insertNumber before values content) (4 ∷ 6 ∷ 7 ∷ 9 ∷ [])
+      (λ S. numberFor f S (insertCall values content))
+      (λ S. withRecord (f .shape) (recordFor (f .shape) values content) S) before n
+      (λ S sound. model-number S sound n e) e
 
+  -- refused with 1, 2 or 3
   pub insert-early : (n : ℕ) → keyNumber before values ≡ suc n
       → InsertPromise before values content (refused (suc n)) before
-  insert-early n e =
-      promise-early call values (keyNumber before values) numbers before n
-      (λ S sound. let k = keyNumber-suc before values S sound n e in
-      numberFor-insert-out (fixedOf (before .state)) S values content (k .0) ∙ sym (k .1)) e
+  insert-early n e = early n (insertNumber-key before values content n e)
 
-  module _ (early : keyNumber before values ≡ 0) where
-    fits : keyFits s values ≡ true
-    fits = keyFits-of-keyNumber before values early
+  module _ (none : keyNumber before values ≡ 0) where
+    -- with 11
+    pub insert-zero : content .payload ≡ 0 → InsertPromise before values content (refused 11) before
+    insert-zero e = early 10 (insertNumber-zero before values content none e)
 
-    inside : inShape s r ≡ true
-    inside = inShape-recordFor s values content fits
-
-    -- ---- refused
-
-    refuse : (n : ℕ) → ModelNumber call values (keyNumber before values) numbers before (suc n)
-        → Member (suc n) numbers
-        → InsertPromise before values content (refused (suc n)) before
-    refuse n number member =
-        promise-refused call values (keyNumber before values) numbers before n number early member
-
-    -- 9: the store is not sound
-    pub insert-unsound : OnSound before ⊥ → InsertPromise before values content (refused 9) before
-    insert-unsound none = refuse 8 (λ S sound. absurd (none S sound)) (inr (inr (inr (inl refl))))
-
-    -- 4: the key is on the page of its leaf
-    pub insert-stored : (g x : ℕ) → OnSound before (MeetsPage before r g x)
-        → OnSound before (nonEmpty (stored (r .key) (recordsOn before g)) ≡ true)
-        → InsertPromise before values content (refused 4) before
-    insert-stored g x meets found =
-        refuse 3
-        (λ S sound. number-stored before values content fits S sound g x (meets S sound) (found S sound))
-        (inl refl)
-
-    -- 6: that page is full, and all keys on it have the key's bits below L
-    pub insert-alike : (g x : ℕ) → OnSound before (MeetsPage before r g x)
-        → OnSound before (nonEmpty (stored (r .key) (recordsOn before g)) ≡ false)
-        → OnSound before (length (recordsOn before g) ≡ s .capacity)
-        → OnSound before ((t : ℕ) → x ≤ t → t < before .state .limits .depth
-        → allHave (recordBit s) (recordBit s r) (recordsOn before g) t ≡ true)
-        → InsertPromise before values content (refused 6) before
-    insert-alike g x meets absent full alike =
-        refuse 5
-        (λ S sound.
-        number-alike before values content fits S sound g x (meets S sound) (absent S sound) (full S sound)
-        (alike S sound))
-        (inr (inl refl))
-
-    -- 7: the leaf is empty, or full and to be divided, and no page is free
-    pub insert-empty-none : (x : ℕ) → OnSound before (wordOn before (recordBit s r) ≡ wordOf (Empty x))
-        → OnSound before (NoFreePage before) → InsertPromise before values content (refused 7) before
-    insert-empty-none x word none =
-        refuse 6
-        (λ S sound. number-empty-none before values content fits S sound x (word S sound) (none S sound))
-        (inr (inr (inl refl)))
-
-    pub insert-full-none : (g x m : ℕ) → OnSound before (MeetsFull before r g x m) → OnSound before (NoFreePage before)
-        → InsertPromise before values content (refused 7) before
-    insert-full-none g x m met none =
-        refuse 6
-        (λ S sound. let k = met S sound in
-        number-full-none before values content fits S sound g x (k .meets) (k .absent) (k .full) m (k .below)
-        (k .alike) (k .differ) (k .deep) (none S sound))
-        (inr (inr (inl refl)))
-
-    -- ---- accepted
-
-    accept : (T′ : ℕ) (tally′ : Tally) (m′ : Memory) → KeepsPast before m′
-        → KeepsOthers false before values (changedStore before T′ tally′ m′)
-        → ModelNumber call values (keyNumber before values) numbers before 0
-        → ((S : List Record) → Sound before S
-        → ShowsNext before (changedStore before T′ tally′ m′) S (withRecord s r S))
-        → InsertPromise before values content (accepted changed) (changedStore before T′ tally′ m′)
-    unfolding replyTo setAfter
-    accept T′ tally′ m′ past others number shows =
-        promise-accepted call values (keyNumber before values) numbers before T′ tally′ m′ early past others number
-        (λ S. refl) shows
-
-    -- the leaf's page takes the record
-    pub insert-taken : (g x : ℕ) (bytes′ : List ℕ) → OnSound before (TookRecord before r g x bytes′)
-        → KeepsPast before (memory (before .memory .words) bytes′)
-        → KeepsOthers false before values (store (before .state) (before .memory .words) bytes′)
-        → InsertPromise before values content (accepted changed) (store (before .state) (before .memory .words) bytes′)
-    insert-taken g x bytes′ took past others =
-        accept (before .state .deepest) (before .state .tally) (memory (before .memory .words) bytes′) past others
-        (λ S sound. let k = took S sound in
-        number-page before values content fits S sound g x (k .meets) (k .absent) (k .room))
-        (λ S sound. let k = took S sound in
-        showsNext-taken before r inside S sound
-        (new-of-page before values content fits S sound g x (k .meets) (k .absent)) g x bytes′ k past)
-
-    -- an empty leaf gets a page
-    pub insert-got : (g x : ℕ) (words′ bytes′ : List ℕ) → OnSound before (GotPage before r g x words′ bytes′)
-        → KeepsPast before (memory words′ bytes′)
-        → KeepsOthers false before values (store (before .state) words′ bytes′)
-        → InsertPromise before values content (accepted changed) (store (before .state) words′ bytes′)
-    insert-got g x words′ bytes′ got past others =
-        accept (before .state .deepest) (before .state .tally) (memory words′ bytes′) past others
-        (λ S sound. let k = got S sound in
-        number-empty-free before values content fits S sound x (k .word) g (k .within) (k .free))
-        (λ S sound. let k = got S sound in
-        showsNext-got before r inside S sound (new-of-empty before values content fits S sound x (k .word)) g x words′
-        bytes′ k (room-of-empty before values content fits S sound x (k .word)) past)
-
-    -- a full leaf is divided
-    pub insert-divided : (g h x m T′ : ℕ) (tally′ : Tally) (words₁ words′ bytes′ : List ℕ)
-        → OnSound before (DividedLeaf before r g h x m T′ tally′ words₁ words′ bytes′)
-        → KeepsPast before (memory words′ bytes′)
-        → KeepsOthers false before values (changedStore before T′ tally′ (memory words′ bytes′))
-        → InsertPromise before values content (accepted changed) (changedStore before T′ tally′ (memory words′ bytes′))
-    insert-divided g h x m T′ tally′ words₁ words′ bytes′ divided past others =
-        accept T′ tally′ (memory words′ bytes′) past others
-        (λ S sound. let d = divided S sound in let k = d .met in
-        number-full-free before values content fits S sound g x (k .meets) (k .absent) (k .full) m (k .below)
-        (k .alike) (k .differ) (k .deep) h (d .within) (d .free))
-        (λ S sound. let d = divided S sound in let k = d .met in
-        showsNext-divided before r inside S sound
-        (new-of-page before values content fits S sound g x (k .meets) (k .absent)) g h x m T′ tally′ words₁ words′
-        bytes′ d
-        (alike-leaf before values content fits S sound g x (k .meets) (k .absent) (k .full) m (k .below) (k .alike))
-        (differ-leaf before values content fits S sound g x (k .meets) (k .absent) (k .full) m (k .below) (k .alike)
-        (k .differ) (k .deep)) past)
+    -- or the record is added
+    pub insert-added : (content .payload ≡ 0 → ⊥) → (answer : Answer Reply) (after : Store)
+        → AddPromise before values content answer after → InsertPromise before values content answer after
+    insert-added some answer after p =
+        let number = insertNumber-other before values content none some in
+        record {
+          early-refused = λ n e. let z : suc n ≡ 0 = sym e ∙ number in absurd (omega arith);
+          unchanged = p .unchanged;
+          ordinary = λ e. p .ordinary none;
+          shape-kept = p .shape-kept;
+          limits-kept = p .limits-kept;
+          words-length = p .words-length;
+          bytes-length = p .bytes-length;
+          words-past = p .words-past;
+          bytes-past = p .bytes-past;
+          contained = p .contained;
+          answered-as = λ S sound. p .answered-as S sound ∙ sym (outcome-insert-other f S values content some);
+          shown = λ S sound. rw (next-insert-other f S values content some) (p .shown S sound);
+          pages-kept = λ S sound. rw (next-insert-other f S values content some) (p .pages-kept S sound);
+          pages-taken = λ S sound. rw (next-insert-other f S values content some) (p .pages-taken S sound);
+        }

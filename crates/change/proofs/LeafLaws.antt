@@ -24,7 +24,7 @@ use Rattle.region.proofs.FullLeafLaws.{length-half, leafInserted-full}
 use Rattle.record.specs.Record.{Record, recordBit}
 use Rattle.model.specs.Sets.{inShape, isSet, stored, withRecord, divisionOf}
 use Rattle.shape.proofs.ShapeLaws.{capacity-bounds}
-use Rattle.model.proofs.InsertRefusalLaws.{absent-of-new, differing-bounds}
+use Rattle.model.proofs.AddRefusalLaws.{absent-of-new, differing-bounds}
 use Rattle.store.specs.Sound.{tallies}
 use Rattle.store.proofs.AgreeLaws.{sameBits-of-Agree, Agree-of-sameBits}
 use Rattle.change.specs.Divided.{Leaves, dividedTally}

@@ -1,3 +1,4 @@
+pub mod AddPromiseLaws
 pub mod BoundLaws
 pub mod ChainLaws
 pub mod DeleteFoundLaws

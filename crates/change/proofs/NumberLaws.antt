@@ -1,4 +1,4 @@
--- The model's number of an insert, from what the insert meets in a sound store: 4, 6, 7 or none. Assumes nothing.
+-- The model's number of a record that is added, from what it meets in a sound store: 4, 6, 7 or none. Assumes nothing.
 use Prim.Native.Nat.{ℕ, suc, _-_, _+_, _≤_, _<_}
 use mathlib.Core.Path.{_≡_, ap, _∙_}
 use mathlib.Core.Bool.{true, false, cond}
@@ -10,6 +10,7 @@ use borrow.Author.Tests.{le-ltb, lt-ltb, lt-leb}
 use Rattle.lists.specs.Filter.{all, nonEmpty}
 use Rattle.shape.specs.Key.{keyFits}
 use Rattle.shape.specs.declared.Shape.{Shape}
+use Rattle.shape.proofs.ShapeLaws.{capacity-bounds}
 use Rattle.region.specs.Strings.{sameBits}
 use Rattle.region.specs.Division.{Division, nonEmptyLeaves, leafDepth, leafRecords}
 use Rattle.record.specs.declared.Content.{Content}
@@ -17,10 +18,9 @@ use Rattle.record.specs.Record.{Record, recordBit}
 use Rattle.directory_word.specs.Word.{wordOf}
 use Rattle.directory_word.specs.declared.Leaf.the-variants.{Empty}
 use Rattle.model.specs.Sets.{stored}
-use Rattle.model.specs.Model.{insertCall, recordFor, numberFor}
-use Rattle.model.proofs.InsertRefusalLaws.{numberFor-insert-stored, numberFor-insert-room, numberFor-insert-alike}
-use Rattle.shape.proofs.ShapeLaws.{capacity-bounds}
-use Rattle.model.proofs.InsertRefusalLaws.{numberFor-insert-full}
+use Rattle.model.specs.Model.{recordFor}
+use Rattle.model.specs.Add.{addNumber}
+use Rattle.model.proofs.AddRefusalLaws.{addNumber-stored, addNumber-room, addNumber-alike, addNumber-full}
 use Rattle.store.specs.Store.{Store, fixedOf}
 use Rattle.store.specs.Sound.{Sound}
 use Rattle.store.proofs.ShownLaws.{wordOn, divisionOn, shape-of-Sound, leafDepth-le-depth}
@@ -45,7 +45,7 @@ module _ (before : Store) (values : List ℕ) (content : Content) (fits : keyFit
   D = divisionOn before S
 
   abbrev number : ℕ
-  number = numberFor (fixedOf (before .state)) S (insertCall values content)
+  number = addNumber (fixedOf (before .state)) S values content
 
   leafDepth-le-limit : leafDepth (recordBit s r) 0 D ≤ before .state .limits .depth
   leafDepth-le-limit = omega (arith, leafDepth-le-depth before S sound (recordBit s r), sound .depth-within)
@@ -56,7 +56,7 @@ module _ (before : Store) (values : List ℕ) (content : Content) (fits : keyFit
       ≡ cond (ltb (before .state .limits .pages)
       (nonEmptyLeaves D + cond (nonEmpty (leafRecords (recordBit s r) 0 D)) 0 1)) 7 0
   number-room new room =
-      numberFor-insert-room (fixedOf (before .state)) S values content fits new (shape-of-Sound before S sound)
+      addNumber-room (fixedOf (before .state)) S values content fits new (shape-of-Sound before S sound)
       (sound .set) room leafDepth-le-limit
 
   -- ---- the leaf is empty
@@ -96,7 +96,7 @@ module _ (before : Store) (values : List ℕ) (content : Content) (fits : keyFit
   module _ (g x : ℕ) (meets : MeetsPage before r g x) where
     pub number-stored : nonEmpty (stored (r .key) (recordsOn before g)) ≡ true → number ≡ 4
     number-stored e =
-        numberFor-insert-stored (fixedOf (before .state)) S values content fits
+        addNumber-stored (fixedOf (before .state)) S values content fits
         (ap nonEmpty (stored-of-page before r S sound g x meets) ∙ e)
 
     module _ (absent : nonEmpty (stored (r .key) (recordsOn before g)) ≡ false) where
@@ -133,7 +133,7 @@ module _ (before : Store) (values : List ℕ) (content : Content) (fits : keyFit
             → allHave (recordBit s) (recordBit s r) (recordsOn before g) t ≡ true)
             → number ≡ 6
         number-alike k =
-            numberFor-insert-alike (fixedOf (before .state)) S values content fits new-of-page
+            addNumber-alike (fixedOf (before .state)) S values content fits new-of-page
             (shape-of-Sound before S sound) (sound .set) full-leaf leafDepth-le-limit
             (alike-leaf (before .state .limits .depth)
             (omega (arith, leafDepth-le-limit, depth-of-page before r S sound g x meets)) k)
@@ -152,7 +152,7 @@ module _ (before : Store) (values : List ℕ) (content : Content) (fits : keyFit
 
           number-full : number ≡ cond (ltb (before .state .limits .pages) (suc (nonEmptyLeaves D))) 7 0
           number-full =
-              numberFor-insert-full (fixedOf (before .state)) S values content fits new-of-page
+              addNumber-full (fixedOf (before .state)) S values content fits new-of-page
               (shape-of-Sound before S sound) (sound .set) full-leaf m (alike-leaf m h alike) differ-leaf
               ∙ rw (lt-leb (before .state .limits .depth) m deep)
 

@@ -1,61 +1,64 @@
--- Laws of the promise of a call that changes a store: refused early, refused by what it meets, and accepted. For insert
--- and delete alike. Assumes nothing.
+-- Laws of the promise of a call that changes a store: refused early, refused by what it meets, and accepted. For a
+-- record that is added and for delete alike. Assumes nothing.
 use Prim.Native.Nat.{ℕ, suc, _+_, _^_, _≤_}
 use mathlib.Core.Path.{_≡_, refl, sym, ap, _∙_}
-use mathlib.Core.Bool.{Bool, true, false, not, cond, _||_}
-use mathlib.Core.List.{List}
+use mathlib.Core.Bool.{Bool, true, false, not, cond}
+use mathlib.Core.List.{List, []}
 use mathlib.Core.Logic.{inl, inr}
 use native.Mathlib.Omega.{arith}
-use lib.Dec.{ltb}
 use lib.ListN.{length, getD, drop, length-drop}
 use lib.Pow.{pow-mono}
 use lib.Seq.{getD-drop, ext-getD}
-use borrow.Author.Tests.{le-ltb}
+use borrow.Author.Tests.{le-ltb, not-false}
 use Rattle.lists.specs.Members.{Member}
-use Rattle.shape.specs.Refusal.{Answer, accepted, refused, firstNumber}
-use Rattle.shape.specs.Shape.{widthsOf, inBounds, shapeConditions}
+use Rattle.shape.specs.Refusal.{Answer, accepted, refused, answered, firstNumber}
+use Rattle.shape.specs.Shape.{widthsOf, shapeConditions}
 use Rattle.shape.specs.Key.{keyFits, encodings}
 use Rattle.split.specs.Bits.{splitBit}
 use Rattle.record.specs.Record.{Record}
-use Rattle.model.specs.Model.{Call, Reply, changed, replyTo, numberFor, setAfter, outcome, next}
-use Rattle.store.specs.Store.{Store, Memory, fixedOf, pagesSize, lentConditions}
+use Rattle.model.specs.Model.{Reply, changed, keyConditions, ifAccepted}
+use Rattle.model.proofs.ConditionLaws.{firstNumber-zero, numbered, firstNumber-rest, firstNumber-none}
+use Rattle.store.specs.Store.{Store, Memory, pagesSize, lentConditions}
 use Rattle.store.specs.Sound.{Sound}
 use Rattle.store.specs.Contained.{Contained}
-use Rattle.store.specs.Promises.{keyNumber, KeepsPages, TakesPages, joins, ChangePromise}
+use Rattle.store.specs.Promises.{keyNumber, KeepsPages, TakesPages, ChangePromise}
 use Rattle.store.specs.declared.Tally.{Tally}
 use Rattle.store.proofs.ShownLaws.{divisionOn}
 use Rattle.change.proofs.RegionLaws.{changedStore, RegionChanged, keeps-of-region, takes-of-region}
 
--- ---- early numbers of a call with a key
+-- ---- early numbers
 
-module _ (before : Store) (values : List ℕ) where
-  -- 1, 2, 3 or none
-  abbrev number : Bool → Bool → Bool → Bool → ℕ
-  number a b c d = cond (not a) 1 (cond (b || c) 2 (cond (not d) 3 0))
+module _ (before : Store) where
+  pub numbered-lent : numbered (lentConditions before) ≡ true
+  unfolding lentConditions shapeConditions
+  numbered-lent = refl
 
-  -- on a sound store 3 or none
-  pub keyNumber-sound : (S : List Record) → Sound before S
-      → keyNumber before values ≡ cond (not (keyFits (before .state .shape) values)) 3 0
-  unfolding keyNumber lentConditions shapeConditions firstNumber
-  keyNumber-sound S sound =
+  -- neither 1 nor 2 on a sound store
+  pub lent-of-sound : (S : List Record) → Sound before S → firstNumber (lentConditions before) ≡ 0
+  unfolding lentConditions shapeConditions firstNumber
+  lent-of-sound S sound =
       rw (
         sound .shape,
         le-ltb (length (before .memory .words)) (2 ^ before .state .limits .depth) (sound .words-lent),
         le-ltb (length (before .memory .bytes)) (pagesSize (before .state)) (sound .pages-lent),
       )
 
+module _ (before : Store) (values : List ℕ) where
+  -- on a sound store 3 or none
+  pub keyNumber-sound : (S : List Record) → Sound before S
+      → keyNumber before values ≡ cond (not (keyFits (before .state .shape) values)) 3 0
+  unfolding keyNumber firstNumber
+  keyNumber-sound S sound =
+      firstNumber-rest (lentConditions before) (keyConditions (before .state .shape) values) (numbered-lent before)
+      (lent-of-sound before S sound)
+
   pub keyFits-of-keyNumber : keyNumber before values ≡ 0 → keyFits (before .state .shape) values ≡ true
-  unfolding keyNumber lentConditions shapeConditions firstNumber
+  unfolding keyNumber
   keyFits-of-keyNumber e =
-      go (inBounds (before .state .shape)) (ltb (length (before .memory .words)) (2 ^ before .state .limits .depth))
-      (ltb (length (before .memory .bytes)) (pagesSize (before .state))) (keyFits (before .state .shape) values) e
-    where
-      go : (a b c d : Bool) → number a b c d ≡ 0 → d ≡ true
-      go a b c true k = refl
-      go true true c false k = absurd (omega arith)
-      go true false true false k = absurd (omega arith)
-      go true false false false k = absurd (omega arith)
-      go false b c false k = absurd (omega arith)
+      let fits = keyFits (before .state .shape) values in
+      let rest = firstNumber-none (lentConditions before) (keyConditions (before .state .shape) values)
+      (numbered-lent before) e .1 in
+      not-false fits (firstNumber-zero 2 (not fits) [] rest .0)
 
   -- the number 3, where there is one
   pub keyNumber-suc : (S : List Record) → Sound before S → (n : ℕ) → keyNumber before values ≡ suc n
@@ -91,8 +94,8 @@ pub record KeepsPast (before : Store) (m′ : Memory) : Type 0 where
 
 -- words and pages outside the key's leaf and the leaves joined with it, if the call joins any, on any store too
 abbrev pub KeepsOthers : Bool → Store → List ℕ → Store → Type 0
-KeepsOthers joining before values after =
-    Contained joining before after
+KeepsOthers joins before values after =
+    Contained joins before after
     (splitBit (widthsOf (before .state .shape)) (encodings (before .state .shape) values))
 
 -- ---- a sound store after an accepted call
@@ -114,23 +117,28 @@ showsNext-of-region before S S′ T′ tally′ m′ p₀ x sound change after =
 
 -- ---- the promise
 
-module _ (c : Call) (values : List ℕ) (early : ℕ) (numbers : List ℕ) (before : Store) where
+-- `number S` is the model's number, `set S` its set after an accepted call
+module _ (joins : Bool) (values : List ℕ) (early : ℕ) (numbers : List ℕ) (number : List Record → ℕ)
+    (set : List Record → List Record) (before : Store) where
+  abbrev pub Promise : Answer Reply → Store → Type 0
+  Promise answer after =
+      ChangePromise joins values early numbers (λ S. answered (number S) changed)
+      (λ S. ifAccepted (number S) (set S) S) before answer after
+
   -- on a sound store it is the model's number
   abbrev pub ModelNumber : ℕ → Type 0
-  ModelNumber n = (S : List Record) → Sound before S → numberFor (fixedOf (before .state)) S c ≡ n
+  ModelNumber n = (S : List Record) → Sound before S → number S ≡ n
 
   module _ (n : ℕ) (same : ModelNumber (suc n)) where
     answer-refused : (S : List Record) → Sound before S
-        → _≡_ {A = Answer Reply} (refused (suc n)) (outcome (fixedOf (before .state)) S c .answer)
-    unfolding outcome
+        → _≡_ {A = Answer Reply} (refused (suc n)) (answered (number S) changed)
     answer-refused S sound = rw (same S sound)
 
-    next-refused : (S : List Record) → Sound before S → next (fixedOf (before .state)) S c ≡ S
-    unfolding next
+    next-refused : (S : List Record) → Sound before S → ifAccepted (number S) (set S) S ≡ S
     next-refused S sound = rw (same S sound)
 
     promise-unchanged : ((k : ℕ) → early ≡ suc k → _≡_ {A = Answer Reply} (refused (suc n)) (refused (suc k)))
-        → (early ≡ 0 → Member (suc n) numbers) → ChangePromise c values early numbers before (refused (suc n)) before
+        → (early ≡ 0 → Member (suc n) numbers) → Promise (refused (suc n)) before
     promise-unchanged first later =
         record {
           early-refused = first;
@@ -149,25 +157,21 @@ module _ (c : Call) (values : List ℕ) (early : ℕ) (numbers : List ℕ) (befo
           pages-taken = λ S sound. rw (next-refused S sound) (λ p g x l d. inl d);
         }
 
-    pub promise-early : early ≡ suc n → ChangePromise c values early numbers before (refused (suc n)) before
+    pub promise-early : early ≡ suc n → Promise (refused (suc n)) before
     promise-early e =
         promise-unchanged (λ k d. ap refused (sym e ∙ d))
         (λ d. let z : suc n ≡ 0 = sym e ∙ d in absurd (omega arith))
 
-    pub promise-refused : early ≡ 0 → Member (suc n) numbers
-        → ChangePromise c values early numbers before (refused (suc n)) before
+    pub promise-refused : early ≡ 0 → Member (suc n) numbers → Promise (refused (suc n)) before
     promise-refused e member =
         promise-unchanged (λ k d. let z : suc k ≡ 0 = sym d ∙ e in absurd (omega arith)) (λ d. member)
 
   -- on a sound store the call is accepted, and its set shown
   pub promise-accepted : (T′ : ℕ) (tally′ : Tally) (m′ : Memory) → early ≡ 0 → KeepsPast before m′
-      → KeepsOthers (joins c) before values (changedStore before T′ tally′ m′) → ModelNumber 0
-      → ((S : List Record) → replyTo (fixedOf (before .state)) S c ≡ changed)
-      → ((S : List Record) → Sound before S
-      → ShowsNext before (changedStore before T′ tally′ m′) S (setAfter (fixedOf (before .state)) S c))
-      → ChangePromise c values early numbers before (accepted changed) (changedStore before T′ tally′ m′)
-  unfolding outcome next
-  promise-accepted T′ tally′ m′ e past others same reply shows =
+      → KeepsOthers joins before values (changedStore before T′ tally′ m′) → ModelNumber 0
+      → ((S : List Record) → Sound before S → ShowsNext before (changedStore before T′ tally′ m′) S (set S))
+      → Promise (accepted changed) (changedStore before T′ tally′ m′)
+  promise-accepted T′ tally′ m′ e past others same shows =
       record {
         early-refused = λ k d. let z : suc k ≡ 0 = sym d ∙ e in absurd (omega arith);
         unchanged = λ k d. let z : _≡_ {A = ℕ} 0 1 = cc in absurd (omega arith);
@@ -186,9 +190,8 @@ module _ (c : Call) (values : List ℕ) (early : ℕ) (numbers : List ℕ) (befo
       }
     where
       answer : (S : List Record) → Sound before S
-          → _≡_ {A = Answer Reply} (accepted changed) (outcome (fixedOf (before .state)) S c .answer)
-      answer S sound = rw (same S sound, reply S)
+          → _≡_ {A = Answer Reply} (accepted changed) (answered (number S) changed)
+      answer S sound = rw (same S sound)
 
-      set-after : (S : List Record) → Sound before S
-          → next (fixedOf (before .state)) S c ≡ setAfter (fixedOf (before .state)) S c
+      set-after : (S : List Record) → Sound before S → ifAccepted (number S) (set S) S ≡ set S
       set-after S sound = rw (same S sound)

@@ -20,7 +20,7 @@ use Rattle.directory_word.specs.declared.Leaf.the-variants.{Empty, Page}
 use Rattle.directory_word.proofs.WordLaws.{wordOf-one-to-one, wordOf-apart}
 use Rattle.model.specs.Sets.{inShape, stored, withRecord}
 use Rattle.model.proofs.SetLaws.{isSet-withRecord}
-use Rattle.model.proofs.InsertRefusalLaws.{greatestDepth-withRecord-room}
+use Rattle.model.proofs.AddRefusalLaws.{greatestDepth-withRecord-room}
 use Rattle.store.specs.Store.{Store, Memory, memory, wordAt}
 use Rattle.store.specs.Sound.{LeafWord, Sound}
 use Rattle.store.proofs.AgreeLaws.{leafDepth-agree}

@@ -2,6 +2,7 @@
 -- shows the model's next set; so for a list. Assumes nothing.
 use Prim.Native.Nat.{ℕ, zero, suc}
 use mathlib.Core.Path.{_≡_, refl, sym, _∙_}
+use mathlib.Core.Bool.{Bool}
 use mathlib.Core.List.{List, [], _∷_, _++_}
 use lib.ListN.{length}
 use Rattle.shape.specs.Refusal.{Answer, accepted, answered}
@@ -54,8 +55,10 @@ same-set : (f : Fixed) (S : List Record) (c : Call) → setAfter f S c ≡ S →
 unfolding next
 same-set f S c e = rw e (ifAccepted-same (numberFor f S c) S)
 
-same-fixed : {before after : Store} {answer : Answer Reply} {c : Call} {early : ℕ} {values numbers : List ℕ}
-    → ChangePromise c values early numbers before answer after → fixedOf (after .state) ≡ fixedOf (before .state)
+same-fixed : {joins : Bool} {values : List ℕ} {early : ℕ} {numbers : List ℕ} {model : List Record → Answer Reply}
+    {next : List Record → List Record} {before after : Store} {answer : Answer Reply}
+    → ChangePromise joins values early numbers model next before answer after
+    → fixedOf (after .state) ≡ fixedOf (before .state)
 same-fixed p = rw (p .shape-kept, p .limits-kept)
 
 stepped : (before after : Store) (S : List Record) (c : Call) (o : Outcome) → Promised before c o after → Sound before S

@@ -1,5 +1,5 @@
-// The C interface: what Rust or C links. Each call is that of `host_map`, `host_reads` or `host_changes`, with
-// its contract, exported.
+// The C interface: what Rust or C links. Each call is that of `host_map`, `host_reads` or
+// `host_changes`, with its contract, exported.
 use address_formula::Index;
 use host_changes::delete_in_words;
 use host_changes::fresh_in_words;
@@ -51,8 +51,8 @@ pub extern "C" fn mdeh_fresh(
     fresh_in_words(shape, state, dir, pages)
 }
 
-// Adds a record, and divides regions until no leaf has more than b. Refused with 1, 2, 3, 4, 6, 7 or
-// 9, the first that holds in this order; a refused call changes nothing.
+// Adds a record, and divides regions until no leaf has more than b. Refused with 1, 2, 3, 11 (a
+// payload of 0), 4, 6, 7 or 9, the first that holds in this order; a refused call changes nothing.
 #[no_mangle]
 pub extern "C" fn mdeh_insert(
     state: &mut [u32],
@@ -68,8 +68,8 @@ pub extern "C" fn mdeh_insert(
     insert_in_words(state, dir, pages, key, payload)
 }
 
-// Removes the record of a key, and joins leaves until the set's own leaves stand. Refused with 1, 2, 3,
-// 5 or 9, the first that holds in this order; a refused call changes nothing.
+// Removes the record of a key, and joins leaves until the set's own leaves stand. Refused with 1,
+// 2, 3, 5 or 9, the first that holds in this order; a refused call changes nothing.
 #[no_mangle]
 pub extern "C" fn mdeh_delete(state: &mut [u32], dir: &mut [u32], pages: &mut [u8], key: Key) -> u32
     ensures { λ r. ⌜ LentChangePromise (λ before answer after. DeletePromise

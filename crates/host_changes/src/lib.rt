@@ -1,6 +1,6 @@
-// Fresh and the calls that change a store, for hosts: the state lies in lent words (crate `host_state`), and
-// the answer is a number, 0 for an accepted call. Fewer than 22 state words show no shape, so that
-// insert and delete are refused with 1.
+// Fresh and the calls that change a store, for hosts: the state lies in lent words (crate
+// `host_state`), and the answer is a number, 0 for an accepted call. Fewer than 22 state words show
+// no shape, so that insert and delete are refused with 1.
 use delete::delete;
 use fresh::fresh;
 use host_results::settle;
@@ -34,8 +34,8 @@ pub fn fresh_in_words(shape: Shape, state: &mut [u32], dir: &mut [u32], pages: &
     settle(state, change)
 }
 
-// Adds a record, and divides regions until no leaf has more than b. Refused with 1, 2, 3, 4, 6, 7 or
-// 9, the first that holds in this order; a refused call changes nothing.
+// Adds a record, and divides regions until no leaf has more than b. Refused with 1, 2, 3, 11 (a
+// payload of 0), 4, 6, 7 or 9, the first that holds in this order; a refused call changes nothing.
 pub fn insert_in_words(
     state: &mut [u32],
     dir: &mut [u32],
@@ -52,8 +52,8 @@ pub fn insert_in_words(
     settle(state, inserted)
 }
 
-// Removes the record of a key, and joins leaves until the set's own leaves stand. Refused with 1, 2, 3,
-// 5 or 9, the first that holds in this order; a refused call changes nothing.
+// Removes the record of a key, and joins leaves until the set's own leaves stand. Refused with 1,
+// 2, 3, 5 or 9, the first that holds in this order; a refused call changes nothing.
 pub fn delete_in_words(state: &mut [u32], dir: &mut [u32], pages: &mut [u8], key: Key) -> u32
     ensures { λ r. ⌜ LentChangePromise (λ before answer after. DeletePromise
         (store before (now (dir .entry)) (now (pages .entry))) (key .values) answer

@@ -1,25 +1,19 @@
-// The call Insert: a record joins the store (document 01, "Calls"). A plan is found without a write;
-// then it is carried out by steps that cannot fail.
-use insert_done::divide_leaf;
-use insert_done::give_page;
-use insert_pages::insert_record;
-use insert_plan::plan_insert;
-use insert_planned::Plan;
+// The call Insert: a record joins the store (document 01, "Calls"), unless its payload is 0
+// (document 02, request 2).
+use insert_add::add;
 use record::Content;
-use record::pack_key;
 use refusals::key_number;
 use shape::Key;
 use store::Change;
 use store::Changed;
 use store::State;
-ghost use mathlib.Core.Path.{_≡_};
 ghost use Rattle.store.specs.Answers.{changedAnswer};
-ghost use Rattle.store.specs.Promises.{keyNumber, InsertPromise};
+ghost use Rattle.store.specs.Promises.{InsertPromise};
 ghost use Rattle.store.specs.Store.{store};
 
-// Adds a record; a full leaf is divided until no leaf has more than b. Refused with 1, 2, 3, 4, 6,
-// 7 or 9, the first that holds in this order; a refused call changes nothing. On any store no word
-// and no page of another leaf is lost.
+// Adds a record; a full leaf is divided until no leaf has more than b. Refused with 1, 2, 3, 11 (a
+// payload of 0), 4, 6, 7 or 9, the first that holds in this order; a refused call changes nothing.
+// On any store no word and no page of another leaf is lost.
 pub fn insert(state: State, dir: &mut [u32], pages: &mut [u8], key: Key, content: Content) -> Change
     ensures { λ r. ⌜ InsertPromise (store state (now (dir .entry)) (now (pages .entry))) (key .values) content
         (changedAnswer (r .answer)) (store (r .state) (now (dir .exit)) (now (pages .exit))) ⌝ }
@@ -29,42 +23,9 @@ pub fn insert(state: State, dir: &mut [u32], pages: &mut [u8], key: Key, content
         let answer = Changed::Refused(number);
         return Change { answer, state };
     }
-    add(state, dir, pages, key, content)
-}
-
-// After 1, 2 and 3: the key's leaf is found, and a page for a leaf that newly gets one; then words,
-// tally and pages are changed.
-fn add(state: State, dir: &mut [u32], pages: &mut [u8], key: Key, content: Content) -> Change
-    requires { ⌜ keyNumber (store state (now dir) (now pages)) (key .values) ≡ 0 ⌝ }
-    ensures { λ r. ⌜ InsertPromise (store state (now (dir .entry)) (now (pages .entry))) (key .values) content
-        (changedAnswer (r .answer)) (store (r .state) (now (dir .exit)) (now (pages .exit))) ⌝ }
-{
-    let plan = plan_insert(state, dir, pages, key);
-    match plan {
-        Plan::Refused(n) => {
-            let answer = Changed::Refused(n);
-            return Change { answer, state };
-        }
-        Plan::Take(page, place, count) => {
-            let packed = pack_key(key);
-            let capacity = state.shape.capacity as usize;
-            insert_record(
-                pages,
-                capacity,
-                page as usize,
-                place,
-                count,
-                packed,
-                content,
-            );
-            let answer = Changed::Done;
-            return Change { answer, state };
-        }
-        Plan::Get(page, depth) => {
-            return give_page(state, dir, pages, key, content, page, depth);
-        }
-        Plan::Divide(split, cut, free) => {
-            return divide_leaf(state, dir, pages, key, content, split, cut, free);
-        }
+    if content.payload == 0 {
+        let answer = Changed::Refused(11);
+        return Change { answer, state };
     }
+    add(state, dir, pages, key, content)
 }

@@ -1,5 +1,5 @@
--- Laws of the call insert, one for each plan: what the steps ask holds, and what they leave keeps the promise. Assumes
--- nothing.
+-- Laws of a record that is added, one for each plan: what the steps ask holds, and what they leave keeps the promise.
+-- Assumes nothing.
 use Prim.Native.Nat.{ℕ, _-_, _^_, _≤_, _<_}
 use mathlib.Core.Path.{_≡_, refl, sym, ap, _∙_, subst}
 use mathlib.Core.Bool.{Bool, true, false}
@@ -26,11 +26,11 @@ use Rattle.model.specs.Model.{changed}
 use Rattle.store.specs.Store.{Store, memory, store}
 use Rattle.store.specs.Contained.{Contained}
 use Rattle.directory_word.specs.Word.{depthField}
-use Rattle.store.specs.Promises.{keyNumber, InsertPromise}
+use Rattle.store.specs.Promises.{keyNumber, AddPromise}
 use Rattle.store.specs.declared.State.{State}
 use Rattle.store.proofs.ShownLaws.{wordOn}
 use Rattle.change.proofs.RegionLaws.{changedStore}
-use Rattle.change.proofs.InsertPromiseLaws.{insert-unsound}
+use Rattle.change.proofs.AddPromiseLaws.{add-unsound}
 use Rattle.insert_planned.specs.Planned.{TakePlanned, GetPlanned, DividePlanned}
 use Rattle.insert_planned.specs.declared.Split.{Split}
 use Rattle.insert_cut.specs.declared.Cut.{Cut}
@@ -60,9 +60,9 @@ module _ (before : Store) (values : List ℕ) (content : Content) where
       → wordOn before (splitBit (widthsOf s) values) ≡ word → depthField word ≡ x → (held : Bool)
       → RegionTold (widthsOf s) (before .state .deepest) x (splitBit (widthsOf s) values) word (before .memory .words)
       held
-      → held ≡ false → InsertPromise before values content (refused 9) before
+      → held ≡ false → AddPromise before values content (refused 9) before
   unsound-leaf early x word own depth held told e =
-      insert-unsound before values content early
+      add-unsound before values content early
       (λ S sound. leaf-told (before .state) (before .memory .words) values x word held told e bytes own depth S sound)
 
   module _ (small : content .payload < 2 ^ 32) (key : ℕ) (ek : key ≡ packedKey values) where
@@ -73,11 +73,11 @@ module _ (before : Store) (values : List ℕ) (content : Content) where
       lent-taken = (page-lent before values (taken .asked) g (taken .met .within), taken .place .0, taken .room)
 
       pub by-taken : (bytes′ : List ℕ) → bytes′ ≡ insertedPages b g i n (packedBytes key content) bytes
-          → InsertPromise before values content (accepted changed)
+          → AddPromise before values content (accepted changed)
           (store (before .state) (before .memory .words) bytes′)
       by-taken bytes′ d =
           subst
-          (λ bs. InsertPromise before values content (accepted changed)
+          (λ bs. AddPromise before values content (accepted changed)
           (store (before .state) (before .memory .words) bs))
           (sym (d ∙ ap (λ k. insertedPages b g i n (packedBytes k content) bytes) ek))
           (promise-taken before values content (taken .asked) small g i n taken
@@ -118,7 +118,7 @@ module _ (before : Store) (values : List ℕ) (content : Content) where
       pub unsound-got : (word : ℕ) → word ≡ wordOf (Empty x) → (held : Bool)
           → RegionTold (widthsOf s) (before .state .deepest) x (splitBit (widthsOf s) values) word
           (before .memory .words) held
-          → held ≡ false → InsertPromise before values content (refused 9) before
+          → held ≡ false → AddPromise before values content (refused 9) before
       unsound-got word e =
           unsound-leaf (got .asked .early) x word (got .own ∙ sym e) (ap depthField e ∙ wordOf-depth-empty x)
 
@@ -128,10 +128,10 @@ module _ (before : Store) (values : List ℕ) (content : Content) where
           → held ≡ true → (bytes′ : List ℕ) → bytes′ ≡ insertedPages b g 0 0 (packedBytes key content) bytes
           → (ws : List ℕ) → ws ≡ widthsOf s → (word : ℕ) → word ≡ wordOf (Page g x) → (words′ : List ℕ)
           → Filled ws (before .state .deepest) x (splitBit ws values) word (before .memory .words) words′
-          → InsertPromise before values content (accepted changed) (store (before .state) words′ bytes′)
+          → AddPromise before values content (accepted changed) (store (before .state) words′ bytes′)
       by-got own eo held told h bytes′ d ws ew word e′ words′ f =
           subst
-          (λ bs. InsertPromise before values content (accepted changed) (store (before .state) words′ bs))
+          (λ bs. AddPromise before values content (accepted changed) (store (before .state) words′ bs))
           (sym (d ∙ ap (λ k. insertedPages b g 0 0 (packedBytes k content) bytes) ek))
           (promise-got before values content (got .asked) small g x got words′ filled
           (contained-got before values (packedKey values) content g x got lent-got tested words′ filled _ refl))
@@ -207,7 +207,7 @@ module _ (before : Store) (values : List ℕ) (content : Content) where
       pub unsound-divided : (word : ℕ) → word ≡ wordOf (Page (split .page) (split .depth)) → (held : Bool)
           → RegionTold (widthsOf s) (before .state .deepest) (split .depth) (splitBit (widthsOf s) values) word
           (before .memory .words) held
-          → held ≡ false → InsertPromise before values content (refused 9) before
+          → held ≡ false → AddPromise before values content (refused 9) before
       unsound-divided word e =
           let met = dividing .met .ends-met .met in
           let few : split .page < 2 ^ 16 - 1 = omega (arith, met .within, dividing .asked .pages-lent .few) in
@@ -221,12 +221,12 @@ module _ (before : Store) (values : List ℕ) (content : Content) where
           → bytes′ ≡ dividedPages b (split .page) free cut (packedBytes key content) bytes
           → (after : State) (words′ : List ℕ) → WordsDivided (before .state) values split free (before .memory .words)
           after words′
-          → InsertPromise before values content (accepted changed) (store after words′ bytes′)
+          → AddPromise before values content (accepted changed) (store after words′ bytes′)
       by-divided own eo held told h bytes′ d after words′ w =
-          subst (λ st. InsertPromise before values content (accepted changed) (store st words′ bytes′))
+          subst (λ st. AddPromise before values content (accepted changed) (store st words′ bytes′))
           (sym (w .state))
           (subst
-          (λ bs. InsertPromise before values content (accepted changed)
+          (λ bs. AddPromise before values content (accepted changed)
           (changedStore before (after .deepest) (after .tally) (memory words′ bs)))
           (sym (d ∙ ap (λ k. dividedPages b (split .page) free cut (packedBytes k content) bytes) ek))
           (promise-divided before values content (dividing .asked) small split cut free dividing (after .deepest)

@@ -1,4 +1,4 @@
--- Laws of an insert that divides a full leaf: what was planned and done keeps the call's promise. Assumes nothing.
+-- Laws of an insert that divides a full leaf: what was planned and done keeps the promise of `add`. Assumes nothing.
 use Prim.Native.Nat.{ℕ, suc, _-_, max, _^_, _≤_, _<_}
 use mathlib.Core.Path.{_≡_, sym, subst}
 use mathlib.Core.Bool.{false}
@@ -14,14 +14,14 @@ use Rattle.record.specs.Packed.{packedKey, packedBytes}
 use Rattle.model.specs.Model.{recordFor, changed}
 use Rattle.store.specs.Store.{Store, memory}
 use Rattle.store.specs.Contained.{Contained}
-use Rattle.store.specs.Promises.{InsertPromise}
+use Rattle.store.specs.Promises.{AddPromise}
 use Rattle.store.specs.declared.Tally.{Tally}
 use Rattle.change.specs.Divided.{Deepened, LeavesSet, dividedTally}
 use Rattle.change.proofs.RegionLaws.{changedStore}
 use Rattle.change.proofs.PromiseLaws.{drop-of-past}
 use Rattle.change.proofs.DirectoryLaws.{divided-past, divided-size}
 use Rattle.change.proofs.InsertLaws.{DividedLeaf}
-use Rattle.change.proofs.InsertPromiseLaws.{OnSound, insert-divided}
+use Rattle.change.proofs.AddPromiseLaws.{OnSound, add-divided}
 use Rattle.insert_planned.specs.Found.{InsertAsked}
 use Rattle.insert_planned.specs.Planned.{DividePlanned}
 use Rattle.insert_planned.specs.declared.Split.{Split}
@@ -78,10 +78,10 @@ module _ (before : Store) (values : List ℕ) (content : Content) (a : InsertAsk
 
   pub promise-divided : Contained false before (changedStore before depth′ tally′ (memory words′ after))
       (splitBit (widthsOf s) values)
-      → InsertPromise before values content (accepted changed)
+      → AddPromise before values content (accepted changed)
       (changedStore before depth′ tally′ (memory words′ after))
   promise-divided contained =
-      insert-divided before values content (a .early) (split .page) free (split .depth) (split .step) depth′ tally′
+      add-divided before values content (a .early) (split .page) free (split .depth) (split .step) depth′ tally′
       words₁ words′ after divided
       (record {
         words-length =

@@ -1,5 +1,5 @@
 -- Laws of an insert that a page takes, and of one that gives an empty leaf a page: what was planned and done keeps the
--- call's promise. Assumes nothing.
+-- promise of `add`. Assumes nothing.
 use Prim.Native.Nat.{ℕ, _^_, _<_}
 use mathlib.Core.Path.{_≡_, refl, sym, ap, _∙_, subst}
 use mathlib.Core.Bool.{false}
@@ -28,10 +28,10 @@ use Rattle.model.specs.Model.{recordFor, changed}
 use Rattle.model.specs.Sets.{withRecord}
 use Rattle.store.specs.Store.{Store, memory, store, wordAt}
 use Rattle.store.specs.Contained.{Contained}
-use Rattle.store.specs.Promises.{InsertPromise}
+use Rattle.store.specs.Promises.{AddPromise}
 use Rattle.change.proofs.PromiseLaws.{drop-of-past, KeepsOthers}
 use Rattle.change.proofs.InsertLaws.{TookRecord, GotPage}
-use Rattle.change.proofs.InsertPromiseLaws.{OnSound, insert-taken, insert-got}
+use Rattle.change.proofs.AddPromiseLaws.{OnSound, add-taken, add-got}
 use Rattle.insert_planned.specs.Found.{InsertAsked}
 use Rattle.insert_planned.specs.Planned.{TakePlanned, GetPlanned}
 use Rattle.insert_planned.proofs.MetLaws.{key-recordFor, unpacked-recordFor, recordOf-recordFor}
@@ -116,10 +116,10 @@ module _ (before : Store) (values : List ℕ) (content : Content) (a : InsertAsk
 
     pub promise-taken : Contained false before (store (before .state) (before .memory .words) after)
         (splitBit (widthsOf s) values)
-        → InsertPromise before values content (accepted changed)
+        → AddPromise before values content (accepted changed)
         (store (before .state) (before .memory .words) after)
     promise-taken contained =
-        insert-taken before values content (a .early) g (t .depth) after took
+        add-taken before values content (a .early) g (t .depth) after took
         (record {
           words-length = refl;
           bytes-length =
@@ -169,9 +169,9 @@ module _ (before : Store) (values : List ℕ) (content : Content) (a : InsertAsk
         }
 
     pub promise-got : Contained false before (store (before .state) words′ got-after) (splitBit (widthsOf s) values)
-        → InsertPromise before values content (accepted changed) (store (before .state) words′ got-after)
+        → AddPromise before values content (accepted changed) (store (before .state) words′ got-after)
     promise-got contained =
-        insert-got before values content (a .early) g x words′ got-after got
+        add-got before values content (a .early) g x words′ got-after got
         (record {
           words-length = filled .size;
           bytes-length =

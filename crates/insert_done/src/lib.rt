@@ -1,5 +1,5 @@
-// The plans of an insert that set words, carried out: an empty leaf gets a page, a full one is divided.
-// First the cells of the leaf are tested, so that no word of another leaf is lost.
+// The plans of an insert that set words, carried out: an empty leaf gets a page, a full one is
+// divided. First the cells of the leaf are tested, so that no word of another leaf is lost.
 use change_guard::leaf_whole;
 use directory_fill::fill;
 use directory_word::pack_empty;
@@ -17,12 +17,12 @@ use store::Change;
 use store::Changed;
 use store::State;
 ghost use Rattle.store.specs.Answers.{changedAnswer};
-ghost use Rattle.store.specs.Promises.{InsertPromise};
+ghost use Rattle.store.specs.Promises.{AddPromise};
 ghost use Rattle.store.specs.Store.{store};
 ghost use Rattle.insert_planned.specs.Planned.{GetPlanned, DividePlanned};
 
-// An empty leaf, of a depth, gets a free page with the record. 9 where its cells do not all hold its
-// word.
+// An empty leaf, of a depth, gets a free page with the record. 9 where its cells do not all hold
+// its word.
 pub fn give_page(
     state: State,
     dir: &mut [u32],
@@ -33,7 +33,7 @@ pub fn give_page(
     depth: u32,
 ) -> Change
     requires { ⌜ GetPlanned (store state (now dir) (now pages)) (key .values) page depth ⌝ }
-    ensures { λ r. ⌜ InsertPromise (store state (now (dir .entry)) (now (pages .entry))) (key .values) content
+    ensures { λ r. ⌜ AddPromise (store state (now (dir .entry)) (now (pages .entry))) (key .values) content
         (changedAnswer (r .answer)) (store (r .state) (now (dir .exit)) (now (pages .exit))) ⌝ }
 {
     let values = key.values;
@@ -65,9 +65,9 @@ pub fn give_page(
     Change { answer, state }
 }
 
-// A full leaf is divided at a split step: the directory doubles as needed, the new leaves' words are
-// set, the tally is updated, then a free page takes the records from the cut on, and the record goes
-// into its own half. 9 where the leaf's cells do not all hold its word.
+// A full leaf is divided at a split step: the directory doubles as needed, the new leaves' words
+// are set, the tally is updated, then a free page takes the records from the cut on, and the record
+// goes into its own half. 9 where the leaf's cells do not all hold its word.
 pub fn divide_leaf(
     state: State,
     dir: &mut [u32],
@@ -79,7 +79,7 @@ pub fn divide_leaf(
     free: u32,
 ) -> Change
     requires { ⌜ DividePlanned (store state (now dir) (now pages)) (key .values) split cut free ⌝ }
-    ensures { λ r. ⌜ InsertPromise (store state (now (dir .entry)) (now (pages .entry))) (key .values) content
+    ensures { λ r. ⌜ AddPromise (store state (now (dir .entry)) (now (pages .entry))) (key .values) content
         (changedAnswer (r .answer)) (store (r .state) (now (dir .exit)) (now (pages .exit))) ⌝ }
 {
     let values = key.values;

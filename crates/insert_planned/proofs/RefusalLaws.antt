@@ -1,4 +1,4 @@
--- Laws of a plan up to the page of the key's leaf, one for each way that it ends: what it refuses is what the call
+-- Laws of a plan up to the page of the key's leaf, one for each way that it ends: what it refuses is what `add`
 -- promises, and what it tells else. Assumes nothing.
 use Prim.Native.Nat.{ℕ, _-_, _^_, _≤_, _<_}
 use mathlib.Core.Path.{_≡_, refl, sym, ap, _∙_, subst}
@@ -33,7 +33,7 @@ use Rattle.leaf_word.proofs.HoldLaws.{word-of-sound}
 use Rattle.leaf_word.proofs.PageLaws.{unpackedKey-values, endsBegin-word}
 use Rattle.change.proofs.BoundLaws.{count-bounds}
 use Rattle.change.proofs.NumberLaws.{NoFreePage}
-use Rattle.change.proofs.InsertPromiseLaws.{OnSound, insert-unsound, insert-stored, insert-empty-none}
+use Rattle.change.proofs.AddPromiseLaws.{OnSound, add-unsound, add-stored, add-empty-none}
 use Rattle.insert_planned.specs.Found.{InsertAsked, PageMet}
 use Rattle.insert_planned.specs.Planned.{InsertPlanned, EmptyMet, LeafMet, FullMet}
 use Rattle.insert_planned.specs.declared.Plan.the-variants.{Refused, Take, Get}
@@ -55,7 +55,7 @@ module _ (before : Store) (values : List ℕ) where
   -- ---- limits and word
 
   pub nine-unsound : keyNumber before values ≡ 0 → OnSound before ⊥ → InsertPlanned before values (Refused 9)
-  nine-unsound e none content = insert-unsound before values content e none
+  nine-unsound e none content = add-unsound before values content e none
 
   pub nine-limits : keyNumber before values ≡ 0 → limitsHold (before .state) ≡ false
       → InsertPlanned before values (Refused 9)
@@ -113,7 +113,7 @@ module _ (before : Store) (values : List ℕ) where
 
       pub seven-empty : free ≡ P → InsertPlanned before values (Refused 7)
       seven-empty f content =
-          insert-empty-none before values content (m .asked .early) x (λ S sound. empty-word content)
+          add-empty-none before values content (m .asked .early) x (λ S sound. empty-word content)
           (λ S sound. no-free-page f)
 
       pub get-planned : (free ≡ P → ⊥) → InsertPlanned before values (Get free x)
@@ -177,7 +177,7 @@ module _ (before : Store) (values : List ℕ) where
       four-stored i p content =
           let a = m .asked in
           let there = subst (λ k. Placed (widthsOf s) (unpackedKey k) (page g) n (At i)) (m .key-is) p in
-          insert-stored before values content (a .early) g x
+          add-stored before values content (a .early) g x
           (λ S sound. meets before values content a g x n page-met)
           (λ S sound. stored-met before values content a g x n page-met S sound i there)
 

@@ -24,7 +24,7 @@ use Rattle.tally.specs.Tally.{tallyHolds}
 use Rattle.tally.proofs.CountLaws.{tallyHolds-of-sound}
 use Rattle.change.proofs.MeetLaws.{allHave, recordsOn}
 use Rattle.change.proofs.InsertLaws.{MeetsFull}
-use Rattle.change.proofs.InsertPromiseLaws.{OnSound, insert-unsound, insert-alike, insert-full-none}
+use Rattle.change.proofs.AddPromiseLaws.{OnSound, add-unsound, add-alike, add-full-none}
 use Rattle.insert_cut.specs.Halves.{firstKey, lastKey, HalfMet, Halved}
 use Rattle.insert_planned.specs.Found.{InsertAsked}
 use Rattle.insert_planned.specs.Found.{EndsMet}
@@ -70,7 +70,7 @@ module _ (before : Store) (values : List ℕ) where
   module _ (a : InsertAsked before values) (g x i pair m : ℕ) (e : EndsMet before values g x i pair m) where
     pub nine-ends : pair ≡ 64 → InsertPlanned before values (Refused 9)
     nine-ends l content =
-        insert-unsound before values content (a .early)
+        add-unsound before values content (a .early)
         (λ S sound. ends-differ before values content a g x i pair m e S sound (omega arith))
 
     full : (content : Content) → length (recordsOn before g) ≡ b
@@ -89,7 +89,7 @@ module _ (before : Store) (values : List ℕ) where
 
       pub six-alike : before .state .limits .depth ≤ m → InsertPlanned before values (Refused 6)
       six-alike l content =
-          insert-alike before values content (a .early) g x
+          add-alike before values content (a .early) g x
           (λ S sound. meets before values content a g x b (e .met))
           (λ S sound. absent-met before values content a g x b (e .met) S sound i (e .place))
           (λ S sound. full content)
@@ -97,7 +97,7 @@ module _ (before : Store) (values : List ℕ) where
 
       pub nine-below : m < x → InsertPlanned before values (Refused 9)
       nine-below l content =
-          insert-unsound before values content (a .early)
+          add-unsound before values content (a .early)
           (λ S sound. below-step before values content a g x i pair m e S sound split l)
 
       pub meets-full : x ≤ m → m < before .state .limits .depth → (content : Content)
@@ -131,7 +131,7 @@ module _ (before : Store) (values : List ℕ) where
     pub nine-half : (half : Half) → Halved ws′ page′ b key (split .behind) (split .pair) half → half ≡ Damaged
         → InsertPlanned before values (Refused 9)
     nine-half half h q content =
-        insert-unsound before values content (d .asked .early)
+        add-unsound before values content (d .asked .early)
         (λ S sound.
         let e = met .ends-met in
         let start = firstOne (widthsOf s) (split .pair) (page (split .page)) b 0 in
@@ -155,7 +155,7 @@ module _ (before : Store) (values : List ℕ) where
         (ef : free ≡ freePage b (before .memory .bytes) (before .state .limits .pages) start) where
       pub seven-full : free ≡ before .state .limits .pages → InsertPlanned before values (Refused 7)
       seven-full f content =
-          insert-full-none before values content (d .asked .early) _ _ _
+          add-full-none before values content (d .asked .early) _ _ _
           (meets-full (d .asked) _ _ _ _ _ (met .ends-met) (met .differ) (met .below) (met .deep) content)
           (λ S sound. no-free-page before values free start ef f)
 

@@ -13,7 +13,7 @@ use Rattle.page.specs.Page.{countOf, pageAt}
 use Rattle.directory_word.specs.Word.{wordOf}
 use Rattle.directory_word.specs.declared.Leaf.the-variants.{Empty, Page}
 use Rattle.store.specs.Store.{Store, store, wordAt}
-use Rattle.store.specs.Promises.{InsertPromise}
+use Rattle.store.specs.Promises.{AddPromise}
 use Rattle.store.specs.declared.State.{State}
 use Rattle.leaf_word.specs.Hold.{wordHolds}
 use Rattle.tally.specs.Tally.{tallyHolds}
@@ -79,9 +79,9 @@ module _ (before : Store) (values : List ℕ) where
     pub free-within : free < before .state .limits .pages
     pub free-none : countOf (page free) ≡ 0
 
-  -- what a plan tells: a refusal is what the call promises, whatever the record holds
+  -- what a plan tells: a refusal is what `add` promises, whatever the record holds
   abbrev pub InsertPlanned : Plan → Type 0
-  InsertPlanned (Refused n) = (content : Content) → InsertPromise before values content (refused n) before
+  InsertPlanned (Refused n) = (content : Content) → AddPromise before values content (refused n) before
   InsertPlanned (Take g i n) = TakePlanned g i n
   InsertPlanned (Get g x) = GetPlanned g x
   InsertPlanned (Divide split cut free) = DividePlanned split cut free

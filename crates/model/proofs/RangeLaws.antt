@@ -24,7 +24,8 @@ use Rattle.model.specs.Model.{Fixed, Call, queryCall, rangeCall, queryCo
 use Rattle.model.specs.Model.{listed, writtenFor, outputFor, matching, inside, replyTo, outputOf, outputAfter}
 use Rattle.model.specs.Model.{outputBefore, ifAccepted, Outcome, outcome}
 use Rattle.model.specs.Ranges.{SetRanges, wholeInterval}
-use Rattle.model.proofs.SetLaws.{sorted-of-isSet, inShape-of-isSet, isSet-of-parts, firstNumber-zero}
+use Rattle.model.proofs.ConditionLaws.{firstNumber-zero}
+use Rattle.model.proofs.SetLaws.{sorted-of-isSet, inShape-of-isSet, isSet-of-parts}
 use Rattle.model.proofs.PointLaws.{namesUnused-pointRange, rangeFits-pointRange, rangeRises-pointRange}
 use Rattle.model.proofs.PointLaws.{inBox-pointRange, rangeReadsOf-pointRange}
 use Rattle.model.proofs.WholeLaws.{namesUnused-whole, rangeFits-whole, rangeRises-whole, filter-whole}

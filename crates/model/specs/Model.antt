@@ -1,10 +1,10 @@
--- The plain model of demand 3 (document 01, "The plain model of demand 3"; document 02, request 1): calls, their
+-- The plain model of demand 3 (document 01, "The plain model of demand 3"; document 02, requests 1 and 2): calls, their
 -- refusals, answers and the set after them. It takes nothing from a state, words, pages or answers. Assumes nothing.
 use Prim.Native.Nat.{ℕ, zero, suc, _*_, _/_, min}
 use mathlib.Core.Bool.{not}
 use mathlib.Core.List.{List, [], _∷_, _++_}
 use mathlib.Core.Option.{Option}
-use lib.Dec.{leb, ltb}
+use lib.Dec.{leb, ltb, eqb}
 use lib.ListN.{length, take, drop}
 use Rattle.lists.specs.Filter.{filter, nonEmpty}
 use Rattle.shape.specs.Refusal.{Condition, Answer, answered, refusal, firstNumber}
@@ -68,17 +68,25 @@ abbrev pub rangeConditions : Shape → List (Option Interval) → List Condition
 rangeConditions s r =
     refusal 8 (namesUnused s r) ∷ refusal 3 (not (rangeFits s r)) ∷ refusal 10 (not (rangeRises s r)) ∷ []
 
+-- 11 "payload 0 on insert, after 3 and before 4"
+abbrev pub payloadConditions : Content → List Condition
+payloadConditions content = refusal 11 (eqb (content .payload) 0) ∷ []
+
 module _ (f : Fixed) (S : List Record) where
   -- 4 "key stored already", 6 "b stored keys share their first L split bits with it", 7 "the new set has more than P
   -- non-empty leaves"
-  abbrev pub insertConditions : List ℕ → Content → List Condition
-  insertConditions values content =
-      let r = recordFor (f .shape) values content in
-      keyConditions (f .shape) values
-      ++ refusal 4 (nonEmpty (stored (r .key) S))
+  abbrev pub addConditions : Record → List Condition
+  addConditions r =
+      refusal 4 (nonEmpty (stored (r .key) S))
       ∷ refusal 6 (leb (f .shape .capacity) (length (sharing (f .shape) (f .depthLimit) r S)))
       ∷ refusal 7 (ltb (f .pageLimit) (nonEmptyLeaves (divisionOf (f .shape) (withRecord (f .shape) r S))))
       ∷ []
+
+  -- 3, 11, 4, 6, 7
+  abbrev pub insertConditions : List ℕ → Content → List Condition
+  insertConditions values content =
+      keyConditions (f .shape) values ++ payloadConditions content
+      ++ addConditions (recordFor (f .shape) values content)
 
   -- 5 "key absent"
   abbrev pub storedConditions : List ℕ → List Condition

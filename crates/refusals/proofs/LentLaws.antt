@@ -13,7 +13,7 @@ use Rattle.shape.specs.Key.{keyFits}
 use Rattle.shape.proofs.RefusalLaws.{firstNumber-shape, firstNumber-shape-out}
 use Rattle.shape.proofs.ShapeLaws.{shapeNumber-true}
 use Rattle.model.specs.Model.{keyConditions}
-use Rattle.model.proofs.SetLaws.{firstNumber-zero}
+use Rattle.model.proofs.ConditionLaws.{firstNumber-zero}
 use Rattle.store.specs.Store.{store, lentConditions, pagesSize}
 use Rattle.store.specs.Promises.{lentNumber, keyNumber}
 use Rattle.store.specs.declared.State.{State}

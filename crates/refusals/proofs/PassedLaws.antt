@@ -8,7 +8,7 @@ use borrow.Author.Tests.{not-false}
 use Rattle.shape.specs.Shape.{shapeNumber}
 use Rattle.shape.specs.Key.{keyFits}
 use Rattle.model.specs.Model.{keyConditions}
-use Rattle.model.proofs.SetLaws.{firstNumber-zero}
+use Rattle.model.proofs.ConditionLaws.{firstNumber-zero}
 use Rattle.store.specs.Store.{Store, pagesSize, lentConditions}
 use Rattle.store.specs.Promises.{keyNumber}
 use Rattle.refusals.specs.Lengths.{lentBy}

@@ -1,6 +1,6 @@
--- Laws of unlike answers, and of the promise of a call that changes a sound store: T, words and pages after it, by the
--- leaves of the model's set. Assumes nothing.
-use Prim.Native.Nat.{ℕ, _<_}
+-- Laws of unlike answers; of the promise of a call that changes a sound store: T, words and pages after it, by the
+-- leaves of the model's set; and of an insert that is refused early, on any store. Assumes nothing.
+use Prim.Native.Nat.{ℕ, suc, _<_}
 use mathlib.Core.Path.{_≡_}
 use mathlib.Core.Bool.{Bool, true, false, false≢true}
 use mathlib.Core.List.{List}
@@ -13,11 +13,12 @@ use Rattle.record.specs.Record.{Record}
 use Rattle.page.specs.Page.{countOf, pageAt}
 use Rattle.directory_word.specs.Word.{wordOf}
 use Rattle.directory_word.specs.declared.Leaf.the-variants.{Page}
-use Rattle.model.specs.Model.{Call, Reply, found, listed, next}
+use Rattle.model.specs.Model.{Reply, found, listed}
 use Rattle.model.specs.Sets.{divisionOf}
-use Rattle.store.specs.Store.{Store, fixedOf, wordAt}
+use Rattle.store.specs.Store.{Store, wordAt}
 use Rattle.store.specs.Sound.{Sound, Shows}
-use Rattle.store.specs.Promises.{ChangePromise}
+use Rattle.store.specs.Promises.{keyNumber, ChangePromise, InsertPromise}
+use Rattle.store.proofs.InsertNumberLaws.{insertNumber-key, insertNumber-zero}
 
 -- ---- answers
 
@@ -49,10 +50,10 @@ found-reads e = cc
 
 -- ---- the store after a call
 
-module _ {c : Call} {early : ℕ} {values numbers : List ℕ} {before after : Store} {answer : Answer Reply}
-    (S : List Record) (p : ChangePromise c values early numbers before answer after) (sound : Sound before S)
-    (D : Division Record)
-    (leaves : divisionOf (before .state .shape) (next (fixedOf (before .state)) S c) ≡ D) where
+module _ {joins : Bool} {early : ℕ} {values numbers : List ℕ} {model : List Record → Answer Reply}
+    {next : List Record → List Record} {before after : Store} {answer : Answer Reply} (S : List Record)
+    (p : ChangePromise joins values early numbers model next before answer after) (sound : Sound before S)
+    (D : Division Record) (leaves : divisionOf (before .state .shape) (next S) ≡ D) where
   pub depth-after : after .state .deepest ≡ greatestDepth D
   depth-after = rw (p .shape-kept, leaves) at (p .shown S sound .deepest)
 
@@ -75,3 +76,18 @@ module _ {c : Call} {early : ℕ} {values numbers : List ℕ} {before after : St
         × (wordAt (before .state .shape) (before .state .deepest) (before .memory .words) q ≡ wordOf (Page g y))
         × (leafDepth q 0 D₀ ≡ leafDepth q 0 D → ⊥)))
     taken-after = rw (depth-after, p .shape-kept, leaves, leaves-before) at (p .pages-taken S sound)
+
+-- ---- the early number of an insert, on any store
+
+module _ {before after : Store} {values : List ℕ} {answer : Answer Reply} (content : Content)
+    (p : InsertPromise before values content answer after) where
+  -- 1, 2 or 3, whatever the payload
+  pub answer-of-early : (n : ℕ) → keyNumber before values ≡ suc n → answer ≡ refused (suc n)
+  answer-of-early n e = p .early-refused n (insertNumber-key before values content n e)
+
+  module _ (fits : keyNumber before values ≡ 0) (zero : content .payload ≡ 0) where
+    pub answer-of-zero : answer ≡ refused 11
+    answer-of-zero = p .early-refused 10 (insertNumber-zero before values content fits zero)
+
+    pub store-of-zero : after ≡ before
+    store-of-zero = p .unchanged 11 answer-of-zero

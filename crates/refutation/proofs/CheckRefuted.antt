@@ -6,7 +6,7 @@ use mathlib.Core.List.{List, [], _∷_}
 use mathlib.Core.Logic.{⊎-elim}
 use native.Mathlib.Omega.{arith}
 use lib.ListN.{getD}
-use Rattle.shape.specs.Refusal.{accepted, refused, firstNumber}
+use Rattle.shape.specs.Refusal.{Answer, accepted, refused, firstNumber}
 use Rattle.shape.specs.Shape.{inBounds, shapeConditions}
 use Rattle.region.specs.Strings.{emptyString}
 use Rattle.region.specs.Division.{Division, leaf, divided, greatestDepth}
@@ -60,7 +60,7 @@ pageNotFree-unsound S h =
 
 -- ---- "a check that always says yes" (review, 5)
 
-same-verdict : {β γ : Bool} → accepted β ≡ accepted γ → β ≡ γ
+pub same-verdict : {β γ : Bool} → accepted β ≡ accepted γ → β ≡ γ
 same-verdict e = cc
 
 yes-to-unsound : (store : Store) → lentNumber store ≡ 0 → ((S : List Record) → Sound store S → ⊥)
@@ -85,11 +85,14 @@ yes-to-page = yes-to-unsound pageNotFree refl pageNotFree-unsound
 
 -- ---- "says yes exactly for a sound store and otherwise no; it never gives 9"
 
+pub yes-of-sound : (store : Store) (S : List Record) → lentNumber store ≡ 0 → Sound store S
+    → (answer : Answer Bool) → CheckPromise store answer → answer ≡ accepted true
+yes-of-sound store S e sound answer p = ⊎-elim (λ yes. yes .0) (λ no. absurd (no .1 S sound)) (p .verdict e)
+
 -- a check that says no to a sound store
 pub no-to-sound : CheckPromise noRecord (accepted false) → ⊥
 unfolding lentNumber lentConditions shapeConditions inBounds firstNumber
-no-to-sound p =
-    ⊎-elim (λ yes. false≢true (same-verdict (yes .0))) (λ unsound. unsound .1 [] noRecord-sound) (p .verdict refl)
+no-to-sound p = false≢true (same-verdict (yes-of-sound noRecord [] refl noRecord-sound (accepted false) p))
 
 -- a check that gives 9, on any store
 pub gives-nine : (store : Store) → lentNumber store ≡ 0 → CheckPromise store (refused 9) → ⊥

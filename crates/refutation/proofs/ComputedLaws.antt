@@ -1,7 +1,7 @@
 -- What the model answers on the small stores and how it divides the sets after, computed from the definitions.
 -- Assumes nothing.
 use Prim.Native.Nat.{ℕ, min, _/_}
-use mathlib.Core.Path.{_≡_, refl}
+use mathlib.Core.Path.{_≡_, refl, ap}
 use mathlib.Core.Bool.{Bool, true, false}
 use mathlib.Core.List.{List, [], _∷_, _++_}
 use lib.ListN.{length, getD, replicate}
@@ -16,12 +16,15 @@ use Rattle.cell.specs.Cell.{sumBits, cell, cellAddress}
 use Rattle.region.specs.Strings.{emptyString, listBit}
 use Rattle.region.specs.Division.{leaf, divided}
 use Rattle.record.specs.declared.Content.{Content}
-use Rattle.record.specs.Record.{matches}
+use Rattle.record.specs.Record.{Record, matches}
 use Rattle.record.specs.Bytes.{recordSize, recordBytes}
 use Rattle.model.specs.Model.{insertCall, deleteCall, lookupCall, queryCall, changed, found, listed, numberFor, replyTo}
 use Rattle.model.specs.Model.{setAfter, outputOf, outputAfter, outcome, next}
+use Rattle.model.specs.Add.{addNumber, addAnswer, addNext}
 use Rattle.model.specs.Sets.{divisionOf, queryBits, readsOf, givenDepths, readsBound}
-use Rattle.store.specs.Store.{wordAt}
+use Rattle.model.proofs.InsertLaws.{outcome-insert-other, next-insert-other}
+use Rattle.store.specs.Store.{Store, fixedOf, wordAt, lentConditions}
+use Rattle.store.specs.Promises.{keyNumber}
 use Rattle.table.specs.Table.{twoTwo, key}
 use Rattle.refutation.specs.Stores.{allFree, givenFirst, givenSecond, outcomeOn, leavesAfter, recordAt, noRecord}
 use Rattle.refutation.specs.Stores.{oneRecord, setOfOne, twoRecords, setOfTwo, threeRecords, setOfThree}
@@ -43,6 +46,28 @@ leaves-of-three = refl
 
 -- ---- calls
 
+-- keys that neither 1 nor 2 nor 3 refuses
+pub record Fitting : Type 0 where
+  pub first : keyNumber noRecord (key 0 0) ≡ 0
+  pub first-again : keyNumber oneRecord (key 0 0) ≡ 0
+  pub second : keyNumber oneRecord (key 0 1) ≡ 0
+  pub third : keyNumber twoRecords (key 2 1) ≡ 0
+  pub fourth : keyNumber (threeRecords 3) (key 2 1) ≡ 0
+  pub fourth-full : keyNumber (threeRecords 2) (key 2 1) ≡ 0
+
+pub fitting : Fitting
+unfolding firstNumber inBounds shapeConditions keyFits recordBytes lentConditions keyNumber
+fitting =
+    record {
+      first = refl;
+      first-again = refl;
+      second = refl;
+      third = refl;
+      fourth = refl;
+      fourth-full = refl;
+    }
+
+-- inserts of any payload but 0
 pub record Inserts (content : Content) : Type 0 where
   -- (0,0) where there is no record
   pub first-answer : outcomeOn noRecord [] (insertCall (key 0 0) content) .answer ≡ accepted changed
@@ -67,20 +92,27 @@ pub record Inserts (content : Content) : Type 0 where
   -- with two pages
   pub fourth-refused : outcomeOn (threeRecords 2) setOfThree (insertCall (key 2 1) content) .answer ≡ refused 7
 
-pub inserts : (content : Content) → Inserts content
-unfolding
-    firstNumber inBounds shapeConditions widthsOf keyFits encodings namesUnused queryFits
-    stepsBelow steps step stepNumber stepsOf attributeDepth splitBit matches recordBytes
-    numberFor replyTo setAfter outputOf outputAfter outcome next divisionOf queryBits readsOf
-inserts content =
+pub inserts : (content : Content) → (content .payload ≡ 0 → ⊥) → Inserts content
+unfolding firstNumber widthsOf keyFits encodings stepsBelow steps step splitBit addNumber divisionOf
+inserts content some =
     record {
-      first-answer = refl;
-      first-leaves = refl;
-      second-leaves = refl;
-      third-leaves = refl;
-      fourth-leaves = refl;
-      fourth-refused = refl;
+      first-answer = answer noRecord [] (key 0 0);
+      first-leaves = leaves noRecord [] (key 0 0);
+      second-leaves = leaves oneRecord setOfOne (key 0 1);
+      third-leaves = leaves twoRecords setOfTwo (key 2 1);
+      fourth-leaves = leaves (threeRecords 3) setOfThree (key 2 1);
+      fourth-refused = answer (threeRecords 2) setOfThree (key 2 1);
     }
+  where
+    answer : (store : Store) (S : List Record) (values : List ℕ)
+        → outcomeOn store S (insertCall values content) .answer ≡ addAnswer (fixedOf (store .state)) S values content
+    answer store S values = outcome-insert-other (fixedOf (store .state)) S values content some
+
+    leaves : (store : Store) (S : List Record) (values : List ℕ)
+        → leavesAfter store S (insertCall values content)
+        ≡ divisionOf (store .state .shape) (addNext (fixedOf (store .state)) S values content)
+    leaves store S values =
+        ap (divisionOf (store .state .shape)) (next-insert-other (fixedOf (store .state)) S values content some)
 
 pub record Deletes : Type 0 where
   -- of (0,0), where there is no other record

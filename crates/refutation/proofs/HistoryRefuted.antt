@@ -6,17 +6,19 @@ use mathlib.Core.List.{List, [], _∷_, _++_}
 use native.Mathlib.Omega.{arith}
 use lib.ListN.{length, getD}
 use Rattle.shape.specs.Refusal.{Answer, accepted, refused, firstNumber}
-use Rattle.shape.specs.Shape.{inBounds, shapeConditions, widthsOf}
+use Rattle.shape.specs.Shape.{widthsOf}
 use Rattle.shape.specs.Key.{keyFits, encodings, namesUnused, queryFits}
 use Rattle.split.specs.Steps.{stepsBelow, steps, step, stepNumber, stepsOf, attributeDepth}
 use Rattle.split.specs.Bits.{splitBit}
 use Rattle.record.specs.declared.Content.{Content}
 use Rattle.record.specs.Record.{matches}
-use Rattle.record.specs.Bytes.{recordSize, recordBytes}
+use Rattle.record.specs.Bytes.{recordSize}
 use Rattle.model.specs.Limits.{logarithm, pageLimitOf, depthLimitOf, freshShape, fixedBy}
-use Rattle.model.specs.Model.{Call, insertCall, lookupCall, queryCall, Reply, changed, found, listed, Outcome}
-use Rattle.model.specs.Model.{numberFor, replyTo, setAfter, outputOf, outputAfter, outcome, next, run}
+use Rattle.model.specs.Model.{Fixed, Call, insertCall, lookupCall, queryCall, Reply, changed, found, listed, Outcome}
+use Rattle.model.specs.Model.{numberFor, replyTo, setAfter, outcome, next, run}
+use Rattle.model.specs.Add.{addNumber, addNext}
 use Rattle.model.specs.Sets.{divisionOf, queryBits, readsOf}
+use Rattle.model.proofs.InsertLaws.{next-insert-other}
 use Rattle.store.specs.Store.{Store}
 use Rattle.store.specs.Fresh.{FreshPromise}
 use Rattle.history.specs.History.{Run, History}
@@ -26,31 +28,50 @@ use Rattle.refutation.proofs.ChangeLaws.{refused-not-accepted, listed-t
 
 -- ---- what the model answers
 
--- the answer to call i of a list, on the store that a Fresh of 8 words and 3 pages left
-abbrev answerAt : ℕ → List Outcome → Answer Reply
+-- the answer to call i of a list
+abbrev pub answerAt : ℕ → List Outcome → Answer Reply
 answerAt i os = getD os i (record { answer = refused 0; output = [] }) .answer
 
-abbrev modelAnswer : List Call → ℕ → Answer Reply
-modelAnswer calls i = answerAt i (run (fixedBy twoTwo (length (ones .words)) (length (ones .bytes))) [] calls)
+-- on the store that a Fresh of 8 words and 3 pages left
+abbrev fixed : Fixed
+fixed = fixedBy twoTwo (length (ones .words)) (length (ones .bytes))
 
-record ModelAnswers (content : Content) (out : List ℕ) : Type 0 where
-  -- of a key that was inserted just before, and after the table's four
+abbrev modelAnswer : List Call → ℕ → Answer Reply
+modelAnswer calls i = answerAt i (run fixed [] calls)
+
+-- of a lookup and a query after the insert of one record
+record AfterFirst (content : Content) (out : List ℕ) : Type 0 where
   found-first : modelAnswer (insertCall (key 0 0) content ∷ lookupCall (key 0 0) ∷ []) 1 ≡ accepted (found content 1)
-  found-third : modelAnswer (fourInserts ++ lookupCall (key 3 1) ∷ []) 4 ≡ accepted (found (record { payload = 12 }) 1)
-  -- of queries
   listed-first : modelAnswer (insertCall (key 0 0) content ∷ queryCall allFree out ∷ []) 1
       ≡ accepted (listed (min 1 (length out / recordSize)) 1 1)
+
+after-first : (content : Content) → (content .payload ≡ 0 → ⊥) → (out : List ℕ) → AfterFirst content out
+unfolding
+    firstNumber widthsOf keyFits encodings namesUnused queryFits
+    stepsBelow steps step stepNumber stepsOf attributeDepth splitBit matches
+    logarithm pageLimitOf depthLimitOf freshShape fixedBy
+    addNumber numberFor replyTo outcome run divisionOf queryBits readsOf
+after-first content some out =
+    record { found-first = second (lookupCall (key 0 0)); listed-first = second (queryCall allFree out) }
+  where
+    second : (c : Call)
+        → modelAnswer (insertCall (key 0 0) content ∷ c ∷ []) 1
+        ≡ outcome fixed (addNext fixed [] (key 0 0) content) c .answer
+    second c = ap (λ S. outcome fixed S c .answer) (next-insert-other fixed [] (key 0 0) content some)
+
+-- and after the table's four
+record AfterFour (out : List ℕ) : Type 0 where
+  found-third : modelAnswer (fourInserts ++ lookupCall (key 3 1) ∷ []) 4 ≡ accepted (found (record { payload = 12 }) 1)
   listed-four : modelAnswer (fourInserts ++ queryCall (givenSecond 1) out ∷ []) 4
       ≡ accepted (listed (min 2 (length out / recordSize)) 2 3)
 
-model-answers : (content : Content) (out : List ℕ) → ModelAnswers content out
+after-four : (out : List ℕ) → AfterFour out
 unfolding
-    firstNumber inBounds shapeConditions widthsOf keyFits encodings namesUnused queryFits
-    stepsBelow steps step stepNumber stepsOf attributeDepth splitBit matches recordBytes
+    firstNumber widthsOf keyFits encodings namesUnused queryFits
+    stepsBelow steps step stepNumber stepsOf attributeDepth splitBit matches
     logarithm pageLimitOf depthLimitOf freshShape fixedBy
-    numberFor replyTo setAfter outputOf outputAfter outcome next run divisionOf queryBits readsOf
-model-answers content out =
-    record { found-first = refl; found-third = refl; listed-first = refl; listed-four = refl }
+    numberFor replyTo setAfter outcome next run divisionOf queryBits readsOf
+after-four out = record { found-third = refl; listed-four = refl }
 
 -- ---- runs that there are not
 
@@ -61,18 +82,18 @@ module _ (demand : History) (fresh after : Store) (p : FreshPromise twoTwo ones 
 
   module _ (o : Outcome) (output : List ℕ) where
     -- "an insert that accepts and stores nothing" (review, 3): the key that was inserted is absent
-    pub stores-nothing : (content : Content)
+    pub stores-nothing : (content : Content) → (content .payload ≡ 0 → ⊥)
         → Run fresh (insertCall (key 0 0) content ∷ lookupCall (key 0 0) ∷ [])
         (o ∷ record { answer = refused 5; output = output } ∷ []) after → ⊥
-    stores-nothing content r =
-        refused-not-accepted _ 5 (as-model 1 r ∙ model-answers content [] .found-first)
+    stores-nothing content some r =
+        refused-not-accepted _ 5 (as-model 1 r ∙ after-first content some [] .found-first)
 
     -- "a query that returns an empty list each time" (review, 3)
-    pub empty-list : (content : Content) (out : List ℕ) (written n : ℕ)
+    pub empty-list : (content : Content) → (content .payload ≡ 0 → ⊥) → (out : List ℕ) (written n : ℕ)
         → Run fresh (insertCall (key 0 0) content ∷ queryCall allFree out ∷ [])
         (o ∷ record { answer = accepted (listed written 0 n); output = output } ∷ []) after → ⊥
-    empty-list content out written n r =
-        let same : _≡_ {A = ℕ} 0 1 = listed-total (as-model 1 r ∙ model-answers content out .listed-first) in
+    empty-list content some out written n r =
+        let same : _≡_ {A = ℕ} 0 1 = listed-total (as-model 1 r ∙ after-first content some out .listed-first) in
         omega (arith, same)
 
   module _ (a b c d : Outcome) (output : List ℕ) where
@@ -80,14 +101,13 @@ module _ (demand : History) (fresh after : Store) (p : FreshPromise twoTwo ones 
     -- of (3,1) has no page
     pub only-sets-depth : Run fresh (fourInserts ++ lookupCall (key 3 1) ∷ [])
         (a ∷ b ∷ c ∷ d ∷ record { answer = refused 5; output = output } ∷ []) after → ⊥
-    only-sets-depth r =
-        refused-not-accepted _ 5 (as-model 4 r ∙ model-answers (record { payload = 0 }) [] .found-third)
+    only-sets-depth r = refused-not-accepted _ 5 (as-model 4 r ∙ after-four [] .found-third)
 
     module _ (out : List ℕ) (written total n : ℕ)
         (r : Run fresh (fourInserts ++ queryCall (givenSecond 1) out ∷ [])
         (a ∷ b ∷ c ∷ d ∷ record { answer = accepted (listed written total n); output = output } ∷ []) after) where
       reads-three : n ≡ 3
-      reads-three = listed-reads (as-model 4 r ∙ model-answers (record { payload = 0 }) out .listed-four)
+      reads-three = listed-reads (as-model 4 r ∙ after-four out .listed-four)
 
       -- "a query whose reads are the bound, or 1" (review, 4): the bound is 4
       pub reads-bound : n ≡ 4 → ⊥

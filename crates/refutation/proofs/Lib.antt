@@ -11,6 +11,7 @@ pub mod HistoryRefuted
 pub mod InsertRefuted
 pub mod LookupRefuted
 pub mod OneLeafSound
+pub mod PayloadRefuted
 pub mod QueryRefuted
 pub mod RangeRefuted
 pub mod TableStoreLaws

@@ -19,11 +19,12 @@ use Rattle.store.specs.Store.{Memory}
 use Rattle.store.specs.Sound.{Sound, Shows, LeafWord, tallies}
 use Rattle.region.specs.Division.{leaf, greatestDepth}
 use Rattle.region.specs.Strings.{emptyString}
-use Rattle.page.specs.Page.{pageSize, countOf, pageAt}
+use Rattle.page.specs.Page.{pageSize, countOf, recordsOf, pageAt}
 use Rattle.directory_word.specs.Word.{wordOf}
 use Rattle.directory_word.specs.declared.Leaf.the-variants.{Page}
 use Rattle.table.specs.Table.{twoTwo}
-use Rattle.refutation.specs.Stores.{stateWith, noRecord, oneRecord, setOfOne, twoRecords, setOfTwo}
+use Rattle.refutation.specs.Stores.{recordAt, stateWith, noRecord, oneLeaf, oneRecord, setOfOne, zeroStored}
+use Rattle.refutation.specs.Stores.{setOfZero, twoRecords, setOfTwo}
 
 -- ---- numbers
 
@@ -80,30 +81,34 @@ noRecord-sound =
     free (suc (suc zero)) l unused = refl
     free (suc (suc (suc g))) l unused = absurd (omega arith)
 
+-- with records, in page 0
+module _ (r : Record) (rs : List Record) where
+  abbrev bytes : List ℕ
+  bytes = oneLeaf (r ∷ rs) .memory .bytes
+
+  oneLeaf-sound : 3 * pageSize 2 ≤ length bytes → isSet twoTwo (r ∷ rs) ≡ true
+      → divisionOf twoTwo (r ∷ rs) ≡ leaf (r ∷ rs) → recordsOf twoTwo (pageAt 2 bytes 0) ≡ r ∷ rs
+      → countOf (pageAt 2 bytes 1) ≡ 0 → countOf (pageAt 2 bytes 2) ≡ 0 → Sound (oneLeaf (r ∷ rs)) (r ∷ rs)
+  oneLeaf-sound pages set leaves first second third =
+      sound-of 3 0 (1 ∷ 0 ∷ 0 ∷ 0 ∷ []) _ (r ∷ rs)
+      (omega arith) (omega arith) (omega arith) (omega arith) pages set (rw leaves) (rw leaves)
+      (rw leaves (shows-leaf (oneLeaf (r ∷ rs) .memory) (r ∷ rs) (0, omega arith, refl, first) free))
+    where
+      free : (g : ℕ) → g < 3 → ((x : ℕ) → 1 ≡ wordOf (Page g x) → ⊥) → countOf (pageAt 2 bytes g) ≡ 0
+      free zero l unused = absurd (unused 0 refl)
+      free (suc zero) l unused = second
+      free (suc (suc zero)) l unused = third
+      free (suc (suc (suc g))) l unused = absurd (omega arith)
+
 pub oneRecord-sound : Sound oneRecord setOfOne
 unfolding widthsOf stepsBelow steps step splitBit recordBytes recordOf isSet divisionOf
-oneRecord-sound =
-    sound-of 3 0 (1 ∷ 0 ∷ 0 ∷ 0 ∷ []) _ setOfOne
-    (omega arith) (omega arith) (omega arith) (omega arith) (omega arith) refl refl refl
-    (shows-leaf (oneRecord .memory) setOfOne (0, omega arith, refl, refl) free)
-  where
-    free : (g : ℕ) → g < 3 → ((x : ℕ) → 1 ≡ wordOf (Page g x) → ⊥)
-        → countOf (pageAt 2 (oneRecord .memory .bytes) g) ≡ 0
-    free zero l unused = absurd (unused 0 refl)
-    free (suc zero) l unused = refl
-    free (suc (suc zero)) l unused = refl
-    free (suc (suc (suc g))) l unused = absurd (omega arith)
+oneRecord-sound = oneLeaf-sound _ [] (omega arith) refl refl refl refl refl
 
 pub twoRecords-sound : Sound twoRecords setOfTwo
 unfolding widthsOf stepsBelow steps step splitBit recordBytes recordOf isSet divisionOf
-twoRecords-sound =
-    sound-of 3 0 (1 ∷ 0 ∷ 0 ∷ 0 ∷ []) _ setOfTwo
-    (omega arith) (omega arith) (omega arith) (omega arith) (omega arith) refl refl refl
-    (shows-leaf (twoRecords .memory) setOfTwo (0, omega arith, refl, refl) free)
-  where
-    free : (g : ℕ) → g < 3 → ((x : ℕ) → 1 ≡ wordOf (Page g x) → ⊥)
-        → countOf (pageAt 2 (twoRecords .memory .bytes) g) ≡ 0
-    free zero l unused = absurd (unused 0 refl)
-    free (suc zero) l unused = refl
-    free (suc (suc zero)) l unused = refl
-    free (suc (suc (suc g))) l unused = absurd (omega arith)
+twoRecords-sound = oneLeaf-sound _ (recordAt 3 1 12 ∷ []) (omega arith) refl refl refl refl refl
+
+-- "Stores that already hold such payloads stay sound"
+pub zeroStored-sound : Sound zeroStored setOfZero
+unfolding widthsOf stepsBelow steps step splitBit recordBytes recordOf isSet divisionOf
+zeroStored-sound = oneLeaf-sound _ [] (omega arith) refl refl refl refl refl

@@ -34,7 +34,7 @@ use Rattle.refutation.proofs.TwoLeavesSound.{wordOfThree, wordAt-three,
 use Rattle.refutation.proofs.FourLeavesSound.{fourRecords-sound}
 
 -- the model's answer, on a sound store
-model-answer : {store : Store} {S : List Record} {q : List (Option ℕ)} {out out′ : List ℕ} {answer : Answer Reply}
+pub model-answer : {store : Store} {S : List Record} {q : List (Option ℕ)} {out out′ : List ℕ} {answer : Answer Reply}
     → Sound store S → QueryPromise store q out answer out′
     → (answer ≡ outcomeOn store S (queryCall q out) .answer) × (out′ ≡ outcomeOn store S (queryCall q out) .output)
 model-answer {store = store} {S = S} sound p = p .listed-as .answered-as S (soundWhereRead-of-sound store _ S sound)

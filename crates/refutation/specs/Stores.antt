@@ -62,6 +62,13 @@ setOfOne = recordAt 0 0 10 ∷ []
 abbrev pub oneRecord : Store
 oneRecord = oneLeaf setOfOne
 
+-- (0,0) with payload 0
+abbrev pub setOfZero : List Record
+setOfZero = recordAt 0 0 0 ∷ []
+
+abbrev pub zeroStored : Store
+zeroStored = oneLeaf setOfZero
+
 -- (2,0), (3,1)
 abbrev pub setOfTwo : List Record
 setOfTwo = recordAt 2 0 11 ∷ recordAt 3 1 12 ∷ []

@@ -1,5 +1,5 @@
--- What each call on a store promises (document 01, "Calls", "Refused calls", "Lent memory"). Each promise is one
--- definition, which the call's `ensures` and demand 3 both cite. Assumes nothing.
+-- What each call on a store promises (document 01, "Calls", "Refused calls", "Lent memory"; document 02, requests 1 and
+-- 2). Each promise of a call is one definition, which the call's `ensures` and demand 3 both cite. Assumes nothing.
 use Prim.Native.Nat.{ℕ, suc, _-_, _*_, _^_, _≤_, _<_}
 use mathlib.Core.Path.{_≡_}
 use mathlib.Core.Bool.{Bool, true, false}
@@ -24,15 +24,16 @@ use Rattle.range_box.specs.Box.{Box, boxOf, boxMeets}
 use Rattle.page.specs.Page.{countOf, pageAt}
 use Rattle.directory_word.specs.Word.{wordOf}
 use Rattle.directory_word.specs.declared.Leaf.the-variants.{Page}
-use Rattle.model.specs.Model.{Call, insertCall, deleteCall, lookupCall, queryCall, rangeCall}
+use Rattle.model.specs.Model.{insertCall, deleteCall, lookupCall, queryCall, rangeCall}
 use Rattle.model.specs.Model.{Reply, changed, found, listed, Outcome, outcome, next}
-use Rattle.model.specs.Model.{keyConditions, queryConditions, rangeConditions}
+use Rattle.model.specs.Model.{keyConditions, payloadConditions, queryConditions, rangeConditions}
+use Rattle.model.specs.Add.{addAnswer, addNext}
 use Rattle.model.specs.Sets.{divisionOf, queryBits, givenDepths}
 use Rattle.store.specs.Store.{Store, fixedOf, pagesSize, wordAt, lentConditions}
 use Rattle.store.specs.Sound.{Sound}
 use Rattle.store.specs.Contained.{Contained}
 
--- ---- refusals that need no look into words and pages: "after 1, 2, 8 and 3"
+-- ---- refusals that need no look into words and pages: "after 1, 2, 8 and 3", and document 02's 10 and 11
 
 unfoldable pub lentNumber : Store → ℕ
 lentNumber s = firstNumber (lentConditions s)
@@ -40,6 +41,11 @@ lentNumber s = firstNumber (lentConditions s)
 -- 1, 2, 3
 unfoldable pub keyNumber : Store → List ℕ → ℕ
 keyNumber s values = firstNumber (lentConditions s ++ keyConditions (s .state .shape) values)
+
+-- 1, 2, 3, 11
+unfoldable pub insertNumber : Store → List ℕ → Content → ℕ
+insertNumber s values content =
+    firstNumber (lentConditions s ++ keyConditions (s .state .shape) values ++ payloadConditions content)
 
 -- 1, 2, 8, 3
 unfoldable pub queryNumber : Store → List (Option ℕ) → ℕ
@@ -74,19 +80,13 @@ module _ (before after : Store) (D D′ : Division Record) where
 
 -- ---- calls that change the store
 
--- a delete joins leaves, and no other call
-abbrev pub joins : Call → Bool
-joins (insertCall values content) = false
-joins (deleteCall values) = true
-joins (lookupCall values) = false
-joins (queryCall q out) = false
-joins (rangeCall r out) = false
-
--- `values` are those of the call's key, `early` is the number of the refusals above, `numbers` are the others that the
--- call may give. Left free on an accepted change of a store that is not sound: T and the tally; the words of the key's
--- leaf and of the leaves joined with it, with those at the new 2^T and above; the bytes of their pages and of the page
--- newly taken. All else is said by the fields from `shape-kept` to `contained`
-pub record ChangePromise (c : Call) (values : List ℕ) (early : ℕ) (numbers : List ℕ) (before : Store)
+-- `joins` says whether the call may join leaves, `values` are those of its key, `early` is the number of the refusals
+-- above, `numbers` are the others that it may give; `modelAnswer S` and `modelNext S` are what the model answers where
+-- it has the set S, and the set that it has then. Left free on an accepted change of a store that is not sound: T and
+-- the tally; the words of the key's leaf and of the leaves joined with it, with those at the new 2^T and above; the
+-- bytes of their pages and of the page newly taken. All else is said by the fields from `shape-kept` to `contained`
+pub record ChangePromise (joins : Bool) (values : List ℕ) (early : ℕ) (numbers : List ℕ)
+    (modelAnswer : List Record → Answer Reply) (modelNext : List Record → List Record) (before : Store)
     (answer : Answer Reply) (after : Store) : Type 0 where
   pub early-refused : (n : ℕ) → early ≡ suc n → answer ≡ refused (suc n)
   -- "All of them return the number and change nothing."
@@ -107,27 +107,39 @@ pub record ChangePromise (c : Call) (values : List ℕ) (early : ℕ) (numbers :
   -- word that stood there; and the bytes of every page other than the leaf's, the joined ones' and the one newly taken
   -- are as they were. Shut out: an insert that sets a region after a look at one of its cells, a delete that lowers T
   -- by a wrong tally
-  pub contained : Contained (joins c) before after
+  pub contained : Contained joins before after
       (splitBit (widthsOf (before .state .shape)) (encodings (before .state .shape) values))
   -- on a sound store the model's answer, and a store that shows the model's set
-  pub answered-as : (S : List Record) → Sound before S → answer ≡ outcome (fixedOf (before .state)) S c .answer
-  pub shown : (S : List Record) → Sound before S → Sound after (next (fixedOf (before .state)) S c)
+  pub answered-as : (S : List Record) → Sound before S → answer ≡ modelAnswer S
+  pub shown : (S : List Record) → Sound before S → Sound after (modelNext S)
   pub pages-kept : (S : List Record) → Sound before S
-      → KeepsPages before after (divisionOf (before .state .shape) S)
-      (divisionOf (before .state .shape) (next (fixedOf (before .state)) S c))
+      → KeepsPages before after (divisionOf (before .state .shape) S) (divisionOf (before .state .shape) (modelNext S))
   pub pages-taken : (S : List Record) → Sound before S
-      → TakesPages before after (divisionOf (before .state .shape) S)
-      (divisionOf (before .state .shape) (next (fixedOf (before .state)) S c))
+      → TakesPages before after (divisionOf (before .state .shape) S) (divisionOf (before .state .shape) (modelNext S))
 
--- Shut out: "no page" without looking, an insert that stores nothing (answered-as, shown)
+-- a record is added whatever its payload: an insert once 11 is judged, and no call of demand 3. Shut out: an `add` that
+-- judges payloads (ordinary, answered-as)
+abbrev pub AddPromise : Store → List ℕ → Content → Answer Reply → Store → Type 0
+AddPromise before values content answer after =
+    let f = fixedOf (before .state) in
+    ChangePromise false values (keyNumber before values) (4 ∷ 6 ∷ 7 ∷ 9 ∷ []) (λ S. addAnswer f S values content)
+    (λ S. addNext f S values content) before answer after
+
+-- "An insert with payload 0 is to be turned down even when its key is stored already." Shut out: "no page" without
+-- looking, an insert that stores nothing (answered-as, shown); payload 0 accepted, 11 after 4 (early-refused)
 abbrev pub InsertPromise : Store → List ℕ → Content → Answer Reply → Store → Type 0
 InsertPromise before values content answer after =
-    ChangePromise (insertCall values content) values (keyNumber before values) (4 ∷ 6 ∷ 7 ∷ 9 ∷ []) before answer after
+    let f = fixedOf (before .state) in
+    ChangePromise false values (insertNumber before values content) (4 ∷ 6 ∷ 7 ∷ 9 ∷ [])
+    (λ S. outcome f S (insertCall values content) .answer) (λ S. next f S (insertCall values content)) before answer
+    after
 
 -- Shut out: a delete that joins one level only, one that joins with a divided sibling (shown)
 abbrev pub DeletePromise : Store → List ℕ → Answer Reply → Store → Type 0
 DeletePromise before values answer after =
-    ChangePromise (deleteCall values) values (keyNumber before values) (5 ∷ 9 ∷ []) before answer after
+    let f = fixedOf (before .state) in
+    ChangePromise true values (keyNumber before values) (5 ∷ 9 ∷ []) (λ S. outcome f S (deleteCall values) .answer)
+    (λ S. next f S (deleteCall values)) before answer after
 
 -- ---- calls that read
 

@@ -1,5 +1,5 @@
 -- `host_changes::delete_in_words` meets its contract: what `delete` promises, over the words. Assumes nothing.
-use Rattle.host_changes.proofs.ChangeLaws.{delete-not-zero, words-of-done, promise-settled}
+use Rattle.host_changes.proofs.ChangeLaws.{delete-judged, words-of-done, promise-settled}
 use borrow.Author.Needs.{needs}
 use Rattle.host_changes.proofs.delete_in_words.Statement.{statement}
 use Rattle.host_changes.proofs.delete_in_words.Tie as tie
@@ -14,7 +14,7 @@ settle-requires : tie.Need-settle-requires
 settle-requires c κs =
     let call = c .before .before .before .before .before in
     let read = call .before .before .before in
-    words-of-done _ _ _ _ _ _ _ _ _ (read .state-in .ensures) _ (call .delete .ensures)
+    words-of-done (delete-judged _ _ _ _ _) _ _ (read .state-in .ensures) _ (call .delete .ensures)
 
 same-length : tie.Need-same-length
 same-length c = search needs
@@ -29,7 +29,7 @@ returns : tie.Need-returns
 returns c =
     let call = c .before .before .before .before .before .before .before .before in
     let read = call .before .before .before in
-    promise-settled _ _ _ _ _ _ _ _ _ (read .state-in .ensures) _ (call .delete .ensures) delete-not-zero _ _
+    promise-settled (delete-judged _ _ _ _ _) _ _ (read .state-in .ensures) _ (call .delete .ensures) _ _
     (c .before .before .settle .ensures)
 
 pub delete-in-words-spec : {M : Type 1} → statement M

@@ -1,5 +1,5 @@
 -- `host_changes::insert_in_words` meets its contract: what `insert` promises, over the words. Assumes nothing.
-use Rattle.host_changes.proofs.ChangeLaws.{insert-not-zero, words-of-done, promise-settled}
+use Rattle.host_changes.proofs.ChangeLaws.{insert-judged, words-of-done, promise-settled}
 use borrow.Author.Needs.{needs}
 use Rattle.host_changes.proofs.insert_in_words.Statement.{statement}
 use Rattle.host_changes.proofs.insert_in_words.Tie as tie
@@ -14,7 +14,7 @@ settle-requires : tie.Need-settle-requires
 settle-requires c κs =
     let call = c .before .before .before .before .before in
     let read = call .before .before .before in
-    words-of-done _ _ _ _ _ _ _ _ _ (read .state-in .ensures) _ (call .insert .ensures)
+    words-of-done (insert-judged _ _ _ _ _ _) _ _ (read .state-in .ensures) _ (call .insert .ensures)
 
 same-length : tie.Need-same-length
 same-length c = search needs
@@ -29,7 +29,7 @@ returns : tie.Need-returns
 returns c =
     let call = c .before .before .before .before .before .before .before .before in
     let read = call .before .before .before in
-    promise-settled _ _ _ _ _ _ _ _ _ (read .state-in .ensures) _ (call .insert .ensures) insert-not-zero _ _
+    promise-settled (insert-judged _ _ _ _ _ _) _ _ (read .state-in .ensures) _ (call .insert .ensures) _ _
     (c .before .before .settle .ensures)
 
 pub insert-in-words-spec : {M : Type 1} → statement M

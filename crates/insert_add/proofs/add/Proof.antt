@@ -1,4 +1,4 @@
--- `insert::add` meets its contract: a refusal is the plan's, and each plan that is carried out keeps the promise.
+-- `insert_add::add` meets its contract: a refusal is the plan's, and each plan that is carried out keeps the promise.
 -- Assumes nothing.
 use Prim.Native.Nat.{_^_, _<_}
 use mathlib.Core.Path.{_≡_, refl, subst}
@@ -9,8 +9,8 @@ use Rattle.insert_planned.specs.Planned.{InsertPlanned}
 use Rattle.insert_planned.specs.declared.Plan.{Plan}
 use Rattle.insert_planned.proofs.MetLaws.{sixteen}
 use Rattle.insert_done.proofs.CallLaws.{lent-taken, by-taken}
-use Rattle.insert.proofs.add.Statement.{statement}
-use Rattle.insert.proofs.add.Tie as tie
+use Rattle.insert_add.proofs.add.Statement.{statement}
+use Rattle.insert_add.proofs.add.Tie as tie
 
 -- where the function began, and the store as it came
 abbrev start : tie.After-plan-insert → tie.Start
