@@ -36,6 +36,11 @@
  * no, or a call gives 9, the memory was damaged: do not act on it; make a fresh store and insert the event records
  * again.
  *
+ * PAYLOADS. Hosts read a payload of 0 as "no log line", so mdeh_insert refuses it with 11: payloads start at 1. A store
+ * that an earlier version filled may hold payloads of 0. It stays sound, and they are looked up, listed and deleted as
+ * others are; to be inserted into another store, such a record needs another payload. The payload of a refused lookup
+ * is 0 too: its number tells the two apart.
+ *
  * KEEPING. A store is its 22 state words, its directory and its pages, as they are; it has no pointers, and may be
  * copied, moved and written to a file. Words of the directory from 2^T on need not be kept (T is state word 8). To open
  * it again, read the three into slices that are as long as before or longer and ask mdeh_check: number 0 and sound 1.
@@ -98,7 +103,8 @@ enum {
     MDEH_REFUSED_PAGES = 7,     /* insert: the records would need more than P pages */
     MDEH_REFUSED_ATTRIBUTE = 8, /* query, range: an attribute is given that the shape does not have */
     MDEH_REFUSED_UNSOUND = 9,   /* the store is not sound, and the call met it: rebuild it from the event records */
-    MDEH_REFUSED_INTERVAL = 10  /* range: the low end of an interval is above its high end */
+    MDEH_REFUSED_INTERVAL = 10, /* range: the low end of an interval is above its high end */
+    MDEH_REFUSED_PAYLOAD = 11   /* insert: the payload is 0, which hosts read as "no log line" */
 };
 
 /* What records look like. In bounds: 1 to 4 attributes, widths of 1 to 16 bits, a capacity of 1 to 16 records. */
@@ -134,7 +140,7 @@ typedef struct {
 
 typedef struct {
     uint32_t number;
-    uint32_t payload; /* of the key's record */
+    uint32_t payload; /* of the key's record; 0 may be stored (PAYLOADS) */
     uint32_t reads;   /* pages read: 1 */
 } MdehLookupResult;
 
@@ -165,7 +171,8 @@ typedef struct {
 uint32_t mdeh_fresh(MdehShape shape, uint32_t *state, size_t state_words, uint32_t *directory, size_t words,
                     uint8_t *pages, size_t bytes);
 
-/* Adds a record. Refused with 1, 2, 3, 4, 6, 7, 9. */
+/* Adds a record. Refused with 1, 2, 3, 11, 4, 6, 7, 9: 11 for a payload of 0, whatever the directory and pages hold,
+   also where the key is stored already or has no room. */
 uint32_t mdeh_insert(uint32_t *state, size_t state_words, uint32_t *directory, size_t words,
                      uint8_t *pages, size_t bytes, MdehKey key, uint32_t payload);
 
@@ -231,6 +238,7 @@ static inline const char *mdeh_reason(uint32_t number) {
     case MDEH_REFUSED_ATTRIBUTE: return "the query or range gives an attribute that the shape does not have";
     case MDEH_REFUSED_UNSOUND: return "the store is not sound";
     case MDEH_REFUSED_INTERVAL: return "an interval's low end is above its high end";
+    case MDEH_REFUSED_PAYLOAD: return "the payload is 0";
     default: return "no number of this library";
     }
 }

@@ -95,7 +95,7 @@ impl Forms {
         let mut refused = 0;
         while keys.len() < count + sample.deleted() {
             let key = sample.key(random);
-            match plain.insert(key, random.number() as u32) {
+            match plain.insert(key, (random.number() as u32).max(1)) {
                 Ok(()) => keys.push(key),
                 Err(4) => {}
                 Err(_) => refused += 1,

@@ -1,7 +1,10 @@
 #include "edges.h"
 
+#include "layout.h"
 #include "lent.h"
 #include "model.h"
+
+#include <string.h>
 
 /* The layout of what crosses, as the library has it. */
 #define LAID(name, condition) typedef char name[(condition) ? 1 : -1]
@@ -18,8 +21,29 @@ LAID(index_laid, sizeof(MdehIndexResult) == 40 && offsetof(MdehIndexResult, inde
 
 static const MdehShape small = {2, {2, 2, 0, 0}, 2};
 static const MdehKey key = {{2, 1, 0, 0}};
+static const MdehKey keys[4] = {{{0, 0, 0, 0}}, {{2, 0, 0, 0}}, {{3, 1, 0, 0}}, {{2, 1, 0, 0}}};
 static const MdehQuery all = {{0, 0, 0, 0}, {0, 0, 0, 0}};
 static const MdehRange any = {{0, 0, 0, 0}, {0, 0, 0, 0}, {0, 0, 0, 0}};
+
+/* The memory of a store of the shape `small`. */
+typedef struct {
+    uint32_t state[MDEH_STATE_WORDS], directory[8];
+    uint8_t pages[4 * MDEH_PAGE_BYTES(2)];
+} Memory;
+
+#define STORE(memory) LENT(memory, 8, sizeof(memory).pages)
+#define LENT(memory, words, bytes) (memory).state, MDEH_STATE_WORDS, (memory).directory, words, (memory).pages, bytes
+
+/* A store of so many of the keys, with the payloads 10, 11 and so on, whose Fresh is lent so many words and pages. */
+static Memory filled(uint32_t count, size_t words, size_t pages) {
+    Memory memory;
+    uint32_t i;
+    memset(&memory, 0, sizeof memory);
+    HOLDS(mdeh_fresh(small, LENT(memory, words, pages * MDEH_PAGE_BYTES(2))) == MDEH_ACCEPTED);
+    for (i = 0; i < count; i++)
+        HOLDS(mdeh_insert(STORE(memory), keys[i], 10 + i) == MDEH_ACCEPTED);
+    return memory;
+}
 
 void empty_slices(void) {
     uint32_t state[MDEH_STATE_WORDS], directory[8], gone;
@@ -69,25 +93,101 @@ static const struct {
 };
 
 void ranges(void) {
-    static const MdehKey keys[4] = {{{0, 0, 0, 0}}, {{2, 0, 0, 0}}, {{3, 1, 0, 0}}, {{2, 1, 0, 0}}};
     static const uint32_t outputs[6] = {0, 11, 12, 23, 24, 60};
-    uint32_t state[MDEH_STATE_WORDS], directory[8], i, n;
-    uint8_t pages[4 * MDEH_PAGE_BYTES(2)];
+    Memory memory = filled(4, 8, 4);
     uint64_t seed = 1;
-    HOLDS(mdeh_fresh(small, state, MDEH_STATE_WORDS, directory, 8, pages, sizeof pages) == MDEH_ACCEPTED);
-    for (i = 0; i < 4; i++)
-        HOLDS(mdeh_insert(state, MDEH_STATE_WORDS, directory, 8, pages, sizeof pages, keys[i], i) == MDEH_ACCEPTED);
+    uint32_t i, n;
     for (i = 0; i < sizeof ranged / sizeof *ranged; i++)
         for (n = 0; n < 6; n++) {
             uint32_t room = outputs[n] / MDEH_RECORD_BYTES, total = ranged[i].total;
             Lent out = lend_bytes(&seed, outputs[n]);
-            MdehQueryResult found = mdeh_range(state, MDEH_STATE_WORDS, directory, 8, pages, sizeof pages,
-                                               ranged[i].range, bytes_of(&out), out.bytes);
+            MdehQueryResult found = mdeh_range(STORE(memory), ranged[i].range, bytes_of(&out), out.bytes);
             HOLDS(found.number == ranged[i].number && found.total == total && found.reads == ranged[i].reads);
             HOLDS(found.written == (total < room ? total : room));
             HOLDS(unchanged_from(&out, MDEH_RECORD_BYTES * (size_t)found.written));
             take_back(&out);
         }
+}
+
+/* Inserts into stores of some of the keys: the number for a payload of 0, and that for any other. */
+static const struct {
+    uint32_t stored;
+    size_t words, pages;
+    MdehKey key;
+    uint32_t zero, other;
+} inserted[] = {
+    {0, 8, 4, {{2, 1, 0, 0}}, MDEH_REFUSED_PAYLOAD, MDEH_ACCEPTED},
+    {3, 8, 4, {{2, 1, 0, 0}}, MDEH_REFUSED_PAYLOAD, MDEH_ACCEPTED},
+    {4, 8, 4, {{2, 1, 0, 0}}, MDEH_REFUSED_PAYLOAD, MDEH_REFUSED_STORED},
+    {3, 4, 4, {{2, 1, 0, 0}}, MDEH_REFUSED_PAYLOAD, MDEH_REFUSED_DEPTH},
+    {3, 8, 2, {{2, 1, 0, 0}}, MDEH_REFUSED_PAYLOAD, MDEH_REFUSED_PAGES},
+    {4, 8, 4, {{4, 1, 0, 0}}, MDEH_REFUSED_VALUE, MDEH_REFUSED_VALUE},
+    {4, 8, 4, {{2, 1, 0, 1}}, MDEH_REFUSED_VALUE, MDEH_REFUSED_VALUE}, /* an unused value */
+};
+
+/* A payload of 0 on the store as it is, in slices that are too short, with words and pages that are not sound, and with
+   a shape out of bounds: no byte is changed. */
+static void payload_zero(size_t i) {
+    size_t words = inserted[i].words, bytes = inserted[i].pages * MDEH_PAGE_BYTES(2);
+    MdehKey added = inserted[i].key;
+    Memory memory = filled(inserted[i].stored, words, inserted[i].pages), before = memory;
+    HOLDS(mdeh_insert(LENT(memory, words, bytes), added, 0) == inserted[i].zero);
+    HOLDS(mdeh_insert(LENT(memory, words - 1, bytes), added, 0) == MDEH_REFUSED_MEMORY);
+    HOLDS(mdeh_insert(LENT(memory, words, bytes - 1), added, 0) == MDEH_REFUSED_MEMORY);
+    HOLDS(mdeh_insert(memory.state, MDEH_STATE_WORDS - 1, memory.directory, words, memory.pages, bytes, added, 0)
+          == MDEH_REFUSED_SHAPE);
+    HOLDS(memcmp(&memory, &before, sizeof memory) == 0);
+    memset(memory.directory, 0xff, sizeof memory.directory);
+    memset(memory.pages, 0xff, sizeof memory.pages);
+    before = memory;
+    HOLDS(mdeh_insert(LENT(memory, words, bytes), added, 0) == inserted[i].zero);
+    HOLDS(memcmp(&memory, &before, sizeof memory) == 0);
+    memory.state[0] = before.state[0] = 0;
+    HOLDS(mdeh_insert(LENT(memory, words, bytes), added, 0) == MDEH_REFUSED_SHAPE);
+    HOLDS(memcmp(&memory, &before, sizeof memory) == 0);
+}
+
+void payloads(void) {
+    static const uint32_t others[5] = {1, (uint32_t)1 << 8, (uint32_t)1 << 16, (uint32_t)1 << 24, UINT32_MAX};
+    size_t i, n;
+    for (i = 0; i < sizeof inserted / sizeof *inserted; i++) {
+        payload_zero(i);
+        for (n = 0; n < 5; n++) {
+            Memory memory = filled(inserted[i].stored, inserted[i].words, inserted[i].pages);
+            uint32_t number = mdeh_insert(STORE(memory), inserted[i].key, others[n]);
+            HOLDS(number == inserted[i].other);
+            HOLDS(number != MDEH_ACCEPTED || mdeh_lookup(STORE(memory), inserted[i].key).payload == others[n]);
+        }
+    }
+}
+
+/* The list of a store with payloads of 0 has the records of the four keys. */
+static void compare_zeros(MdehQueryResult found, const uint8_t *out) {
+    static const uint32_t listed[4] = {0, 0, 13, 12};
+    size_t i;
+    HOLDS(found.number == MDEH_ACCEPTED && found.written == 4 && found.total == 4 && found.reads == 3);
+    for (i = 0; i < 4; i++)
+        HOLDS(mdeh_record(out, i).payload == listed[i]);
+}
+
+void stored_zero(void) {
+    Memory memory = filled(4, 8, 4);
+    uint8_t out[4 * MDEH_RECORD_BYTES];
+    uint32_t i;
+    for (i = 0; i < 2; i++)
+        memset(memory.pages + layout_record(memory.state, memory.directory, memory.pages, keys[i]) + 8, 0, 4);
+    HOLDS(mdeh_check(STORE(memory)).sound == 1);
+    compare_zeros(mdeh_query(STORE(memory), all, out, sizeof out), out);
+    compare_zeros(mdeh_range(STORE(memory), any, out, sizeof out), out);
+    for (i = 0; i < 4; i++) {
+        MdehLookupResult found = mdeh_lookup(STORE(memory), keys[i]);
+        HOLDS(found.number == MDEH_ACCEPTED && found.payload == (i < 2 ? 0 : 10 + i) && found.reads == 1);
+        HOLDS(mdeh_insert(STORE(memory), keys[i], 0) == MDEH_REFUSED_PAYLOAD);
+        HOLDS(mdeh_insert(STORE(memory), keys[i], 1) == MDEH_REFUSED_STORED);
+        HOLDS(mdeh_delete(STORE(memory), keys[i]) == MDEH_ACCEPTED);
+        HOLDS(mdeh_lookup(STORE(memory), keys[i]).number == MDEH_REFUSED_ABSENT);
+        HOLDS(mdeh_check(STORE(memory)).sound == 1);
+    }
 }
 
 static int same(const MdehIndex *a, const MdehIndex *b) {

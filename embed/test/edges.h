@@ -8,6 +8,12 @@ void empty_slices(void);
 /* Ranges at the ends of what is stored, of the widths, of the output and of the numbers. */
 void ranges(void);
 
+/* Inserts with a payload of 0 and with the payloads next to it, where each other number is due too. */
+void payloads(void);
+
+/* A stored payload of 0, as a store of an earlier version may hold it: checked, looked up, listed, deleted. */
+void stored_zero(void);
+
 /* The address map of all small shapes beside the doubling array. */
 void addresses(void);
 

@@ -16,21 +16,17 @@ static MdehIndex cell_of(const MdehShape *shape, MdehKey key, uint32_t t) {
     return index;
 }
 
-int layout_lookup(const uint32_t *state, const uint32_t *directory, const uint8_t *pages, MdehKey key,
-                  uint32_t *payload) {
+size_t layout_record(const uint32_t *state, const uint32_t *directory, const uint8_t *pages, MdehKey key) {
     MdehShape shape = {state[0], {state[1], state[2], state[3], state[4]}, state[5]};
     uint32_t word = directory[mdeh_address(shape, cell_of(&shape, key, state[8])).address];
-    const uint8_t *page;
-    size_t i;
+    size_t page, i;
     if ((word & 0xffff) == 0)
         return 0;
-    page = pages + ((word & 0xffff) - 1) * MDEH_PAGE_BYTES(shape.capacity);
-    for (i = 0; i < (size_t)(page[0] | page[1] << 8); i++) {
-        MdehRecord record = mdeh_record(page + 2, i);
-        if (memcmp(record.values, key.values, sizeof key.values) == 0) {
-            *payload = record.payload;
-            return 1;
-        }
+    page = ((word & 0xffff) - 1) * MDEH_PAGE_BYTES(shape.capacity);
+    for (i = 0; i < (size_t)(pages[page] | pages[page + 1] << 8); i++) {
+        MdehRecord record = mdeh_record(pages + page + 2, i);
+        if (memcmp(record.values, key.values, sizeof key.values) == 0)
+            return page + 2 + MDEH_RECORD_BYTES * i;
     }
     return 0;
 }

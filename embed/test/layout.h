@@ -4,8 +4,8 @@
 
 #include "../mdeh.h"
 
-/* Whether a key that fits the widths is stored, and its payload. Of the library it takes the address map alone. */
-int layout_lookup(const uint32_t *state, const uint32_t *directory, const uint8_t *pages, MdehKey key,
-                  uint32_t *payload);
+/* The byte of the pages at which the record of a key begins that fits the widths, or 0 for a key that is not stored. Of
+   the library it takes the address map alone. */
+size_t layout_record(const uint32_t *state, const uint32_t *directory, const uint8_t *pages, MdehKey key);
 
 #endif

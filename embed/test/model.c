@@ -141,6 +141,8 @@ uint32_t model_insert(Model *model, MdehKey key, uint32_t payload) {
     Leaf found[MOST_RECORDS];
     if (too_large(&model->shape, key.values))
         return MDEH_REFUSED_VALUE;
+    if (payload == 0)
+        return MDEH_REFUSED_PAYLOAD;
     if (is_stored(model, code))
         return MDEH_REFUSED_STORED;
     if (sharing(model, code) >= model->shape.capacity)

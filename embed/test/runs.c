@@ -1,7 +1,7 @@
 /*
  * Random lists of all calls through the C interface, each answer compared with the plain model's, and calls on the same
- * store damaged. Guards stand round every lent slice. A failure prints what does not hold and the seed of its list;
- * given as an argument, that seed runs its list alone.
+ * store damaged. Guards stand round every lent slice. Every number has to come. A failure prints what does not hold and
+ * the seed of its list; given as an argument, that seed runs its list alone.
  */
 #include "edges.h"
 #include "layout.h"
@@ -18,6 +18,9 @@ typedef struct {
     Model model;
     uint64_t seed;
 } Run;
+
+/* How often each number came. */
+static unsigned long came[MDEH_REFUSED_PAYLOAD + 1];
 
 /* The three slices of a store. */
 #define STORE(run) SLICE((run)->state), SLICE((run)->directory), bytes_of(&(run)->pages), (run)->pages.bytes
@@ -76,6 +79,11 @@ static MdehKey random_key(Run *run) {
     return key;
 }
 
+/* Any payload, one in eight 0. */
+static uint32_t random_payload(Run *run) {
+    return below(&run->seed, 8) == 0 ? 0 : (uint32_t)number64(&run->seed);
+}
+
 /* Some attributes of a key are given, in any number but 0, and the others have any value. */
 static MdehQuery random_query(Run *run) {
     MdehKey key = random_key(run);
@@ -118,6 +126,7 @@ static size_t lent_pages(const Run *run) {
 /* After a call that lists records: its counts, and its output whole, whose copy the model wrote. */
 static void compare_listed(Run *run, Lent *out, MdehQueryResult found, MdehQueryResult model) {
     HOLDS(found.number == model.number);
+    came[found.number]++;
     HOLDS(found.written == model.written && found.total == model.total && found.reads == model.reads);
     HOLDS(unchanged_from(out, 0));
     HOLDS(unchanged(run));
@@ -144,16 +153,21 @@ static void compare_query(Run *run, MdehQuery query, uint32_t out_bytes) {
     compare_listed(run, &again, found, model_query(&run->model, query, again.before + again.start, out_bytes));
 }
 
+/* Where a key's record begins in the pages, by the layouts; 0 for none. */
+static size_t record_of(const Run *run, MdehKey key) {
+    return layout_record(words_of(&run->state), words_of(&run->directory), bytes_of(&run->pages), key);
+}
+
 /* A lookup, and the record found by the layouts. */
 static void compare_lookup(Run *run, MdehKey key) {
     MdehLookupResult found = mdeh_lookup(STORE(run), key), model = model_lookup(&run->model, key);
     HOLDS(found.number == model.number && found.payload == model.payload && found.reads == model.reads);
+    came[found.number]++;
     HOLDS(unchanged(run));
     if (model.number != MDEH_REFUSED_VALUE) {
-        const uint32_t *state = words_of(&run->state), *directory = words_of(&run->directory);
-        uint32_t payload = 0;
-        HOLDS(layout_lookup(state, directory, bytes_of(&run->pages), key, &payload) == (model.number == MDEH_ACCEPTED));
-        HOLDS(payload == model.payload);
+        size_t place = record_of(run, key);
+        HOLDS((place > 0) == (model.number == MDEH_ACCEPTED));
+        HOLDS(place == 0 || mdeh_record(bytes_of(&run->pages) + place, 0).payload == model.payload);
     }
 }
 
@@ -162,6 +176,7 @@ static void compare_change(Run *run, uint32_t number, uint32_t wanted) {
     static const MdehQuery all = {{0, 0, 0, 0}, {0, 0, 0, 0}};
     MdehCheckResult check;
     HOLDS(number == wanted);
+    came[number]++;
     HOLDS(number == MDEH_ACCEPTED || unchanged(run));
     if (number != MDEH_ACCEPTED)
         return;
@@ -189,9 +204,21 @@ static void reopen(Run *run) {
     compare_change(run, MDEH_ACCEPTED, MDEH_ACCEPTED);
 }
 
-/* One call of any kind. */
+/* Gives a stored record the payload 0, as a store of an earlier version may hold it. */
+static void zero_payload(Run *run) {
+    ModelRecord *changed = run->model.records + below(&run->seed, (uint32_t)run->model.count);
+    MdehKey key;
+    memcpy(key.values, changed->record.values, sizeof key.values);
+    memset(bytes_of(&run->pages) + record_of(run, key) + 8, 0, 4);
+    changed->record.payload = 0;
+    keep(run);
+    compare_change(run, MDEH_ACCEPTED, MDEH_ACCEPTED);
+    compare_lookup(run, key);
+}
+
+/* One call of any kind, or a change of the memory. */
 static void call(Run *run) {
-    uint32_t kind = below(&run->seed, 23), payload = (uint32_t)number64(&run->seed);
+    uint32_t kind = below(&run->seed, 24), payload = random_payload(run);
     MdehKey key = random_key(run);
     if (kind < 9) {
         compare_change(run, mdeh_insert(STORE(run), key, payload), model_insert(&run->model, key, payload));
@@ -205,14 +232,17 @@ static void call(Run *run) {
     } else if (kind < 22) {
         MdehRange range = random_range(run);
         compare_range(run, range, below(&run->seed, 200));
-    } else {
+    } else if (kind < 23) {
         reopen(run);
+    } else if (run->model.count > 0) {
+        zero_payload(run);
     }
 }
 
 /* After a call on a damaged store: a number of the table, a refused call changes nothing, the guards stay. */
 static void compare_damaged(Run *run, uint32_t number) {
-    HOLDS(number <= MDEH_REFUSED_UNSOUND);
+    HOLDS(number <= MDEH_REFUSED_PAYLOAD);
+    came[number]++;
     HOLDS(number == MDEH_ACCEPTED || unchanged(run));
     HOLDS(unchanged_from(&run->state, 4 * MDEH_STATE_WORDS) && unchanged_from(&run->directory, run->directory.bytes));
     HOLDS(unchanged_from(&run->pages, run->pages.bytes));
@@ -226,6 +256,7 @@ static void calls_on_damage(Run *run) {
     MdehRange range = random_range(run);
     uint8_t out[100];
     MdehQueryResult found;
+    uint32_t payload = random_payload(run), early, number;
     uint32_t small = below(&run->seed, 5), word = below(&run->seed, 2) ? small : (uint32_t)number64(&run->seed);
     switch (below(&run->seed, 3)) {
     case 0: words_of(&run->state)[below(&run->seed, MDEH_STATE_WORDS)] = word; break;
@@ -237,10 +268,16 @@ static void calls_on_damage(Run *run) {
     HOLDS(found.number <= MDEH_REFUSED_UNSOUND && found.written <= found.total && found.written <= sizeof out / 12);
     found = mdeh_range(STORE(run), range, out, sizeof out);
     HOLDS(found.number <= MDEH_REFUSED_INTERVAL && found.written <= found.total && found.written <= sizeof out / 12);
-    HOLDS(mdeh_lookup(STORE(run), key).number <= MDEH_REFUSED_UNSOUND);
+    early = mdeh_lookup(STORE(run), key).number;
+    HOLDS(early <= MDEH_REFUSED_UNSOUND);
     HOLDS(mdeh_check(STORE(run)).number <= MDEH_REFUSED_MEMORY);
     HOLDS(unchanged(run));
-    compare_damaged(run, mdeh_insert(STORE(run), key, word));
+    number = mdeh_insert(STORE(run), key, payload);
+    compare_damaged(run, number);
+    /* 1, 2 and 3 are those of lookup; then a payload of 0 gives 11 whatever the store holds, and no other does */
+    if (payload == 0 && (early == MDEH_ACCEPTED || early > MDEH_REFUSED_VALUE))
+        early = MDEH_REFUSED_PAYLOAD;
+    HOLDS(payload == 0 ? number == early : number <= MDEH_REFUSED_UNSOUND);
     compare_damaged(run, mdeh_delete(STORE(run), key));
 }
 
@@ -268,15 +305,20 @@ static void list(uint64_t seed) {
 
 int main(int count, char **arguments) {
     uint64_t seed;
+    uint32_t number;
     if (count > 1) {
         list(strtoull(arguments[1], NULL, 0));
         return 0;
     }
     empty_slices();
     ranges();
+    payloads();
+    stored_zero();
     addresses();
     for (seed = 1; seed <= 1500; seed++)
         list(seed * 0x9e3779b97f4a7c15);
+    for (number = MDEH_ACCEPTED; number <= MDEH_REFUSED_PAYLOAD; number++)
+        HOLDS(came[number] > 0);
     printf("%lu comparisons\n", compared);
     return 0;
 }

@@ -70,6 +70,23 @@ impl Followed {
         answer
     }
 
+    /// Writes payload 0 over that of some records, in the bytes of their pages, and in the model. Returns their keys.
+    pub fn clear_payloads(&mut self, mut chosen: impl FnMut() -> bool) -> Vec<[u32; 4]> {
+        let mut image = self.store.image();
+        let mut keys = vec![];
+        for &g in self.pages.values().flatten() {
+            for i in (0..image.count(g)).filter(|_| chosen()) {
+                keys.push(image.content(g, i).0);
+                image.record(g, i)[8..].fill(0);
+            }
+        }
+        self.store.pages.slice_mut().copy_from_slice(&image.pages);
+        self.store.pages.lend_again();
+        let cleared = self.model.records.iter_mut().filter(|record| keys.contains(&record.key));
+        cleared.for_each(|record| record.payload = 0);
+        keys
+    }
+
     /// How many pages have records, and T.
     pub fn extent(&self) -> (usize, usize) {
         let used = self.pages.values().filter(|page| page.is_some()).count();

@@ -4,7 +4,7 @@ use mdeh_tests::compare::Comparisons;
 use mdeh_tests::followed::{Followed, COMPARED};
 use mdeh_tests::host::Shape;
 use mdeh_tests::plain::model::Model;
-use mdeh_tests::plain::samples::{random_key, random_model};
+use mdeh_tests::plain::samples::{given_payload, random_key, random_model, random_payload};
 use mdeh_tests::random::Random;
 
 const SEED: u64 = 0x6d64_6568_2d30_3131;
@@ -45,7 +45,7 @@ fn all_records_in_turn() {
                 Model::new(Shape::new(widths, capacity), 40, 6.min(widths.iter().sum::<u32>() as usize));
             for _ in 0..120 {
                 let key = random_key(&mut random, &model);
-                let _ = model.insert(key, random.number() as u32);
+                let _ = model.insert(key, given_payload(&mut random));
             }
             let mut followed = Followed::of(&mut random, model);
             while !followed.model.records.is_empty() {
@@ -68,7 +68,7 @@ fn add_random(random: &mut Random, model: &mut Model, first: &[bool]) {
     let total = model.widths().iter().sum::<u32>() as usize;
     let mut bits: Vec<bool> = (0..total).map(|_| random.below(2) == 1).collect();
     bits[..first.len()].copy_from_slice(first);
-    let record = model.record(model.key_of(&bits), random.number() as u32);
+    let record = model.record(model.key_of(&bits), random_payload(random));
     if model.records.iter().all(|other| other.key != record.key) {
         model.records.push(record);
     }
@@ -137,7 +137,7 @@ fn the_run_of_the_proof_table() {
     let mut random = Random::new(SEED);
     let mut model = Model::new(Shape::new(&[2, 2], 2), 3, 3);
     for key in [[0, 0, 0, 0], [2, 0, 0, 0], [3, 1, 0, 0], [2, 1, 0, 0]] {
-        model.insert(key, key[0]).expect("accepted");
+        model.insert(key, 10).expect("accepted");
     }
     let mut followed = Followed::of(&mut random, model);
     count.same(followed.extent(), (3, 3), format_args!("(a)"));

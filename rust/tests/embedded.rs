@@ -7,7 +7,9 @@ use mdeh_tests::lent::{lend_bytes, lend_words, Lent};
 use mdeh_tests::plain::image::{state_words, Image, Laid};
 use mdeh_tests::plain::model::Model;
 use mdeh_tests::plain::range::Intervals;
-use mdeh_tests::plain::samples::{early_refused, query_of, random_key, random_model, range_of};
+use mdeh_tests::plain::samples::{
+    early_refused, query_of, random_key, random_model, random_payload, range_of,
+};
 use mdeh_tests::plain::unsound;
 use mdeh_tests::random::Random;
 use mdeh_tests::shapes::random_shape;
@@ -131,10 +133,15 @@ fn compare_list(
 /// The comparisons of one turn.
 const COMPARED: u64 = 1 + 1 + 4 + 3 + 2;
 
-/// One change, one lookup, one query, one range, check and state.
-fn turn(count: &mut Comparisons, random: &mut Random, store: &mut Store, model: &mut Model) {
+/// One change, one lookup, one query, one range, check and state. Returns the model's answer to the change.
+fn turn(
+    count: &mut Comparisons,
+    random: &mut Random,
+    store: &mut Store,
+    model: &mut Model,
+) -> Result<(), u32> {
     let key = any_key(random, model);
-    let payload = random.number() as u32;
+    let payload = random_payload(random);
     let (found, expected) = match random.below(3) {
         0 => (store.delete(key_from(key)), model.delete(key)),
         _ => (store.insert(key_from(key), payload), model.insert(key, payload)),
@@ -148,6 +155,7 @@ fn turn(count: &mut Comparisons, random: &mut Random, store: &mut Store, model: 
     compare_range(count, random, store, model);
     count.same(store.check(), Ok(true), about);
     count.same(store.state()[..].to_vec(), state_words(model, &model.leaves()), about);
+    expected
 }
 
 /// Stores that are dropped and reopened while their lists run, and stores that Fresh refuses.
@@ -155,7 +163,7 @@ fn turn(count: &mut Comparisons, random: &mut Random, store: &mut Store, model: 
 fn lists_of_calls() {
     let mut count = Comparisons::default();
     let mut random = Random::new(SEED);
-    let mut accepted = 0;
+    let (mut accepted, mut refused) = (0, 0);
     for _ in 0..250 {
         let mut shape = random_shape(&mut random, 18, 5);
         if random.below(16) == 0 {
@@ -173,39 +181,48 @@ fn lists_of_calls() {
             format_args!("{shape:?}"),
         );
         if let (Ok(state), Ok(mut model)) = (state, model) {
-            sessions(&mut count, &mut random, state, &mut memory, &mut model);
+            refused += sessions(&mut count, &mut random, state, &mut memory, &mut model);
             accepted += 1;
         }
         assert!(memory.0.guards_stay() && memory.1.guards_stay(), "a guard is changed");
     }
+    println!("{refused} refused with 11");
+    assert!(refused > 1000);
     count.end(250 + accepted * SESSIONS * TURNS * COMPARED);
 }
 
 const SESSIONS: u64 = 4;
 const TURNS: u64 = 40;
 
-/// Reopens the store several times, with a list of calls each time.
+/// Reopens the store several times, with a list of calls each time. Returns how many were refused with 11.
 fn sessions(
     count: &mut Comparisons,
     random: &mut Random,
     mut state: [u32; mdeh::STATE_WORDS],
     memory: &mut Memory,
     model: &mut Model,
-) {
+) -> u64 {
+    let mut refused = 0;
     for _ in 0..SESSIONS {
         let mut store = Store::reopen(state, memory.0.slice_mut(), memory.1.slice_mut());
         for _ in 0..TURNS {
-            turn(count, random, &mut store, model);
+            refused += u64::from(turn(count, random, &mut store, model) == Err(11));
         }
         assert_eq!(store.shape(), model.shape);
         state = *store.state();
     }
+    refused
 }
 
 // ---- the same answers as the calls on lent slices
 
-/// All calls on a copy of any store by `Store`, and on another by the calls on slices.
-fn same_answers(count: &mut Comparisons, random: &mut Random, model: &Model, image: &Image) {
+/// All calls on a copy of any store by `Store`, and on another by the calls on slices. Returns the insert's answer.
+fn same_answers(
+    count: &mut Comparisons,
+    random: &mut Random,
+    model: &Model,
+    image: &Image,
+) -> Result<(), u32> {
     let state = image.state[..].try_into().expect("22 words");
     let (mut dir, mut pages) = (image.dir.clone(), image.pages.clone());
     let mut store = Store::reopen(state, &mut dir, &mut pages);
@@ -237,22 +254,29 @@ fn same_answers(count: &mut Comparisons, random: &mut Random, model: &Model, ima
     let plain = plain.map(|plain| (plain.written, plain.total, plain.reads));
     count.same(counts.map_err(Refusal::number), plain, about);
     count.same(out, expected, about);
-    let found = store.insert(key, 9).map_err(Refusal::number);
-    count.same(found, host::insert(state, dir, pages, key, 9), about);
+    let payload = random_payload(random);
+    let found = store.insert(key, payload).map_err(Refusal::number);
+    let inserted = host::insert(state, dir, pages, key, payload);
+    count.same(found, inserted, about);
     count.same(store.delete(key).map_err(Refusal::number), host::delete(state, dir, pages, key), about);
     let after = Image { state: state.to_vec(), dir: dir.to_vec(), pages: pages.to_vec() };
     let Image { state, dir, pages } = &after;
     count.same((&store.state()[..], store.directory(), store.pages()), (state, dir, pages), about);
+    inserted
 }
 
 #[test]
 fn any_memory_as_the_calls_on_slices() {
     let mut count = Comparisons::default();
     let mut random = Random::new(SEED);
-    let mut each =
-        |random: &mut Random, model: &Model, image: &Image| same_answers(&mut count, random, model, image);
+    let mut refused = 0;
+    let mut each = |random: &mut Random, model: &Model, image: &Image| {
+        refused += u64::from(same_answers(&mut count, random, model, image) == Err(11));
+    };
     unsound::random_memory(&mut random, 1000, 0x0003_000f, &mut each);
     unsound::random_states(&mut random, 1000, &mut each);
+    println!("{refused} refused with 11");
+    assert!(refused > 100);
     count.end(2000 * 10);
 }
 
@@ -289,7 +313,7 @@ fn ranges_of_every_form() {
     let mut count = Comparisons::default();
     let (mut directory, mut pages) = ([0; 16], [0; 16 * 26]);
     let mut store = Store::fresh(Shape::new(&[4], 2), &mut directory, &mut pages).expect("accepted");
-    (0..16).for_each(|value| store.insert([value], value).expect("accepted"));
+    (0..16).for_each(|value| store.insert([value], 1 + value).expect("accepted"));
     let bounds =
         || (0..20).chain([u32::MAX - 1, u32::MAX]).flat_map(|value| [Included(value), Excluded(value)]);
     for start in bounds().chain([Unbounded]) {
@@ -356,6 +380,7 @@ fn reasons_as_in_the_header() {
         ("ATTRIBUTE", Attribute),
         ("UNSOUND", Unsound),
         ("INTERVAL", Interval),
+        ("PAYLOAD", Payload),
     ];
     for (name, reason) in reasons {
         let numbered = format!("MDEH_REFUSED_{name} = {}", reason.number());

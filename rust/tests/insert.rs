@@ -3,7 +3,7 @@
 use mdeh_tests::compare::Comparisons;
 use mdeh_tests::followed::{Followed, COMPARED};
 use mdeh_tests::host::Shape;
-use mdeh_tests::plain::samples::{random_key, random_model};
+use mdeh_tests::plain::samples::{given_payload, random_key, random_model, random_payload};
 use mdeh_tests::random::Random;
 
 const SEED: u64 = 0x6d64_6568_2d30_3130;
@@ -12,14 +12,18 @@ const SEED: u64 = 0x6d64_6568_2d30_3130;
 fn keys_into_random_stores() {
     let mut count = Comparisons::default();
     let mut random = Random::new(SEED);
+    let mut refused = 0;
     for _ in 0..600 {
         let model = random_model(&mut random);
         let mut followed = Followed::of(&mut random, model);
         for _ in 0..20 {
             let key = random_key(&mut random, &followed.model);
-            let _ = followed.insert(&mut count, key, random.number() as u32);
+            let answer = followed.insert(&mut count, key, random_payload(&mut random));
+            refused += u64::from(answer == Err(11));
         }
     }
+    println!("{refused} refused with 11");
+    assert!(refused > 1000);
     count.end(600 * 20 * COMPARED);
 }
 
@@ -27,18 +31,20 @@ fn keys_into_random_stores() {
 fn long_lists_for_each_capacity() {
     let mut count = Comparisons::default();
     let mut random = Random::new(SEED);
-    let mut accepted = 0;
+    let (mut accepted, mut refused) = (0, 0);
     for capacity in 1..=16 {
         for widths in [&[1][..], &[5], &[2, 2], &[1, 16], &[16, 1, 1, 1], &[3, 4, 5, 2], &[16; 4]] {
             let mut followed = Followed::fresh(&mut random, Shape::new(widths, capacity), 64, 40);
             for _ in 0..120 {
                 let key = random_key(&mut random, &followed.model);
-                accepted += u64::from(followed.insert(&mut count, key, random.number() as u32).is_ok());
+                let answer = followed.insert(&mut count, key, random_payload(&mut random));
+                accepted += u64::from(answer.is_ok());
+                refused += u64::from(answer == Err(11));
             }
         }
     }
-    println!("{accepted} accepted");
-    assert!(accepted > 4000);
+    println!("{accepted} accepted, {refused} refused with 11");
+    assert!(accepted > 4000 && refused > 1000);
     count.end(16 * 7 * 120 * COMPARED);
 }
 
@@ -51,7 +57,7 @@ fn every_order_of_few_keys() {
     for widths in [&[2][..], &[1, 1], &[3], &[1, 2], &[2, 1]] {
         let total: u32 = widths.iter().sum();
         for capacity in 1..1u32 << (total - 1) {
-            for seed in 0..200 {
+            for payload in 1..=200 {
                 let mut followed =
                     Followed::fresh(&mut random, Shape::new(widths, capacity), 1 << total, 1 << total);
                 let mut keys: Vec<[u32; 4]> = (0..1 << total)
@@ -59,7 +65,7 @@ fn every_order_of_few_keys() {
                     .collect();
                 random.shuffle(&mut keys);
                 for key in keys {
-                    let answer = followed.insert(&mut count, key, seed);
+                    let answer = followed.insert(&mut count, key, payload);
                     assert_eq!(answer, Ok(()));
                     inserts += 1;
                 }
@@ -93,7 +99,7 @@ fn keys_that_share_their_first_bits_are_refused_with_6() {
                 let common = depth_limit - usize::from(depth_limit > 0 && random.below(4) == 0);
                 bits[..common].copy_from_slice(&first[..common]);
                 let key = followed.model.key_of(&bits);
-                let answer = followed.insert(&mut count, key, random.number() as u32);
+                let answer = followed.insert(&mut count, key, given_payload(&mut random));
                 refused += u64::from(answer == Err(6));
             }
         }
@@ -113,7 +119,7 @@ fn without_a_free_page_a_new_leaf_is_refused_with_7() {
             let mut followed = Followed::fresh(&mut random, Shape::new(&[5, 7, 4], capacity), 256, pages);
             for _ in 0..40 {
                 let key = random_key(&mut random, &followed.model);
-                let answer = followed.insert(&mut count, key, random.number() as u32);
+                let answer = followed.insert(&mut count, key, given_payload(&mut random));
                 refused += u64::from(answer == Err(7));
             }
         }
@@ -164,7 +170,7 @@ fn a_stored_key_is_refused_with_4() {
         let mut followed = Followed::of(&mut random, model);
         for key in keys {
             stored += 1;
-            let answer = followed.insert(&mut count, key, random.number() as u32);
+            let answer = followed.insert(&mut count, key, given_payload(&mut random));
             count.same(answer, Err(4), format_args!("{key:?}"));
         }
     }

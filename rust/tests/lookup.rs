@@ -5,7 +5,7 @@ use mdeh_tests::lent::LentStore;
 use mdeh_tests::plain::image::{Image, Laid};
 use mdeh_tests::plain::met::{each_damaged_count, each_damaged_word, DAMAGED_COUNTS, DAMAGED_WORDS};
 use mdeh_tests::plain::model::Model;
-use mdeh_tests::plain::samples::{early_refused, random_key, random_model};
+use mdeh_tests::plain::samples::{early_refused, random_key, random_model, random_payload};
 use mdeh_tests::random::Random;
 
 const SEED: u64 = 0x6d64_6568_2d30_3035;
@@ -33,7 +33,7 @@ fn every_key_of_a_large_store() {
         let mut model = Model::new(Shape::new(widths, 8), 4096, 12);
         while model.records.len() < 3000 {
             let bits: Vec<bool> = (0..widths.iter().sum()).map(|_| random.below(2) == 1).collect();
-            let record = model.record(model.key_of(&bits), random.number() as u32);
+            let record = model.record(model.key_of(&bits), random_payload(&mut random));
             model.records.push(record);
         }
         model.records.sort_by(|r, s| r.bits.cmp(&s.bits));

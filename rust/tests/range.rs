@@ -47,7 +47,7 @@ fn model_of(random: &mut Random, widths: &[u32]) -> Model {
     let total = widths.iter().sum::<u32>().min(12) as usize;
     let shape = Shape::new(widths, random.between(1, 3) as u32);
     let mut model = Model::new(shape, 1 + random.below(40), total - random.below(2));
-    for payload in 0..random.between(0, 60) as u32 {
+    for payload in 1..=random.between(0, 60) as u32 {
         let key = random_key(random, &model);
         // a refused record is left out
         let _ = model.insert(key, payload);

@@ -8,7 +8,7 @@ use mdeh_tests::plain::image::{Image, STATE};
 use mdeh_tests::plain::model::Model;
 use mdeh_tests::plain::ordered::Ordered;
 use mdeh_tests::plain::refusal::page_size;
-use mdeh_tests::plain::samples::{query_of, random_key, range_of};
+use mdeh_tests::plain::samples::{query_of, random_key, random_payload, range_of};
 use mdeh_tests::random::Random;
 use mdeh_tests::shapes::random_shape;
 
@@ -21,6 +21,7 @@ const SEED: u64 = 0x6d64_6568_2d30_3133;
 fn every_word_and_page_of_small_stores() {
     let mut count = Comparisons::default();
     let mut random = Random::new(SEED);
+    let mut refused = 0;
     for _ in 0..300 {
         let shape = random_shape(&mut random, 18, 5);
         let (words, pages) = (1 + random.below(200), 1 + random.below(25));
@@ -29,7 +30,8 @@ fn every_word_and_page_of_small_stores() {
             let key = random_key(&mut random, &followed.model);
             // more inserts at first, more deletes at last
             if random.below(300) > turn {
-                let _ = followed.insert(&mut count, key, random.number() as u32);
+                let answer = followed.insert(&mut count, key, random_payload(&mut random));
+                refused += u64::from(answer == Err(11));
             } else {
                 let _ = followed.delete(&mut count, key);
             }
@@ -52,6 +54,8 @@ fn every_word_and_page_of_small_stores() {
             count.same(out.slice(), &expected[..], about);
         }
     }
+    println!("{refused} refused with 11");
+    assert!(refused > 1000);
     count.end(300 * 300 * (COMPARED + 5));
 }
 
@@ -64,6 +68,8 @@ struct Run {
     random: Random,
     /// calls made
     calls: u64,
+    /// inserts refused with 11
+    refused: u64,
 }
 
 impl Run {
@@ -78,7 +84,7 @@ impl Run {
         dir.lend_again();
         pages.lend_again();
         let list = Ordered::new(Model::fresh(shape, words, bytes).expect("accepted"));
-        Run { store, list, random, calls: 1 }
+        Run { store, list, random, calls: 1, refused: 0 }
     }
 
     /// A key: of three, one is stored, one shares its first bits with a stored one, one is random.
@@ -102,15 +108,17 @@ impl Run {
     /// Inserts with a probability of `share` in 16, and otherwise deletes. Answer and state are compared.
     fn change(&mut self, count: &mut Comparisons, share: usize) {
         let key = self.key();
-        let payload = self.random.number() as u32;
+        let payload = random_payload(&mut self.random);
         let insert = self.random.below(16) < share;
         let (found, expected) = match insert {
             true => (self.store.insert(key, payload), self.list.insert(key, payload)),
             false => (self.store.delete(key), self.list.delete(key)),
         };
-        let about = format_args!("call {}: insert {insert}, {key:?}, {:?}", self.calls, self.list.model);
+        let about =
+            format_args!("call {}: insert {insert}, {key:?}, {payload}, {:?}", self.calls, self.list.model);
         count.same(found, expected, about);
         count.same(self.store.state.slice(), &self.list.state()[..], about);
+        self.refused += u64::from(found == Err(11));
         self.calls += 1;
     }
 
@@ -173,7 +181,7 @@ impl Run {
 fn runs(seed: u64, stores: usize, bits: u32, most_capacity: u64, most_pages: usize, turns: usize) {
     let mut count = Comparisons::default();
     let mut random = Random::new(seed);
-    let (mut calls, mut deletes) = (0, 0);
+    let (mut calls, mut deletes, mut refused) = (0, 0, 0);
     for _ in 0..stores {
         let shape = random_shape(&mut random, bits, most_capacity);
         let (words, pages) = (1 + random.below(2 * most_pages), 1 + random.below(most_pages));
@@ -192,8 +200,10 @@ fn runs(seed: u64, stores: usize, bits: u32, most_capacity: u64, most_pages: usi
         deletes += run.empty(&mut count);
         run.check(&mut count);
         calls += run.calls;
+        refused += run.refused;
     }
-    println!("{calls} calls");
+    println!("{calls} calls, {refused} refused with 11");
+    assert!(refused > 1000);
     count.end((stores * (turns * 8 + 1)) as u64 + deletes);
 }
 
@@ -229,6 +239,7 @@ fn the_greatest_store() {
     println!("{} records", run.list.len());
     let deletes = run.empty(&mut count);
     run.check(&mut count);
-    println!("{} calls", run.calls);
+    println!("{} calls, {} refused with 11", run.calls, run.refused);
+    assert!(run.refused > 1000);
     count.end(40_000 * 2 + 80 * 5 + deletes + 1);
 }

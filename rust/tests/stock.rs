@@ -52,19 +52,19 @@ fn expected(input: &[u8]) -> String {
     lines.into_iter().map(|line| console.reply(line)).collect()
 }
 
-fn compare(input: &[u8], sizes: &[usize]) {
-    let (printed, expected) = (printed(input, sizes), expected(input));
-    let (mut ours, mut theirs) = (printed.split(|&b| b == b'\n'), expected.as_bytes().split(|&b| b == b'\n'));
+/// Compares what is printed with the plain store's replies, line by line. Returns it.
+fn compare(input: &[u8], sizes: &[usize]) -> String {
+    let printed = String::from_utf8(printed(input, sizes)).expect("it is text");
+    let expected = expected(input);
+    let (mut ours, mut theirs) = (printed.split('\n'), expected.split('\n'));
     for number in 1.. {
-        match (ours.next(), theirs.next()) {
-            (None, None) => return,
-            (a, b) => assert_eq!(
-                a.map(String::from_utf8_lossy),
-                b.map(String::from_utf8_lossy),
-                "line {number} of what is printed"
-            ),
+        let (a, b) = (ours.next(), theirs.next());
+        assert_eq!(a, b, "line {number} of what is printed");
+        if a.is_none() {
+            break;
         }
     }
+    printed
 }
 
 #[test]
@@ -83,7 +83,8 @@ fn long_runs() {
             input += &random_line(&mut random, widths);
             input.push('\n');
         }
-        compare(input.as_bytes(), &[1, 4096, 17, 65536, 3, 100_000]);
+        let text = compare(input.as_bytes(), &[1, 4096, 17, 65536, 3, 100_000]);
+        assert!(text.contains("\nno 11\n"), "{widths:?}: no insert was refused for its payload");
     }
 }
 
@@ -108,7 +109,7 @@ fn edges_of_the_line_form() {
 fn more_matches_than_output_records() {
     let mut input = String::from("shape 2 6 6 16\n");
     for i in 0..600 {
-        input += &format!("put {} {} {i}\n", i % 32, i / 32);
+        input += &format!("put {} {} {}\n", i % 32, i / 32, i + 1);
     }
     input += "list * *\nlist 3 *\nlist * *\n";
     compare(input.as_bytes(), &[65536]);
@@ -126,8 +127,7 @@ fn every_lent_word() {
         let puts: String = keys.iter().map(|key| format!("put {key} 5\n")).collect();
         let list = vec!["*"; keys[0].split(' ').count()].join(" ");
         let input = format!("{shape}\n{puts}list {list}\n");
-        compare(input.as_bytes(), &[65536]);
-        let text = String::from_utf8(printed(input.as_bytes(), &[65536])).expect("it is text");
+        let text = compare(input.as_bytes(), &[65536]);
         let accepted = text.lines().take_while(|&line| line == "ok").count();
         assert_eq!(accepted, 5, "{shape}: {text}");
         assert!(text.ends_with("= 4 4\n"), "{shape}: {text}");
@@ -141,11 +141,10 @@ fn every_lent_page() {
     for capacity in [1, 7, 16] {
         let mut input = format!("shape 1 12 {capacity}\n");
         for key in 0..4096 {
-            input += &format!("put {key} {key}\n");
+            input += &format!("put {key} {}\n", key + 1);
         }
         input += "list *\n";
-        compare(input.as_bytes(), &[65536]);
-        let text = String::from_utf8(printed(input.as_bytes(), &[65536])).expect("it is text");
+        let text = compare(input.as_bytes(), &[65536]);
         assert!(text.contains("\nno 7\n"), "b = {capacity}: no insert was refused for want of a page");
         let reads = text.trim_end().rsplit(' ').next().expect("the list's reads");
         assert_eq!(reads.parse(), Ok(32768 / (2 + 12 * capacity)), "b = {capacity}");
@@ -157,11 +156,81 @@ fn every_lent_page() {
 fn every_lent_output_record() {
     let mut input = String::from("shape 1 9 16\n");
     for key in 0..256 {
-        input += &format!("put {key} {key}\n");
+        input += &format!("put {key} {}\n", key + 1);
     }
-    input += "list *\nput 256 256\nlist *\n";
-    compare(input.as_bytes(), &[65536]);
-    let text = String::from_utf8(printed(input.as_bytes(), &[65536])).expect("it is text");
+    input += "list *\nput 256 257\nlist *\n";
+    let text = compare(input.as_bytes(), &[65536]);
     let records = text.lines().filter(|line| line.contains(' ') && !line.starts_with('=')).count();
     assert_eq!(records, 512);
+}
+
+// ---- payload 0
+
+/// Lines, and what is printed for each.
+fn replies(lines: &[(&str, &str)]) {
+    let input: Vec<&str> = lines.iter().map(|&(line, _)| line).collect();
+    let text = compare(input.join("\n").as_bytes(), &[65536]);
+    for ((line, expected), reply) in lines.iter().zip(text.lines()) {
+        assert_eq!(reply, *expected, "{line}");
+    }
+    assert_eq!(text.lines().count(), lines.len());
+}
+
+/// After 3 and before 4, in each form of the number; a line of another form is a bad line.
+#[test]
+fn a_put_with_payload_0_prints_no_11() {
+    replies(&[
+        ("put 0 0 0", "bad line"),
+        ("shape 2 2 2 2", "ok"),
+        ("put 0 0 0", "no 11"),
+        ("put 0 0 00", "no 11"),
+        ("put 0 0 00000000000000000000000000000000", "no 11"),
+        ("put 00 00 0", "no 11"),
+        ("list * *", "= 0 0"),
+        ("put 0 0 10", "ok"),
+        ("put 0 0 0", "no 11"),
+        ("put 0 0 11", "no 4"),
+        ("put 4 0 0", "no 3"),
+        ("put 0 4294967295 0", "no 3"),
+        ("put 0 4294967296 0", "bad line"),
+        ("put 1 0 4294967296", "bad line"),
+        ("put 1 0", "bad line"),
+        ("put 1 0 0 0", "bad line"),
+        ("put 1 0 0 ", "bad line"),
+        ("put 1 0  0", "bad line"),
+        ("put 1 0 -0", "bad line"),
+        ("put 1 0 +0", "bad line"),
+        ("put 1 0 *", "bad line"),
+        ("put 1 0 ", "bad line"),
+        ("put 1 0 01", "ok"),
+        ("put 1 1 4294967295", "ok"),
+        ("put 1 2 0", "no 11"),
+        ("cut 0 0", "ok"),
+        ("put 0 0 0", "no 11"),
+        ("cut 0 0", "no 5"),
+    ]);
+}
+
+/// Before 6, where the directory is as deep as it can be, and before 7, where every page has records.
+#[test]
+fn payload_0_in_a_full_store_prints_no_11() {
+    replies(&[
+        ("shape 1 16 1", "ok"),
+        ("put 0 1", "ok"),
+        ("put 8 1", "no 6"),
+        ("put 8 0", "no 11"),
+        ("put 0 0", "no 11"),
+        ("put 65536 0", "no 3"),
+    ]);
+    // one record a page
+    let puts: Vec<String> = (0..2340).map(|key| format!("put {key} 1")).collect();
+    let mut lines = vec![("shape 1 12 1", "ok")];
+    lines.extend(puts.iter().map(|put| (&put[..], "ok")));
+    lines.extend([
+        ("put 2340 1", "no 7"),
+        ("put 2340 0", "no 11"),
+        ("put 5 0", "no 11"),
+        ("put 4096 0", "no 3"),
+    ]);
+    replies(&lines);
 }

@@ -1,5 +1,5 @@
 //! What `embed/mdeh.h` says of threads: calls that read share a store, and a call needs little stack.
-use mdeh::{Query, Range, Shape, Store, RECORD_BYTES};
+use mdeh::{Query, Range, Refusal, Shape, Store, RECORD_BYTES};
 use mdeh_tests::random::Random;
 use std::thread;
 
@@ -14,10 +14,24 @@ fn memory() -> (Vec<u32>, Vec<u8>) {
     (vec![0; 4096], vec![0; 4096 * SHAPE.page_bytes()])
 }
 
-/// Random keys, those refused for their depth left out.
+/// The payload of a key, 0 for one of eight.
+fn payload_of([a, b, c]: [u32; 3]) -> u32 {
+    match c % 8 {
+        0 => 0,
+        _ => 1 + (a ^ b ^ c),
+    }
+}
+
+/// Random keys, those refused for their payload or their depth left out.
 fn fill(store: &mut Store, random: &mut Random) -> Vec<[u32; 3]> {
     let mut keys: Vec<_> = (0..30_000).map(|_| [8, 8, 10].map(|w| random.below(1 << w) as u32)).collect();
-    keys.retain(|&[a, b, c]| store.insert([a, b, c], a ^ b ^ c).is_ok());
+    let mut refused = 0;
+    keys.retain(|&key| {
+        let answer = store.insert(key, payload_of(key)).map_err(Refusal::number);
+        refused += u64::from(answer == Err(11));
+        answer.is_ok()
+    });
+    assert!(refused > 1000, "{refused} refused with 11");
     assert_eq!(store.state()[8], 12, "the directory is as deep as it can be");
     keys
 }
@@ -32,7 +46,7 @@ fn threads_share_a_store() {
         let mut out = vec![0; keys.len() * RECORD_BYTES];
         assert!(keys
             .iter()
-            .all(|&[a, b, c]| store.lookup([a, b, c]).is_ok_and(|found| found.payload == a ^ b ^ c)));
+            .all(|&key| store.lookup(key).is_ok_and(|found| found.payload == payload_of(key))));
         let found = store.query(Query::all().given(0, code), &mut out).expect("accepted");
         assert_eq!(found.total, keys.iter().filter(|key| key[0] == code).count() as u64);
         let found = store.range(Range::all().within(2, code..480), &mut out).expect("accepted");

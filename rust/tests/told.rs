@@ -13,7 +13,7 @@ use mdeh_tests::plain::kept::Change;
 use mdeh_tests::plain::leaves::{greatest_depth, Record};
 use mdeh_tests::plain::model::Model;
 use mdeh_tests::plain::reading::{sibling, Reading};
-use mdeh_tests::plain::samples::{query_of, random_key, random_model, range_of};
+use mdeh_tests::plain::samples::{given_payload, query_of, random_key, random_model, range_of};
 use mdeh_tests::random::Random;
 
 const SEED: u64 = 0x6d64_6568_2d30_3133;
@@ -31,7 +31,7 @@ fn aged_store(random: &mut Random) -> (Model, Aged) {
     let older = store.image();
     for _ in 0..random.between(1, 40) {
         let key = some_key(random, &model);
-        let payload = random.number() as u32;
+        let payload = given_payload(random);
         let (found, expected) = match random.below(2) {
             0 => (store.insert(key, payload), model.insert(key, payload)),
             _ => (store.delete(key), model.delete(key)),
@@ -143,7 +143,8 @@ impl Damaged<'_> {
         let mut store = LentStore::new(random, self.image);
         let mut model = self.model.clone();
         let before = Reading::new(self.image, self.cells);
-        let payload = random.number() as u32;
+        // 0 is refused whatever the store holds
+        let payload = given_payload(random);
         match name {
             "lookup" => answer(store.lookup(key), model.lookup(key), before.lookup_told(key)),
             "query" => self.query(random, &store, key),

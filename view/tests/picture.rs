@@ -60,7 +60,7 @@ fn compare(random: &mut Random, widths: &[u32], capacity: u32, calls: usize) {
     session.take(shape_line(widths, capacity).as_bytes()).expect("the shape is within its bounds");
     let shape = session.store().expect("there is a store").shape();
     let mut model = Model::fresh(shape, 4096, 32768).expect("the same Fresh");
-    for payload in 0..calls as u32 {
+    for payload in 1..=calls as u32 {
         let mut key = [0; 4];
         widths.iter().zip(&mut key).for_each(|(&width, value)| *value = random.short(width) as u32);
         let values: Vec<String> = key[..widths.len()].iter().map(u32::to_string).collect();

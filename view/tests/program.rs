@@ -20,8 +20,8 @@ fn run(arguments: &[&str], input: &str) -> (String, String, Option<i32>) {
 
 #[test]
 fn lines_passed_over() {
-    let input =
-        "put 1 1\nshape 1 2 1\nput 1 1\nput 1 2\nshape 1 17 1\ncut 3\nput 4 0\nlist *\nlist 4\n\nput 1";
+    let input = "put 1 1\nshape 1 2 1\nput 1 1\nput 1 2\nshape 1 17 1\ncut 3\nput 4 0\nlist *\nlist 4\n\
+        put 1 0\n\nput 1";
     let (text, told, status) = run(&[], input);
     assert!(text.starts_with("shape      1 attribute of width 2, pages of 1 record\n"));
     let expected = "\
@@ -31,8 +31,9 @@ line 5: no 1 (the shape is outside its bounds)
 line 6: no 5 (the key is not stored)
 line 7: no 3 (a value, index or address is too large, or an unused value is not 0)
 line 9: no 3 (a value, index or address is too large, or an unused value is not 0)
-line 10: bad line
+line 10: no 11 (the payload is 0)
 line 11: bad line
+line 12: bad line
 ";
     assert_eq!((told.as_str(), status), (expected, Some(0)));
 }

@@ -4,10 +4,13 @@ use super::{depth_of, page_of, word_of, Store};
 use crate::plain::{double, fill};
 
 impl Store {
-    /// Adds a record. Refused with 3, 4, 6 or 7.
+    /// Adds a record. Refused with 3, 11, 4, 6 or 7.
     #[inline(never)]
     pub fn insert(&mut self, key: [u32; 4], payload: u32) -> Result<(), u32> {
         let packed = self.map.pack(key).ok_or(3u32)?;
+        if payload == 0 {
+            return Err(11);
+        }
         let word = self.dir[self.map.address(self.map.cell(key, self.depth))];
         let record = record_of(packed, payload);
         let Some(g) = page_of(word) else {

@@ -5,7 +5,7 @@ use mdeh_tests::plain::image::Image;
 use mdeh_tests::plain::judge::judge;
 use mdeh_tests::plain::model::Model;
 use mdeh_tests::plain::refusal::page_size;
-use mdeh_tests::plain::samples::{query_of, random_key, range_of};
+use mdeh_tests::plain::samples::{query_of, random_key, random_payload, range_of};
 use mdeh_tests::random::Random;
 use mdeh_tests::shapes::random_shape;
 
@@ -19,11 +19,15 @@ fn random_calls_are_answered_as_the_list_answers_them() {
         let mut store = Store::new(shape, words, bytes);
         let mut model = Model::fresh(shape, words, bytes).expect("the shape is within its bounds");
         for turn in 0..200 {
-            let key = random_key(&mut random, &model);
+            let mut key = random_key(&mut random, &model);
+            // one in sixteen may be past a width
+            if random.below(16) == 0 {
+                key[random.below(4)] ^= 1 << random.below(32);
+            }
             let about = format_args!("{shape:?}, {words} words, {bytes} bytes, turn {turn}, {key:?}");
             // more inserts at first, more deletes at last
             if random.below(200) > turn {
-                let payload = random.number() as u32;
+                let payload = random_payload(&mut random);
                 count.same(store.insert(key, payload), model.insert(key, payload), about);
             } else {
                 count.same(store.delete(key), model.delete(key), about);

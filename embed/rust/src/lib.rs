@@ -36,6 +36,30 @@
 //! ([`Store::state`], [`Store::directory`], [`Store::pages`]); [`Store::reopen`] takes them up again.
 //! The layouts are in `embed/mdeh.h`.
 //!
+//! # Payloads
+//!
+//! Hosts read a payload of 0 as "no log line", so [`Store::insert`] refuses it with [`Refusal::Payload`]: payloads
+//! start at 1. A store that an earlier version filled may hold payloads of 0. It stays sound, and they are looked up,
+//! listed and deleted as others are; to be inserted into another store, such a record needs another payload.
+//!
+//! ```
+//! # use mdeh::{Query, Refusal, Shape, Store};
+//! # let (mut directory, mut pages) = ([0; 1], [0; 14]);
+//! # let mut store = Store::fresh(Shape::new(&[4, 4], 1), &mut directory, &mut pages)?;
+//! # store.insert([3, 9], 7)?;
+//! # let state = *store.state();
+//! # pages[10..].fill(0); // the payload of the only record
+//! # let mut store = Store::reopen(state, &mut directory, &mut pages);
+//! // a store that holds key (3, 9) with a payload of 0
+//! assert_eq!(store.check(), Ok(true));
+//! assert_eq!(store.lookup([3, 9])?.payload, 0);
+//! assert_eq!(store.query(Query::all(), &mut [])?.total, 1);
+//! assert_eq!(store.insert([3, 9], 0), Err(Refusal::Payload));
+//! store.delete([3, 9])?;
+//! # assert_eq!((store.check(), store.lookup([3, 9])), (Ok(true), Err(Refusal::Absent)));
+//! # Ok::<(), Refusal>(())
+//! ```
+//!
 //! # Check, then ask
 //!
 //! A call reads a part of the store, and tests of it the words and each page's count, first and last record: damage is

@@ -42,6 +42,8 @@ pub enum Refusal {
     Unsound = 9,
     /// Range: the low end of an interval is above its high end.
     Interval = 10,
+    /// Insert: the payload is 0, which hosts read as "no log line".
+    Payload = 11,
 }
 
 impl Refusal {
@@ -51,7 +53,7 @@ impl Refusal {
         self as u32
     }
 
-    /// The reason with a number from 1 to 10; the library gives no other.
+    /// The reason with a number from 1 to 11; the library gives no other.
     #[inline]
     pub(crate) fn of(number: u32) -> Refusal {
         match number {
@@ -64,6 +66,7 @@ impl Refusal {
             7 => Refusal::Pages,
             8 => Refusal::Attribute,
             10 => Refusal::Interval,
+            11 => Refusal::Payload,
             _ => Refusal::Unsound,
         }
     }
@@ -82,8 +85,19 @@ impl Display for Refusal {
             Refusal::Attribute => "the query or range gives an attribute that the shape does not have",
             Refusal::Unsound => "the store is not sound",
             Refusal::Interval => "an interval's low end is above its high end",
+            Refusal::Payload => "the payload is 0",
         })
     }
 }
 
 impl Error for Refusal {}
+
+#[cfg(test)]
+mod tests {
+    use super::Refusal;
+
+    #[test]
+    fn each_number_names_its_reason() {
+        (1..=11).for_each(|number| assert_eq!(Refusal::of(number).number(), number));
+    }
+}

@@ -24,7 +24,7 @@ pub struct Store<'m> {
 /// What a lookup finds.
 #[derive(Clone, Copy, Debug, PartialEq, Eq)]
 pub struct Found {
-    /// the payload of the key's record
+    /// the payload of the key's record; 0 only of one that an earlier version stored
     pub payload: u32,
     /// how many pages were read: 1
     pub reads: u32,
@@ -79,10 +79,25 @@ impl<'m> Store<'m> {
         Store { state, directory, pages }
     }
 
-    /// Adds a record.
+    /// Adds a record, whose payload is not 0.
     ///
-    /// Refused with [`Refusal::Shape`], [`Refusal::Memory`], [`Refusal::Value`], [`Refusal::Stored`],
-    /// [`Refusal::Depth`], [`Refusal::Pages`] or [`Refusal::Unsound`].
+    /// Refused with [`Refusal::Shape`], [`Refusal::Memory`], [`Refusal::Value`], [`Refusal::Payload`],
+    /// [`Refusal::Stored`], [`Refusal::Depth`], [`Refusal::Pages`] or [`Refusal::Unsound`]. A payload of 0 is refused
+    /// whatever the directory and the pages hold, also where the key is stored already or has no room.
+    ///
+    /// ```
+    /// use mdeh::{Refusal, Shape, Store};
+    ///
+    /// let (mut directory, mut pages) = ([0; 8], [0; 60]);
+    /// let mut store = Store::fresh(Shape::new(&[2, 2], 2), &mut directory, &mut pages)?;
+    /// assert_eq!(store.insert([2, 1], 0), Err(Refusal::Payload));
+    /// store.insert([2, 1], 1)?; // payloads start at 1
+    ///
+    /// assert_eq!(store.insert([2, 4], 0), Err(Refusal::Value));
+    /// assert_eq!(store.insert([2, 1], 0), Err(Refusal::Payload));
+    /// assert_eq!(store.insert([2, 1], 2), Err(Refusal::Stored));
+    /// # Ok::<(), Refusal>(())
+    /// ```
     #[inline]
     pub fn insert(&mut self, key: impl Into<Key>, payload: u32) -> Result<(), Refusal> {
         raw::insert(&mut self.state, self.directory, self.pages, key.into().values, payload)

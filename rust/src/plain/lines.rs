@@ -1,8 +1,9 @@
 //! Lines for the programs that read them: random ones, and the edges of the line form.
+use super::samples::random_payload;
 use crate::random::Random;
 
 /// Lines at the edges of the line form, one run of them.
-pub const EDGES: [&[u8]; 40] = [
+pub const EDGES: [&[u8]; 43] = [
     b"list *",
     b"put 1 2",
     b"shape",
@@ -32,6 +33,9 @@ pub const EDGES: [&[u8]; 40] = [
     b"put 1\t1 1",
     b"put 4 0 1",
     b"put 0 0 5",
+    b"put 0 0 0",
+    b"put 1 1 000000000000",
+    b"put 4 0 0",
     b"put * 0 1",
     b"cut *",
     b"cut 3 3",
@@ -53,7 +57,7 @@ pub fn random_line(random: &mut Random, widths: &[u64]) -> String {
     };
     let values: Vec<String> = widths.iter().map(|&width| value(random, width).to_string()).collect();
     match random.below(100) {
-        0..=49 => format!("put {} {}", values.join(" "), random.number() as u32),
+        0..=49 => format!("put {} {}", values.join(" "), random_payload(random)),
         50..=74 => format!("cut {}", values.join(" ")),
         75..=95 => {
             let items: Vec<&str> =

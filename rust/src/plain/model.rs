@@ -1,7 +1,7 @@
 //! The plain model (document 01, "The plain model of demand 3"): a list of records, scanned in full for every answer.
 use super::leaves::{greatest_depth, leaves, Leaf, Record};
 use super::range::{range_refused, Intervals};
-use super::refusal::{key_refused, page_size, query_refused, shape_refused, used_widths};
+use super::refusal::{insert_refused, key_refused, page_size, query_refused, shape_refused, used_widths};
 use crate::host::Shape;
 use crate::reference::steps;
 
@@ -99,8 +99,8 @@ impl Model {
     // ---- calls
 
     pub fn insert(&mut self, key: [u32; 4], payload: u32) -> Result<(), u32> {
-        if key_refused(self.shape, key) {
-            return Err(3);
+        if let Some(number) = insert_refused(self.shape, key, payload) {
+            return Err(number);
         }
         if self.records.iter().any(|record| record.key == key) {
             return Err(4);

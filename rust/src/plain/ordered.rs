@@ -4,7 +4,7 @@ use super::image::STATE;
 use super::leaves::Record;
 use super::model::Model;
 use super::range::{range_refused, Intervals};
-use super::refusal::{key_refused, query_refused};
+use super::refusal::{insert_refused, key_refused, query_refused};
 
 /// The model's shape, P and L; its own list of records is not used.
 pub struct Ordered {
@@ -92,8 +92,8 @@ impl Ordered {
     // ---- calls
 
     pub fn insert(&mut self, key: [u32; 4], payload: u32) -> Result<(), u32> {
-        if key_refused(self.model.shape, key) {
-            return Err(3);
+        if let Some(number) = insert_refused(self.model.shape, key, payload) {
+            return Err(number);
         }
         let code = self.code(key);
         let Err(place) = self.find(code) else {

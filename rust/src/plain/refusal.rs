@@ -1,4 +1,5 @@
-//! The refusals that need no look into words and pages, from the table of document 01, "Refused calls".
+//! The refusals that need no look into words and pages, from the table of document 01, "Refused calls", and from
+//! document 02, request 2.
 use crate::host::Shape;
 
 /// A page's bytes: "A page has 2 + 12b bytes".
@@ -31,6 +32,14 @@ pub fn key_refused(shape: Shape, key: [u32; 4]) -> bool {
         Some(&width) => key[j] >= 1 << width,
         None => key[j] != 0,
     })
+}
+
+/// 3, then "11, payload 0 on insert, after 3 and before 4".
+pub fn insert_refused(shape: Shape, key: [u32; 4], payload: u32) -> Option<u32> {
+    if key_refused(shape, key) {
+        return Some(3);
+    }
+    (payload == 0).then_some(11)
 }
 
 /// 8: "query names attribute d or above", then 3 for a given value; "A value of a free attribute is ignored."

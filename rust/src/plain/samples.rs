@@ -1,4 +1,4 @@
-//! Random models and keys.
+//! Random models, keys and payloads.
 use super::image::Image;
 use super::model::Model;
 use super::range::Intervals;
@@ -7,7 +7,8 @@ use crate::random::Random;
 use crate::shapes::random_widths;
 
 /// A model of a random shape, with random limits and as many records as a random number of inserts leaves. Few bits,
-/// low limits and small capacities are likely, and so are full stores and keys with long common beginnings.
+/// low limits and small capacities are likely, and so are full stores and keys with long common beginnings. One record
+/// in eight has payload 0: "Stores that already hold such payloads stay sound".
 pub fn random_model(random: &mut Random) -> Model {
     let most = [6, 14, 64][random.below(3)];
     let total = random.between(1, most) as u32;
@@ -20,10 +21,11 @@ pub fn random_model(random: &mut Random) -> Model {
     let most = page_limit * shape.capacity as usize;
     for _ in 0..random.below(2 * most + 2).min(250) {
         let key = random_key(random, &model);
-        let payload = random.number() as u32;
+        let payload = given_payload(random);
         // a refused record is left out
         let _ = model.insert(key, payload);
     }
+    model.records.iter_mut().filter(|_| random.below(8) == 0).for_each(|record| record.payload = 0);
     model
 }
 
@@ -38,6 +40,19 @@ pub fn random_key(random: &mut Random, model: &Model) -> [u32; 4] {
         bits[..common].copy_from_slice(&stored[..common]);
     }
     model.key_of(&bits)
+}
+
+/// A payload that an insert takes: any but 0.
+pub fn given_payload(random: &mut Random) -> u32 {
+    random.between(1, u32::MAX.into()) as u32
+}
+
+/// A payload, in one of eight cases 0.
+pub fn random_payload(random: &mut Random) -> u32 {
+    match random.below(8) {
+        0 => 0,
+        _ => given_payload(random),
+    }
 }
 
 /// A query that gives the attributes of a subset (bit j for attribute j) the values of a key.

@@ -22,7 +22,7 @@ impl Reading<'_> {
         self.walk_told(&[], &|side| self.model.meets(side, range))
     }
 
-    /// Whether an insert of a key has to be answered with 9, after 1, 2 and 3.
+    /// Whether an insert of a key has to be answered with 9, after 1, 2, 3 and 11.
     pub fn insert_told(&self, key: [u32; 4]) -> bool {
         let bits = self.model.split_bits(key);
         let word = self.word(&bits);

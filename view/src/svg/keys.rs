@@ -74,7 +74,7 @@ mod tests {
         let mut session = Session::default();
         let mut take = |line: String| session.take(line.as_bytes()).expect("an accepted line");
         take("shape 2 4 7 2".to_owned());
-        (0..60).for_each(|i: u32| take(format!("put {} {} {i}", i * i % 16, 2 * i + i % 2)));
+        (0..60).for_each(|i: u32| take(format!("put {} {} {}", i * i % 16, 2 * i + i % 2, i + 1)));
         let picture = Picture::of(&session.store().expect("a store"));
         let area = Area::new(3.0, 5.0, 64.0, 256.0);
         let mut covered = 0.0;
