@@ -1,4 +1,4 @@
--- What the tests between the plan of a change and its steps ask and tell. Page bytes are not looked at: what is told
+-- What the tests of a change before its first write ask and tell. Page bytes are not looked at: what is told
 -- holds whatever they are. Assumes nothing.
 use Prim.Native.Nat.{ℕ, suc, _≤_, _<_}
 use Prim.{Unit}

@@ -1,6 +1,5 @@
-// Between the plan of a change and its steps: whether every leaf whose words the steps set is
-// whole, and whether a lower T loses no word. Where a test fails the store is unsound, and the call
-// gives 9.
+// Before the first write of a change: whether every leaf whose words the steps set is whole, and
+// whether a lower T loses no word. Where a test fails the store is unsound, and the call gives 9.
 use delete_plan::Join;
 use delete_plan::Stored;
 use directory_tests::halving::folds;

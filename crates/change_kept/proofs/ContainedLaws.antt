@@ -28,7 +28,7 @@ use Rattle.change.specs.Delete.{keyString}
 use Rattle.refusals.proofs.LimitsLaws.{limits-parts}
 use Rattle.insert_planned.specs.declared.Split.{Split}
 use Rattle.insert_cut.specs.declared.Cut.{Cut}
-use Rattle.insert_planned.specs.Planned.{TakePlanned, GetPlanned, DividePlanned}
+use Rattle.insert_planned.specs.Planned.{RoomFound, GetPlanned, DividePlanned}
 use Rattle.insert_pages.specs.Inserted.{insertedPages, CutFits, dividedPages}
 use Rattle.insert_words.specs.Divided.{WordsDivided}
 use Rattle.insert_pages.proofs.InsertedLaws.{pageAt-insertedPages-other}
@@ -74,7 +74,7 @@ module _ (before : Store) (values : List ℕ) where
 
   module _ (code : ℕ) (content : Content) where
     -- a page takes the record
-    pub contained-taken : (g i n : ℕ) → TakePlanned before values g i n → PageLent b g bytes × (i ≤ n) × (n < b)
+    pub contained-taken : (g i n : ℕ) → RoomFound before values g i n → PageLent b g bytes × (i ≤ n) × (n < b)
         → (bytes′ : List ℕ) → bytes′ ≡ insertedPages b g i n (packedBytes code content) bytes
         → Contained false before (store st words bytes′) key
     contained-taken g i n planned lent bytes′ e = record {
@@ -125,10 +125,11 @@ module _ (before : Store) (values : List ℕ) where
         m = split .step
 
         met-own : wordAt s (st .deepest) words key ≡ wordOf (Page (split .page) (split .depth))
-        met-own = planned .met .ends-met .met .own
+        met-own = planned .found .met .ends-met .met .own
 
         few : split .page < 2 ^ 16 - 1
-        few = omega (arith, planned .met .ends-met .met .within, planned .asked .pages-lent .few)
+        few =
+            omega (arith, planned .found .met .ends-met .met .within, planned .found .asked .pages-lent .few)
 
         depth : depthField (wordAt s (st .deepest) words key) ≡ split .depth
         depth = ap depthField met-own ∙ wordOf-depth (split .page) (split .depth) few
@@ -140,7 +141,7 @@ module _ (before : Store) (values : List ℕ) where
         near-step i l = sym (agree-withBit key m true i l)
 
         near : (i : ℕ) → i < depthField (wordAt s (st .deepest) words key) → key i ≡ upper i
-        near i l = near-step i (omega (arith, depth, planned .met .below))
+        near i l = near-step i (omega (arith, depth, planned .found .met .below))
 
         named : wordAt (st′ .shape) (st′ .deepest) words′ upper ≡ wordOf (Page free (suc m))
         named =

@@ -82,8 +82,8 @@ module _ (before : Store) (values : List ℕ) where
       → LeafTested st words values x (wordOf (Empty x)) → Filled (widthsOf s) (st .deepest) x key word words words′
       → KeptIn false st words′
   get-kept g x word words′ planned h f =
-      filled-kept (widthsOf s) (st .deepest) key words x (ap depthField (planned .own) ∙ wordOf-depth-empty x)
-      (tested x _ (planned .own) h) false word words′ f
+      filled-kept (widthsOf s) (st .deepest) key words x (ap depthField (planned .found .own) ∙ wordOf-depth-empty x)
+      (tested x _ (planned .found .own) h) false word words′ f
 
   -- a full leaf is divided
   pub divide-kept : (split : Split) (cut : Cut) (free : ℕ) (st′ : State) (words′ : List ℕ)
@@ -91,9 +91,9 @@ module _ (before : Store) (values : List ℕ) where
       → LeafTested st words values (split .depth) (wordOf (Page (split .page) (split .depth)))
       → WordsDivided st values split free words st′ words′ → KeptIn false st′ words′
   divide-kept split cut free st′ words′ planned h w =
-      let met = planned .met .ends-met .met in
+      let met = planned .found .met .ends-met .met in
       let x = split .depth in
-      let few : split .page < 2 ^ 16 - 1 = omega (arith, met .within, planned .asked .pages-lent .few) in
+      let few : split .page < 2 ^ 16 - 1 = omega (arith, met .within, planned .found .asked .pages-lent .few) in
       with-shape false st′ words′ (w .state)
       (divided-kept (widthsOf s) (st .deepest) key words x
       (ap depthField (met .own) ∙ wordOf-depth (split .page) x few) (tested x _ (met .own) h)

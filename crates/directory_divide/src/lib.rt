@@ -1,6 +1,5 @@
 // The directory's words of a leaf that is divided: doubled until the new leaves fit, then the words
-// of the leaf's region set to its new leaves. After the doubling, before any other word is set, the
-// words show the old leaves at the new T (`shows-deepened`, crates/change/proofs/DirectoryLaws.antt).
+// of the leaf's region set to its new leaves.
 use directory_double::double;
 use directory_fill::fill;
 use directory_word::pack_empty;

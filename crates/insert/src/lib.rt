@@ -1,14 +1,25 @@
 // The call Insert: a record joins the store (document 01, "Calls"), unless its payload is 0
-// (document 02, request 2).
-use insert_add::add;
+// (document 02, request 2). Its steps are those of Otoo's INSERT (source document 001) in their
+// order: find, allocate, double, set the words; docs/INSERT.md sets them side by side.
+use insert_allocate::Plan;
+use insert_allocate::allocate;
+use insert_find::find;
+use insert_pages::divide_pages;
+use insert_pages::insert_record;
+use insert_words::count_leaves;
+use insert_words::double;
+use insert_words::set_word;
+use insert_words::set_words;
 use record::Content;
+use record::pack_key;
 use refusals::key_number;
 use shape::Key;
 use store::Change;
 use store::Changed;
 use store::State;
+ghost use mathlib.Core.Path.{_≡_};
 ghost use Rattle.store.specs.Answers.{changedAnswer};
-ghost use Rattle.store.specs.Promises.{InsertPromise};
+ghost use Rattle.store.specs.Promises.{keyNumber, AddPromise, InsertPromise};
 ghost use Rattle.store.specs.Store.{store};
 
 // Adds a record; a full leaf is divided until no leaf has more than b. Refused with 1, 2, 3, 11 (a
@@ -28,4 +39,57 @@ pub fn insert(state: State, dir: &mut [u32], pages: &mut [u8], key: Key, content
         return Change { answer, state };
     }
     add(state, dir, pages, key, content)
+}
+
+// A record joins the store, whatever its payload, after 1, 2 and 3. Find and allocate hold every
+// refusal, 4, 6, 7 and 9, and write nothing; the steps after them cannot fail.
+pub fn add(state: State, dir: &mut [u32], pages: &mut [u8], key: Key, content: Content) -> Change
+    requires { ⌜ keyNumber (store state (now dir) (now pages)) (key .values) ≡ 0 ⌝ }
+    ensures { λ r. ⌜ AddPromise (store state (now (dir .entry)) (now (pages .entry))) (key .values) content
+        (changedAnswer (r .answer)) (store (r .state) (now (dir .exit)) (now (pages .exit))) ⌝ }
+{
+    let values = key.values;
+    let answer = Changed::Done;
+    // find: F1 to F4, I1
+    let found = find(state, dir, pages, key);
+    // allocate: I2
+    let plan = allocate(state, dir, pages, values, found);
+    let packed = pack_key(key);
+    let b = state.shape.capacity as usize;
+    match plan {
+        Plan::Refused(n) => {
+            let answer = Changed::Refused(n);
+            return Change { answer, state };
+        }
+        // I2, page p is not full: the record
+        Plan::Take(page, place, count) => {
+            insert_record(pages, b, page as usize, place, count, packed, content);
+            return Change { answer, state };
+        }
+        // I2, page p was null: the record; set the words: I4, I5
+        Plan::Get(page, depth) => {
+            insert_record(pages, b, page as usize, 0, 0, packed, content);
+            set_word(state, dir, values, page, depth);
+            return Change { answer, state };
+        }
+        Plan::Divide(split, cut, free) => {
+            // double: I2
+            let deeper = double(state, dir, split);
+            // set the words: I4, I5, I7
+            set_words(deeper, dir, values, split, cut.bit, free);
+            // the tally: I3, I7
+            let state = count_leaves(deeper, split);
+            // the pages: I6; the record: I8
+            divide_pages(
+                pages,
+                b,
+                split.page as usize,
+                free as usize,
+                cut,
+                packed,
+                content,
+            );
+            return Change { answer, state };
+        }
+    }
 }

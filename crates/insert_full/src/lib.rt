@@ -1,10 +1,11 @@
-// What an insert is to do in a full leaf, found without a write. Damage that it meets is 9.
+// The step Find of an insert in a full leaf: where it is divided, without a write. One cut stands
+// for all divisions that Otoo's INSERT would make one after the other (I8). Damage that it meets is
+// 9.
 use insert_cut::Half;
 use insert_cut::ends_pair;
 use insert_cut::half_of;
-use insert_planned::Plan;
+use insert_planned::Found;
 use insert_planned::Split;
-use insert_spare::spare_page;
 use page::page_size;
 use page::page_start;
 use pairs::steps_before;
@@ -16,14 +17,14 @@ ghost use lib.ListN.{getD};
 ghost use Rattle.shape.specs.Shape.{widthsOf};
 ghost use Rattle.pages.specs.Pages.{PageLent};
 ghost use Rattle.insert_spare.specs.Spare.{PagesLent};
-ghost use Rattle.insert_planned.specs.Planned.{InsertPlannedFrom, FullMet, DividingMet};
+ghost use Rattle.insert_planned.specs.Planned.{InsertFoundFrom, FullMet, DividingMet};
 
 // In a full leaf, where the key falls before record i: 6 where its keys and the new one share their
-// first L split bits, 9 where two have one key, where they differ above the leaf or the tally is none
-// of a sound store.
-pub fn plan_split(state: State, pages: &[u8], key: u64, page: u32, depth: u32, i: usize) -> Plan
+// first L split bits, 9 where two have one key, where they differ above the leaf or the tally is
+// none of a sound store.
+pub fn find_split(state: State, pages: &[u8], key: u64, page: u32, depth: u32, i: usize) -> Found
     requires { ⌜ PagesLent state (now pages) × PageLent (state .shape .capacity) page (now pages) ⌝ }
-    ensures { λ r. ⌜ InsertPlannedFrom state (now (pages .entry))
+    ensures { λ r. ⌜ InsertFoundFrom state (now (pages .entry))
         (λ before values. FullMet before values key page depth i) r ⌝ }
 {
     let shape = state.shape;
@@ -34,20 +35,20 @@ pub fn plan_split(state: State, pages: &[u8], key: u64, page: u32, depth: u32, i
     let end = start + page_size(capacity);
     let pair = ends_pair(&pages[start..end], capacity, widths, key, i);
     if pair == 64 {
-        return Plan::Refused(9);
+        return Found::Refused(9);
     }
     let step = steps_before(widths, pair);
     if (limits.depth as u64) <= step {
-        return Plan::Refused(6);
+        return Found::Refused(6);
     }
     if step < (depth as u64) {
-        return Plan::Refused(9);
+        return Found::Refused(9);
     }
     if !tally_holds(state.tally) {
-        return Plan::Refused(9);
+        return Found::Refused(9);
     }
     let behind = i;
-    plan_cut(
+    find_cut(
         state,
         pages,
         key,
@@ -61,16 +62,15 @@ pub fn plan_split(state: State, pages: &[u8], key: u64, page: u32, depth: u32, i
     )
 }
 
-// Where a full leaf is cut: 9 where the key does not fall into its half, 7 where no page is free.
-fn plan_cut(state: State, pages: &[u8], key: u64, split: Split) -> Plan
+// Where a full leaf's page is cut: 9 where the key does not fall into its half.
+fn find_cut(state: State, pages: &[u8], key: u64, split: Split) -> Found
     requires { ⌜ PagesLent state (now pages) × PageLent (state .shape .capacity) (split .page) (now pages) ⌝ }
     requires { ⌜ (split .pair < 64)
         × (split .pair / 4 < getD (widthsOf (state .shape)) (split .pair % 4) 0) ⌝ }
-    ensures { λ r. ⌜ InsertPlannedFrom state (now (pages .entry)) (λ before values. DividingMet before values key split)
+    ensures { λ r. ⌜ InsertFoundFrom state (now (pages .entry)) (λ before values. DividingMet before values key split)
         r ⌝ }
 {
     let shape = state.shape;
-    let limits = state.limits;
     let capacity = shape.capacity as usize;
     let start = page_start(capacity, split.page as usize);
     let end = start + page_size(capacity);
@@ -83,11 +83,7 @@ fn plan_cut(state: State, pages: &[u8], key: u64, split: Split) -> Plan
         split.pair,
     );
     let Half::Own(cut) = half else {
-        return Plan::Refused(9);
+        return Found::Refused(9);
     };
-    let free = spare_page(state, pages);
-    if free == limits.pages {
-        return Plan::Refused(7);
-    }
-    Plan::Divide(split, cut, free)
+    Found::Full(split, cut)
 }

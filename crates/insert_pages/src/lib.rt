@@ -1,5 +1,5 @@
-// The pages of an accepted insert: one takes the record, a full one is divided. None of the steps can
-// fail.
+// The pages of an accepted insert (I2, I6, I8 of Otoo's INSERT): one takes the record, a full one is
+// divided. None of the steps can fail.
 use insert_cut::Cut;
 use page::page_size;
 use page::page_start;
@@ -12,7 +12,7 @@ ghost use Rattle.record.specs.Packed.{packedBytes};
 ghost use Rattle.pages.specs.Pages.{PageLent};
 ghost use Rattle.insert_pages.specs.Inserted.{insertedPages, CutFits, dividedPages};
 
-// Puts a record before record i of the n of page p.
+// The record, I2 and I8: put before record i of the n of page p.
 pub fn insert_record(
     pages: &mut [u8],
     capacity: usize,
@@ -30,8 +30,8 @@ pub fn insert_record(
     page::insert_at(&mut pages[start..end], i, n, key, content);
 }
 
-// Divides a full page: a free one takes the records from the cut on, and the record goes into its own
-// half.
+// The pages, I6: a full one is divided. A free one takes the records from the cut on; then the
+// record goes into its own half, I8.
 pub fn divide_pages(
     pages: &mut [u8],
     capacity: usize,

@@ -1,10 +1,12 @@
--- Laws of the page that a plan met, on a sound store: it is that of the key's leaf, in split order, and a key's place
+-- Laws of the page that find met, on a sound store: it is that of the key's leaf, in split order, and a key's place
 -- on it says whether the key is stored. Assumes nothing.
 use Prim.Native.Nat.{ℕ, _*_, _^_, _<_}
 use mathlib.Core.Path.{_≡_, sym, ap, _∙_}
 use mathlib.Core.Bool.{true, false}
 use mathlib.Core.List.{List}
+use native.Mathlib.Nat.{le-trans}
 use lib.ListN.{length}
+use lib.Pow.{pow-mono}
 use borrow.Author.Tests.{not-true}
 use Rattle.lists.specs.Filter.{nonEmpty}
 use Rattle.lists.proofs.FilterLaws.{all-filter}
@@ -13,6 +15,7 @@ use Rattle.shape.specs.Key.{keyFits, encodings}
 use Rattle.shape.specs.declared.Shape.{Shape}
 use Rattle.split.specs.Bits.{splitBit}
 use Rattle.region.specs.Sets.{sorted}
+use Rattle.directory_lent.specs.Lent.{DirectoryLent}
 use Rattle.record.specs.declared.Content.{Content}
 use Rattle.record.specs.Record.{Record, recordBit}
 use Rattle.record.specs.Bytes.{recordOf}
@@ -61,6 +64,18 @@ module _ (s : Shape) (values : List ℕ) (content : Content) (good : shapeNumber
   recordOf-recordFor l =
       recordOf-packedBytes s (packedKey values) content (packedKey-lt values sixteen) l
       ∙ ap (λ k. record { key = k; content = content }) (sym unpacked-recordFor)
+
+-- ---- the directory
+
+module _ (before : Store) (values : List ℕ) where
+  pub directory-lent : InsertAsked before values → DirectoryLent (before .state) (length (before .memory .words))
+  directory-lent a =
+      record {
+        shape = a .shape;
+        deep = le-trans (a .within-limit) (a .bits);
+        short = le-trans (a .within-limit) (a .short);
+        room = le-trans (pow-mono (a .within-limit)) (a .words-lent);
+      }
 
 -- ---- the page
 

@@ -1,4 +1,4 @@
--- Laws of a plan up to the page of the key's leaf, one for each way that it ends: what it refuses is what `add`
+-- Laws of a search up to the page of the key's leaf, one for each way that it ends: what it refuses is what `add`
 -- promises, and what it tells else. Assumes nothing.
 use Prim.Native.Nat.{ℕ, _-_, _^_, _≤_, _<_}
 use mathlib.Core.Path.{_≡_, refl, sym, ap, _∙_, subst}
@@ -10,18 +10,11 @@ use lib.ListN.{length, getD}
 use Rattle.shape.specs.Shape.{widthsOf}
 use Rattle.shape.specs.declared.Shape.{Shape}
 use Rattle.split.specs.Bits.{splitBit}
-use Rattle.record.specs.declared.Content.{Content}
 use Rattle.record.specs.Packed.{packedKey, unpackedKey}
-use Rattle.record.specs.Record.{recordBit}
 use Rattle.page.specs.Page.{countOf, pageAt}
-use Rattle.pages.specs.Pages.{freePage}
-use Rattle.pages.proofs.FreeLaws.{freePage-le, freePage-none, countOf-freePage}
 use Rattle.page_place.specs.Find.{Placed}
 use Rattle.page_place.specs.declared.Place.the-variants.{Before, At}
-use Rattle.directory_word.specs.Word.{wordOf}
-use Rattle.directory_word.specs.declared.Leaf.the-variants.{Empty}
-use Rattle.model.specs.Model.{recordFor}
-use Rattle.store.specs.Store.{Store, wordAt}
+use Rattle.store.specs.Store.{Store}
 use Rattle.store.specs.Promises.{keyNumber}
 use Rattle.store.proofs.ShownLaws.{wordOn}
 use Rattle.refusals.specs.Limits.{limitsHold}
@@ -32,19 +25,15 @@ use Rattle.leaf_word.specs.Hold.{wordHolds, ownPage}
 use Rattle.leaf_word.proofs.HoldLaws.{word-of-sound}
 use Rattle.leaf_word.proofs.PageLaws.{unpackedKey-values, endsBegin-word}
 use Rattle.change.proofs.BoundLaws.{count-bounds}
-use Rattle.change.proofs.NumberLaws.{NoFreePage}
-use Rattle.change.proofs.AddPromiseLaws.{OnSound, add-unsound, add-stored, add-empty-none}
+use Rattle.change.proofs.AddPromiseLaws.{OnSound, add-unsound, add-stored}
 use Rattle.insert_planned.specs.Found.{InsertAsked, PageMet}
-use Rattle.insert_planned.specs.Planned.{InsertPlanned, EmptyMet, LeafMet, FullMet}
-use Rattle.insert_planned.specs.declared.Plan.the-variants.{Refused, Take, Get}
-use Rattle.insert_planned.proofs.MetLaws.{key-recordFor, meets, stored-met}
+use Rattle.insert_planned.specs.Planned.{InsertFound, LeafMet, FullMet}
+use Rattle.insert_planned.specs.declared.Found.the-variants.{Refused, Room}
+use Rattle.insert_planned.proofs.MetLaws.{meets, stored-met}
 
 module _ (before : Store) (values : List ℕ) where
   abbrev s : Shape
   s = before .state .shape
-
-  abbrev P : ℕ
-  P = before .state .limits .pages
 
   abbrev b : ℕ
   b = s .capacity
@@ -54,15 +43,15 @@ module _ (before : Store) (values : List ℕ) where
 
   -- ---- limits and word
 
-  pub nine-unsound : keyNumber before values ≡ 0 → OnSound before ⊥ → InsertPlanned before values (Refused 9)
+  pub nine-unsound : keyNumber before values ≡ 0 → OnSound before ⊥ → InsertFound before values (Refused 9)
   nine-unsound e none content = add-unsound before values content e none
 
   pub nine-limits : keyNumber before values ≡ 0 → limitsHold (before .state) ≡ false
-      → InsertPlanned before values (Refused 9)
+      → InsertFound before values (Refused 9)
   nine-limits e l = nine-unsound e (λ S sound. false≢true (sym l ∙ limits-of-sound before S sound))
 
   pub nine-word : keyNumber before values ≡ 0 → (word : ℕ) → word ≡ wordOn before (splitBit (widthsOf s) values)
-      → wordHolds (before .state) word ≡ false → InsertPlanned before values (Refused 9)
+      → wordHolds (before .state) word ≡ false → InsertFound before values (Refused 9)
   nine-word e word w h =
       nine-unsound e
       (λ S sound.
@@ -88,50 +77,10 @@ module _ (before : Store) (values : List ℕ) where
         within-limit = h .4;
       }
 
-  -- ---- a free page
-
-  module _ (free start : ℕ) (e : free ≡ freePage b (before .memory .bytes) P start) where
-    pub no-free-page : free ≡ P → NoFreePage before
-    no-free-page f = freePage-none b (before .memory .bytes) P start (sym e ∙ f)
-
-    pub free-page : (free ≡ P → ⊥) → (free < P) × (countOf (page free) ≡ 0)
-    free-page n =
-        let within : free < P = omega (arith, freePage-le b (before .memory .bytes) P start) in (
-          within,
-          subst (λ h. countOf (page h) ≡ 0) (sym e)
-              (countOf-freePage b (before .memory .bytes) P start (subst (λ h. h < P) e within)),
-        )
-
-    -- ---- a leaf without a page
-
-    module _ (x : ℕ) (m : EmptyMet before values x) where
-      empty-word : (content : Content) → wordOn before (recordBit s (recordFor s values content)) ≡ wordOf (Empty x)
-      empty-word content =
-          ap (λ k. wordAt s (before .state .deepest) (before .memory .words) (splitBit (widthsOf s) k))
-          (key-recordFor s values content (m .asked .shape) (m .asked .fits) (m .asked .four))
-          ∙ m .own
-
-      pub seven-empty : free ≡ P → InsertPlanned before values (Refused 7)
-      seven-empty f content =
-          add-empty-none before values content (m .asked .early) x (λ S sound. empty-word content)
-          (λ S sound. no-free-page f)
-
-      pub get-planned : (free ≡ P → ⊥) → InsertPlanned before values (Get free x)
-      get-planned n =
-          let f = free-page n in
-          record {
-            asked = m .asked;
-            within = f .0;
-            depth-le = m .depth-le;
-            holds = m .holds;
-            own = m .own;
-            free = f .1;
-          }
-
   -- ---- a leaf with a page
 
   module _ (key g x : ℕ) (m : LeafMet before values key g x) (n : ℕ) (e : n ≡ countOf (page g)) where
-    pub nine-count : (n ≡ 0) ⊎ (b < n) → InsertPlanned before values (Refused 9)
+    pub nine-count : (n ≡ 0) ⊎ (b < n) → InsertFound before values (Refused 9)
     nine-count h =
         nine-unsound (m .asked .early)
         (λ S sound.
@@ -140,7 +89,7 @@ module _ (before : Store) (values : List ℕ) where
         ⊎-elim (λ z. omega (arith, e, c .0)) (λ l. omega (arith, e, c .1)) h)
 
     -- a page whose first or last record is not the leaf's
-    pub nine-ends : ownPage s x key (page g) n ≡ false → InsertPlanned before values (Refused 9)
+    pub nine-ends : ownPage s x key (page g) n ≡ false → InsertFound before values (Refused 9)
     nine-ends h =
         nine-unsound (m .asked .early)
         (λ S sound.
@@ -173,7 +122,7 @@ module _ (before : Store) (values : List ℕ) where
           }
 
       pub four-stored : (i : ℕ) → Placed (widthsOf s) (unpackedKey key) (page g) n (At i)
-          → InsertPlanned before values (Refused 4)
+          → InsertFound before values (Refused 4)
       four-stored i p content =
           let a = m .asked in
           let there = subst (λ k. Placed (widthsOf s) (unpackedKey k) (page g) n (At i)) (m .key-is) p in
@@ -185,8 +134,8 @@ module _ (before : Store) (values : List ℕ) where
         falls : Placed (widthsOf s) (unpackedKey (packedKey values)) (page g) n (Before i)
         falls = subst (λ k. Placed (widthsOf s) (unpackedKey k) (page g) n (Before i)) (m .key-is) p
 
-        pub take-planned : n < b → InsertPlanned before values (Take g i n)
-        take-planned l = record { asked = m .asked; depth = x; met = page-met; room = l; place = falls }
+        pub room-found : n < b → InsertFound before values (Room g i n)
+        room-found l = record { asked = m .asked; depth = x; met = page-met; room = l; place = falls }
 
         pub full-met : b ≤ n → FullMet before values key g x i
         full-met l =

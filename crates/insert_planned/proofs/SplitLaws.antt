@@ -1,4 +1,4 @@
--- Laws of a plan in a full leaf, one for each way that it ends; on a sound store the leaf is met as the call's laws
+-- Laws of a search in a full leaf, one for each way that it ends; on a sound store the leaf is met as the call's laws
 -- ask. Assumes nothing.
 use Prim.Native.Nat.{ℕ, _≤_, _<_}
 use mathlib.Core.Path.{_≡_, refl, sym, ap, _∙_, subst}
@@ -14,7 +14,6 @@ use Rattle.record.specs.Record.{recordBit}
 use Rattle.record.specs.Packed.{packedKey, unpackedKey}
 use Rattle.page.specs.Page.{pageAt}
 use Rattle.page.proofs.FieldLaws.{length-recordsFrom}
-use Rattle.pages.specs.Pages.{freePage}
 use Rattle.key_order.specs.Order.{FirstPair}
 use Rattle.pairs.specs.Pairs.{pairBit}
 use Rattle.page_place.specs.Find.{firstOne}
@@ -24,20 +23,19 @@ use Rattle.tally.specs.Tally.{tallyHolds}
 use Rattle.tally.proofs.CountLaws.{tallyHolds-of-sound}
 use Rattle.change.proofs.MeetLaws.{allHave, recordsOn}
 use Rattle.change.proofs.InsertLaws.{MeetsFull}
-use Rattle.change.proofs.AddPromiseLaws.{OnSound, add-unsound, add-alike, add-full-none}
+use Rattle.change.proofs.AddPromiseLaws.{OnSound, add-unsound, add-alike}
 use Rattle.insert_cut.specs.Halves.{firstKey, lastKey, HalfMet, Halved}
-use Rattle.insert_planned.specs.Found.{InsertAsked}
-use Rattle.insert_planned.specs.Found.{EndsMet}
-use Rattle.insert_planned.specs.Planned.{FullMet, SplitMet, DividingMet, InsertPlanned}
+use Rattle.insert_planned.specs.Found.{InsertAsked, EndsMet}
+use Rattle.insert_planned.specs.Planned.{FullMet, SplitMet, DividingMet, InsertFound}
 use Rattle.insert_planned.specs.declared.Split.{Split}
 use Rattle.insert_cut.specs.declared.Cut.{Cut}
 use Rattle.insert_cut.specs.declared.Half.{Half}
 use Rattle.insert_cut.specs.declared.Half.the-variants.{Damaged, Own}
-use Rattle.insert_planned.specs.declared.Plan.the-variants.{Refused, Divide}
+use Rattle.insert_planned.specs.declared.Found.the-variants.{Refused, Full}
 use Rattle.insert_planned.proofs.MetLaws.{meets, records-met, absent-met}
 use Rattle.insert_planned.proofs.FullLaws.{ends-differ, alike, differ, below-step}
 use Rattle.insert_planned.proofs.HalfLaws.{falls-low, falls-high, half-room}
-use Rattle.insert_planned.proofs.RefusalLaws.{nine-unsound, no-free-page, free-page}
+use Rattle.insert_planned.proofs.RefusalLaws.{nine-unsound}
 
 module _ (before : Store) (values : List ℕ) where
   abbrev s : Shape
@@ -68,7 +66,7 @@ module _ (before : Store) (values : List ℕ) where
       }
 
   module _ (a : InsertAsked before values) (g x i pair m : ℕ) (e : EndsMet before values g x i pair m) where
-    pub nine-ends : pair ≡ 64 → InsertPlanned before values (Refused 9)
+    pub nine-ends : pair ≡ 64 → InsertFound before values (Refused 9)
     nine-ends l content =
         add-unsound before values content (a .early)
         (λ S sound. ends-differ before values content a g x i pair m e S sound (omega arith))
@@ -87,7 +85,7 @@ module _ (before : Store) (values : List ℕ) where
           (sym (records-met before values content a g x b (e .met)))
           (alike before values content a g x i pair m e S sound split t l)
 
-      pub six-alike : before .state .limits .depth ≤ m → InsertPlanned before values (Refused 6)
+      pub six-alike : before .state .limits .depth ≤ m → InsertFound before values (Refused 6)
       six-alike l content =
           add-alike before values content (a .early) g x
           (λ S sound. meets before values content a g x b (e .met))
@@ -95,7 +93,7 @@ module _ (before : Store) (values : List ℕ) where
           (λ S sound. full content)
           (λ S sound t h k. alike-on content S sound t (omega arith))
 
-      pub nine-below : m < x → InsertPlanned before values (Refused 9)
+      pub nine-below : m < x → InsertFound before values (Refused 9)
       nine-below l content =
           add-unsound before values content (a .early)
           (λ S sound. below-step before values content a g x i pair m e S sound split l)
@@ -117,7 +115,7 @@ module _ (before : Store) (values : List ℕ) where
           }
 
   pub nine-tally : InsertAsked before values → tallyHolds (before .state .tally .leaves) ≡ false
-      → InsertPlanned before values (Refused 9)
+      → InsertFound before values (Refused 9)
   nine-tally a h =
       nine-unsound before values (a .early) (λ S sound. false≢true (sym h ∙ tallyHolds-of-sound before S sound))
 
@@ -129,7 +127,7 @@ module _ (before : Store) (values : List ℕ) where
     met = d .split-met
 
     pub nine-half : (half : Half) → Halved ws′ page′ b key (split .behind) (split .pair) half → half ≡ Damaged
-        → InsertPlanned before values (Refused 9)
+        → InsertFound before values (Refused 9)
     nine-half half h q content =
         add-unsound before values content (d .asked .early)
         (λ S sound.
@@ -151,29 +149,17 @@ module _ (before : Store) (values : List ℕ) where
             (subst (λ ws. damaged key page′ ws) ew
             (subst (Halved ws′ page′ b key (split .behind) (split .pair)) q h)))
 
-    module _ (free start : ℕ)
-        (ef : free ≡ freePage b (before .memory .bytes) (before .state .limits .pages) start) where
-      pub seven-full : free ≡ before .state .limits .pages → InsertPlanned before values (Refused 7)
-      seven-full f content =
-          add-full-none before values content (d .asked .early) _ _ _
-          (meets-full (d .asked) _ _ _ _ _ (met .ends-met) (met .differ) (met .below) (met .deep) content)
-          (λ S sound. no-free-page before values free start ef f)
-
-      pub divide-planned : (half : Half) → Halved ws′ page′ b key (split .behind) (split .pair) half → (cut : Cut)
-          → half ≡ Own cut → (free ≡ before .state .limits .pages → ⊥)
-          → InsertPlanned before values (Divide split cut free)
-      divide-planned half h cut q n =
-          let f = free-page before values free start ef n in
-          let halves : ℕ → List ℕ → List ℕ → Type 0 =
-          λ k pg ws. HalfMet ws pg b k (split .behind) (split .pair) cut in
-          record {
-            asked = d .asked;
-            met = met;
-            half =
-                subst (λ k. halves k (page (split .page)) (widthsOf s)) (d .key-is)
-                (subst (λ pg. halves key pg (widthsOf s)) ep
-                (subst (λ ws. halves key page′ ws) ew
-                (subst (Halved ws′ page′ b key (split .behind) (split .pair)) q h)));
-            free-within = f .0;
-            free-none = f .1;
-          }
+    pub full-found : (half : Half) → Halved ws′ page′ b key (split .behind) (split .pair) half → (cut : Cut)
+        → half ≡ Own cut → InsertFound before values (Full split cut)
+    full-found half h cut q =
+        let halves : ℕ → List ℕ → List ℕ → Type 0 =
+        λ k pg ws. HalfMet ws pg b k (split .behind) (split .pair) cut in
+        record {
+          asked = d .asked;
+          met = met;
+          half =
+              subst (λ k. halves k (page (split .page)) (widthsOf s)) (d .key-is)
+              (subst (λ pg. halves key pg (widthsOf s)) ep
+              (subst (λ ws. halves key page′ ws) ew
+              (subst (Halved ws′ page′ b key (split .behind) (split .pair)) q h)));
+        }

@@ -1,5 +1,5 @@
--- What a plan of an insert tells, on any store: the word, the page and the places that it found. `values` are those of
--- the key. Assumes nothing.
+-- What an insert finds, on any store: the word, the page and the places; and what it is to do once a page is free for a
+-- leaf that newly gets one. `values` are those of the key. Assumes nothing.
 use Prim.Native.Nat.{ℕ, _≤_, _<_}
 use mathlib.Core.Path.{_≡_}
 use mathlib.Core.Bool.{true}
@@ -21,8 +21,8 @@ use Rattle.insert_cut.specs.declared.Cut.{Cut}
 use Rattle.insert_cut.specs.Halves.{HalfMet}
 use Rattle.insert_planned.specs.Found.{InsertAsked, PageMet, FallsBefore, EndsMet}
 use Rattle.insert_planned.specs.declared.Split.{Split}
-use Rattle.insert_planned.specs.declared.Plan.{Plan}
-use Rattle.insert_planned.specs.declared.Plan.the-variants.{Refused, Take, Get, Divide}
+use Rattle.insert_planned.specs.declared.Found.{Found}
+use Rattle.insert_planned.specs.declared.Found.the-variants.{Refused, Room, Null, Full}
 
 -- ---- what is asked
 
@@ -45,22 +45,22 @@ module _ (before : Store) (values : List ℕ) where
   abbrev word : ℕ
   word = wordAt (before .state .shape) (before .state .deepest) (before .memory .words) (splitBit ws values)
 
+  -- ---- what is found
+
   -- page g has room, and takes the key before record i of n
-  pub record TakePlanned (g i n : ℕ) : Type 0 where
+  pub record RoomFound (g i n : ℕ) : Type 0 where
     pub asked : InsertAsked before values
     pub depth : ℕ
     pub met : PageMet before values g depth n
     pub room : n < before .state .shape .capacity
     pub place : FallsBefore before values g n i
 
-  -- the key's leaf, of depth x, is empty, and page g is free
-  pub record GetPlanned (g x : ℕ) : Type 0 where
+  -- the key's leaf, of depth x, is empty
+  pub record NullFound (x : ℕ) : Type 0 where
     pub asked : InsertAsked before values
-    pub within : g < before .state .limits .pages
     pub depth-le : x ≤ before .state .deepest
     pub holds : wordHolds (before .state) word ≡ true
     pub own : word ≡ wordOf (Empty x)
-    pub free : countOf (page g) ≡ 0
 
   -- two keys differ, the step is one of the leaf's own and above depth L, and the tally can be a sound store's
   pub record SplitMet (split : Split) : Type 0 where
@@ -70,23 +70,35 @@ module _ (before : Store) (values : List ℕ) where
     pub deep : split .step < before .state .limits .depth
     pub tally : tallyHolds (before .state .tally .leaves) ≡ true
 
-  -- page `free` is free, and the key falls into its own half
-  pub record DividePlanned (split : Split) (cut : Cut) (free : ℕ) : Type 0 where
+  -- the key's leaf is full, and the key falls into its own half
+  pub record FullFound (split : Split) (cut : Cut) : Type 0 where
     pub asked : InsertAsked before values
     pub met : SplitMet split
     pub half : HalfMet ws (page (split .page)) (before .state .shape .capacity) (packedKey values) (split .behind)
         (split .pair) cut
+
+  -- a refusal is what `add` promises, whatever the record holds
+  abbrev pub InsertFound : Found → Type 0
+  InsertFound (Refused n) = (content : Content) → AddPromise before values content (refused n) before
+  InsertFound (Room g i n) = RoomFound g i n
+  InsertFound (Null x) = NullFound x
+  InsertFound (Full split cut) = FullFound split cut
+
+  -- ---- with a page for the leaf
+
+  -- page g is free for an empty leaf of depth x
+  pub record GetPlanned (g x : ℕ) : Type 0 where
+    pub found : NullFound x
+    pub within : g < before .state .limits .pages
+    pub free : countOf (page g) ≡ 0
+
+  -- page `free` is free for a full leaf
+  pub record DividePlanned (split : Split) (cut : Cut) (free : ℕ) : Type 0 where
+    pub found : FullFound split cut
     pub free-within : free < before .state .limits .pages
     pub free-none : countOf (page free) ≡ 0
 
-  -- what a plan tells: a refusal is what `add` promises, whatever the record holds
-  abbrev pub InsertPlanned : Plan → Type 0
-  InsertPlanned (Refused n) = (content : Content) → AddPromise before values content (refused n) before
-  InsertPlanned (Take g i n) = TakePlanned g i n
-  InsertPlanned (Get g x) = GetPlanned g x
-  InsertPlanned (Divide split cut free) = DividePlanned split cut free
-
-  -- ---- what the steps of a plan are told
+  -- ---- what the steps of a search are told
 
   -- the key's word
   pub record WordMet (key found : ℕ) : Type 0 where
@@ -94,14 +106,7 @@ module _ (before : Store) (values : List ℕ) where
     pub key-is : key ≡ packedKey values
     pub found-is : word ≡ found
 
-  -- it is that of a leaf of depth x without a page
-  pub record EmptyMet (x : ℕ) : Type 0 where
-    pub asked : InsertAsked before values
-    pub depth-le : x ≤ before .state .deepest
-    pub holds : wordHolds (before .state) word ≡ true
-    pub own : word ≡ wordOf (Empty x)
-
-  -- or of one with page g
+  -- it is that of a leaf of depth x with page g
   pub record LeafMet (key g x : ℕ) : Type 0 where
     pub asked : InsertAsked before values
     pub key-is : key ≡ packedKey values
@@ -123,7 +128,7 @@ module _ (before : Store) (values : List ℕ) where
     pub key-is : key ≡ packedKey values
     pub split-met : SplitMet split
 
--- whatever the words and the key, a step that was told X of them tells what the plan tells
-abbrev pub InsertPlannedFrom : State → List ℕ → (Store → List ℕ → Type 0) → Plan → Type 0
-InsertPlannedFrom st bytes X plan =
-    (words values : List ℕ) → X (store st words bytes) values → InsertPlanned (store st words bytes) values plan
+-- whatever the words and the key, a step that was told X of them tells what is found
+abbrev pub InsertFoundFrom : State → List ℕ → (Store → List ℕ → Type 0) → Found → Type 0
+InsertFoundFrom st bytes X found =
+    (words values : List ℕ) → X (store st words bytes) values → InsertFound (store st words bytes) values found

@@ -1,18 +1,18 @@
 // What an insert finds and what its plan tells, as definitions, and their laws on a sound store.
 use insert_cut::Cut;
 
-// What is to be done: nothing, with the number of a refusal; a page takes the record at a place among
-// the records that it has; an empty leaf, of a depth, gets a free page; a full leaf is divided, and a
-// free page takes the records from a cut on.
-pub enum Plan {
+// What is found of a key's leaf: nothing to be done, with the number of a refusal; a page with room,
+// the place of the key and the number of records that it has; no page, the leaf's depth; a full
+// page, how the leaf is divided and where the page is cut.
+pub enum Found {
     Refused(u32),
-    Take(u32, usize, usize),
-    Get(u32, u32),
-    Divide(Split, Cut, u32),
+    Room(u32, usize, usize),
+    Null(u32),
+    Full(Split, Cut),
 }
 
-// A full leaf and the split step at which it is divided: its page and depth, the place that a new key
-// has on the page, the step's place among the pairs and its number.
+// A full leaf and the split step at which it is divided: its page and depth, the place that a new
+// key has on the page, the step's place among the pairs and its number.
 pub struct Split {
     pub page: u32,
     pub depth: u32,

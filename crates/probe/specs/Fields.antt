@@ -1,4 +1,4 @@
--- Enums as the numbers that cross the C interface. Assumes nothing.
+-- Enums, and a full leaf's split, as the numbers that cross the C interface. Assumes nothing.
 use Prim.Native.Nat.{ℕ, zero, suc}
 use Rattle.store.specs.declared.Changed.{Changed}
 use Rattle.store.specs.declared.Changed.the-variants as change
@@ -8,6 +8,8 @@ use Rattle.key_order.specs.declared.Order.{Order}
 use Rattle.key_order.specs.declared.Order.the-variants as order
 use Rattle.page_place.specs.declared.Place.{Place}
 use Rattle.page_place.specs.declared.Place.the-variants.{Before, At}
+use Rattle.insert_planned.specs.declared.Split.{Split}
+use Rattle.probe.specs.declared.SplitFields.{SplitFields}
 use Rattle.probe.specs.declared.words.LeafFields.{LeafFields}
 use Rattle.probe.specs.declared.keys.PlaceFields.{PlaceFields}
 
@@ -34,3 +36,8 @@ numberedPlace (suc found) i = At i
 
 abbrev pub placeOf : PlaceFields → Place
 placeOf f = numberedPlace (f .found) (f .place)
+
+-- a full leaf and the step that divides it, field by field
+abbrev pub splitOf : SplitFields → Split
+splitOf f =
+    record { page = f .page; depth = f .depth; behind = f .behind; pair = f .pair; step = f .step }

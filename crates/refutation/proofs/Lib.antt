@@ -5,6 +5,8 @@ pub mod ComputedLaws
 pub mod ContainedComputed
 pub mod ContainedRefuted
 pub mod DeleteRefuted
+pub mod DoubledWords
+pub mod DoublingRefuted
 pub mod FourLeavesSound
 pub mod FreshRefuted
 pub mod HistoryRefuted

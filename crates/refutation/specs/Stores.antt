@@ -155,6 +155,32 @@ zeroedWord = otherWord 0 (0 ∷ 1 ∷ 1 ∷ 2 ∷ [])
 abbrev pub lowTally : Store
 lowTally = otherWord (wordOf (Empty 2)) (0 ∷ 1 ∷ 1 ∷ 0 ∷ [])
 
+-- ---- words of a doubled directory
+
+-- of three records, from depth 1 to depth 2; then with an empty leaf in the cells of 11; then from depth 2 to depth 3
+abbrev pub doubledOnce : List ℕ
+doubledOnce = wordOf (Page 0 1) ∷ wordOf (Page 1 1) ∷ wordOf (Page 0 1) ∷ wordOf (Page 1 1) ∷ replicate 4 0
+
+abbrev pub siblingSet : List ℕ
+siblingSet = wordOf (Page 0 1) ∷ wordOf (Page 1 1) ∷ wordOf (Page 0 1) ∷ wordOf (Empty 2) ∷ replicate 4 0
+
+abbrev pub siblingDoubled : List ℕ
+siblingDoubled =
+    wordOf (Page 0 1) ∷ wordOf (Page 1 1) ∷ wordOf (Page 0 1) ∷ wordOf (Empty 2)
+    ∷ wordOf (Page 0 1) ∷ wordOf (Page 0 1) ∷ wordOf (Page 1 1) ∷ wordOf (Empty 2) ∷ []
+
+-- of three records, from depth 1 to depth 3, and no other word set
+abbrev pub doubledTwice : List ℕ
+doubledTwice =
+    wordOf (Page 0 1) ∷ wordOf (Page 1 1) ∷ wordOf (Page 0 1) ∷ wordOf (Page 1 1)
+    ∷ wordOf (Page 0 1) ∷ wordOf (Page 0 1) ∷ wordOf (Page 1 1) ∷ wordOf (Page 1 1) ∷ []
+
+-- of four records, from depth 1, that of the leaf 0, to depth 3
+abbrev pub doubledFromLeaf : List ℕ
+doubledFromLeaf =
+    wordOf (Page 0 1) ∷ wordOf (Page 1 3) ∷ wordOf (Page 0 1) ∷ wordOf (Page 1 3)
+    ∷ wordOf (Page 0 1) ∷ wordOf (Page 0 1) ∷ wordOf (Page 1 3) ∷ wordOf (Page 1 3) ∷ []
+
 -- ---- lent memory, queries, ranges, and what the model says
 
 -- 8 words and 3 pages, every byte 1

@@ -45,7 +45,7 @@ pack-empty-requires c κs = omega (arith, small c)
 fill-requires : tie.Need-fill-requires Inv-loop μ-loop
 fill-requires c κs =
     let pre = c .before .before .before .before .before .pre in (
-      fits-shallower _ _ _ _ _ (pre .0) (omega arith) (c .before .before .before .loop .inv .2 .size),
+      fits-shallower _ _ _ _ _ (pre .0) (omega (arith, pre .2)) (c .before .before .before .loop .inv .2 .size),
       omega (arith, c .before .before .loop-test .taken, pre .2),
     )
 

@@ -1,5 +1,0 @@
-pub mod CallLaws
-pub mod DividedLaws
-pub mod HalfLaws
-pub mod SplitLaws
-pub mod TakeLaws
