@@ -9,7 +9,10 @@ pub mod matching;
 pub mod records;
 pub mod words;
 
+use crate::host::Shape;
 use crate::pages::packed;
+use crate::plain::image::{DEPTH, DEPTH_LIMIT, STATE};
+use crate::plain::refusal::{shape_refused, used_widths};
 
 /// The widths of the four attributes in bits, 0 for an unused one.
 #[repr(C)]
@@ -27,9 +30,28 @@ struct Key {
     values: [u32; 4],
 }
 
+/// A state in its words.
+#[repr(C)]
+struct State {
+    words: [u32; STATE],
+}
+
+/// A full leaf and the split step at which it is divided: its page and depth, the place that a new key has on the page,
+/// the step's place among the pairs and its number.
+#[repr(C)]
+#[derive(Clone, Copy, Debug)]
+pub struct Split {
+    pub page: u32,
+    pub depth: u32,
+    pub behind: usize,
+    pub pair: u64,
+    pub step: u64,
+}
+
 extern "C" {
     fn probe_find_cell(widths: RawWidths, key: u64, t: u64) -> u64;
     fn probe_double(widths: RawWidths, t: u64, dir: *mut u32, words: usize);
+    fn probe_insert_double(state: State, dir: *mut u32, words: usize, split: Split) -> State;
     fn probe_fill(widths: RawWidths, key: Key, x: u64, t: u64, word: u32, dir: *mut u32, words: usize);
 }
 
@@ -84,6 +106,26 @@ pub fn double(widths: &Widths, t: u64, dir: &mut [u32]) -> Option<()> {
     }
     // SAFETY: a directory of depth t + 1 fits, as the `requires` asks; pointer and length are of one slice.
     unsafe { probe_double(widths.raw, t, dir.as_mut_ptr(), dir.len()) };
+    Some(())
+}
+
+/// Doubles the directory of a state in its first 22 words, until the new leaves of a full leaf fit, and puts the new T
+/// into them.
+pub fn insert_double(state: &mut [u32], dir: &mut [u32], split: Split) -> Option<()> {
+    let words: &mut [u32; STATE] = state.first_chunk_mut()?;
+    let [attributes, w0, w1, w2, w3, capacity, ..] = *words;
+    let shape = Shape { attributes, widths: [w0, w1, w2, w3], capacity };
+    let (limit, t) = (u64::from(words[DEPTH_LIMIT]), u64::from(words[DEPTH]));
+    if shape_refused(shape) || t > limit || split.step >= limit {
+        return None;
+    }
+    if !Widths::new(&used_widths(shape))?.directory_fits(limit, dir.len()) {
+        return None;
+    }
+    // SAFETY: the shape is in bounds, a directory of depth L fits, T is at most L and the step below it, as the
+    // `requires` asks; pointer and length are of one slice.
+    *words =
+        unsafe { probe_insert_double(State { words: *words }, dir.as_mut_ptr(), dir.len(), split) }.words;
     Some(())
 }
 

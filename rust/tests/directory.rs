@@ -1,11 +1,17 @@
-//! The steps on the directory's words: the cell of a key, doubling, setting a region. Compared with strings
-//! of split bits and the doubling array.
+//! The steps on the directory's words: the cell of a key, doubling, the doublings of an insert, setting a region.
+//! Compared with strings of split bits and the doubling array.
 use mdeh_tests::cells::{Cell, Cells};
 use mdeh_tests::compare::Comparisons;
-use mdeh_tests::probe::{double, fill, find_cell, Widths};
+use mdeh_tests::followed::{Followed, COMPARED};
+use mdeh_tests::lent::LentStore;
+use mdeh_tests::plain::image::{Image, DEPTH, DEPTH_LIMIT, STATE};
+use mdeh_tests::plain::leaves::Leaf;
+use mdeh_tests::plain::samples::{self, given_payload};
+use mdeh_tests::plain::shown::leaves_shown;
+use mdeh_tests::probe::{double, fill, find_cell, insert_double, Split, Widths};
 use mdeh_tests::random::Random;
 use mdeh_tests::reference::{formula, steps};
-use mdeh_tests::shapes::{random_widths, widths_of_shapes};
+use mdeh_tests::shapes::{random_shape, random_widths, widths_of_shapes};
 
 const SEED: u64 = 0x6d64_6568_2d30_3032;
 
@@ -102,6 +108,124 @@ fn doubling_gives_each_cell_the_word_of_the_cell_that_it_halves() {
     // bits there are 3,223 such depths, with 204,425 words.
     let small = 3 * 204_425 + 7 * 3_223;
     count.end(small + 4 * (3 * 2_047 + 7 * 11) + 212 * (3 * 4_095 + 7 * 12));
+}
+
+// ---- the doublings of an insert
+
+/// What stands in a split that doubling does not look at is random.
+fn split_at(random: &mut Random, step: usize) -> Split {
+    let [page, depth] = [0; 2].map(|_: u32| random.number() as u32);
+    Split { page, depth, behind: random.number() as usize, pair: random.number(), step: step as u64 }
+}
+
+/// Calls by the number of times that they double the directory: not at all, once, more often.
+type Doublings = [u64; 3];
+
+/// The comparisons of a call that doubles for new leaves.
+const DOUBLED: u64 = 3;
+
+/// Doubles a store's directory for the new leaves that a step divides, and compares: T is the greater of T and the
+/// step's number plus one, and the rest of the state stays; each cell has the word of the cell of its first T bits; the
+/// words past 2^T, the pages and all guards stay. `all` has the cells of each depth. Returns the store after it.
+#[track_caller]
+fn compare_insert_double(
+    count: &mut Comparisons,
+    doublings: &mut Doublings,
+    random: &mut Random,
+    (cells, all): (&Cells, &[Vec<Cell>]),
+    before: &Image,
+    step: usize,
+) -> Image {
+    let split = split_at(random, step);
+    let mut store = LentStore::new(random, before);
+    insert_double(store.state.slice_mut(), store.dir.slice_mut(), split).expect("the directory fits");
+    let after = store.image();
+    let old = before.state[DEPTH] as usize;
+    let new = old.max(step + 1);
+    doublings[(new - old).min(2)] += 1;
+    let about = format_args!("state {:?}, {split:?}", before.state);
+    let mut state = before.state.clone();
+    state[DEPTH] = new as u32;
+    count.same(&after.state, &state, about);
+    let wrong = all[new].iter().find(|Cell { bits, address }| {
+        let whole = cells.address(&bits[..old]);
+        after.dir[*address] != before.dir[whole]
+    });
+    count.same(wrong.map(|cell| cell.address), None, about);
+    let kept =
+        [store.state.unchanged_from(STATE), store.dir.unchanged_from(1 << new), store.pages.unchanged()];
+    count.same(kept, [true; 3], about);
+    after
+}
+
+/// The cells of directories of each depth up to a greatest.
+fn cells_of_depths(cells: &Cells, greatest: usize) -> Vec<Vec<Cell>> {
+    (0..=greatest).map(|t| cells.all(t)).collect()
+}
+
+#[test]
+fn insert_doubles_random_words_until_the_new_leaves_fit() {
+    let mut count = Comparisons::default();
+    let mut doublings = Doublings::default();
+    let mut random = Random::new(SEED);
+    for widths in widths_of_shapes(&mut random) {
+        let limit = greatest_depth(&widths);
+        let cells = Cells::new(&widths, limit);
+        let all = cells_of_depths(&cells, limit);
+        for (t, step) in (0..=limit).flat_map(|t| (0..limit).map(move |step| (t, step))) {
+            // any P, any tally, any widths past d
+            let mut state = random.words(STATE);
+            state[0] = widths.len() as u32;
+            state[1..=widths.len()].copy_from_slice(&widths);
+            state[5] = random.between(1, 16) as u32;
+            (state[DEPTH_LIMIT], state[DEPTH]) = (limit as u32, t as u32);
+            let image =
+                Image { state, dir: random.words((1 << limit) + GUARDS), pages: random.bytes(GUARDS) };
+            compare_insert_double(&mut count, &mut doublings, &mut random, (&cells, &all), &image, step);
+        }
+    }
+    println!("{doublings:?} calls with no doubling, one, more");
+    assert!(doublings.iter().all(|&calls| calls > 1000));
+    // L (L + 1) pairs of T and step. Of the shapes of up to ten bits there are 31,394.
+    count.end(DOUBLED * (31_394 + 4 * 11 * 12 + 212 * 12 * 13));
+}
+
+#[test]
+fn stores_show_the_same_leaves_after_the_doublings_of_an_insert() {
+    let mut count = Comparisons::default();
+    let mut doublings = Doublings::default();
+    let mut random = Random::new(SEED);
+    let (mut inserts, mut stores) = (0, 0);
+    for _ in 0..60 {
+        let shape = random_shape(&mut random, 16, 4);
+        let (words, pages) = (1 + random.below(600), 1 + random.below(40));
+        let mut followed = Followed::fresh(&mut random, shape, words, pages);
+        let limit = followed.model.depth_limit;
+        let cells = Cells::new(followed.model.widths(), limit);
+        let all = cells_of_depths(&cells, limit);
+        for _ in 0..30 {
+            inserts += 1;
+            let key = samples::random_key(&mut random, &followed.model);
+            if followed.insert(&mut count, key, given_payload(&mut random)).is_err() {
+                continue;
+            }
+            stores += 1;
+            let before = followed.store.image();
+            let shown = leaves_shown(&before, &followed.model, &cells);
+            let leaves: Vec<Leaf> = shown.iter().flatten().map(|(leaf, _)| leaf.clone()).collect();
+            count.same(leaves, followed.model.leaves(), format_args!("{:?}", followed.model));
+            for step in 0..limit {
+                let cells = (&cells, &all[..]);
+                let after =
+                    compare_insert_double(&mut count, &mut doublings, &mut random, cells, &before, step);
+                let about = format_args!("step {step}, {:?}", followed.model);
+                count.same(&leaves_shown(&after, &followed.model, cells.0), &shown, about);
+            }
+        }
+    }
+    println!("{stores} stores, {doublings:?} calls with no doubling, one, more");
+    assert!(doublings.iter().all(|&calls| calls > 500));
+    count.end(inserts * COMPARED + stores + doublings.iter().sum::<u64>() * (DOUBLED + 1));
 }
 
 // ---- setting a region
@@ -207,5 +331,28 @@ fn what_a_step_does_not_accept_is_not_called() {
             count.same(dir.contains(&6), filled.is_some(), about);
         }
     }
-    count.end(4 + 3 * (3 + 8 * 5));
+    // state words, directory words, then d, b, L, T and the step, of widths 5 and 3
+    for (words, size, attributes, capacity, limit, t, step, doubled) in [
+        (22, 256, 2, 1, 8, 0, 7, Some(())),
+        (22, 256, 2, 1, 8, 8, 7, Some(())),
+        (22, 1, 2, 1, 1, 0, 0, None),
+        (21, 256, 2, 1, 8, 0, 7, None),
+        (22, 255, 2, 1, 8, 0, 7, None),
+        (22, 256, 3, 1, 8, 0, 7, None),
+        (22, 256, 2, 0, 8, 0, 7, None),
+        (22, 8192, 2, 1, 9, 0, 7, None),
+        (22, 256, 2, 1, 8, 9, 7, None),
+        (22, 256, 2, 1, 8, 0, 8, None),
+        (22, 256, 2, 1, 8, 0, u64::MAX, None),
+        (22, 256, 2, 1, 0, 0, 0, None),
+    ] {
+        let mut state = vec![attributes, 5, 3, 0, 0, capacity, 1, limit, t];
+        state.resize(words, 0);
+        let (mut dir, before) = (vec![5; size], state.clone());
+        let split = Split { page: 0, depth: 0, behind: 0, pair: 0, step };
+        let about = format_args!("{words} state words, {before:?}, {size} words, step {step}");
+        count.same(insert_double(&mut state, &mut dir, split), doubled, about);
+        count.same(state == before, doubled.is_none() || t == 8, about);
+    }
+    count.end(4 + 3 * (3 + 8 * 5) + 12 * 2);
 }

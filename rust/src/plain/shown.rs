@@ -1,12 +1,33 @@
 //! What a store shows beside a model's set, and which pages its leaves have before and after a call.
-use super::image::{page_of, state_words, word_of, Image, STATE};
+use super::image::{depth_of, page_of, state_words, word_of, Image, DEPTH, PAGE_LIMIT, STATE};
 use super::leaves::{greatest_depth, leaf_of, Leaf};
 use super::model::Model;
-use crate::cells::Cells;
+use crate::cells::{Cell, Cells};
 use std::collections::BTreeMap;
 
 /// The leaves that a store shows, by their strings, each with its page if it has one.
 pub type Pages = BTreeMap<Vec<bool>, Option<usize>>;
+
+/// The leaves that words and pages show at the store's T, in split order, each with its page if it has one. They are
+/// read as they stand; of the model only the shape counts. `None` where a word names a depth above T or a page past the
+/// P, or where a cell of a leaf has a word other than the leaf's.
+pub fn leaves_shown(image: &Image, model: &Model, cells: &Cells) -> Option<Vec<(Leaf, Option<usize>)>> {
+    let [p, t] = [PAGE_LIMIT, DEPTH].map(|place| image.state[place] as usize);
+    let mut words: BTreeMap<Vec<bool>, Vec<u32>> = BTreeMap::new();
+    for Cell { bits, address } in cells.all(t) {
+        let word = image.dir[address];
+        words.entry(bits.get(..depth_of(word))?.to_vec()).or_default().push(word);
+    }
+    let record = |(key, payload)| model.record(key, payload);
+    let records = |g| (0..image.count(g)).map(|i| record(image.content(g, i))).collect();
+    let leaf = |(bits, words): (Vec<bool>, Vec<u32>)| {
+        let page = page_of(words[0]);
+        let whole = words.len() == 1 << (t - bits.len()) && words.iter().all(|&word| word == words[0]);
+        (whole && page.is_none_or(|g| g < p))
+            .then(|| (Leaf { bits, records: page.map_or(vec![], records) }, page))
+    };
+    words.into_iter().map(leaf).collect()
+}
 
 /// The pages of the leaves of a model's set, if the store shows exactly these leaves; otherwise what is wrong. The
 /// cells are those of the model's widths.
