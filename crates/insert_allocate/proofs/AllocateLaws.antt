@@ -22,14 +22,13 @@ use Rattle.store.specs.Promises.{keyNumber}
 use Rattle.store.proofs.ShownLaws.{wordOn}
 use Rattle.change.proofs.NumberLaws.{NoFreePage}
 use Rattle.change.proofs.AddPromiseLaws.{add-unsound, add-empty-none, add-full-none}
-use Rattle.change_kept.specs.Tested.{LeafTested}
 use Rattle.change_guard.proofs.LeafLaws.{leaf-told}
 use Rattle.insert_cut.specs.declared.Cut.{Cut}
 use Rattle.insert_planned.specs.Planned.{NullFound, FullFound}
 use Rattle.insert_planned.specs.declared.Split.{Split}
 use Rattle.insert_planned.proofs.MetLaws.{key-recordFor}
 use Rattle.insert_planned.proofs.SplitLaws.{meets-full}
-use Rattle.insert_allocate.specs.Planned.{InsertPlanned}
+use Rattle.insert_allocate.specs.Planned.{LeafWhole, InsertPlanned}
 use Rattle.insert_allocate.specs.declared.Plan.the-variants.{Refused, Get, Divide}
 
 module _ (before : Store) (values : List ℕ) where
@@ -48,9 +47,6 @@ module _ (before : Store) (values : List ℕ) where
       RegionTold (widthsOf s) (before .state .deepest) x (splitBit (widthsOf s) values) word (before .memory .words)
       held
 
-  abbrev Whole : ℕ → ℕ → Type 0
-  Whole x word = LeafTested (before .state) (before .memory .words) values x word
-
   -- ---- the leaf
 
   -- 9: the key's leaf, of depth x, is not whole
@@ -63,15 +59,18 @@ module _ (before : Store) (values : List ℕ) where
       own depth S sound)
 
   -- its word, as the code packs it
-  whole-of : (x word own : ℕ) → word ≡ own → (held : Bool) → Told x word held → held ≡ true → Whole x own
-  whole-of x word own e held told h = subst (Whole x) e (told .yes h)
+  whole-of : (x word own : ℕ) → word ≡ own → (held : Bool) → Told x word held → held ≡ true
+      → LeafWhole before values x own
+  whole-of x word own e held told h = subst (LeafWhole before values x) e (told .yes h)
 
   -- ---- the page
 
   module _ (free start : ℕ) (e : free ≡ freePage (s .capacity) (before .memory .bytes) P start) where
+    -- none where the search ends at P
     no-free-page : free ≡ P → NoFreePage before
     no-free-page f = freePage-none (s .capacity) (before .memory .bytes) P start (sym e ∙ f)
 
+    -- else one of the P, without records
     free-page : (free ≡ P → ⊥) → (free < P) × (countOf (page free) ≡ 0)
     free-page n =
         let within : free < P = omega (arith, freePage-le (s .capacity) (before .memory .bytes) P start) in (

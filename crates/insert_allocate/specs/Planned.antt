@@ -14,7 +14,7 @@ use Rattle.insert_allocate.specs.declared.Plan.the-variants.{Refused, Ta
 
 module _ (before : Store) (values : List ℕ) where
   -- every cell of the key's leaf, of depth x, holds its word
-  abbrev LeafWhole : ℕ → ℕ → Type 0
+  abbrev pub LeafWhole : ℕ → ℕ → Type 0
   LeafWhole x word = LeafTested (before .state) (before .memory .words) values x word
 
   -- a refusal is what `add` promises, whatever the record holds; a leaf that gets a page is whole
