@@ -1,7 +1,7 @@
 -- Laws of the promise of a call that changes a store: refused early, refused by what it meets, and accepted. For a
 -- record that is added and for delete alike. Assumes nothing.
 use Prim.Native.Nat.{ℕ, suc, _+_, _^_, _≤_}
-use mathlib.Core.Path.{_≡_, refl, sym, ap, _∙_}
+use mathlib.Core.Path.{_≡_, refl, sym, ap, _∙_, subst}
 use mathlib.Core.Bool.{Bool, true, false, not, cond}
 use mathlib.Core.List.{List, []}
 use mathlib.Core.Logic.{inl, inr}
@@ -97,6 +97,14 @@ abbrev pub KeepsOthers : Bool → Store → List ℕ → Store → Type 0
 KeepsOthers joins before values after =
     Contained joins before after
     (splitBit (widthsOf (before .state .shape)) (encodings (before .state .shape) values))
+
+-- of a key given by its encodings
+pub keeps-others : (joins : Bool) (before : Store) (encoded values : List ℕ)
+    → encodings (before .state .shape) values ≡ encoded → (after : Store)
+    → Contained joins before after (splitBit (widthsOf (before .state .shape)) encoded)
+    → KeepsOthers joins before values after
+keeps-others joins before encoded values same after c =
+    subst (λ k. Contained joins before after (splitBit (widthsOf (before .state .shape)) k)) (sym same) c
 
 -- ---- a sound store after an accepted call
 

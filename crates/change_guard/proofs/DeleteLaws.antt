@@ -47,31 +47,31 @@ sound-passes st words bytes S sound q held r j f =
       folds = λ n a b p o. sound-folds before S sound q held (r .page) (j .other) (j .step) (j .top) f n a b p o;
     }
 
-module _ (st : State) (words values : List ℕ) where
+module _ (st : State) (words encoded : List ℕ) where
   module _ (r : Stored) where
-    pub deleteTold-many : (r .count ≡ 1 → ⊥) → DeleteTold st words values (plan.Keep r) true
+    pub deleteTold-many : (r .count ≡ 1 → ⊥) → DeleteTold st words encoded (plan.Keep r) true
     deleteTold-many n = record { yes = λ e one. absurd (n one); no = λ e. absurd (false≢true (sym e)) }
 
     pub deleteTold-one : (word : ℕ) (held : Bool) → word ≡ wordOf (Page (r .page) (r .depth))
-        → RegionTold (widthsOf (st .shape)) (st .deepest) (r .depth) (splitBit (widthsOf (st .shape)) values) word words
-        held
-        → DeleteTold st words values (plan.Keep r) held
+        → RegionTold (widthsOf (st .shape)) (st .deepest) (r .depth) (splitBit (widthsOf (st .shape)) encoded) word
+        words held
+        → DeleteTold st words encoded (plan.Keep r) held
     deleteTold-one word held named told =
         let x = r .depth in
         let by = subst
-        (λ w. RegionTold (widthsOf (st .shape)) (st .deepest) x (splitBit (widthsOf (st .shape)) values) w words held)
+        (λ w. RegionTold (widthsOf (st .shape)) (st .deepest) x (splitBit (widthsOf (st .shape)) encoded) w words held)
         named told in
         record {
           yes = λ e one. by .yes e;
           no = λ e bytes planned S sound stored-key.
               let leaf = planned .found .leaf in
               let few : r .page < 2 ^ 16 - 1 = omega (arith, leaf .own-within, sound .most-pages) in
-              leaf-told st words values x (wordOf (Page (r .page) x)) held by e bytes (leaf .own)
+              leaf-told st words encoded x (wordOf (Page (r .page) x)) held by e bytes (leaf .own)
               (wordOf-depth (r .page) x few) S sound;
         }
 
-    pub deleteTold-join : (j : Join) (held : Bool) → JoinTold st words values r j held
-        → DeleteTold st words values (plan.Join r j) held
+    pub deleteTold-join : (j : Join) (held : Bool) → JoinTold st words encoded r j held
+        → DeleteTold st words encoded (plan.Join r j) held
     deleteTold-join j held told =
         record {
           yes = told .yes;

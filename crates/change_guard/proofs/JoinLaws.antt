@@ -21,26 +21,26 @@ use Rattle.change_kept.specs.Tested.{joinedDepth, SiblingTested}
 use Rattle.change_kept.proofs.SoundLaws.{region-passes}
 use Rattle.change_guard.specs.Guard.{EmptiesTold, JoinPasses, JoinTold}
 
-module _ (st : State) (words values : List ℕ) where
+module _ (st : State) (words encoded : List ℕ) where
   abbrev ws : List ℕ
   ws = widthsOf (st .shape)
 
   abbrev key : ℕ → Bool
-  key = splitBit ws values
+  key = splitBit ws encoded
 
   -- ---- the empty siblings
 
   pub record EmptyTo (m y z : ℕ) : Type 0 where
     pub from : y ≤ z
     pub within : z ≤ m
-    pub empty : (i : ℕ) → y ≤ i → i < z → SiblingTested st words values i (wordOf (Empty (suc i)))
+    pub empty : (i : ℕ) → y ≤ i → i < z → SiblingTested st words encoded i (wordOf (Empty (suc i)))
 
   module _ (m y : ℕ) where
     pub emptyTo-start : y ≤ m → EmptyTo m y y
     emptyTo-start l = record { from = omega arith; within = l; empty = λ i a b. absurd (omega arith) }
 
     module _ (z : ℕ) (inv : EmptyTo m y z) where
-      pub emptiesTold-yes : m ≤ z → EmptiesTold st words values m y true
+      pub emptiesTold-yes : m ≤ z → EmptiesTold st words encoded m y true
       emptiesTold-yes l = record {
         yes = λ e i a b. inv .empty i a (omega arith);
         no = λ e. absurd (false≢true (sym e));
@@ -60,12 +60,12 @@ module _ (st : State) (words values : List ℕ) where
         }
           where
             at : (i : ℕ) → y ≤ i → i < z + 1 → (i ≡ z) ⊎ (i ≡ z → ⊥)
-                → SiblingTested st words values i (wordOf (Empty (suc i)))
+                → SiblingTested st words encoded i (wordOf (Empty (suc i)))
             at i a b (inl d) =
-                subst (λ n. SiblingTested st words values n (wordOf (Empty (suc n)))) (sym d) (by .yes e)
+                subst (λ n. SiblingTested st words encoded n (wordOf (Empty (suc n)))) (sym d) (by .yes e)
             at i a b (inr n) = inv .empty i a (omega arith)
 
-        pub emptiesTold-no : held ≡ false → EmptiesTold st words values m y false
+        pub emptiesTold-no : held ≡ false → EmptiesTold st words encoded m y false
         emptiesTold-no e = record {
           yes = λ f. absurd (false≢true f);
           no = λ f all. false≢true (sym e ∙ region-passes ws (st .deepest) (suc z) (sibling key z) _ words held
@@ -75,7 +75,7 @@ module _ (st : State) (words values : List ℕ) where
   -- ---- the tests of a join
 
   module _ (r : Stored) (j : Join) where
-    joinTold-fails : (JoinPasses st words values r j → ⊥) → JoinTold st words values r j false
+    joinTold-fails : (JoinPasses st words encoded r j → ⊥) → JoinTold st words encoded r j false
     joinTold-fails n = record { yes = λ e. absurd (false≢true e); no = λ e. n }
 
     module _ (depth : r .depth ≡ suc (j .step)) (own : ℕ) (own-is : own ≡ wordOf (Page (r .page) (r .depth)))
@@ -85,7 +85,7 @@ module _ (st : State) (words values : List ℕ) where
           subst (λ x. RegionTold ws (st .deepest) x key (wordOf (Page (r .page) x)) words β) depth
           (subst (λ w. RegionTold ws (st .deepest) (r .depth) key w words β) own-is own-told)
 
-      pub joinTold-own : β ≡ false → JoinTold st words values r j false
+      pub joinTold-own : β ≡ false → JoinTold st words encoded r j false
       joinTold-own e =
           joinTold-fails (λ p. false≢true (sym e ∙ region-passes ws (st .deepest) _ key _ words β (p .own) own-by))
 
@@ -97,19 +97,19 @@ module _ (st : State) (words values : List ℕ) where
             subst (λ w. RegionTold ws (st .deepest) (suc (j .step)) (sibling key (j .step)) w words γ)
             (other-is ∙ ap (λ x. wordOf (Page (j .other) x)) depth) other-told
 
-        pub joinTold-other : γ ≡ false → JoinTold st words values r j false
+        pub joinTold-other : γ ≡ false → JoinTold st words encoded r j false
         joinTold-other e =
             joinTold-fails
             (λ p. false≢true (sym e ∙ region-passes ws (st .deepest) _ (sibling key (j .step)) _ words γ (p .other)
             other-by))
 
         module _ (yes-other : γ ≡ true) (δ : Bool)
-            (empties : EmptiesTold st words values (j .step) (j .top) δ) where
-          pub joinTold-empties : δ ≡ false → JoinTold st words values r j false
+            (empties : EmptiesTold st words encoded (j .step) (j .top) δ) where
+          pub joinTold-empties : δ ≡ false → JoinTold st words encoded r j false
           joinTold-empties e = joinTold-fails (λ p. empties .no e (p .empty))
 
           pub joinTold-folds : δ ≡ true → (T′ : ℕ) → T′ ≡ joinedDepth st j → (ε : Bool)
-              → FoldTold ws T′ (st .deepest) key words ε → JoinTold st words values r j ε
+              → FoldTold ws T′ (st .deepest) key words ε → JoinTold st words encoded r j ε
           joinTold-folds e T′ d ε folds =
               let by = subst (λ n. FoldTold ws n (st .deepest) key words ε) d folds in
               record {

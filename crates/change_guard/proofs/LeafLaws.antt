@@ -15,12 +15,12 @@ use Rattle.directory_word.specs.Word.{depthField}
 use Rattle.change_kept.proofs.SoundLaws.{region-passes, sound-leaf}
 
 -- a test of the key's region of x bits by the word that it has fails on no sound store
-pub leaf-told : (st : State) (words values : List ℕ) (x word : ℕ) (held : Bool)
-    → RegionTold (widthsOf (st .shape)) (st .deepest) x (splitBit (widthsOf (st .shape)) values) word words held
-    → held ≡ false → (bytes : List ℕ) → wordOn (store st words bytes) (splitBit (widthsOf (st .shape)) values) ≡ word
+pub leaf-told : (st : State) (words encoded : List ℕ) (x word : ℕ) (held : Bool)
+    → RegionTold (widthsOf (st .shape)) (st .deepest) x (splitBit (widthsOf (st .shape)) encoded) word words held
+    → held ≡ false → (bytes : List ℕ) → wordOn (store st words bytes) (splitBit (widthsOf (st .shape)) encoded) ≡ word
     → depthField word ≡ x → (S : List Record) → Sound (store st words bytes) S → ⊥
-leaf-told st words values x word held told e bytes own depth S sound =
+leaf-told st words encoded x word held told e bytes own depth S sound =
     false≢true
     (sym e
     ∙ region-passes (widthsOf (st .shape)) (st .deepest) x _ word words held
-    (sound-leaf (store st words bytes) S sound values x word own depth) told)
+    (sound-leaf (store st words bytes) S sound encoded x word own depth) told)

@@ -53,27 +53,27 @@ pub record DepthJoined (st : State) (j : Join) (depth : ℕ) : Type 0 where
 
 -- ---- what is told
 
--- a set has one record with these values as its key
-pub record KeyHeld (values : List ℕ) (S : List Record) : Type 0 where
+-- a set has one record with these encodings as its key
+pub record KeyHeld (encoded : List ℕ) (S : List Record) : Type 0 where
   pub content : Record
   pub held : stored (content .key) S ≡ content ∷ []
-  pub key : content .key ≡ values
+  pub key : content .key ≡ encoded
 
-module _ (st : State) (words values : List ℕ) where
+module _ (st : State) (words encoded : List ℕ) where
   abbrev pub DeleteGuarded : delete-plan.Plan → Type 0
   DeleteGuarded (delete-plans.Refused n) = Unit
   DeleteGuarded (delete-plans.Keep r) =
-      r .count ≡ 1 → LeafTested st words values (r .depth) (wordOf (Page (r .page) (r .depth)))
-  DeleteGuarded (delete-plans.Join r j) = JoinTested st words values r j
+      r .count ≡ 1 → LeafTested st words encoded (r .depth) (wordOf (Page (r .page) (r .depth)))
+  DeleteGuarded (delete-plans.Join r j) = JoinTested st words encoded r j
 
   -- a key whose record was found is stored
   abbrev pub KeyStored : List ℕ → List Record → Type 0
-  KeyStored bytes S = (r : Stored) → delete.RecordFound (store st words bytes) values r → KeyHeld values S
+  KeyStored bytes S = (r : Stored) → delete.RecordFound (store st words bytes) encoded r → KeyHeld encoded S
 
   -- where a test fails, no sound store has these words and this plan
   pub record DeleteTold (plan : delete-plan.Plan) (held : Bool) : Type 0 where
     pub yes : held ≡ true → DeleteGuarded plan
-    pub no : held ≡ false → (bytes : List ℕ) → delete.DeletePlanned (store st words bytes) values plan
+    pub no : held ≡ false → (bytes : List ℕ) → delete.DeletePlanned (store st words bytes) encoded plan
         → (S : List Record) → Sound (store st words bytes) S → KeyStored bytes S → ⊥
 
   -- of the two plans that an accepted delete has
@@ -86,19 +86,19 @@ module _ (st : State) (words values : List ℕ) where
   -- ---- a join
 
   pub record EmptiesTold (m y : ℕ) (held : Bool) : Type 0 where
-    pub yes : held ≡ true → (z : ℕ) → y ≤ z → z < m → SiblingTested st words values z (wordOf (Empty (suc z)))
+    pub yes : held ≡ true → (z : ℕ) → y ≤ z → z < m → SiblingTested st words encoded z (wordOf (Empty (suc z)))
     pub no : held ≡ false
-        → ((z : ℕ) → y ≤ z → z < m → SiblingTested st words values z (wordOf (Empty (suc z)))) → ⊥
+        → ((z : ℕ) → y ≤ z → z < m → SiblingTested st words encoded z (wordOf (Empty (suc z)))) → ⊥
 
   -- what a sound store passes: the leaves are whole, and no step from the new T on changes a word outside
   pub record JoinPasses (r : Stored) (j : Join) : Type 0 where
-    pub own : LeafTested st words values (suc (j .step)) (wordOf (Page (r .page) (suc (j .step))))
-    pub other : SiblingTested st words values (j .step) (wordOf (Page (j .other) (suc (j .step))))
-    pub empty : (z : ℕ) → j .top ≤ z → z < j .step → SiblingTested st words values z (wordOf (Empty (suc z)))
+    pub own : LeafTested st words encoded (suc (j .step)) (wordOf (Page (r .page) (suc (j .step))))
+    pub other : SiblingTested st words encoded (j .step) (wordOf (Page (j .other) (suc (j .step))))
+    pub empty : (z : ℕ) → j .top ≤ z → z < j .step → SiblingTested st words encoded z (wordOf (Empty (suc z)))
     pub folds : (n : ℕ) → joinedDepth st j ≤ n → n < st .deepest → (q : ℕ → Bool)
-        → (Agree n (splitBit (widthsOf (st .shape)) values) q → ⊥)
+        → (Agree n (splitBit (widthsOf (st .shape)) encoded) q → ⊥)
         → cellWord (widthsOf (st .shape)) (suc n) words q ≡ cellWord (widthsOf (st .shape)) n words q
 
   pub record JoinTold (r : Stored) (j : Join) (held : Bool) : Type 0 where
-    pub yes : held ≡ true → JoinTested st words values r j
+    pub yes : held ≡ true → JoinTested st words encoded r j
     pub no : held ≡ false → JoinPasses r j → ⊥

@@ -22,20 +22,20 @@ ghost use Rattle.change_guard.specs.Guard.{RemovalAsked, JoiningAsked, E
 ghost use Rattle.change_guard.specs.Guard.{RemovalTold, JoiningTold, EmptiesTold};
 
 // Whether every cell of a key's region of x bits holds a word.
-pub fn leaf_whole(state: State, dir: &[u32], values: [u32; 4], x: u32, word: u32) -> bool
+pub fn leaf_whole(state: State, dir: &[u32], encoded: [u32; 4], x: u32, word: u32) -> bool
     requires { ⌜ DirectoryLent state (length (now dir)) × (x ≤ state .deepest) ⌝ }
     ensures { λ r. ⌜ RegionTold (widthsOf (state .shape)) (state .deepest) x
-        (splitBit (widthsOf (state .shape)) values) word (now (dir .entry)) r ⌝ }
+        (splitBit (widthsOf (state .shape)) encoded) word (now (dir .entry)) r ⌝ }
 {
     let widths = widths_of(state.shape);
-    region_holds(widths, values, x as u64, state.deepest as u64, word, dir)
+    region_holds(widths, encoded, x as u64, state.deepest as u64, word, dir)
 }
 
 // Whether the leaf of a delete's key is whole, where it stays and its only record is removed. It
 // hands on the widths alone: a call that takes the state would cost a leaf with more records a copy.
-pub fn removal_keeps(state: State, dir: &[u32], values: [u32; 4], found: Stored) -> bool
+pub fn removal_keeps(state: State, dir: &[u32], encoded: [u32; 4], found: Stored) -> bool
     requires { ⌜ RemovalAsked state (length (now dir)) found ⌝ }
-    ensures { λ r. ⌜ RemovalTold state (now (dir .entry)) values found r ⌝ }
+    ensures { λ r. ⌜ RemovalTold state (now (dir .entry)) encoded found r ⌝ }
 {
     if found.count != 1 {
         return true;
@@ -44,7 +44,7 @@ pub fn removal_keeps(state: State, dir: &[u32], values: [u32; 4], found: Stored)
     let widths = widths_of(state.shape);
     region_holds(
         widths,
-        values,
+        encoded,
         found.depth as u64,
         state.deepest as u64,
         word,
@@ -53,22 +53,22 @@ pub fn removal_keeps(state: State, dir: &[u32], values: [u32; 4], found: Stored)
 }
 
 // Whether the leaves that a delete joins are whole, and no other word is lost at the new T.
-pub fn join_keeps(state: State, dir: &[u32], values: [u32; 4], found: Stored, join: Join) -> bool
+pub fn join_keeps(state: State, dir: &[u32], encoded: [u32; 4], found: Stored, join: Join) -> bool
     requires { ⌜ JoiningAsked state (length (now dir)) found join ⌝ }
-    ensures { λ r. ⌜ JoiningTold state (now (dir .entry)) values found join r ⌝ }
+    ensures { λ r. ⌜ JoiningTold state (now (dir .entry)) encoded found join r ⌝ }
 {
     let own = pack_page(found.page, found.depth);
-    if !leaf_whole(state, dir, values, found.depth, own) {
+    if !leaf_whole(state, dir, encoded, found.depth, own) {
         return false;
     }
     let other = pack_page(join.other, found.depth);
-    if !sibling_whole(state, dir, values, join.step, other) {
+    if !sibling_whole(state, dir, encoded, join.step, other) {
         return false;
     }
-    if !empties_whole(state, dir, values, join.step, join.top) {
+    if !empties_whole(state, dir, encoded, join.step, join.top) {
         return false;
     }
-    halving_whole(state, dir, values, joined_depth(state, found, join))
+    halving_whole(state, dir, encoded, joined_depth(state, found, join))
 }
 
 // T after a join.
@@ -82,24 +82,24 @@ fn joined_depth(state: State, found: Stored, join: Join) -> u32
 }
 
 // The same for the sibling of its region of z + 1 bits.
-fn sibling_whole(state: State, dir: &[u32], values: [u32; 4], z: u32, word: u32) -> bool
+fn sibling_whole(state: State, dir: &[u32], encoded: [u32; 4], z: u32, word: u32) -> bool
     requires { ⌜ DirectoryLent state (length (now dir)) × (z < state .deepest) ⌝ }
     ensures { λ r. ⌜ RegionTold (widthsOf (state .shape)) (state .deepest) (suc z)
-        (sibling (splitBit (widthsOf (state .shape)) values) z) word (now (dir .entry)) r ⌝ }
+        (sibling (splitBit (widthsOf (state .shape)) encoded) z) word (now (dir .entry)) r ⌝ }
 {
     let widths = widths_of(state.shape);
-    sibling_holds(widths, values, z as u64, state.deepest as u64, word, dir)
+    sibling_holds(widths, encoded, z as u64, state.deepest as u64, word, dir)
 }
 
 // Whether the siblings of its regions of depths y + 1 to m are empty leaves.
-fn empties_whole(state: State, dir: &[u32], values: [u32; 4], m: u32, y: u32) -> bool
+fn empties_whole(state: State, dir: &[u32], encoded: [u32; 4], m: u32, y: u32) -> bool
     requires { ⌜ EmptiesAsked state (length (now dir)) m y ⌝ }
-    ensures { λ r. ⌜ EmptiesTold state (now (dir .entry)) values m y r ⌝ }
+    ensures { λ r. ⌜ EmptiesTold state (now (dir .entry)) encoded m y r ⌝ }
 {
     let mut z = y;
     while z < m {
         let word = pack_empty(z + 1);
-        if !sibling_whole(state, dir, values, z, word) {
+        if !sibling_whole(state, dir, encoded, z, word) {
             return false;
         }
         z += 1;
@@ -108,11 +108,11 @@ fn empties_whole(state: State, dir: &[u32], values: [u32; 4], m: u32, y: u32) ->
 }
 
 // Whether a directory of depth u has the words of all strings outside its region of u bits.
-fn halving_whole(state: State, dir: &[u32], values: [u32; 4], u: u32) -> bool
+fn halving_whole(state: State, dir: &[u32], encoded: [u32; 4], u: u32) -> bool
     requires { ⌜ DirectoryLent state (length (now dir)) × (u ≤ state .deepest) ⌝ }
     ensures { λ r. ⌜ FoldTold (widthsOf (state .shape)) u (state .deepest)
-        (splitBit (widthsOf (state .shape)) values) (now (dir .entry)) r ⌝ }
+        (splitBit (widthsOf (state .shape)) encoded) (now (dir .entry)) r ⌝ }
 {
     let widths = widths_of(state.shape);
-    folds(widths, values, u as u64, state.deepest as u64, dir)
+    folds(widths, encoded, u as u64, state.deepest as u64, dir)
 }

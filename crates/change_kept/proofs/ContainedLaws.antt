@@ -46,7 +46,7 @@ use Rattle.change_kept.proofs.RegionLaws.{filled-whole}
 use Rattle.change_kept.proofs.StepLaws.{same-kept, get-kept, divide-kept, keep-kept, join-kept, depth-is}
 use Rattle.change_kept.proofs.StepLaws.{joined-siblings}
 
-module _ (before : Store) (values : List ℕ) where
+module _ (before : Store) (encoded : List ℕ) where
   abbrev st : State
   st = before .state
 
@@ -63,7 +63,7 @@ module _ (before : Store) (values : List ℕ) where
   bytes = before .memory .bytes
 
   abbrev key : ℕ → Bool
-  key = keyString before values
+  key = keyString before encoded
 
   -- the pages of a store whose bytes are these
   module _ (bytes′ : List ℕ) (f : List ℕ) (e : bytes′ ≡ f) where
@@ -74,11 +74,11 @@ module _ (before : Store) (values : List ℕ) where
 
   module _ (code : ℕ) (content : Content) where
     -- a page takes the record
-    pub contained-taken : (g i n : ℕ) → RoomFound before values g i n → PageLent b g bytes × (i ≤ n) × (n < b)
+    pub contained-taken : (g i n : ℕ) → RoomFound before encoded g i n → PageLent b g bytes × (i ≤ n) × (n < b)
         → (bytes′ : List ℕ) → bytes′ ≡ insertedPages b g i n (packedBytes code content) bytes
         → Contained false before (store st words bytes′) key
     contained-taken g i n planned lent bytes′ e = record {
-      words-kept = same-kept before values false words refl;
+      words-kept = same-kept before encoded false words refl;
       bytes-kept =
           one-written false before (store st words bytes′) key g
           (λ k o. page-of bytes′ _ e k
@@ -88,13 +88,13 @@ module _ (before : Store) (values : List ℕ) where
     }
 
     -- an empty leaf gets a page
-    pub contained-got : (g x : ℕ) → GetPlanned before values g x → PageLent b g bytes × (0 ≤ 0) × (0 < b)
-        → LeafTested st words values x (wordOf (Empty x)) → (words′ : List ℕ)
+    pub contained-got : (g x : ℕ) → GetPlanned before encoded g x → PageLent b g bytes × (0 ≤ 0) × (0 < b)
+        → LeafTested st words encoded x (wordOf (Empty x)) → (words′ : List ℕ)
         → Filled (widthsOf s) (st .deepest) x key (wordOf (Page g x)) words words′ → (bytes′ : List ℕ)
         → bytes′ ≡ insertedPages b g 0 0 (packedBytes code content) bytes
         → Contained false before (store st words′ bytes′) key
     contained-got g x planned lent tested words′ f bytes′ e = record {
-      words-kept = get-kept before values g x (wordOf (Page g x)) words′ planned tested f;
+      words-kept = get-kept before encoded g x (wordOf (Page g x)) words′ planned tested f;
       bytes-kept =
           one-written false before (store st words′ bytes′) key g
           (λ k o. page-of bytes′ _ e k
@@ -104,14 +104,14 @@ module _ (before : Store) (values : List ℕ) where
     }
 
     -- a full leaf is divided: the half with bit 1 has the free page
-    pub contained-divided : (split : Split) (cut : Cut) (free : ℕ) → DividePlanned before values split cut free
+    pub contained-divided : (split : Split) (cut : Cut) (free : ℕ) → DividePlanned before encoded split cut free
         → PageLent b (split .page) bytes × PageLent b free bytes → CutFits b cut
-        → LeafTested st words values (split .depth) (wordOf (Page (split .page) (split .depth)))
-        → (st′ : State) (words′ : List ℕ) → WordsDivided st values split free words st′ words′ → (bytes′ : List ℕ)
+        → LeafTested st words encoded (split .depth) (wordOf (Page (split .page) (split .depth)))
+        → (st′ : State) (words′ : List ℕ) → WordsDivided st encoded split free words st′ words′ → (bytes′ : List ℕ)
         → bytes′ ≡ dividedPages b (split .page) free cut (packedBytes code content) bytes
         → Contained false before (store st′ words′ bytes′) key
     contained-divided split cut free planned lent fits tested st′ words′ w bytes′ e = record {
-      words-kept = divide-kept before values split cut free st′ words′ planned tested w;
+      words-kept = divide-kept before encoded split cut free st′ words′ planned tested w;
       bytes-kept =
           two-written false before (store st′ words′ bytes′) key (split .page) free
           (λ k n o. page-of bytes′ _ e k
@@ -151,15 +151,15 @@ module _ (before : Store) (values : List ℕ) where
 
   -- ---- delete
 
-  module _ (r : Stored) (found : RecordFound before values r) where
+  module _ (r : Stored) (found : RecordFound before encoded r) where
     -- the key's leaf stays
     pub contained-removed : RecordLent b r bytes
-        → (r .count ≡ 1 → LeafTested st words values (r .depth) (wordOf (Page (r .page) (r .depth))))
-        → (words′ : List ℕ) → LeafWords st values r words words′ → (bytes′ : List ℕ)
+        → (r .count ≡ 1 → LeafTested st words encoded (r .depth) (wordOf (Page (r .page) (r .depth))))
+        → (words′ : List ℕ) → LeafWords st encoded r words words′ → (bytes′ : List ℕ)
         → bytes′ ≡ removedBytes b (r .page) (r .place) (r .count) bytes
         → Contained true before (store st words′ bytes′) key
     contained-removed lent tested words′ w bytes′ e = record {
-      words-kept = keep-kept before values r found words′ tested w;
+      words-kept = keep-kept before encoded r found words′ tested w;
       bytes-kept =
           one-written true before (store st words′ bytes′) key (r .page)
           (λ k n. page-of bytes′ _ e k
@@ -169,13 +169,13 @@ module _ (before : Store) (values : List ℕ) where
     }
 
     -- the key's leaf is joined with its sibling
-    pub contained-joined : (j : Join) → JoinPlanned before values r j → LeavesLent st r j → PairLent b r j bytes
-        → JoinTested st words values r j → (st′ : State) (words′ : List ℕ) → JoinWords st values r j st′ words words′
+    pub contained-joined : (j : Join) → JoinPlanned before encoded r j → LeavesLent st r j → PairLent b r j bytes
+        → JoinTested st words encoded r j → (st′ : State) (words′ : List ℕ) → JoinWords st encoded r j st′ words words′
         → (bytes′ : List ℕ)
         → bytes′ ≡ joinedBytes (j .bit) b (r .page) (r .place) (r .count) (j .other) (j .count) bytes
         → Contained true before (store st′ words′ bytes′) key
     contained-joined j planned leaves lent tested st′ words′ w bytes′ e = record {
-      words-kept = join-kept before values r found j st′ words′ planned leaves tested w;
+      words-kept = join-kept before encoded r found j st′ words′ planned leaves tested w;
       bytes-kept =
           two-written true before (store st′ words′ bytes′) key (r .page) (j .other)
           (λ k n o. page-of bytes′ _ e k
@@ -222,6 +222,6 @@ module _ (before : Store) (values : List ℕ) where
             × JoinedWith true (wordAt s (st .deepest) words) (wordAt (st′ .shape) (st′ .deepest) words′) key beside
         joined =
             sibling-joined (wordAt s (st .deepest) words) (wordAt (st′ .shape) (st′ .deepest) words′) key m
-            (joined-siblings before values r found j planned tested m (planned .met .above) (le-refl m))
-            (omega (arith, depth-is before values r found, planned .depth-step))
+            (joined-siblings before encoded r found j planned tested m (planned .met .above) (le-refl m))
+            (omega (arith, depth-is before encoded r found, planned .depth-step))
             (omega (arith, top, planned .met .above)) one-leaf beside (leaves-sibling key m)

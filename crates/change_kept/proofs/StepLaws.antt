@@ -34,7 +34,7 @@ use Rattle.change_kept.specs.Tested.{joinedDepth, LeafTested, JoinTested
 use Rattle.change_kept.proofs.WordLaws.{SiblingLeaf, kept-same}
 use Rattle.change_kept.proofs.RegionLaws.{filled-kept, divided-kept, joined-kept}
 
-module _ (before : Store) (values : List ℕ) where
+module _ (before : Store) (encoded : List ℕ) where
   abbrev st : State
   st = before .state
 
@@ -45,7 +45,7 @@ module _ (before : Store) (values : List ℕ) where
   words = before .memory .words
 
   abbrev key : ℕ → Bool
-  key = keyString before values
+  key = keyString before encoded
 
   abbrev own : ℕ
   own = wordAt s (st .deepest) words key
@@ -56,7 +56,7 @@ module _ (before : Store) (values : List ℕ) where
       WordsKept joins (wordAt s (st .deepest) words) (wordAt (st′ .shape) (st′ .deepest) words′) key
 
   -- a test of the word that is the key's
-  tested : (x word : ℕ) → own ≡ word → LeafTested st words values x word
+  tested : (x word : ℕ) → own ≡ word → LeafTested st words encoded x word
       → RegionHolds (widthsOf s) (st .deepest) x key own words
   tested x word e h = subst (λ w. RegionHolds (widthsOf s) (st .deepest) x key w words) (sym e) h
 
@@ -78,8 +78,8 @@ module _ (before : Store) (values : List ℕ) where
       (λ p. ap (λ w. wordAt s (st .deepest) w p) e)
 
   -- an empty leaf gets a page
-  pub get-kept : (g x word : ℕ) (words′ : List ℕ) → GetPlanned before values g x
-      → LeafTested st words values x (wordOf (Empty x)) → Filled (widthsOf s) (st .deepest) x key word words words′
+  pub get-kept : (g x word : ℕ) (words′ : List ℕ) → GetPlanned before encoded g x
+      → LeafTested st words encoded x (wordOf (Empty x)) → Filled (widthsOf s) (st .deepest) x key word words words′
       → KeptIn false st words′
   get-kept g x word words′ planned h f =
       filled-kept (widthsOf s) (st .deepest) key words x (ap depthField (planned .found .own) ∙ wordOf-depth-empty x)
@@ -87,9 +87,9 @@ module _ (before : Store) (values : List ℕ) where
 
   -- a full leaf is divided
   pub divide-kept : (split : Split) (cut : Cut) (free : ℕ) (st′ : State) (words′ : List ℕ)
-      → DividePlanned before values split cut free
-      → LeafTested st words values (split .depth) (wordOf (Page (split .page) (split .depth)))
-      → WordsDivided st values split free words st′ words′ → KeptIn false st′ words′
+      → DividePlanned before encoded split cut free
+      → LeafTested st words encoded (split .depth) (wordOf (Page (split .page) (split .depth)))
+      → WordsDivided st encoded split free words st′ words′ → KeptIn false st′ words′
   divide-kept split cut free st′ words′ planned h w =
       let met = planned .found .met .ends-met .met in
       let x = split .depth in
@@ -101,7 +101,7 @@ module _ (before : Store) (values : List ℕ) where
 
   -- ---- delete
 
-  module _ (r : Stored) (found : RecordFound before values r) where
+  module _ (r : Stored) (found : RecordFound before encoded r) where
     few : st .limits .pages ≤ 4096
     few = limits-parts st (found .leaf .limits) .1
 
@@ -115,8 +115,8 @@ module _ (before : Store) (values : List ℕ) where
 
     -- the key's leaf stays: without a page, where its only record is removed
     pub keep-kept : (words′ : List ℕ)
-        → (r .count ≡ 1 → LeafTested st words values (r .depth) (wordOf (Page (r .page) (r .depth))))
-        → LeafWords st values r words words′ → KeptIn true st words′
+        → (r .count ≡ 1 → LeafTested st words encoded (r .depth) (wordOf (Page (r .page) (r .depth))))
+        → LeafWords st encoded r words words′ → KeptIn true st words′
     keep-kept words′ h w = by-count (eq-or-ne (r .count) 1)
       where
         by-count : (r .count ≡ 1) ⊎ (r .count ≡ 1 → ⊥) → KeptIn true st words′
@@ -126,7 +126,7 @@ module _ (before : Store) (values : List ℕ) where
         by-count (inr n) = same-kept true words′ (w .same n)
 
     -- the siblings that are joined with it: its own, and empty ones above
-    pub joined-siblings : (j : Join) → JoinPlanned before values r j → JoinTested st words values r j → (z : ℕ)
+    pub joined-siblings : (j : Join) → JoinPlanned before encoded r j → JoinTested st words encoded r j → (z : ℕ)
         → j .top ≤ z → z ≤ j .step → SiblingLeaf (wordAt s (st .deepest) words) key z
     joined-siblings j planned h z l b = by-depth (eq-or-ne z (j .step))
       where
@@ -146,8 +146,8 @@ module _ (before : Store) (values : List ℕ) where
         }
 
     -- the key's leaf is joined
-    pub join-kept : (j : Join) (st′ : State) (words′ : List ℕ) → JoinPlanned before values r j → LeavesLent st r j
-        → JoinTested st words values r j → JoinWords st values r j st′ words words′ → KeptIn true st′ words′
+    pub join-kept : (j : Join) (st′ : State) (words′ : List ℕ) → JoinPlanned before encoded r j → LeavesLent st r j
+        → JoinTested st words encoded r j → JoinWords st encoded r j st′ words words′ → KeptIn true st′ words′
     join-kept j st′ words′ planned lent h w =
         let m = j .step in
         let y = j .top in

@@ -1,5 +1,5 @@
 -- What the tests of crate `directory_tests` tell a change before it sets words, on any store: of the words and the
--- state alone, whatever the page bytes. `values` are those of the key. Assumes nothing.
+-- state alone, whatever the page bytes. `encoded` are the encodings of the key. Assumes nothing.
 use Prim.Native.Nat.{ℕ, suc, _-_, _≤_, _<_}
 use mathlib.Core.Bool.{Bool}
 use mathlib.Core.List.{List}
@@ -18,12 +18,12 @@ use Rattle.directory_tests.specs.Intact.{RegionHolds, Folds}
 abbrev pub joinedDepth : State → Join → ℕ
 joinedDepth st j = tallyDepth (st .deepest) (joinedTally (j .top) (suc (j .step) - j .top) (st .tally .leaves))
 
-module _ (st : State) (words values : List ℕ) where
+module _ (st : State) (words encoded : List ℕ) where
   abbrev ws : List ℕ
   ws = widthsOf (st .shape)
 
   abbrev key : ℕ → Bool
-  key = splitBit ws values
+  key = splitBit ws encoded
 
   -- every cell of the key's region of x bits holds the word
   abbrev pub LeafTested : ℕ → ℕ → Type 0

@@ -7,6 +7,7 @@ use native.Mathlib.Nat.{add-zero, add-assoc, mod-eq-of-lt}
 use lib.Bits.{bitOr, or-shifted-r}
 use lib.ListN.{getD, take, drop}
 use lib.Seq.{getD-take, getD-drop}
+use Rattle.shape.specs.Key.{encode, encodeField}
 use Rattle.shape.specs.declared.Shape.{Shape}
 use Rattle.record.specs.Bytes.{recordSize, numberOf, field, recordOf}
 use Rattle.record.specs.Packed.{unpackedKey}
@@ -55,7 +56,7 @@ field-field page at o h =
     ∙ sym (numberOf-field-two page (at + o))
 
 pub key-recordOf : (s : Shape) (page : List ℕ) (at : ℕ) → recordOf s (field page at recordSize) .key ≡ valuesAt page at
-unfolding recordOf
+unfolding recordOf encodeField encode
 key-recordOf s page at = cc (
   field-field page at 0 (omega arith),
   field-field page at 2 (omega arith),

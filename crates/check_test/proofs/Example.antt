@@ -6,6 +6,7 @@ use mathlib.Core.Bool.{true, not}
 use mathlib.Core.List.{List, [], _∷_, _++_}
 use lib.ListN.{length, take, replicate, set}
 use Rattle.lists.specs.Filter.{all}
+use Rattle.shape.specs.Key.{encode, decode, encodeField}
 use Rattle.shape.specs.Refusal.{firstNumber}
 use Rattle.shape.specs.Shape.{inBounds, shapeConditions, widthsOf}
 use Rattle.shape.specs.declared.Shape.{Shape}
@@ -143,6 +144,7 @@ unfolding
     soundTest limitsHold lentNumber lentConditions firstNumber shapeConditions inBounds widthsOf
     stepsBelow steps step stepNumber stepsOf attributeDepth splitBit
     highestBit createdBy latestStep formula addressFrom address sides sumBits cell cellAddress recordBytes recordOf
+    encode decode encodeField
 examples = (refl, refl)
 
 -- why soundness speaks of page numbers below P: past them a word has two readings
@@ -154,4 +156,5 @@ pub read-off : shownSet four ≡ key 0 0 10 ∷ key 2 0 11 ∷ key 2 1 13 ∷ ke
 unfolding
     widthsOf stepsBelow steps step stepNumber stepsOf attributeDepth
     highestBit createdBy latestStep formula addressFrom address sides sumBits cell cellAddress recordBytes recordOf
+    encode decode encodeField
 read-off = refl

@@ -6,6 +6,7 @@ use delete_plan::Plan;
 use delete_plan::plan_delete;
 use delete_steps::join_leaves;
 use delete_steps::keep_leaf;
+use key_encoding::encode_key;
 use refusals::key_number;
 use shape::Key;
 use store::Change;
@@ -29,34 +30,35 @@ pub fn delete(state: State, dir: &mut [u32], pages: &mut [u8], key: Key) -> Chan
             state,
         };
     }
-    let plan = plan_delete(state, dir, pages, key);
-    let values = key.values;
+    let encoded = encode_key(state.shape, key);
+    let encodings = encoded.values;
+    let plan = plan_delete(state, dir, pages, encoded);
     match plan {
         Plan::Refused(n) => Change {
             answer: Changed::Refused(n),
             state,
         },
         Plan::Keep(found) => {
-            if !removal_keeps(state, dir, values, found) {
+            if !removal_keeps(state, dir, encodings, found) {
                 return Change {
                     answer: Changed::Refused(9),
                     state,
                 };
             }
-            keep_leaf(state, dir, pages, values, found);
+            keep_leaf(state, dir, pages, encodings, found);
             Change {
                 answer: Changed::Done,
                 state,
             }
         }
         Plan::Join(found, join) => {
-            if !join_keeps(state, dir, values, found, join) {
+            if !join_keeps(state, dir, encodings, found, join) {
                 return Change {
                     answer: Changed::Refused(9),
                     state,
                 };
             }
-            let joined = join_leaves(state, dir, pages, values, found, join);
+            let joined = join_leaves(state, dir, pages, encodings, found, join);
             Change {
                 answer: Changed::Done,
                 state: joined,

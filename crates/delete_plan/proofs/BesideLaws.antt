@@ -8,7 +8,6 @@ use native.Mathlib.Omega.{arith}
 use lib.Dec.{ltb}
 use borrow.Author.Tests.{ltb-false}
 use Rattle.lists.proofs.Bools.{and-split}
-use Rattle.shape.specs.Refusal.{refused}
 use Rattle.shape.specs.Shape.{widthsOf}
 use Rattle.cell.specs.Cell.{Agree}
 use Rattle.region.specs.Strings.{sibling}
@@ -19,20 +18,18 @@ use Rattle.directory_word.specs.Word.{wordOf, leafOf}
 use Rattle.directory_word.specs.declared.Leaf.the-variants.{Empty, Page}
 use Rattle.directory_word.proofs.WordLaws.{wordOf-one-to-one, wordOf-apart}
 use Rattle.store.specs.Store.{Store}
-use Rattle.store.specs.Promises.{DeletePromise}
 use Rattle.change.specs.Delete.{keyString, AtSibling}
-use Rattle.change.proofs.DeletePromiseLaws.{delete-unsound}
 use Rattle.refusals.proofs.LimitsLaws.{limits-parts}
 use Rattle.leaf_word.specs.Hold.{wordHolds}
 use Rattle.leaf_word.proofs.HoldLaws.{held-empty, held-page}
 use Rattle.delete_siblings.specs.Siblings.{SiblingKey, siblingHolds}
 use Rattle.delete_siblings.proofs.SiblingLaws.{siblings-deep}
-use Rattle.delete_plan.specs.Plan.{RecordFound, StaysAlone}
+use Rattle.delete_plan.specs.Plan.{RecordFound, StaysAlone, RefusalMet}
 use Rattle.delete_plan.specs.Met.{SiblingMet}
 use Rattle.delete_plan.specs.declared.Stored.{Stored}
-use Rattle.delete_plan.proofs.MetLaws.{refused-word}
+use Rattle.delete_plan.proofs.MetLaws.{refused-unsound, refused-word}
 
-module _ (before : Store) (values : List ℕ) (r : Stored) (f : RecordFound before values r) where
+module _ (before : Store) (encoded : List ℕ) (r : Stored) (f : RecordFound before encoded r) where
   abbrev P : ℕ
   P = before .state .limits .pages
 
@@ -46,7 +43,7 @@ module _ (before : Store) (values : List ℕ) (r : Stored) (f : RecordFound befo
   x = r .depth
 
   abbrev p : ℕ → Bool
-  p = keyString before values
+  p = keyString before encoded
 
   abbrev pageOf : ℕ → List ℕ
   pageOf h = pageAt b (before .memory .bytes) h
@@ -58,31 +55,31 @@ module _ (before : Store) (values : List ℕ) (r : Stored) (f : RecordFound befo
   most = limits-parts (before .state) (f .leaf .limits) .1
 
   -- the empty string has no sibling
-  pub stays-root : x ≡ 0 → StaysAlone before values g x
+  pub stays-root : x ≡ 0 → StaysAlone before encoded g x
   stays-root e m d = absurd (omega arith)
 
   -- ---- the word of a cell of the sibling
 
-  module _ (divided : 0 < x) (word : ℕ) (c : AtSibling before values (x - 1) (λ w. word ≡ w)) where
-    refused-word-there : wordHolds (before .state) word ≡ false → DeletePromise before values (refused 9) before
+  module _ (divided : 0 < x) (word : ℕ) (c : AtSibling before encoded (x - 1) (λ w. word ≡ w)) where
+    refused-word-there : wordHolds (before .state) word ≡ false → RefusalMet before encoded 9
     refused-word-there e =
-        refused-word before values (f .leaf .early) (c .0) (ap (wordHolds (before .state)) (sym (c .2)) ∙ e)
+        refused-word before encoded (c .0) (ap (wordHolds (before .state)) (sym (c .2)) ∙ e)
 
     -- a leaf above the key's leaf, or an empty one beside it
-    refused-shallow : word ≤ wordOf (Empty x) → DeletePromise before values (refused 9) before
+    refused-shallow : word ≤ wordOf (Empty x) → RefusalMet before encoded 9
     refused-shallow l =
         let step : suc (x - 1) ≡ x = omega arith in
-        delete-unsound before values (f .leaf .early)
+        refused-unsound before encoded
         (λ S sound.
-        siblings-deep before S sound values g (x - 1) (f .leaf .own-within)
+        siblings-deep before S sound encoded g (x - 1) (f .leaf .own-within)
         (f .leaf .own ∙ ap (λ y. wordOf (Page g y)) (sym step))
         (c .0, c .1, rw (step, sym (c .2)) l))
 
-    pub refused-sibling : siblingHolds (before .state) x word ≡ false → DeletePromise before values (refused 9) before
+    pub refused-sibling : siblingHolds (before .state) x word ≡ false → RefusalMet before encoded 9
     unfolding siblingHolds
     refused-sibling e = by-word (wordHolds (before .state) word) refl
       where
-        by-word : (β : Bool) → wordHolds (before .state) word ≡ β → DeletePromise before values (refused 9) before
+        by-word : (β : Bool) → wordHolds (before .state) word ≡ β → RefusalMet before encoded 9
         by-word false h = refused-word-there h
         by-word true h =
             refused-shallow (ltb-false (wordOf (Empty x)) word
@@ -93,7 +90,7 @@ module _ (before : Store) (values : List ℕ) (r : Stored) (f : RecordFound befo
     held-sibling e = and-split (wordHolds (before .state) word) (ltb (wordOf (Empty x)) word) e .0
 
     pub stays : ((h : ℕ) → h < P → word ≡ wordOf (Page h x) → suc b < countBefore g + countBefore h)
-        → StaysAlone before values g x
+        → StaysAlone before encoded g x
     stays alone m e =
         let same : x - 1 ≡ m = omega arith in (
           c .0,
@@ -102,7 +99,7 @@ module _ (before : Store) (values : List ℕ) (r : Stored) (f : RecordFound befo
         )
 
     module _ (holds : wordHolds (before .state) word ≡ true) where
-      pub stays-empty : (y : ℕ) → leafOf word ≡ Empty y → StaysAlone before values g x
+      pub stays-empty : (y : ℕ) → leafOf word ≡ Empty y → StaysAlone before encoded g x
       stays-empty y e =
           stays (λ h l d.
           absurd (wordOf-apart h x y (omega (arith, most)) (sym d ∙ held-empty (before .state) word holds y e .1)))
@@ -112,15 +109,15 @@ module _ (before : Store) (values : List ℕ) (r : Stored) (f : RecordFound befo
         leaf = held-page (before .state) word holds h y e
 
         -- never joined with a divided sibling
-        pub stays-deep : (y ≡ x → ⊥) → StaysAlone before values g x
+        pub stays-deep : (y ≡ x → ⊥) → StaysAlone before encoded g x
         stays-deep n =
             stays (λ i l d.
             absurd
             (n (wordOf-one-to-one h i y x (omega (arith, most, leaf .0)) (omega (arith, most)) (sym (leaf .2) ∙ d) .1)))
 
         pub siblingMet : y ≡ x → (mask : ℕ) → mask ≡ fixedBits (widthsOf (before .state .shape)) x → (beside : ℕ)
-            → SiblingKey (before .state .shape) (packedKey values) (x - 1) beside
-            → SiblingMet before values r mask h beside
+            → SiblingKey (before .state .shape) (packedKey encoded) (x - 1) beside
+            → SiblingMet before encoded r mask h beside
         siblingMet d mask fixed beside there =
             record {
               leaf = record { found = f; divided = divided; fixed = fixed };

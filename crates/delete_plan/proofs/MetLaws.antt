@@ -11,12 +11,11 @@ use lib.ListN.{length}
 use lib.Pow.{pow-mono}
 use borrow.Author.Tests.{eqb-true}
 use Rattle.lists.specs.Filter.{nonEmpty}
-use Rattle.shape.specs.Refusal.{refused}
 use Rattle.shape.specs.Shape.{widthsOf, total, indexFits}
-use Rattle.shape.specs.Key.{encodings}
 use Rattle.shape.specs.declared.Shape.{Shape}
 use Rattle.shape.proofs.ShapeLaws.{capacity-bounds}
 use Rattle.split.specs.Bits.{splitBit}
+use Rattle.record.specs.Record.{Record}
 use Rattle.record.specs.Packed.{packedKey, unpackedKey, SixteenBits}
 use Rattle.record.proofs.ByteLaws.{AreBytes, AreBytes-field}
 use Rattle.page.specs.Page.{countOf, recordsOf, recordsFrom, pageSize, pageAt}
@@ -31,7 +30,7 @@ use Rattle.directory_word.specs.declared.Leaf.the-variants.{Empty, Page}
 use Rattle.directory_word.proofs.WordLaws.{wordOf-page, wordOf-page-empty}
 use Rattle.model.specs.Sets.{stored}
 use Rattle.store.specs.Store.{Store}
-use Rattle.store.specs.Promises.{keyNumber, DeletePromise}
+use Rattle.store.specs.Sound.{Sound}
 use Rattle.store.proofs.ShownLaws.{wordOn}
 use Rattle.change.specs.Delete.{keyString}
 use Rattle.change.proofs.DeletePromiseLaws.{delete-unsound, delete-empty, delete-absent}
@@ -42,14 +41,13 @@ use Rattle.page_ends.specs.Fair.{fairCount}
 use Rattle.page_ends.proofs.FairLaws.{fair-of-count}
 use Rattle.leaf_word.specs.Hold.{wordHolds, ownPage}
 use Rattle.leaf_word.proofs.HoldLaws.{word-of-sound, held-empty, held-page}
-use Rattle.leaf_word.proofs.PageLaws.{unpackedKey-values, indexFits-packed, endsAgree-mask}
-use Rattle.delete_plan.specs.Plan.{LeafMet, RecordFound}
+use Rattle.leaf_word.proofs.PageLaws.{endsAgree-mask}
+use Rattle.delete_plan.specs.Plan.{LeafMet, RecordFound, RefusalMet}
 use Rattle.delete_plan.specs.Met.{Sought}
 use Rattle.delete_plan.specs.declared.Stored.{Stored}
 use Rattle.directory_lent.specs.Lent.{DirectoryLent}
-use Rattle.refusals.proofs.PassedLaws.{Passed, passed}
-use Rattle.model.proofs.SetLaws.{SixteenBits-of-keyFits}
-use Rattle.delete_plan.proofs.EarlyLaws.{encodings-values}
+use Rattle.refusals.specs.Passed.{Passed}
+use Rattle.refusals.proofs.PassedLaws.{SixteenBits-passed, unpackedKey-passed, indexFits-passed}
 use Rattle.delete_plan.proofs.FairLaws.{fair-of-sound}
 
 -- ---- the place of a key
@@ -68,7 +66,7 @@ module _ (key : ℕ) (page : List ℕ) where
 
 -- ---- a store
 
-module _ (before : Store) (values : List ℕ) where
+module _ (before : Store) (encoded : List ℕ) where
   abbrev s : Shape
   s = before .state .shape
 
@@ -76,51 +74,45 @@ module _ (before : Store) (values : List ℕ) where
   P = before .state .limits .pages
 
   abbrev p : ℕ → Bool
-  p = keyString before values
+  p = keyString before encoded
+
+  pub refused-unsound : ((S : List Record) → Sound before S → ⊥) → RefusalMet before encoded 9
+  refused-unsound none values early same = delete-unsound before values early none
 
   -- ---- before the key's leaf
 
-  module _ (early : keyNumber before values ≡ 0) where
-    pub refused-limits : limitsHold (before .state) ≡ false → DeletePromise before values (refused 9) before
-    refused-limits e =
-        delete-unsound before values early (λ S sound. true≢false (sym (limits-of-sound before S sound) ∙ e))
+  pub refused-limits : limitsHold (before .state) ≡ false → RefusalMet before encoded 9
+  refused-limits e = refused-unsound (λ S sound. true≢false (sym (limits-of-sound before S sound) ∙ e))
 
-    -- a word at any cell that does not hold
-    pub refused-word : (q : ℕ → Bool) → wordHolds (before .state) (wordOn before q) ≡ false
-        → DeletePromise before values (refused 9) before
-    refused-word q e =
-        delete-unsound before values early (λ S sound. true≢false (sym (word-of-sound before S sound q) ∙ e))
+  -- a word at any cell that does not hold
+  pub refused-word : (q : ℕ → Bool) → wordHolds (before .state) (wordOn before q) ≡ false → RefusalMet before encoded 9
+  refused-word q e = refused-unsound (λ S sound. true≢false (sym (word-of-sound before S sound q) ∙ e))
 
-    module _ (four : length values ≡ 4) where
-      same : encodings s values ≡ values
-      same = encodings-values s values four
+  -- the key's leaf is empty
+  pub refused-empty : (x : ℕ) → leafOf (wordOn before p) ≡ Empty x
+      → wordHolds (before .state) (wordOn before p) ≡ true → RefusalMet before encoded 5
+  refused-empty x e h values early same =
+      delete-empty before values early
+      (λ S sound. rw same
+      (ap (λ w. w % 2 ^ 16) (held-empty (before .state) (wordOn before p) h x e .1) ∙ wordOf-page-empty x))
 
-      -- the key's leaf is empty
-      pub refused-empty : (x : ℕ) → leafOf (wordOn before p) ≡ Empty x
-          → wordHolds (before .state) (wordOn before p) ≡ true
-          → DeletePromise before values (refused 5) before
-      refused-empty x e h =
-          delete-empty before values early
-          (λ S sound. rw same
-          (ap (λ w. w % 2 ^ 16) (held-empty (before .state) (wordOn before p) h x e .1) ∙ wordOf-page-empty x))
-
-      pub leafMet : limitsHold (before .state) ≡ true → (g x : ℕ) → leafOf (wordOn before p) ≡ Page g x
-          → wordHolds (before .state) (wordOn before p) ≡ true → LeafMet before values g x
-      leafMet limits g x e h =
-          let k = held-page (before .state) (wordOn before p) h g x e in
-          record {
-            early = early;
-            four = four;
-            limits = limits;
-            own-within = k .0;
-            deep = k .1;
-            holds = h;
-            own = k .2;
-          }
+  pub leafMet : Passed before encoded → limitsHold (before .state) ≡ true → (g x : ℕ)
+      → leafOf (wordOn before p) ≡ Page g x → wordHolds (before .state) (wordOn before p) ≡ true
+      → LeafMet before encoded g x
+  leafMet k limits g x e h =
+      let l = held-page (before .state) (wordOn before p) h g x e in
+      record {
+        passed = k;
+        limits = limits;
+        own-within = l .0;
+        deep = l .1;
+        holds = h;
+        own = l .2;
+      }
 
   -- ---- at the leaf, with page g
 
-  module _ (g x : ℕ) (m : LeafMet before values g x) where
+  module _ (g x : ℕ) (m : LeafMet before encoded g x) where
     abbrev pageOf : ℕ → List ℕ
     pageOf h = pageAt (s .capacity) (before .memory .bytes) h
 
@@ -143,7 +135,7 @@ module _ (before : Store) (values : List ℕ) where
 
     pub directoryLent : DirectoryLent (before .state) (length (before .memory .words))
     directoryLent =
-        let k = passed before values (m .early) in
+        let k = m .passed in
         let l = limits-parts (before .state) (m .limits) in
         record {
           shape = k .shape;
@@ -155,7 +147,7 @@ module _ (before : Store) (values : List ℕ) where
     -- each of the P pages is lent
     pub pageLent : (h : ℕ) → h < P → PageLent (s .capacity) h (before .memory .bytes)
     pageLent h l =
-        let k = passed before values (m .early) in
+        let k = m .passed in
         record {
           capacity-le = capacity-bounds s (k .shape) .1;
           number-lt = omega (arith, most);
@@ -168,31 +160,25 @@ module _ (before : Store) (values : List ℕ) where
     deep = omega (arith, m .deep, directoryLent .deep)
 
     -- the key's packed form
-    pub values-back : unpackedKey (packedKey values) ≡ values
-    values-back =
-        let k = passed before values (m .early) in
-        unpackedKey-values s values (k .shape) (k .fits) (m .four)
+    back : unpackedKey (packedKey encoded) ≡ encoded
+    back = unpackedKey-passed before encoded (m .passed)
 
-    pub packed-fits : indexFits (widthsOf s) (unpackedKey (packedKey values)) ≡ true
-    packed-fits =
-        let k = passed before values (m .early) in
-        indexFits-packed s values (k .shape) (k .fits) (m .four)
+    packed-fits : indexFits (widthsOf s) (unpackedKey (packedKey encoded)) ≡ true
+    packed-fits = indexFits-passed before encoded (m .passed)
 
     -- a leaf's page has 1 to b records, the first and the last of which begin with the leaf's string
     pub refused-page : (mask n : ℕ) → mask ≡ fixedBits (widthsOf s) x
-        → n ≡ fairCount (s .capacity) (endsAgree mask (packedKey values) page (countOf page)) page → n ≡ 0
-        → DeletePromise before values (refused 9) before
+        → n ≡ fairCount (s .capacity) (endsAgree mask (packedKey encoded) page (countOf page)) page → n ≡ 0
+        → RefusalMet before encoded 9
     refused-page mask n fixed e none =
-        delete-unsound before values (m .early)
+        refused-unsound
         (λ S sound.
-        fair-of-sound before S sound p g x g-lt (m .own) deep mask fixed (packedKey values) packed-fits
-        (λ t l. ap (λ v. splitBit (widthsOf s) v t) values-back) (sym e ∙ none))
+        fair-of-sound before S sound p g x g-lt (m .own) deep mask fixed (packedKey encoded) packed-fits
+        (λ t l. ap (λ v. splitBit (widthsOf s) v t) back) (sym e ∙ none))
 
     module _ (are : AreBytes (before .memory .bytes)) (n : ℕ) (e : n ≡ countOf page) where
-      six : SixteenBits values
-      six =
-          let k = passed before values (m .early) in
-          SixteenBits-of-keyFits s values (k .shape) (k .fits) (m .four)
+      six : SixteenBits encoded
+      six = SixteenBits-passed before encoded (m .passed)
 
       page-are : AreBytes page
       page-are = AreBytes-field (before .memory .bytes) (g * pageSize (s .capacity)) (pageSize (s .capacity)) are
@@ -201,38 +187,38 @@ module _ (before : Store) (values : List ℕ) where
       counted = ap (λ k. recordsFrom s k 2 page) e
 
       -- no record of the page has the key
-      pub refused-absent : (i : ℕ) → i ≡ keyPlace (packedKey values) page n 0 → i ≡ n
-          → DeletePromise before values (refused 5) before
-      refused-absent i q h =
-          delete-absent before values (m .early) g (λ S sound. rw (same (m .early) (m .four)) field)
-          (λ S sound. rw (same (m .early) (m .four))
-          (ap nonEmpty (ap (stored values) (sym counted) ∙ sameKey-absent s values six page page-are n (sym q ∙ h))))
+      pub refused-absent : (i : ℕ) → i ≡ keyPlace (packedKey encoded) page n 0 → i ≡ n
+          → RefusalMet before encoded 5
+      refused-absent i q h values early same =
+          delete-absent before values early g (λ S sound. rw same field)
+          (λ S sound. rw same
+          (ap nonEmpty (ap (stored encoded) (sym counted) ∙ sameKey-absent s encoded six page page-are n (sym q ∙ h))))
 
     -- the record that was sought
     pub recordFound : (mask : ℕ) → mask ≡ fixedBits (widthsOf s) x → (r : Stored)
-        → Sought (s .capacity) (packedKey values) mask page g x r → (r .count ≡ 0 → ⊥) → (r .place ≡ r .count → ⊥)
-        → RecordFound before values r
+        → Sought (s .capacity) (packedKey encoded) mask page g x r → (r .count ≡ 0 → ⊥) → (r .place ≡ r .count → ⊥)
+        → RecordFound before encoded r
     recordFound mask fixed r k some h =
         let n = r .count in
         let fair = fair-of-count (s .capacity) _ page n (k .counted) some in
-        let l : r .place < n = omega (arith, k .placed, keyPlace-le (packedKey values) page n 0) in
-        let within : keyPlace (packedKey values) page n 0 < 0 + n = omega (arith, k .placed) in
+        let l : r .place < n = omega (arith, k .placed, keyPlace-le (packedKey encoded) page n 0) in
+        let within : keyPlace (packedKey encoded) page n 0 < 0 + n = omega (arith, k .placed) in
         record {
           leaf =
-              subst (λ h. LeafMet before values h (r .depth)) (sym (k .page-is))
-              (subst (λ y. LeafMet before values g y) (sym (k .depth-is)) m);
+              subst (λ h. LeafMet before encoded h (r .depth)) (sym (k .page-is))
+              (subst (λ y. LeafMet before encoded g y) (sym (k .depth-is)) m);
           counted = fair .counted ∙ ap countBefore (sym (k .page-is));
           few = fair .few;
           ends =
-              subst (λ y. ownPage s y (packedKey values) (pageOf (r .page)) n ≡ true) (sym (k .depth-is))
-              (ap (λ h. ownPage s x (packedKey values) (pageOf h) n) (k .page-is)
-              ∙ sym (endsAgree-mask s (passed before values (m .early) .shape) x deep (widthsOf s) refl mask fixed
-              (packedKey values) packed-fits page n)
-              ∙ ap (endsAgree mask (packedKey values) page) (fair .counted)
+              subst (λ y. ownPage s y (packedKey encoded) (pageOf (r .page)) n ≡ true) (sym (k .depth-is))
+              (ap (λ h. ownPage s x (packedKey encoded) (pageOf h) n) (k .page-is)
+              ∙ sym (endsAgree-mask s (m .passed .shape) x deep (widthsOf s) refl mask fixed
+              (packedKey encoded) packed-fits page n)
+              ∙ ap (endsAgree mask (packedKey encoded) page) (fair .counted)
               ∙ fair .owned);
           place-lt = l;
           here =
               ap (λ h. keyAt (pageOf h) (r .place)) (k .page-is)
               ∙ ap (keyAt page) (k .placed)
-              ∙ keyAt-keyPlace (packedKey values) page n 0 within;
+              ∙ keyAt-keyPlace (packedKey encoded) page n 0 within;
         }

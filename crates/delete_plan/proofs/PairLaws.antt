@@ -5,12 +5,10 @@ use mathlib.Core.Path.{_≡_, refl, sym, ap, _∙_, subst}
 use mathlib.Core.Bool.{Bool, true, false, true≢false}
 use mathlib.Core.List.{List}
 use native.Mathlib.Omega.{arith}
-use Rattle.shape.specs.Refusal.{refused}
 use Rattle.shape.specs.Shape.{widthsOf, total, shapeNumber}
 use Rattle.split.specs.Bits.{splitBit}
 use Rattle.cell.specs.Cell.{Agree}
 use Rattle.region.specs.Strings.{sibling}
-use Rattle.record.specs.Record.{Record}
 use Rattle.record.specs.Packed.{unpackedKey}
 use Rattle.page.specs.Page.{countOf, pageAt}
 use Rattle.page_ends.specs.Ends.{endsBegin, endsAgree}
@@ -21,26 +19,23 @@ use Rattle.directory_word.specs.Word.{wordOf}
 use Rattle.directory_word.specs.declared.Leaf.the-variants.{Page}
 use Rattle.directory_word.proofs.WordLaws.{wordOf-one-to-one}
 use Rattle.store.specs.Store.{Store}
-use Rattle.store.specs.Sound.{Sound}
-use Rattle.store.specs.Promises.{DeletePromise}
 use Rattle.store.proofs.ShownLaws.{wordOn}
 use Rattle.change.specs.Delete.{keyString, JoinFound}
-use Rattle.change.proofs.DeletePromiseLaws.{delete-unsound}
 use Rattle.refusals.proofs.LimitsLaws.{limits-parts}
 use Rattle.leaf_word.proofs.PageLaws.{endsAgree-mask}
-use Rattle.refusals.proofs.PassedLaws.{passed}
+use Rattle.refusals.proofs.PassedLaws.{unpackedKey-passed}
 use Rattle.tally.specs.Tally.{tallyHolds}
 use Rattle.tally.proofs.CountLaws.{tallyHolds-of-sound}
-use Rattle.delete_plan.specs.Plan.{RecordFound, StaysAlone, JoinPlanned}
+use Rattle.delete_plan.specs.Plan.{RecordFound, StaysAlone, JoinPlanned, RefusalMet}
 use Rattle.delete_plan.specs.Met.{SiblingMet, JoinMade}
 use Rattle.delete_plan.specs.declared.Stored.{Stored}
 use Rattle.delete_plan.specs.declared.Join.{Join}
 use Rattle.delete_plan.proofs.FairLaws.{fair-of-sound, siblings-apart}
-use Rattle.delete_plan.proofs.MetLaws.{directoryLent, values-back}
+use Rattle.delete_plan.proofs.MetLaws.{directoryLent, refused-unsound}
 use Rattle.delete_plan.proofs.BesideLaws.{stays}
 
-module _ (before : Store) (values : List ℕ) (r : Stored) (mask h beside : ℕ)
-    (s : SiblingMet before values r mask h beside) where
+module _ (before : Store) (encoded : List ℕ) (r : Stored) (mask h beside : ℕ)
+    (s : SiblingMet before encoded r mask h beside) where
   abbrev b : ℕ
   b = before .state .shape .capacity
 
@@ -48,7 +43,7 @@ module _ (before : Store) (values : List ℕ) (r : Stored) (mask h beside : ℕ)
   ws = widthsOf (before .state .shape)
 
   abbrev p : ℕ → Bool
-  p = keyString before values
+  p = keyString before encoded
 
   abbrev x : ℕ
   x = r .depth
@@ -56,7 +51,7 @@ module _ (before : Store) (values : List ℕ) (r : Stored) (mask h beside : ℕ)
   abbrev pageOf : ℕ → List ℕ
   pageOf i = pageAt b (before .memory .bytes) i
 
-  f : RecordFound before values r
+  f : RecordFound before encoded r
   f = s .leaf .found
 
   -- ---- a sibling with page h
@@ -68,41 +63,40 @@ module _ (before : Store) (values : List ℕ) (r : Stored) (mask h beside : ℕ)
   h-lt = omega (arith, most, s .other-within)
 
   deep : x ≤ total ws
-  deep = omega (arith, f .leaf .deep, directoryLent before values (r .page) x (f .leaf) .deep)
+  deep = omega (arith, f .leaf .deep, directoryLent before encoded (r .page) x (f .leaf) .deep)
 
   good : shapeNumber (before .state .shape) ≡ 0
-  good = passed before values (f .leaf .early) .shape
+  good = f .leaf .passed .shape
 
   -- the key that falls there begins with the sibling's string
   there : Agree (suc (x - 1)) (sibling p (x - 1)) (splitBit ws (unpackedKey beside))
   there =
       subst (λ v. Agree (suc (x - 1)) (sibling (splitBit ws v) (x - 1)) (splitBit ws (unpackedKey beside)))
-      (values-back before values (r .page) x (f .leaf))
+      (unpackedKey-passed before encoded (f .leaf .passed))
       (s .key-there .agree)
-
-  unsound : ((S : List Record) → Sound before S → ⊥) → DeletePromise before values (refused 9) before
-  unsound none = delete-unsound before values (f .leaf .early) none
 
   -- its page has 1 to b records, the first and the last of which begin with the sibling's string
   pub refused-other : (k : ℕ) → k ≡ fairCount b (endsAgree mask beside (pageOf h) (countOf (pageOf h))) (pageOf h)
       → k ≡ 0
-      → DeletePromise before values (refused 9) before
+      → RefusalMet before encoded 9
   refused-other k e none =
-      unsound (λ S sound.
+      refused-unsound before encoded
+      (λ S sound.
       let c = s .other in
       fair-of-sound before S sound (c .0) h x h-lt (c .2) deep mask (s .leaf .fixed) beside (s .key-there .fits)
       (λ t l. sym (there t (omega (arith, s .leaf .divided))) ∙ c .1 t (omega (arith, s .leaf .divided)))
       (sym e ∙ none))
 
-  pub refused-tally : tallyHolds (before .state .tally .leaves) ≡ false → DeletePromise before values (refused 9) before
-  refused-tally e = unsound (λ S sound. true≢false (sym (tallyHolds-of-sound before S sound) ∙ e))
+  pub refused-tally : tallyHolds (before .state .tally .leaves) ≡ false → RefusalMet before encoded 9
+  refused-tally e =
+      refused-unsound before encoded (λ S sound. true≢false (sym (tallyHolds-of-sound before S sound) ∙ e))
 
   module _ (k : ℕ) (fair : Fair b (endsAgree mask beside (pageOf h) (countOf (pageOf h))) (pageOf h) k) where
     -- both do not fit one page
-    pub stays-full : b + 1 < r .count + k → StaysAlone before values (r .page) x
+    pub stays-full : b + 1 < r .count + k → StaysAlone before encoded (r .page) x
     stays-full l =
         let c = s .other in
-        stays before values r f (s .leaf .divided) (wordOn before (c .0)) (c .0, c .1, refl)
+        stays before encoded r f (s .leaf .divided) (wordOn before (c .0)) (c .0, c .1, refl)
         (λ i w d.
         let same : h ≡ i =
         wordOf-one-to-one h i x x h-lt (omega (arith, most)) (sym (c .2) ∙ d) .0 in
@@ -124,10 +118,10 @@ module _ (before : Store) (values : List ℕ) (r : Stored) (mask h beside : ℕ)
     own-ends m d =
         subst (λ y. endsBegin ws y p (pageOf (r .page)) (r .count) ≡ true) d
         (subst (λ v. endsBegin ws x (splitBit ws v) (pageOf (r .page)) (r .count) ≡ true)
-        (values-back before values (r .page) x (f .leaf)) (f .ends))
+        (unpackedKey-passed before encoded (f .leaf .passed)) (f .ends))
 
     pub joinPlanned : r .count + k ≤ b + 1 → tallyHolds (before .state .tally .leaves) ≡ true
-        → (j : Join) → JoinMade (before .state) (before .memory .words) values x h k j → JoinPlanned before values r j
+        → (j : Join) → JoinMade (before .state) (before .memory .words) encoded x h k j → JoinPlanned before encoded r j
     joinPlanned l holds j made =
         record {
           found = f;
@@ -147,7 +141,7 @@ module _ (before : Store) (values : List ℕ) (r : Stored) (mask h beside : ℕ)
         here : x - 1 ≡ j .step
         here = omega (arith, made .depth-step)
 
-        met : JoinFound before values (r .page) (j .other) (j .step) (j .top)
+        met : JoinFound before encoded (r .page) (j .other) (j .step) (j .top)
         met = record {
           own-within = f .leaf .own-within;
           own = f .leaf .own ∙ ap (λ y. wordOf (Page (r .page) y)) (made .depth-step);

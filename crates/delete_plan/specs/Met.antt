@@ -34,10 +34,10 @@ pub record Sought (b key mask : ℕ) (page : List ℕ) (g x : ℕ) (r : Stored) 
   pub counted : r .count ≡ fairCount b (endsAgree mask key page (countOf page)) page
   pub placed : r .place ≡ keyPlace key page (r .count) 0
 
-module _ (before : Store) (values : List ℕ) where
+module _ (before : Store) (encoded : List ℕ) where
   -- the key's record is found, in a leaf below depth 0 that fixes the bits of a mask
   pub record LeafFound (r : Stored) (mask : ℕ) : Type 0 where
-    pub found : RecordFound before values r
+    pub found : RecordFound before encoded r
     pub divided : 0 < r .depth
     pub fixed : mask ≡ fixedBits (widthsOf (before .state .shape)) (r .depth)
 
@@ -45,8 +45,8 @@ module _ (before : Store) (values : List ℕ) where
   pub record SiblingMet (r : Stored) (mask h beside : ℕ) : Type 0 where
     pub leaf : LeafFound r mask
     pub other-within : h < before .state .limits .pages
-    pub other : AtSibling before values (r .depth - 1) (λ w. w ≡ wordOf (Page h (r .depth)))
-    pub key-there : SiblingKey (before .state .shape) (packedKey values) (r .depth - 1) beside
+    pub other : AtSibling before encoded (r .depth - 1) (λ w. w ≡ wordOf (Page h (r .depth)))
+    pub key-there : SiblingKey (before .state .shape) (packedKey encoded) (r .depth - 1) beside
 
 -- what is asked to join a leaf of depth x with its sibling
 pub record JoinAsked (st : State) (size x : ℕ) : Type 0 where
@@ -55,9 +55,9 @@ pub record JoinAsked (st : State) (size x : ℕ) : Type 0 where
   pub deep : x ≤ st .deepest
 
 -- the join of a leaf of depth x with its sibling, which has page h and k records
-pub record JoinMade (st : State) (words values : List ℕ) (x h k : ℕ) (j : Join) : Type 0 where
+pub record JoinMade (st : State) (words encoded : List ℕ) (x h k : ℕ) (j : Join) : Type 0 where
   pub other : j .other ≡ h
   pub count : j .count ≡ k
   pub depth-step : x ≡ suc (j .step)
-  pub bit : j .bit ≡ splitBit (widthsOf (st .shape)) values (j .step)
-  pub climbed : Climbed st words values (j .step) (j .top)
+  pub bit : j .bit ≡ splitBit (widthsOf (st .shape)) encoded (j .step)
+  pub climbed : Climbed st words encoded (j .step) (j .top)

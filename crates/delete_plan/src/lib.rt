@@ -26,8 +26,8 @@ ghost use Rattle.record.specs.Packed.{unpackedKey};
 ghost use Rattle.page.specs.Page.{pageAt};
 ghost use Rattle.pages.specs.Pages.{PageLent};
 ghost use Rattle.page_matches.specs.KeyPlace.{keyPlace};
-ghost use Rattle.store.specs.Promises.{keyNumber};
 ghost use Rattle.store.specs.Store.{store};
+ghost use Rattle.refusals.specs.Passed.{Passed};
 ghost use Rattle.delete_plan.specs.Plan.{LeafMet, DeletePlanned};
 ghost use Rattle.delete_plan.specs.Met.{LeafCount, Sought, LeafFound, SiblingMet, JoinAsked, JoinMade};
 
@@ -58,17 +58,17 @@ pub enum Plan {
     Join(Stored, Join),
 }
 
-// Plans a delete after 1, 2 and 3: 9 for limits or a word that no sound store has, 5 for a leaf
-// without a page.
-pub fn plan_delete(state: State, dir: &[u32], pages: &[u8], key: Key) -> Plan
-    requires { ⌜ keyNumber (store state (now dir) (now pages)) (key .values) ≡ 0 ⌝ }
-    ensures { λ r. ⌜ DeletePlanned (store state (now (dir .entry)) (now (pages .entry))) (key .values) r ⌝ }
+// Plans a delete of a key, given by its encodings, after 1, 2 and 3: 9 for limits or a word that no
+// sound store has, 5 for a leaf without a page.
+pub fn plan_delete(state: State, dir: &[u32], pages: &[u8], encoded: Key) -> Plan
+    requires { ⌜ Passed (store state (now dir) (now pages)) (encoded .values) ⌝ }
+    ensures { λ r. ⌜ DeletePlanned (store state (now (dir .entry)) (now (pages .entry))) (encoded .values) r ⌝ }
 {
     if !limits_hold(state) {
         return Plan::Refused(9);
     }
     let widths = widths_of(state.shape);
-    let word = key_word(widths, state.deepest as u64, dir, pack_key(key));
+    let word = key_word(widths, state.deepest as u64, dir, pack_key(encoded));
     if !word_holds(state, word) {
         return Plan::Refused(9);
     }
@@ -76,19 +76,19 @@ pub fn plan_delete(state: State, dir: &[u32], pages: &[u8], key: Key) -> Plan
     let Leaf::Page(page, depth) = found else {
         return Plan::Refused(5);
     };
-    plan_leaf(state, dir, pages, key, page, depth)
+    plan_leaf(state, dir, pages, encoded, page, depth)
 }
 
 // The plan for a leaf with a page: 9 for a count of 0 or above b, and where the first or the last
 // record is out of bounds or does not begin with the leaf's string; 5 where no record has the key. A
 // leaf of depth 0 has no sibling.
-fn plan_leaf(state: State, dir: &[u32], pages: &[u8], key: Key, page: u32, depth: u32) -> Plan
-    requires { ⌜ LeafMet (store state (now dir) (now pages)) (key .values) page depth ⌝ }
-    ensures { λ r. ⌜ DeletePlanned (store state (now (dir .entry)) (now (pages .entry))) (key .values) r ⌝ }
+fn plan_leaf(state: State, dir: &[u32], pages: &[u8], encoded: Key, page: u32, depth: u32) -> Plan
+    requires { ⌜ LeafMet (store state (now dir) (now pages)) (encoded .values) page depth ⌝ }
+    ensures { λ r. ⌜ DeletePlanned (store state (now (dir .entry)) (now (pages .entry))) (encoded .values) r ⌝ }
 {
     let shape = state.shape;
     let mask = fixed_bits(widths_of(shape), depth as u64);
-    let packed = pack_key(key);
+    let packed = pack_key(encoded);
     let found = seek(pages, shape.capacity as usize, packed, mask, page, depth);
     if found.count == 0 {
         return Plan::Refused(9);
@@ -99,7 +99,7 @@ fn plan_leaf(state: State, dir: &[u32], pages: &[u8], key: Key, page: u32, depth
     if depth == 0 {
         return Plan::Keep(found);
     }
-    plan_sibling(state, dir, pages, key, found, mask)
+    plan_sibling(state, dir, pages, encoded, found, mask)
 }
 
 // Where a packed key is on the page of a leaf that fixes the bits of a mask: at place n where none of
@@ -141,11 +141,18 @@ fn place_on(pages: &[u8], capacity: usize, g: usize, n: usize, key: u64) -> usiz
 
 // The plan for a leaf below depth 0, which fixes the bits of a mask: it stays where its sibling is
 // divided. 9 for a word of the sibling that no sound store has.
-fn plan_sibling(state: State, dir: &[u32], pages: &[u8], key: Key, found: Stored, mask: u64) -> Plan
-    requires { ⌜ LeafFound (store state (now dir) (now pages)) (key .values) found mask ⌝ }
-    ensures { λ r. ⌜ DeletePlanned (store state (now (dir .entry)) (now (pages .entry))) (key .values) r ⌝ }
+fn plan_sibling(
+    state: State,
+    dir: &[u32],
+    pages: &[u8],
+    encoded: Key,
+    found: Stored,
+    mask: u64,
+) -> Plan
+    requires { ⌜ LeafFound (store state (now dir) (now pages)) (encoded .values) found mask ⌝ }
+    ensures { λ r. ⌜ DeletePlanned (store state (now (dir .entry)) (now (pages .entry))) (encoded .values) r ⌝ }
 {
-    let packed = pack_key(key);
+    let packed = pack_key(encoded);
     let beside = find_sibling(state, dir, packed, found.depth - 1);
     let word = beside.word;
     if !sibling_word_holds(state, word, found.depth) {
@@ -158,7 +165,7 @@ fn plan_sibling(state: State, dir: &[u32], pages: &[u8], key: Key, found: Stored
     if depth != found.depth {
         return Plan::Keep(found);
     }
-    plan_pair(state, dir, pages, key, found, mask, other, beside.key)
+    plan_pair(state, dir, pages, encoded, found, mask, other, beside.key)
 }
 
 // The plan for a leaf and its sibling of the same depth, with page `other`, in which the packed key
@@ -168,14 +175,14 @@ fn plan_pair(
     state: State,
     dir: &[u32],
     pages: &[u8],
-    key: Key,
+    encoded: Key,
     found: Stored,
     mask: u64,
     other: u32,
     beside: u64,
 ) -> Plan
-    requires { ⌜ SiblingMet (store state (now dir) (now pages)) (key .values) found mask other beside ⌝ }
-    ensures { λ r. ⌜ DeletePlanned (store state (now (dir .entry)) (now (pages .entry))) (key .values) r ⌝ }
+    requires { ⌜ SiblingMet (store state (now dir) (now pages)) (encoded .values) found mask other beside ⌝ }
+    ensures { λ r. ⌜ DeletePlanned (store state (now (dir .entry)) (now (pages .entry))) (encoded .values) r ⌝ }
 {
     let shape = state.shape;
     let capacity = shape.capacity as usize;
@@ -189,7 +196,7 @@ fn plan_pair(
     if !tally_holds(state.tally) {
         return Plan::Refused(9);
     }
-    let join = plan_join(state, dir, pack_key(key), found.depth, other, count);
+    let join = plan_join(state, dir, pack_key(encoded), found.depth, other, count);
     Plan::Join(found, join)
 }
 

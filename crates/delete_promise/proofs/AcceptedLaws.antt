@@ -23,8 +23,9 @@ use Rattle.store.specs.Sound.{Sound}
 use Rattle.store.specs.Promises.{DeletePromise}
 use Rattle.store.proofs.ShownLaws.{pageRecords}
 use Rattle.store.specs.declared.State.{State}
+use Rattle.refusals.specs.Passed.{OfValues}
 use Rattle.change.specs.Delete.{keyString, LeafDeleted, LeafJoined}
-use Rattle.change.proofs.PromiseLaws.{KeepsPast, KeepsOthers}
+use Rattle.change.proofs.PromiseLaws.{KeepsPast, KeepsOthers, keeps-others}
 use Rattle.change.proofs.DeletePromiseLaws.{delete-kept, delete-joined}
 use Rattle.change.proofs.DeleteTallyLaws.{tallyDepth-le}
 use Rattle.delete_plan.specs.Plan.{RecordFound, StaysAlone, JoinPlanned}
@@ -41,7 +42,12 @@ use Rattle.delete_promise.proofs.SoundPageLaws.{records-removed, record
 use Rattle.delete_promise.proofs.SoundPageLaws.{records-joined, count-freed, records-joined-other}
 use Rattle.delete_promise.proofs.FoundLaws.{RecordFacts, recordFacts, recordLent}
 
-module _ (before : Store) (values : List ℕ) (r : Stored) (f : RecordFound before values r) where
+-- what delete promises of a key that it accepts, of the call's values
+abbrev AcceptedMet : Store → List ℕ → Store → Type 0
+AcceptedMet before encoded after =
+    OfValues before encoded (λ values. DeletePromise before values (accepted changed) after)
+
+module _ (before : Store) (encoded : List ℕ) (r : Stored) (f : RecordFound before encoded r) where
   abbrev s : Shape
   s = before .state .shape
 
@@ -63,12 +69,12 @@ module _ (before : Store) (values : List ℕ) (r : Stored) (f : RecordFound befo
   abbrev bytes : List ℕ
   bytes = before .memory .bytes
 
-  k : RecordFacts before values r
-  k = recordFacts before values r f
+  k : RecordFacts before encoded r
+  k = recordFacts before encoded r f
 
   -- ---- the leaf stays
 
-  module _ (words′ bytes′ : List ℕ) (w : LeafWords (before .state) values r words words′)
+  module _ (words′ bytes′ : List ℕ) (w : LeafWords (before .state) encoded r words words′)
       (e : bytes′ ≡ removedBytes b (r .page) (r .place) (r .count) bytes) where
     past : KeepsPast before (memory words′ bytes′)
     past =
@@ -92,8 +98,8 @@ module _ (before : Store) (values : List ℕ) (r : Stored) (f : RecordFound befo
         past-by-count (inl d) = k .words-past T (r .depth) _ words′ (omega arith) (w .emptied d)
         past-by-count (inr n) = ap (drop (2 ^ L)) (w .same n)
 
-    deleted : StaysAlone before values (r .page) (r .depth) → (S : List Record) → Sound before S
-        → LeafDeleted before values (r .page) (r .depth) (memory words′ bytes′)
+    deleted : StaysAlone before encoded (r .page) (r .depth) → (S : List Record) → Sound before S
+        → LeafDeleted before encoded (r .page) (r .depth) (memory words′ bytes′)
     deleted alone S sound =
         record {
           within = f .leaf .own-within;
@@ -101,11 +107,11 @@ module _ (before : Store) (values : List ℕ) (r : Stored) (f : RecordFound befo
           alone = alone;
           records =
               ap (λ l. pageRecords s l (r .page)) e
-              ∙ records-removed before S sound values (f .leaf .four) (k .fits) (r .page) (r .depth)
+              ∙ records-removed before S sound encoded (f .leaf .passed .four) (k .fits) (r .page) (r .depth)
               (f .leaf .own-within) (f .leaf .own) (r .place) (r .count) (k .count) (f .place-lt) (f .here);
           others = λ h l n.
               ap (λ m. pageRecords s m h) e
-              ∙ records-removed-other before S sound values (f .leaf .four) (k .fits) (r .page) (r .depth)
+              ∙ records-removed-other before S sound encoded (f .leaf .passed .four) (k .fits) (r .page) (r .depth)
               (f .leaf .own-within) (f .leaf .own) (r .place) (r .count) (k .count) (f .place-lt) (f .here) h n;
           some-left = λ h. some (eq-or-ne (r .count) 1) (sym (ap left e) ∙ h);
           none-left = λ h. none (eq-or-ne (r .count) 1) (sym (ap left e) ∙ h);
@@ -124,25 +130,25 @@ module _ (before : Store) (values : List ℕ) (r : Stored) (f : RecordFound befo
         some (inr n) h = w .same n
 
         none : (r .count ≡ 1) ⊎ (r .count ≡ 1 → ⊥) → left after ≡ false
-            → Filled (widthsOf s) T (r .depth) (keyString before values) (wordOf (Empty (r .depth))) words words′
+            → Filled (widthsOf s) T (r .depth) (keyString before encoded) (wordOf (Empty (r .depth))) words words′
         none (inl d) h = w .emptied d
         none (inr n) h =
             absurd (true≢false
             (sym (some-left b (r .page) (r .place) (r .count) bytes (k .own) (f .place-lt) (f .few) s (k .count)
             (omega (arith, f .place-lt))) ∙ h))
 
-    pub promise-kept : StaysAlone before values (r .page) (r .depth)
-        → DeleteGuarded (before .state) words values (plan.Keep r)
-        → DeletePromise before values (accepted changed) (store (before .state) words′ bytes′)
-    promise-kept alone guarded =
-        delete-kept before values (f .leaf .early) (r .page) (r .depth) words′ bytes′
-        (λ S sound. rw (k .same) (deleted alone S sound)) (λ S sound. rw (k .same) (k .found S sound)) past
-        (k .others _
-        (contained-removed before values r f (recordLent before values r f) guarded words′ w bytes′ e))
+    pub promise-kept : StaysAlone before encoded (r .page) (r .depth)
+        → DeleteGuarded (before .state) words encoded (plan.Keep r)
+        → AcceptedMet before encoded (store (before .state) words′ bytes′)
+    promise-kept alone guarded values early same =
+        delete-kept before values early (r .page) (r .depth) words′ bytes′
+        (λ S sound. rw same (deleted alone S sound)) (λ S sound. rw same (k .found S sound)) past
+        (keeps-others true before encoded values same _
+        (contained-removed before encoded r f (recordLent before encoded r f) guarded words′ w bytes′ e))
 
   -- ---- it is joined
 
-  module _ (j : Join) (p : JoinPlanned before values r j) where
+  module _ (j : Join) (p : JoinPlanned before encoded r j) where
     apart : j .other ≡ r .page → ⊥
     apart e = p .apart (sym e)
 
@@ -162,15 +168,15 @@ module _ (before : Store) (values : List ℕ) (r : Stored) (f : RecordFound befo
     pub pairLent : PairLent b r j bytes
     pairLent =
         record {
-          own = recordLent before values r f;
+          own = recordLent before encoded r f;
           page = k .lent (j .other) (p .met .other-within);
           fit = few;
         }
 
-    module _ (state′ : State) (words′ bytes′ : List ℕ) (w : JoinWords (before .state) values r j state′ words words′)
+    module _ (state′ : State) (words′ bytes′ : List ℕ) (w : JoinWords (before .state) encoded r j state′ words words′)
         (e : bytes′ ≡ joinedBytes (j .bit) b (r .page) (r .place) (r .count) (j .other) (j .count) bytes) where
       abbrev β : Bool
-      β = keyString before values (j .step)
+      β = keyString before encoded (j .step)
 
       abbrev kept : ℕ
       kept = keptPage β (r .page) (j .other)
@@ -201,41 +207,43 @@ module _ (before : Store) (values : List ℕ) (r : Stored) (f : RecordFound befo
           }
 
       joined : (S : List Record) → Sound before S
-          → LeafJoined before values (r .page) (j .other) (j .step) (j .top) kept freed (state′ .deepest)
+          → LeafJoined before encoded (r .page) (j .other) (j .step) (j .top) kept freed (state′ .deepest)
           (state′ .tally) (memory words′ bytes′)
       joined S sound =
           record {
             pages = kept-or-freed β (r .page) (j .other);
             records =
                 ap (λ l. pageRecords s l kept) after
-                ∙ records-joined before S sound values (f .leaf .four) (k .fits) (r .page) (j .other) (j .step) (j .top)
-                (p .met) apart (r .place) (r .count) (j .count) (k .count) (sym (p .counted)) (f .place-lt) (f .here);
+                ∙ records-joined before S sound encoded (f .leaf .passed .four) (k .fits) (r .page) (j .other) (j .step)
+                (j .top) (p .met) apart (r .place) (r .count) (j .count) (k .count) (sym (p .counted))
+                (f .place-lt) (f .here);
             none =
                 ap (λ l. countOf (pageAt b l freed)) after
-                ∙ count-freed before S sound values (f .leaf .four) (k .fits) (r .page) (j .other) (j .step) (j .top)
-                (p .met) apart (r .place) (r .count) (j .count) (k .count) (sym (p .counted)) (f .place-lt) (f .here);
+                ∙ count-freed before S sound encoded (f .leaf .passed .four) (k .fits) (r .page) (j .other) (j .step)
+                (j .top) (p .met) apart (r .place) (r .count) (j .count) (k .count) (sym (p .counted))
+                (f .place-lt) (f .here);
             others = λ i l n o.
                 ap (λ m. pageRecords s m i) after
-                ∙ records-joined-other before S sound values (f .leaf .four) (k .fits) (r .page) (j .other) (j .step)
-                (j .top) (p .met) apart (r .place) (r .count) (j .count) (k .count) (sym (p .counted)) (f .place-lt)
-                (f .here) i n o;
+                ∙ records-joined-other before S sound encoded (f .leaf .passed .four) (k .fits) (r .page) (j .other)
+                (j .step) (j .top) (p .met) apart (r .place) (r .count) (j .count) (k .count) (sym (p .counted))
+                (f .place-lt) (f .here) i n o;
             tally = w .tally;
             depth = w .depth;
             filled =
                 subst
-                (λ γ. Filled (widthsOf s) (state′ .deepest) (j .top) (keyString before values)
+                (λ γ. Filled (widthsOf s) (state′ .deepest) (j .top) (keyString before encoded)
                 (wordOf (Page (keptPage γ (r .page) (j .other)) (j .top))) words words′)
                 (p .bit) (w .new-leaf);
           }
 
       pub promise-joined : length (before .state .tally .leaves) ≡ 13
-          → DeleteGuarded (before .state) words values (plan.Join r j)
-          → DeletePromise before values (accepted changed) (store state′ words′ bytes′)
-      promise-joined thirteen guarded =
+          → DeleteGuarded (before .state) words encoded (plan.Join r j)
+          → AcceptedMet before encoded (store state′ words′ bytes′)
+      promise-joined thirteen guarded values early same =
           subst (λ st. DeletePromise before values (accepted changed) (store st words′ bytes′)) (sym (w .state))
-          (delete-joined before values (f .leaf .early) (r .page) (j .other) (j .step) (j .top) kept freed
-          (state′ .deepest) (state′ .tally) words′ bytes′ (λ S sound. rw (k .same) (p .met))
-          (λ S sound. rw (k .same) (joined S sound)) (λ S sound. rw (k .same) (k .found S sound)) past-joined
+          (delete-joined before values early (r .page) (j .other) (j .step) (j .top) kept freed
+          (state′ .deepest) (state′ .tally) words′ bytes′ (λ S sound. rw same (p .met))
+          (λ S sound. rw same (joined S sound)) (λ S sound. rw same (k .found S sound)) past-joined
           (subst (λ st. KeepsOthers true before values (store st words′ bytes′)) (w .state)
-          (k .others _
-          (contained-joined before values r f j p (leavesLent thirteen) pairLent guarded state′ words′ w bytes′ e))))
+          (keeps-others true before encoded values same _
+          (contained-joined before encoded r f j p (leavesLent thirteen) pairLent guarded state′ words′ w bytes′ e))))

@@ -13,9 +13,9 @@ use Rattle.store.specs.declared.State.{State}
 use Rattle.change.specs.Delete.{AtSibling}
 use Rattle.delete_siblings.specs.Siblings.{Climbed}
 
-module _ (st : State) (words values : List ℕ) where
+module _ (st : State) (words encoded : List ℕ) where
   abbrev At : ℕ → (ℕ → Type 0) → Type 0
-  At z X = AtSibling (store st words []) values z X
+  At z X = AtSibling (store st words []) encoded z X
 
   -- from depth m up to y
   abbrev pub Rising : ℕ → ℕ → Type 0
@@ -24,7 +24,7 @@ module _ (st : State) (words values : List ℕ) where
   pub rising-start : (m : ℕ) → Rising m m
   rising-start m = (omega arith, λ z u v. absurd (omega arith))
 
-  pub climbed-end : (m y : ℕ) → Rising m y → y ≤ 0 → Climbed st words values m y
+  pub climbed-end : (m y : ℕ) → Rising m y → y ≤ 0 → Climbed st words encoded m y
   climbed-end m y i h = record { above = i .0; empty = i .1; top = λ z e. absurd (omega arith) }
 
   -- the word of a cell of the next sibling, at bit z
@@ -36,7 +36,7 @@ module _ (st : State) (words values : List ℕ) where
         go z′ u v (inl d) = rw d (c .0, c .1, sym (c .2) ∙ h ∙ ap (λ x. wordOf (Empty x)) e)
         go z′ u v (inr n) = i .1 z′ (omega arith) v
 
-    pub climbed-stop : (r ≡ wordOf (Empty y) → ⊥) → Climbed st words values m y
+    pub climbed-stop : (r ≡ wordOf (Empty y) → ⊥) → Climbed st words encoded m y
     climbed-stop h =
         record {
           above = i .0;

@@ -35,11 +35,11 @@ module _ (st : State) (ws : List ℕ) (same : ws ≡ widthsOf (st .shape)) (z : 
         }
 
   -- a word at the sibling of the region that ends with the step
-  pub atSibling : (values words : List ℕ) (g word : ℕ) → StepPair ws z g
-      → SiblingWord ws values (length (stepsBelow ws g)) (st .deepest) words word
-      → AtSibling (store st words []) values z (λ w. word ≡ w)
-  atSibling values words g word pair h =
+  pub atSibling : (encoded words : List ℕ) (g word : ℕ) → StepPair ws z g
+      → SiblingWord ws encoded (length (stepsBelow ws g)) (st .deepest) words word
+      → AtSibling (store st words []) encoded z (λ w. word ≡ w)
+  atSibling encoded words g word pair h =
       subst
-      (λ v. (q : ℕ → Bool) × Agree (suc z) (sibling (splitBit v values) z) q
+      (λ v. (q : ℕ → Bool) × Agree (suc z) (sibling (splitBit v encoded) z) q
       × (word ≡ getD words (cellAddress v (st .deepest) q) 0)) same
-      (subst (λ n. SiblingWord ws values n (st .deepest) words word) (pair .before) h)
+      (subst (λ n. SiblingWord ws encoded n (st .deepest) words word) (pair .before) h)

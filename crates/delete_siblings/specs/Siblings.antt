@@ -47,7 +47,7 @@ siblingHolds st x w = wordHolds st w && ltb (wordOf (Empty x)) w
 -- ---- siblings above
 
 -- from depth m up, the siblings are empty leaves from depth y + 1 on, and that at depth y is none
-pub record Climbed (st : State) (words values : List ℕ) (m y : ℕ) : Type 0 where
+pub record Climbed (st : State) (words encoded : List ℕ) (m y : ℕ) : Type 0 where
   pub above : y ≤ m
-  pub empty : (z : ℕ) → y ≤ z → z < m → AtSibling (store st words []) values z (λ w. w ≡ wordOf (Empty (suc z)))
-  pub top : (z : ℕ) → y ≡ suc z → AtSibling (store st words []) values z (λ w. w ≡ wordOf (Empty (suc z)) → ⊥)
+  pub empty : (z : ℕ) → y ≤ z → z < m → AtSibling (store st words []) encoded z (λ w. w ≡ wordOf (Empty (suc z)))
+  pub top : (z : ℕ) → y ≡ suc z → AtSibling (store st words []) encoded z (λ w. w ≡ wordOf (Empty (suc z)) → ⊥)

@@ -42,10 +42,10 @@ pub record JoinLent (st : State) (r : Stored) (j : Join) (size : ℕ) (bytes : L
 
 -- ---- what is left
 
-module _ (st : State) (values : List ℕ) where
+module _ (st : State) (encoded : List ℕ) where
   abbrev filled : ℕ → ℕ → ℕ → List ℕ → List ℕ → Type 0
   filled T x word words words′ =
-      Filled (widthsOf (st .shape)) T x (splitBit (widthsOf (st .shape)) values) word words words′
+      Filled (widthsOf (st .shape)) T x (splitBit (widthsOf (st .shape)) encoded) word words words′
 
   -- the words of a leaf that stays: without a page, if its page had one record
   pub record LeafWords (r : Stored) (words words′ : List ℕ) : Type 0 where

@@ -17,9 +17,9 @@ ghost use Rattle.change.specs.Delete.{joinedTally};
 ghost use Rattle.delete_steps.specs.Steps.{LeavesLent, LeafLent, LeafKept, JoinLent, LeavesJoined};
 
 // The key's leaf stays: its record is removed, and a leaf whose only record it was has no page now.
-pub fn keep_leaf(state: State, dir: &mut [u32], pages: &mut [u8], values: [u32; 4], found: Stored)
+pub fn keep_leaf(state: State, dir: &mut [u32], pages: &mut [u8], encoded: [u32; 4], found: Stored)
     requires { ⌜ LeafLent state found (length (now dir)) (now pages) ⌝ }
-    ensures { λ _. ⌜ LeafKept state values found (now (dir .entry)) (now (pages .entry)) (now (dir .exit))
+    ensures { λ _. ⌜ LeafKept state encoded found (now (dir .entry)) (now (pages .entry)) (now (dir .exit))
         (now (pages .exit)) ⌝ }
 {
     let shape = state.shape;
@@ -30,7 +30,7 @@ pub fn keep_leaf(state: State, dir: &mut [u32], pages: &mut [u8], values: [u32; 
     let word = pack_empty(found.depth);
     fill(
         widths_of(shape),
-        values,
+        encoded,
         found.depth as u64,
         state.deepest as u64,
         word,
@@ -44,12 +44,12 @@ pub fn join_leaves(
     state: State,
     dir: &mut [u32],
     pages: &mut [u8],
-    values: [u32; 4],
+    encoded: [u32; 4],
     found: Stored,
     join: Join,
 ) -> State
     requires { ⌜ JoinLent state found join (length (now dir)) (now pages) ⌝ }
-    ensures { λ r. ⌜ LeavesJoined state values found join r (now (dir .entry)) (now (pages .entry)) (now (dir .exit))
+    ensures { λ r. ⌜ LeavesJoined state encoded found join r (now (dir .entry)) (now (pages .entry)) (now (dir .exit))
         (now (pages .exit)) ⌝ }
 {
     let shape = state.shape;
@@ -60,7 +60,7 @@ pub fn join_leaves(
     let word = pack_page(kept, join.top);
     fill(
         widths_of(shape),
-        values,
+        encoded,
         join.top as u64,
         depth as u64,
         word,

@@ -30,7 +30,7 @@ pub fn find_cell(widths: Widths, key: u64, t: u64) -> u64
     locate(widths, index)
 }
 
-// The same of a key that is given by its values, for tests that are seldom asked.
+// The same of a key that is given by its encodings, for tests that are seldom asked.
 pub fn locate_cell(widths: Widths, key: [u32; 4], t: u64) -> u64
     requires { ⌜ Fit (widthList widths) × (t ≤ total (widthList widths)) ⌝ }
     ensures { λ r. ⌜ r ≡ cellAddress (widthList widths) t (splitBit (widthList widths) key) ⌝ }

@@ -39,7 +39,7 @@ fn sibling_cell(widths: Widths, key: u64, g: u64) -> u64
     locate(widths, with_bit(index, g))
 }
 
-// The split bit of a key, given by its values, at the step at place g.
+// The split bit of a key, given by its encodings, at the step at place g.
 pub fn bit_at(widths: Widths, key: [u32; 4], g: u64) -> bool
     requires { ⌜ Fit (widthList widths) × (g / 4 < getD (widthList widths) (g % 4) 0) ⌝ }
     ensures { λ r. ⌜ r ≡ splitBit (widthList widths) key (length (stepsBelow (widthList widths) g)) ⌝ }

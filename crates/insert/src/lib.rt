@@ -10,6 +10,7 @@ use insert_words::count_leaves;
 use insert_words::double;
 use insert_words::set_word;
 use insert_words::set_words;
+use key_encoding::encode_key;
 use record::Content;
 use record::pack_key;
 use refusals::key_number;
@@ -48,13 +49,14 @@ pub fn add(state: State, dir: &mut [u32], pages: &mut [u8], key: Key, content: C
     ensures { λ r. ⌜ AddPromise (store state (now (dir .entry)) (now (pages .entry))) (key .values) content
         (changedAnswer (r .answer)) (store (r .state) (now (dir .exit)) (now (pages .exit))) ⌝ }
 {
-    let values = key.values;
+    let encoded = encode_key(state.shape, key);
+    let encodings = encoded.values;
     let answer = Changed::Done;
     // find: F1 to F4, I1
-    let found = find(state, dir, pages, key);
+    let found = find(state, dir, pages, encoded);
     // allocate: I2
-    let plan = allocate(state, dir, pages, values, found);
-    let packed = pack_key(key);
+    let plan = allocate(state, dir, pages, encodings, found);
+    let packed = pack_key(encoded);
     let b = state.shape.capacity as usize;
     match plan {
         Plan::Refused(n) => {
@@ -69,14 +71,14 @@ pub fn add(state: State, dir: &mut [u32], pages: &mut [u8], key: Key, content: C
         // I2, page p was null: the record; set the words: I4, I5
         Plan::Get(page, depth) => {
             insert_record(pages, b, page as usize, 0, 0, packed, content);
-            set_word(state, dir, values, page, depth);
+            set_word(state, dir, encodings, page, depth);
             return Change { answer, state };
         }
         Plan::Divide(split, cut, free) => {
             // double: I2
             let deeper = double(state, dir, split);
             // set the words: I4, I5, I7
-            set_words(deeper, dir, values, split, cut.bit, free);
+            set_words(deeper, dir, encodings, split, cut.bit, free);
             // the tally: I3, I7
             let state = count_leaves(deeper, split);
             // the pages: I6; the record: I8

@@ -7,7 +7,6 @@ use native.Mathlib.Omega.{arith}
 use Rattle.shape.specs.Shape.{widthsOf}
 use Rattle.shape.specs.declared.Shape.{Shape}
 use Rattle.split.specs.Bits.{splitBit}
-use Rattle.record.specs.declared.Content.{Content}
 use Rattle.record.specs.Record.{recordBit}
 use Rattle.page.specs.Page.{countOf, pageAt}
 use Rattle.pages.specs.Pages.{freePage}
@@ -16,22 +15,21 @@ use Rattle.directory_word.specs.Word.{wordOf, depthField}
 use Rattle.directory_word.specs.declared.Leaf.the-variants.{Empty, Page}
 use Rattle.directory_word.proofs.WordLaws.{wordOf-depth, wordOf-depth-empty}
 use Rattle.directory_tests.specs.Intact.{RegionTold}
-use Rattle.model.specs.Model.{recordFor}
-use Rattle.store.specs.Store.{Store, wordAt}
-use Rattle.store.specs.Promises.{keyNumber}
+use Rattle.store.specs.Store.{Store}
 use Rattle.store.proofs.ShownLaws.{wordOn}
 use Rattle.change.proofs.NumberLaws.{NoFreePage}
-use Rattle.change.proofs.AddPromiseLaws.{add-unsound, add-empty-none, add-full-none}
+use Rattle.change.proofs.AddPromiseLaws.{OnSound, add-empty-none, add-full-none}
+use Rattle.change.proofs.InsertLaws.{MeetsFull}
 use Rattle.change_guard.proofs.LeafLaws.{leaf-told}
 use Rattle.insert_cut.specs.declared.Cut.{Cut}
-use Rattle.insert_planned.specs.Planned.{NullFound, FullFound}
+use Rattle.insert_planned.specs.Planned.{NullFound, FullFound, RefusalMet}
 use Rattle.insert_planned.specs.declared.Split.{Split}
-use Rattle.insert_planned.proofs.MetLaws.{key-recordFor}
+use Rattle.insert_planned.proofs.RefusalLaws.{refused-by, nine-unsound}
 use Rattle.insert_planned.proofs.SplitLaws.{meets-full}
 use Rattle.insert_allocate.specs.Planned.{LeafWhole, InsertPlanned}
-use Rattle.insert_allocate.specs.declared.Plan.the-variants.{Refused, Get, Divide}
+use Rattle.insert_allocate.specs.declared.Plan.the-variants.{Get, Divide}
 
-module _ (before : Store) (values : List ℕ) where
+module _ (before : Store) (encoded : List ℕ) where
   abbrev s : Shape
   s = before .state .shape
 
@@ -44,24 +42,23 @@ module _ (before : Store) (values : List ℕ) where
   -- what the test of a leaf told
   abbrev Told : ℕ → ℕ → Bool → Type 0
   Told x word held =
-      RegionTold (widthsOf s) (before .state .deepest) x (splitBit (widthsOf s) values) word (before .memory .words)
+      RegionTold (widthsOf s) (before .state .deepest) x (splitBit (widthsOf s) encoded) word (before .memory .words)
       held
 
   -- ---- the leaf
 
   -- 9: the key's leaf, of depth x, is not whole
-  nine-leaf : keyNumber before values ≡ 0 → (x word : ℕ) → wordOn before (splitBit (widthsOf s) values) ≡ word
-      → depthField word ≡ x → (held : Bool) → Told x word held → held ≡ false
-      → InsertPlanned before values (Refused 9)
-  nine-leaf early x word own depth held told e content =
-      add-unsound before values content early
-      (λ S sound. leaf-told (before .state) (before .memory .words) values x word held told e (before .memory .bytes)
+  nine-leaf : (x word : ℕ) → wordOn before (splitBit (widthsOf s) encoded) ≡ word → depthField word ≡ x
+      → (held : Bool) → Told x word held → held ≡ false → RefusalMet before encoded 9
+  nine-leaf x word own depth held told e =
+      nine-unsound before encoded
+      (λ S sound. leaf-told (before .state) (before .memory .words) encoded x word held told e (before .memory .bytes)
       own depth S sound)
 
   -- its word, as the code packs it
   whole-of : (x word own : ℕ) → word ≡ own → (held : Bool) → Told x word held → held ≡ true
-      → LeafWhole before values x own
-  whole-of x word own e held told h = subst (LeafWhole before values x) e (told .yes h)
+      → LeafWhole before encoded x own
+  whole-of x word own e held told h = subst (LeafWhole before encoded x) e (told .yes h)
 
   -- ---- the page
 
@@ -81,24 +78,20 @@ module _ (before : Store) (values : List ℕ) where
 
     -- ---- a leaf without a page
 
-    module _ (x : ℕ) (m : NullFound before values x) where
-      empty-word : (content : Content) → wordOn before (recordBit s (recordFor s values content)) ≡ wordOf (Empty x)
-      empty-word content =
-          ap (λ k. wordAt s (before .state .deepest) (before .memory .words) (splitBit (widthsOf s) k))
-          (key-recordFor s values content (m .asked .shape) (m .asked .fits) (m .asked .four))
-          ∙ m .own
-
-      pub seven-empty : free ≡ P → InsertPlanned before values (Refused 7)
-      seven-empty f content =
-          add-empty-none before values content (m .asked .early) x (λ S sound. empty-word content)
-          (λ S sound. no-free-page f)
+    module _ (x : ℕ) (m : NullFound before encoded x) where
+      pub seven-empty : free ≡ P → RefusalMet before encoded 7
+      seven-empty f =
+          refused-by before encoded 7 (λ r. wordOn before (recordBit s r) ≡ wordOf (Empty x))
+          (λ values content early e.
+          add-empty-none before values content early x (λ S sound. e) (λ S sound. no-free-page f))
+          (λ content. m .own)
 
       module _ (word : ℕ) (ew : word ≡ wordOf (Empty x)) (held : Bool) (told : Told x word held) where
-        pub nine-empty : held ≡ false → InsertPlanned before values (Refused 9)
+        pub nine-empty : held ≡ false → RefusalMet before encoded 9
         nine-empty =
-            nine-leaf (m .asked .early) x word (m .own ∙ sym ew) (ap depthField ew ∙ wordOf-depth-empty x) held told
+            nine-leaf x word (m .own ∙ sym ew) (ap depthField ew ∙ wordOf-depth-empty x) held told
 
-        pub get-planned : (free ≡ P → ⊥) → held ≡ true → InsertPlanned before values (Get free x)
+        pub get-planned : (free ≡ P → ⊥) → held ≡ true → InsertPlanned before encoded (Get free x)
         get-planned n h =
             let f = free-page n in (
               record { found = m; within = f .0; free = f .1 },
@@ -107,26 +100,28 @@ module _ (before : Store) (values : List ℕ) where
 
     -- ---- a full leaf
 
-    module _ (split : Split) (cut : Cut) (m : FullFound before values split cut) where
+    module _ (split : Split) (cut : Cut) (m : FullFound before encoded split cut) where
       abbrev own : ℕ
       own = wordOf (Page (split .page) (split .depth))
 
-      pub seven-full : free ≡ P → InsertPlanned before values (Refused 7)
-      seven-full f content =
-          add-full-none before values content (m .asked .early) _ _ _
-          (meets-full before values (m .asked) _ _ _ _ _ (m .met .ends-met) (m .met .differ) (m .met .below)
-          (m .met .deep) content)
-          (λ S sound. no-free-page f)
+      pub seven-full : free ≡ P → RefusalMet before encoded 7
+      seven-full f =
+          refused-by before encoded 7
+          (λ r. OnSound before (MeetsFull before r (split .page) (split .depth) (split .step)))
+          (λ values content early met.
+          add-full-none before values content early _ _ _ met (λ S sound. no-free-page f))
+          (meets-full before encoded (m .asked) _ _ _ _ _ (m .met .ends-met) (m .met .differ) (m .met .below)
+          (m .met .deep))
 
       module _ (word : ℕ) (ew : word ≡ own) (held : Bool) (told : Told (split .depth) word held) where
-        pub nine-full : held ≡ false → InsertPlanned before values (Refused 9)
+        pub nine-full : held ≡ false → RefusalMet before encoded 9
         nine-full =
             let met = m .met .ends-met .met in
             let few : split .page < 2 ^ 16 - 1 = omega (arith, met .within, m .asked .pages-lent .few) in
-            nine-leaf (m .asked .early) (split .depth) word (met .own ∙ sym ew)
+            nine-leaf (split .depth) word (met .own ∙ sym ew)
             (ap depthField ew ∙ wordOf-depth (split .page) (split .depth) few) held told
 
-        pub divide-planned : (free ≡ P → ⊥) → held ≡ true → InsertPlanned before values (Divide split cut free)
+        pub divide-planned : (free ≡ P → ⊥) → held ≡ true → InsertPlanned before encoded (Divide split cut free)
         divide-planned n h =
             let f = free-page n in (
               record { found = m; free-within = f .0; free-none = f .1 },
@@ -134,7 +129,7 @@ module _ (before : Store) (values : List ℕ) where
             )
 
   -- the word of a full leaf fits its fields
-  pub own-word-fits : (split : Split) (cut : Cut) → FullFound before values split cut
+  pub own-word-fits : (split : Split) (cut : Cut) → FullFound before encoded split cut
       → (split .page < 65535) × (split .depth < 16)
   own-word-fits split cut m =
       let a = m .asked in

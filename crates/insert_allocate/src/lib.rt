@@ -24,29 +24,29 @@ pub enum Plan {
 
 // I2, a page for what was found: 7 where a leaf needs one and none is free, 9 where not every cell
 // of the leaf holds its word. A page with room needs no other.
-pub fn allocate(state: State, dir: &[u32], pages: &[u8], values: [u32; 4], found: Found) -> Plan
-    requires { ⌜ InsertFound (store state (now dir) (now pages)) values found ⌝ }
-    ensures { λ r. ⌜ InsertPlanned (store state (now (dir .entry)) (now (pages .entry))) values r ⌝ }
+pub fn allocate(state: State, dir: &[u32], pages: &[u8], encoded: [u32; 4], found: Found) -> Plan
+    requires { ⌜ InsertFound (store state (now dir) (now pages)) encoded found ⌝ }
+    ensures { λ r. ⌜ InsertPlanned (store state (now (dir .entry)) (now (pages .entry))) encoded r ⌝ }
 {
     match found {
         Found::Refused(n) => Plan::Refused(n),
         Found::Room(page, place, count) => Plan::Take(page, place, count),
-        Found::Null(depth) => allocate_first(state, dir, pages, values, depth),
-        Found::Full(split, cut) => allocate_half(state, dir, pages, values, split, cut),
+        Found::Null(depth) => allocate_first(state, dir, pages, encoded, depth),
+        Found::Full(split, cut) => allocate_half(state, dir, pages, encoded, split, cut),
     }
 }
 
 // I2, "If p is null allocate a new page": the first page of an empty leaf.
-fn allocate_first(state: State, dir: &[u32], pages: &[u8], values: [u32; 4], depth: u32) -> Plan
-    requires { ⌜ NullFound (store state (now dir) (now pages)) values depth ⌝ }
-    ensures { λ r. ⌜ InsertPlanned (store state (now (dir .entry)) (now (pages .entry))) values r ⌝ }
+fn allocate_first(state: State, dir: &[u32], pages: &[u8], encoded: [u32; 4], depth: u32) -> Plan
+    requires { ⌜ NullFound (store state (now dir) (now pages)) encoded depth ⌝ }
+    ensures { λ r. ⌜ InsertPlanned (store state (now (dir .entry)) (now (pages .entry))) encoded r ⌝ }
 {
     let limits = state.limits;
     let free = spare_page(state, pages);
     if free == limits.pages {
         return Plan::Refused(7);
     }
-    if !leaf_whole(state, dir, values, depth, pack_empty(depth)) {
+    if !leaf_whole(state, dir, encoded, depth, pack_empty(depth)) {
         return Plan::Refused(9);
     }
     Plan::Get(free, depth)
@@ -57,12 +57,12 @@ fn allocate_half(
     state: State,
     dir: &[u32],
     pages: &[u8],
-    values: [u32; 4],
+    encoded: [u32; 4],
     split: Split,
     cut: Cut,
 ) -> Plan
-    requires { ⌜ FullFound (store state (now dir) (now pages)) values split cut ⌝ }
-    ensures { λ r. ⌜ InsertPlanned (store state (now (dir .entry)) (now (pages .entry))) values r ⌝ }
+    requires { ⌜ FullFound (store state (now dir) (now pages)) encoded split cut ⌝ }
+    ensures { λ r. ⌜ InsertPlanned (store state (now (dir .entry)) (now (pages .entry))) encoded r ⌝ }
 {
     let limits = state.limits;
     let free = spare_page(state, pages);
@@ -70,7 +70,7 @@ fn allocate_half(
         return Plan::Refused(7);
     }
     let word = pack_page(split.page, split.depth);
-    if !leaf_whole(state, dir, values, split.depth, word) {
+    if !leaf_whole(state, dir, encoded, split.depth, word) {
         return Plan::Refused(9);
     }
     Plan::Divide(split, cut, free)

@@ -21,20 +21,21 @@ ghost use mathlib.Core.Bool.{true};
 ghost use Prim.Native.Nat.{_≤_};
 ghost use Rattle.pages.specs.Pages.{PageLent};
 ghost use Rattle.store.specs.Store.{store};
-ghost use Rattle.store.specs.Promises.{keyNumber};
+ghost use Rattle.refusals.specs.Passed.{Passed};
 ghost use Rattle.leaf_word.specs.Hold.{wordHolds};
 ghost use Rattle.insert_spare.specs.Spare.{PagesLent};
 ghost use Rattle.insert_planned.specs.Planned.{KeyAsked, InsertFound, InsertFoundFrom, WordMet, LeafMet};
 
-// What an insert of a key meets, after 1, 2 and 3: F1 and F2, the key's cell; F3, its word.
-pub fn find(state: State, dir: &[u32], pages: &[u8], key: Key) -> Found
-    requires { ⌜ keyNumber (store state (now dir) (now pages)) (key .values) ≡ 0 ⌝ }
-    ensures { λ r. ⌜ InsertFound (store state (now (dir .entry)) (now (pages .entry))) (key .values) r ⌝ }
+// What an insert of a key, given by its encodings, meets after 1, 2 and 3: F1 and F2, the key's
+// cell; F3, its word.
+pub fn find(state: State, dir: &[u32], pages: &[u8], encoded: Key) -> Found
+    requires { ⌜ Passed (store state (now dir) (now pages)) (encoded .values) ⌝ }
+    ensures { λ r. ⌜ InsertFound (store state (now (dir .entry)) (now (pages .entry))) (encoded .values) r ⌝ }
 {
     if !limits_hold(state) {
         return Found::Refused(9);
     }
-    let packed = pack_key(key);
+    let packed = pack_key(encoded);
     let widths = widths_of(state.shape);
     let word = key_word(widths, state.deepest as u64, dir, packed);
     if !word_holds(state, word) {
@@ -47,7 +48,7 @@ pub fn find(state: State, dir: &[u32], pages: &[u8], key: Key) -> Found
 fn find_page(state: State, pages: &[u8], key: u64, word: u32) -> Found
     requires { ⌜ PagesLent state (now pages) × (wordHolds state word ≡ true) × KeyAsked state key ⌝ }
     ensures { λ r. ⌜ InsertFoundFrom state (now (pages .entry))
-        (λ before values. WordMet before values key word) r ⌝ }
+        (λ before encoded. WordMet before encoded key word) r ⌝ }
 {
     let leaf = unpack(word);
     match leaf {
@@ -63,7 +64,7 @@ fn find_place(state: State, pages: &[u8], key: u64, page: u32, depth: u32) -> Fo
     requires { ⌜ PagesLent state (now pages) × PageLent (state .shape .capacity) page (now pages)
         × KeyAsked state key × (depth ≤ state .deepest) ⌝ }
     ensures { λ r. ⌜ InsertFoundFrom state (now (pages .entry))
-        (λ before values. LeafMet before values key page depth) r ⌝ }
+        (λ before encoded. LeafMet before encoded key page depth) r ⌝ }
 {
     let shape = state.shape;
     let capacity = shape.capacity as usize;

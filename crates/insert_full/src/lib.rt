@@ -25,7 +25,7 @@ ghost use Rattle.insert_planned.specs.Planned.{InsertFoundFrom, FullMet, Dividi
 pub fn find_split(state: State, pages: &[u8], key: u64, page: u32, depth: u32, i: usize) -> Found
     requires { ⌜ PagesLent state (now pages) × PageLent (state .shape .capacity) page (now pages) ⌝ }
     ensures { λ r. ⌜ InsertFoundFrom state (now (pages .entry))
-        (λ before values. FullMet before values key page depth i) r ⌝ }
+        (λ before encoded. FullMet before encoded key page depth i) r ⌝ }
 {
     let shape = state.shape;
     let limits = state.limits;
@@ -67,7 +67,7 @@ fn find_cut(state: State, pages: &[u8], key: u64, split: Split) -> Found
     requires { ⌜ PagesLent state (now pages) × PageLent (state .shape .capacity) (split .page) (now pages) ⌝ }
     requires { ⌜ (split .pair < 64)
         × (split .pair / 4 < getD (widthsOf (state .shape)) (split .pair % 4) 0) ⌝ }
-    ensures { λ r. ⌜ InsertFoundFrom state (now (pages .entry)) (λ before values. DividingMet before values key split)
+    ensures { λ r. ⌜ InsertFoundFrom state (now (pages .entry)) (λ before encoded. DividingMet before encoded key split)
         r ⌝ }
 {
     let shape = state.shape;

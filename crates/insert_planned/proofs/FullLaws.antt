@@ -34,14 +34,13 @@ use Rattle.key_order.proofs.CommonLaws.{sameBits-all}
 use Rattle.key_order.proofs.StepLaws.{agree-before, differ-here, t-lt, compared-same}
 use Rattle.page_place.proofs.SortedLaws.{Between}
 use Rattle.page_place.proofs.FoundLaws.{placed-between, record-at, same-of-compared}
-use Rattle.model.specs.Model.{recordFor}
 use Rattle.store.specs.Store.{Store}
 use Rattle.store.specs.Sound.{Sound}
 use Rattle.change.proofs.MeetLaws.{allHave, shared-page}
 use Rattle.insert_cut.specs.Halves.{firstKey, lastKey}
 use Rattle.insert_planned.specs.Found.{InsertAsked, EndsMet}
 use Rattle.insert_planned.proofs.EndLaws.{firstWith, lastWith, alike-of-ends, ends-of-alike, ends-apart}
-use Rattle.insert_planned.proofs.MetLaws.{unpacked-recordFor, page-bytes, meets, records-met, sorted-met}
+use Rattle.insert_planned.proofs.MetLaws.{recordWith, key-is, page-bytes, meets, records-met, sorted-met}
 
 -- the key of either record
 chosen-key : (β : Bool) (k k′ : ℕ) (q q′ : Record) → unpackedKey k ≡ q .key → unpackedKey k′ ≡ q′ .key
@@ -49,8 +48,8 @@ chosen-key : (β : Bool) (k k′ : ℕ) (q q′ : Record) → unpackedKey k ≡ 
 chosen-key true k k′ q q′ d e = d
 chosen-key false k k′ q q′ d e = e
 
-module _ (before : Store) (values : List ℕ) (content : Content) (a : InsertAsked before values) (g x i pair m : ℕ)
-    (e : EndsMet before values g x i pair m) (S : List Record) (sound : Sound before S) where
+module _ (before : Store) (encoded : List ℕ) (content : Content) (a : InsertAsked before encoded) (g x i pair m : ℕ)
+    (e : EndsMet before encoded g x i pair m) (S : List Record) (sound : Sound before S) where
   abbrev s : Shape
   s = before .state .shape
 
@@ -61,7 +60,7 @@ module _ (before : Store) (values : List ℕ) (content : Content) (a : InsertAsk
   b = s .capacity
 
   abbrev r : Record
-  r = recordFor s values content
+  r = recordWith encoded content
 
   abbrev page : List ℕ
   page = pageAt b (before .memory .bytes) g
@@ -69,22 +68,22 @@ module _ (before : Store) (values : List ℕ) (content : Content) (a : InsertAsk
   abbrev pub rs : List Record
   rs = recordsFrom s b 2 page
 
-  pub key-is : r .key ≡ unpackedKey (packedKey values)
-  key-is = unpacked-recordFor s values content (a .shape) (a .fits) (a .four)
+  own-key : r .key ≡ unpackedKey (packedKey encoded)
+  own-key = key-is before encoded content a g x b (e .met)
 
   pub order : sorted (recordBit s) (total ws) 0 rs ≡ true
-  order = sorted-met before values content a g x b (e .met) S sound
+  order = sorted-met before encoded content a g x b (e .met) S sound
 
   pub between : Between (recordBit s) (total ws) 0 r r rs i
   between =
-      placed-between s r (packedKey values) key-is page (page-bytes before values content a g x b (e .met))
+      placed-between s r (packedKey encoded) own-key page (page-bytes before encoded content a g x b (e .met))
       b order i (e .place)
 
   pub size : length rs ≡ b
   size = length-recordsFrom s b 2 page
 
   some : 1 ≤ length rs
-  some = omega (arith, size, capacity-bounds s (a .shape) .0)
+  some = omega (arith, size, capacity-bounds s (a .passed .shape) .0)
 
   -- ---- the first and the last key
 
@@ -96,33 +95,33 @@ module _ (before : Store) (values : List ℕ) (content : Content) (a : InsertAsk
 
   key-there : (k : ℕ) → k < b → unpackedKey (keyAt page k) ≡ getD rs k r .key
   key-there k l =
-      let bytes = page-bytes before values content a g x b (e .met) in
+      let bytes = page-bytes before encoded content a g x b (e .met) in
       unpackedKey-keyIn s (recordField page k) (AreBytes-field page (recordOffset k) recordSize bytes)
-      ∙ ap (λ q. q .key) (sym (record-at s r (packedKey values) key-is page bytes b order k l))
+      ∙ ap (λ q. q .key) (sym (record-at s r (packedKey encoded) own-key page bytes b order k l))
 
-  first-key : unpackedKey (firstKey page (packedKey values) i) ≡ first .key
+  first-key : unpackedKey (firstKey page (packedKey encoded) i) ≡ first .key
   first-key =
-      chosen-key (eqb i 0) (packedKey values) (keyAt page 0) r (getD rs 0 r) (sym key-is)
+      chosen-key (eqb i 0) (packedKey encoded) (keyAt page 0) r (getD rs 0 r) (sym own-key)
       (key-there 0 (omega (arith, size, some)))
 
-  last-key : unpackedKey (lastKey page b (packedKey values) i) ≡ last .key
+  last-key : unpackedKey (lastKey page b (packedKey encoded) i) ≡ last .key
   last-key =
       subst
-      (λ k. unpackedKey (lastKey page b (packedKey values) i) ≡ cond (eqb i k) r (getD rs (k - 1) r) .key)
+      (λ k. unpackedKey (lastKey page b (packedKey encoded) i) ≡ cond (eqb i k) r (getD rs (k - 1) r) .key)
       (sym size)
-      (chosen-key (eqb i b) (packedKey values) (keyAt page (b - 1)) r (getD rs (b - 1) r) (sym key-is)
+      (chosen-key (eqb i b) (packedKey encoded) (keyAt page (b - 1)) r (getD rs (b - 1) r) (sym own-key)
       (key-there (b - 1) (omega (arith, size, some))))
 
   ends : FirstPair ws (first .key) (last .key) pair
   ends =
       subst (λ k. FirstPair ws k (last .key) pair) first-key
-      (subst (λ k. FirstPair ws (unpackedKey (firstKey page (packedKey values) i)) k pair) last-key (e .ends))
+      (subst (λ k. FirstPair ws (unpackedKey (firstKey page (packedKey encoded) i)) k pair) last-key (e .ends))
 
   pub fit : Fit ws
-  fit = widthsOf-fit s (a .shape)
+  fit = widthsOf-fit s (a .passed .shape)
 
   all-steps : length (steps ws) ≡ total ws
-  all-steps = length-steps-widthsOf s (a .shape)
+  all-steps = length-steps-widthsOf s (a .passed .shape)
 
   -- they are two
   pub ends-differ : 64 ≤ pair → ⊥
@@ -173,6 +172,6 @@ module _ (before : Store) (values : List ℕ) (content : Content) (a : InsertAsk
     -- the leaf's own bits are alike, so that its depth is no greater
     pub below-step : m < x → ⊥
     below-step h =
-        let own = shared-page before r S sound g x (meets before values content a g x b (e .met)) in
-        let theirs = rw (records-met before values content a g x b (e .met)) at own in
+        let own = shared-page before r S sound g x (meets before encoded content a g x b (e .met)) in
+        let theirs = rw (records-met before encoded content a g x b (e .met)) at own in
         true≢false (sym (have-below x m h theirs) ∙ differ)

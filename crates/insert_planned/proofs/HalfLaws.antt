@@ -21,18 +21,17 @@ use Rattle.pairs.specs.Pairs.{pairBit}
 use Rattle.pairs.proofs.PlaceLaws.{splitBit-place}
 use Rattle.page_place.specs.Find.{firstOne}
 use Rattle.page_place.proofs.OneLaws.{firstOne-le, take-firstOne, drop-firstOne}
-use Rattle.model.specs.Model.{recordFor}
 use Rattle.store.specs.Store.{Store}
 use Rattle.store.specs.Sound.{Sound}
 use Rattle.change.proofs.SharedLaws.{sorted-shared}
 use Rattle.insert_planned.specs.Found.{InsertAsked, EndsMet}
 use Rattle.lists.proofs.FilterLaws.{length-filter-lt}
 use Rattle.insert_planned.proofs.CutLaws.{place-low, place-high}
-use Rattle.insert_planned.proofs.MetLaws.{page-bytes}
-use Rattle.insert_planned.proofs.FullLaws.{rs, key-is, order, between, size, fit, step-lt, shared-bits, differ}
+use Rattle.insert_planned.proofs.MetLaws.{recordWith, page-bytes, key-is}
+use Rattle.insert_planned.proofs.FullLaws.{rs, order, between, size, fit, step-lt, shared-bits, differ}
 
-module _ (before : Store) (values : List ℕ) (content : Content) (a : InsertAsked before values) (g x i pair m : ℕ)
-    (e : EndsMet before values g x i pair m) (split : pair < 64) (cut : ℕ)
+module _ (before : Store) (encoded : List ℕ) (content : Content) (a : InsertAsked before encoded) (g x i pair m : ℕ)
+    (e : EndsMet before encoded g x i pair m) (split : pair < 64) (cut : ℕ)
     (cut-at : cut
     ≡ firstOne (widthsOf (before .state .shape)) pair
     (pageAt (before .state .shape .capacity) (before .memory .bytes) g) (before .state .shape .capacity) 0) where
@@ -46,7 +45,7 @@ module _ (before : Store) (values : List ℕ) (content : Content) (a : InsertAsk
   b = s .capacity
 
   abbrev r : Record
-  r = recordFor s values content
+  r = recordWith encoded content
 
   abbrev page : List ℕ
   page = pageAt b (before .memory .bytes) g
@@ -57,7 +56,7 @@ module _ (before : Store) (values : List ℕ) (content : Content) (a : InsertAsk
 
   module _ (S : List Record) (sound : Sound before S) where
     abbrev records : List Record
-    records = rs before values content a g x i pair m e S sound
+    records = rs before encoded content a g x i pair m e S sound
 
     abbrev t : ℕ
     t = length (stepsBelow ws pair)
@@ -66,7 +65,7 @@ module _ (before : Store) (values : List ℕ) (content : Content) (a : InsertAsk
     live = e .ends .step-there split
 
     m-lt : m < total ws
-    m-lt = step-lt before values content a g x i pair m e S sound split
+    m-lt = step-lt before encoded content a g x i pair m e S sound split
 
     -- from the step on the records are in split order
     order-there : sorted (recordBit s) (suc (total ws - suc m)) t records ≡ true
@@ -74,48 +73,48 @@ module _ (before : Store) (values : List ℕ) (content : Content) (a : InsertAsk
         let rest : m + suc (total ws - suc m) ≡ total ws = omega (arith, m-lt) in
         subst (λ u. sorted (recordBit s) (suc (total ws - suc m)) u records ≡ true) (e .step)
         (sorted-shared (recordBit s) m (suc (total ws - suc m)) 0 m (zero-add m) (recordBit s r) records
-        (shared-bits before values content a g x i pair m e S sound split)
+        (shared-bits before encoded content a g x i pair m e S sound split)
         (ap (λ n. sorted (recordBit s) n 0 records) rest
-        ∙ order before values content a g x i pair m e S sound))
+        ∙ order before encoded content a g x i pair m e S sound))
 
     pub take-cut : take cut records ≡ side (recordBit s) false m records
     take-cut =
         rw (cut-at, e .step)
-        (take-firstOne s (fit before values content a g x i pair m e S sound) pair live page
-        (page-bytes before values content a g x b (e .met)) (total ws - suc m) b order-there)
+        (take-firstOne s (fit before encoded content a g x i pair m e S sound) pair live page
+        (page-bytes before encoded content a g x b (e .met)) (total ws - suc m) b order-there)
 
     pub drop-cut : drop cut records ≡ side (recordBit s) true m records
     drop-cut =
         rw (cut-at, e .step)
-        (drop-firstOne s (fit before values content a g x i pair m e S sound) pair live page
-        (page-bytes before values content a g x b (e .met)) (total ws - suc m) b order-there)
+        (drop-firstOne s (fit before encoded content a g x i pair m e S sound) pair live page
+        (page-bytes before encoded content a g x b (e .met)) (total ws - suc m) b order-there)
 
     pub cut-within : cut ≤ length records
-    cut-within = omega (arith, cut-le, size before values content a g x i pair m e S sound)
+    cut-within = omega (arith, cut-le, size before encoded content a g x i pair m e S sound)
 
-    module _ (bit : Bool) (bit-there : bit ≡ pairBit ws (unpackedKey (packedKey values)) pair) where
+    module _ (bit : Bool) (bit-there : bit ≡ pairBit ws (unpackedKey (packedKey encoded)) pair) where
       -- the key's bit
       pub bit-is : recordBit s r m ≡ bit
       bit-is =
           ap (recordBit s r) (e .step)
-          ∙ ap (λ k. splitBit ws k t) (key-is before values content a g x i pair m e S sound)
-          ∙ splitBit-place ws (fit before values content a g x i pair m e S sound)
-          (unpackedKey (packedKey values)) pair live
+          ∙ ap (λ k. splitBit ws k t) (key-is before encoded content a g x b (e .met))
+          ∙ splitBit-place ws (fit before encoded content a g x i pair m e S sound)
+          (unpackedKey (packedKey encoded)) pair live
           ∙ sym bit-there
 
       pub falls-low : bit ≡ false → i ≤ cut
       falls-low c =
           place-low (recordBit s) (total ws) r r records i
-          (order before values content a g x i pair m e S sound)
-          (between before values content a g x i pair m e S sound) m m-lt cut cut-within take-cut drop-cut
-          (shared-bits before values content a g x i pair m e S sound split) (bit-is ∙ c)
+          (order before encoded content a g x i pair m e S sound)
+          (between before encoded content a g x i pair m e S sound) m m-lt cut cut-within take-cut drop-cut
+          (shared-bits before encoded content a g x i pair m e S sound split) (bit-is ∙ c)
 
       pub falls-high : bit ≡ true → cut ≤ i
       falls-high c =
           place-high (recordBit s) (total ws) r r records i
-          (order before values content a g x i pair m e S sound)
-          (between before values content a g x i pair m e S sound) m m-lt cut cut-within take-cut drop-cut
-          (shared-bits before values content a g x i pair m e S sound split) (bit-is ∙ c)
+          (order before encoded content a g x i pair m e S sound)
+          (between before encoded content a g x i pair m e S sound) m m-lt cut cut-within take-cut drop-cut
+          (shared-bits before encoded content a g x i pair m e S sound split) (bit-is ∙ c)
 
       -- not all records have it
       pub half-room : cond bit (b - cut) cut < b
@@ -123,11 +122,11 @@ module _ (before : Store) (values : List ℕ) (content : Content) (a : InsertAsk
         where
           fewer : (β : Bool) → recordBit s r m ≡ β → length (side (recordBit s) β m records) < b
           fewer β c =
-              let none = differ before values content a g x i pair m e S sound split in
+              let none = differ before encoded content a g x i pair m e S sound split in
               omega (
                 arith,
                 length-filter-lt _ records (rw c at none),
-                size before values content a g x i pair m e S sound,
+                size before encoded content a g x i pair m e S sound,
               )
 
           go : (β : Bool) → recordBit s r m ≡ β → cond β (b - cut) cut < b
@@ -137,7 +136,7 @@ module _ (before : Store) (values : List ℕ) (content : Content) (a : InsertAsk
                 fewer true c,
                 ap length drop-cut,
                 length-drop cut records,
-                size before values content a g x i pair m e S sound,
+                size before encoded content a g x i pair m e S sound,
               )
           go false c =
               omega (
@@ -145,5 +144,5 @@ module _ (before : Store) (values : List ℕ) (content : Content) (a : InsertAsk
                 fewer false c,
                 ap length take-cut,
                 length-take cut records,
-                size before values content a g x i pair m e S sound,
+                size before encoded content a g x i pair m e S sound,
               )

@@ -10,19 +10,15 @@ use lib.Pow.{pow-mono}
 use borrow.Author.Tests.{not-true}
 use Rattle.lists.specs.Filter.{nonEmpty}
 use Rattle.lists.proofs.FilterLaws.{all-filter}
-use Rattle.shape.specs.Shape.{widthsOf, total, shapeNumber}
-use Rattle.shape.specs.Key.{keyFits, encodings}
+use Rattle.shape.specs.Shape.{widthsOf, total}
 use Rattle.shape.specs.declared.Shape.{Shape}
-use Rattle.split.specs.Bits.{splitBit}
 use Rattle.region.specs.Sets.{sorted}
 use Rattle.directory_lent.specs.Lent.{DirectoryLent}
 use Rattle.record.specs.declared.Content.{Content}
 use Rattle.record.specs.Record.{Record, recordBit}
 use Rattle.record.specs.Bytes.{recordOf}
-use Rattle.record.specs.Packed.{SixteenBits, packedKey, unpackedKey, packedBytes}
-use Rattle.record.proofs.ByteLaws.{perAttribute-getD}
-use Rattle.record.proofs.KeyLaws.{key-below-bytes}
-use Rattle.record.proofs.PackedLaws.{packedKey-lt, unpackedKey-packedKey}
+use Rattle.record.specs.Packed.{packedKey, unpackedKey, packedBytes}
+use Rattle.record.proofs.PackedLaws.{packedKey-lt}
 use Rattle.record.proofs.CodecLaws.{recordOf-packedBytes}
 use Rattle.record.proofs.ByteLaws.{AreBytes, AreBytes-field}
 use Rattle.page.specs.Page.{recordsFrom, pageSize, pageAt}
@@ -30,62 +26,52 @@ use Rattle.page_place.specs.Find.{Placed}
 use Rattle.page_place.specs.declared.Place.the-variants.{At}
 use Rattle.page_place.proofs.FoundLaws.{absent-placed, withPrefix-placed}
 use Rattle.model.specs.Sets.{inShape, isSet, stored}
-use Rattle.model.specs.Model.{recordFor}
-use Rattle.model.proofs.SetLaws.{length-encodings, indexFits-encodings, inShape-recordFor, fits-of-inShape}
-use Rattle.model.proofs.SetLaws.{inShape-of-isSet, isSet-of-parts, stored-withPrefix, absent-stored}
-use Rattle.store.specs.Store.{Store, wordAt}
+use Rattle.model.proofs.SetLaws.{fits-of-inShape, inShape-of-isSet, isSet-of-parts}
+use Rattle.model.proofs.SetLaws.{stored-withPrefix, absent-stored}
+use Rattle.store.specs.Store.{Store}
 use Rattle.store.specs.Sound.{Sound}
 use Rattle.store.proofs.DividedLaws.{leafRecords-divisionOf}
+use Rattle.refusals.specs.Passed.{Passed}
+use Rattle.refusals.proofs.PassedLaws.{SixteenBits-passed, unpackedKey-passed}
 use Rattle.change.proofs.MeetLaws.{recordsOn, MeetsPage, sorted-page, records-of-page}
 use Rattle.insert_planned.specs.Found.{InsertAsked, PageMet, FallsBefore}
 
 -- ---- a key's record
 
-module _ (s : Shape) (values : List ℕ) (content : Content) (good : shapeNumber s ≡ 0) (fits : keyFits s values ≡ true)
-    (four : length values ≡ 4) where
-  -- the encodings of its values are the values
-  pub key-recordFor : recordFor s values content .key ≡ values
-  unfolding encodings
-  key-recordFor = perAttribute-getD values four
+-- the record of a key, given by its encodings
+abbrev pub recordWith : List ℕ → Content → Record
+recordWith encoded content = record { key = encoded; content = content }
 
-  pub sixteen : SixteenBits values
-  sixteen j =
-      let small = key-below-bytes s good (encodings s values) (length-encodings s values)
-      (indexFits-encodings s values ∙ fits) j in
-      rw key-recordFor at small
-
-  pub unpacked-recordFor : recordFor s values content .key ≡ unpackedKey (packedKey values)
-  unfolding encodings
-  unpacked-recordFor = sym (unpackedKey-packedKey values sixteen)
-
-  -- the record that its bytes hold
-  pub recordOf-recordFor : content .payload < 2 ^ 32
-      → recordOf s (packedBytes (packedKey values) content) ≡ recordFor s values content
-  recordOf-recordFor l =
-      recordOf-packedBytes s (packedKey values) content (packedKey-lt values sixteen) l
-      ∙ ap (λ k. record { key = k; content = content }) (sym unpacked-recordFor)
+-- the record that its bytes hold
+pub recordOf-passed : (before : Store) (encoded : List ℕ) → Passed before encoded → (content : Content)
+    → content .payload < 2 ^ 32
+    → recordOf (before .state .shape) (packedBytes (packedKey encoded) content) ≡ recordWith encoded content
+recordOf-passed before encoded p content l =
+    recordOf-packedBytes (before .state .shape) (packedKey encoded) content
+    (packedKey-lt encoded (SixteenBits-passed before encoded p)) l
+    ∙ ap (λ k. recordWith k content) (unpackedKey-passed before encoded p)
 
 -- ---- the directory
 
-module _ (before : Store) (values : List ℕ) where
-  pub directory-lent : InsertAsked before values → DirectoryLent (before .state) (length (before .memory .words))
+module _ (before : Store) (encoded : List ℕ) where
+  pub directory-lent : InsertAsked before encoded → DirectoryLent (before .state) (length (before .memory .words))
   directory-lent a =
       record {
-        shape = a .shape;
+        shape = a .passed .shape;
         deep = le-trans (a .within-limit) (a .bits);
         short = le-trans (a .within-limit) (a .short);
-        room = le-trans (pow-mono (a .within-limit)) (a .words-lent);
+        room = le-trans (pow-mono (a .within-limit)) (a .passed .words-lent);
       }
 
 -- ---- the page
 
-module _ (before : Store) (values : List ℕ) (content : Content) (a : InsertAsked before values) (g x n : ℕ)
-    (met : PageMet before values g x n) where
+module _ (before : Store) (encoded : List ℕ) (content : Content) (a : InsertAsked before encoded) (g x n : ℕ)
+    (met : PageMet before encoded g x n) where
   abbrev s : Shape
   s = before .state .shape
 
   abbrev r : Record
-  r = recordFor s values content
+  r = recordWith encoded content
 
   abbrev page : List ℕ
   page = pageAt (s .capacity) (before .memory .bytes) g
@@ -93,14 +79,15 @@ module _ (before : Store) (values : List ℕ) (content : Content) (a : InsertAsk
   pub page-bytes : AreBytes page
   page-bytes = AreBytes-field (before .memory .bytes) (g * pageSize (s .capacity)) (pageSize (s .capacity)) (met .bytes)
 
+  -- the record's key, back from its packed form
+  pub key-is : r .key ≡ unpackedKey (packedKey encoded)
+  key-is = sym (unpackedKey-passed before encoded (a .passed))
+
   pub meets : MeetsPage before r g x
   meets =
       record {
         within = met .within;
-        word =
-            ap (λ k. wordAt s (before .state .deepest) (before .memory .words) (splitBit (widthsOf s) k))
-            (key-recordFor s values content (a .shape) (a .fits) (a .four))
-            ∙ met .own;
+        word = met .own;
       }
 
   pub records-met : recordsOn before g ≡ recordsFrom s n 2 page
@@ -117,22 +104,21 @@ module _ (before : Store) (values : List ℕ) (content : Content) (a : InsertAsk
         (all-filter (inShape s) _ (inShape s) (λ q c d. c) S (inShape-of-isSet s S (sound .set))))
 
     inside : inShape s r ≡ true
-    inside = inShape-recordFor s values content (a .fits)
+    inside = rw (a .passed .four) (a .passed .fits)
 
     -- a place between two records: the key is not stored
-    pub absent-met : (i : ℕ) → FallsBefore before values g n i → nonEmpty (stored (r .key) (recordsOn before g)) ≡ false
+    pub absent-met : (i : ℕ) → FallsBefore before encoded g n i
+        → nonEmpty (stored (r .key) (recordsOn before g)) ≡ false
     absent-met i p =
-        let none = absent-placed s r (packedKey values) (unpacked-recordFor s values content (a .shape) (a .fits)
-        (a .four)) page
-        page-bytes n sorted-met i p in
-        not-true _ (sym (absent-stored s (a .shape) (recordsOn before g) set-met r inside) ∙ rw records-met none)
+        let none = absent-placed s r (packedKey encoded) key-is page page-bytes n sorted-met i p in
+        not-true _
+        (sym (absent-stored s (a .passed .shape) (recordsOn before g) set-met r inside) ∙ rw records-met none)
 
     -- at a record: it is
-    pub stored-met : (i : ℕ) → Placed (widthsOf s) (unpackedKey (packedKey values)) page n (At i)
+    pub stored-met : (i : ℕ) → Placed (widthsOf s) (unpackedKey (packedKey encoded)) page n (At i)
         → nonEmpty (stored (r .key) (recordsOn before g)) ≡ true
     stored-met i p =
-        let one = withPrefix-placed s r (packedKey values) (unpacked-recordFor s values content (a .shape) (a .fits)
-        (a .four)) page
-        page-bytes n sorted-met i p in
-        ap nonEmpty (stored-withPrefix s (a .shape) (recordsOn before g) set-met (r .key) (fits-of-inShape s r inside))
+        let one = withPrefix-placed s r (packedKey encoded) key-is page page-bytes n sorted-met i p in
+        ap nonEmpty
+        (stored-withPrefix s (a .passed .shape) (recordsOn before g) set-met (r .key) (fits-of-inShape s r inside))
         ∙ rw (records-met, one)

@@ -5,7 +5,6 @@ use mathlib.Core.Path.{_≡_, refl, sym, ap, _∙_, subst}
 use mathlib.Core.List.{List}
 use native.Mathlib.Omega.{arith}
 use lib.ListN.{length}
-use Rattle.shape.specs.Refusal.{accepted}
 use Rattle.shape.specs.Shape.{widthsOf}
 use Rattle.shape.specs.declared.Shape.{Shape}
 use Rattle.shape.proofs.ShapeLaws.{capacity-bounds}
@@ -17,17 +16,15 @@ use Rattle.record.specs.Packed.{packedKey, packedBytes}
 use Rattle.pages.specs.Pages.{PageLent}
 use Rattle.directory_word.specs.Word.{wordOf}
 use Rattle.directory_word.specs.declared.Leaf.the-variants.{Empty, Page}
-use Rattle.model.specs.Model.{changed}
 use Rattle.store.specs.Store.{Store, memory, store}
-use Rattle.store.specs.Promises.{AddPromise}
 use Rattle.change_kept.specs.Tested.{LeafTested}
 use Rattle.change_kept.proofs.ContainedLaws.{contained-taken, contained-got}
 use Rattle.insert_planned.specs.Planned.{RoomFound, GetPlanned}
 use Rattle.insert_planned.proofs.MetLaws.{directory-lent}
 use Rattle.insert_pages.specs.Inserted.{insertedPages}
-use Rattle.insert_promise.proofs.TakeLaws.{page-lent, promise-taken, promise-got}
+use Rattle.insert_promise.proofs.TakeLaws.{AcceptedMet, page-lent, promise-taken, promise-got}
 
-module _ (before : Store) (values : List ℕ) (content : Content) where
+module _ (before : Store) (encoded : List ℕ) (content : Content) where
   abbrev s : Shape
   s = before .state .shape
 
@@ -37,51 +34,49 @@ module _ (before : Store) (values : List ℕ) (content : Content) where
   abbrev bytes : List ℕ
   bytes = before .memory .bytes
 
-  module _ (small : content .payload < 2 ^ 32) (key : ℕ) (ek : key ≡ packedKey values) where
+  module _ (small : content .payload < 2 ^ 32) (key : ℕ) (ek : key ≡ packedKey encoded) where
     -- ---- a page takes the record
 
-    module _ (g i n : ℕ) (taken : RoomFound before values g i n) where
+    module _ (g i n : ℕ) (taken : RoomFound before encoded g i n) where
       pub lent-taken : PageLent b g bytes × (i ≤ n) × (n < b)
-      lent-taken = (page-lent before values (taken .asked) g (taken .met .within), taken .place .0, taken .room)
+      lent-taken = (page-lent before encoded (taken .asked) g (taken .met .within), taken .place .0, taken .room)
 
       pub by-taken : (bytes′ : List ℕ) → bytes′ ≡ insertedPages b g i n (packedBytes key content) bytes
-          → AddPromise before values content (accepted changed)
-          (store (before .state) (before .memory .words) bytes′)
+          → AcceptedMet before encoded content (store (before .state) (before .memory .words) bytes′)
       by-taken bytes′ d =
           subst
-          (λ bs. AddPromise before values content (accepted changed)
-          (store (before .state) (before .memory .words) bs))
+          (λ bs. AcceptedMet before encoded content (store (before .state) (before .memory .words) bs))
           (sym (d ∙ ap (λ k. insertedPages b g i n (packedBytes k content) bytes) ek))
-          (promise-taken before values content (taken .asked) small g i n taken
-          (contained-taken before values (packedKey values) content g i n taken lent-taken _ refl))
+          (promise-taken before encoded content (taken .asked) small g i n taken
+          (contained-taken before encoded (packedKey encoded) content g i n taken lent-taken _ refl))
 
     -- ---- an empty leaf gets a page
 
-    module _ (g x : ℕ) (got : GetPlanned before values g x)
-        (whole : LeafTested (before .state) (before .memory .words) values x (wordOf (Empty x))) where
+    module _ (g x : ℕ) (got : GetPlanned before encoded g x)
+        (whole : LeafTested (before .state) (before .memory .words) encoded x (wordOf (Empty x))) where
       pub lent-got : PageLent b g bytes × (0 ≤ 0) × (0 < b)
       lent-got = (
-        page-lent before values (got .found .asked) g (got .within),
+        page-lent before encoded (got .found .asked) g (got .within),
         omega arith,
-        capacity-bounds s (got .found .asked .shape) .0,
+        capacity-bounds s (got .found .asked .passed .shape) .0,
       )
 
       pub word-asked : DirectoryLent (before .state) (length (before .memory .words)) × (x ≤ before .state .deepest)
           × (g < 65535)
       word-asked = (
-        directory-lent before values (got .found .asked),
+        directory-lent before encoded (got .found .asked),
         got .found .depth-le,
         omega (arith, got .within, got .found .asked .pages-lent .few),
       )
 
       pub by-got : (words′ : List ℕ)
-          → Filled (widthsOf s) (before .state .deepest) x (splitBit (widthsOf s) values) (wordOf (Page g x))
+          → Filled (widthsOf s) (before .state .deepest) x (splitBit (widthsOf s) encoded) (wordOf (Page g x))
           (before .memory .words) words′
           → (bytes′ : List ℕ) → bytes′ ≡ insertedPages b g 0 0 (packedBytes key content) bytes
-          → AddPromise before values content (accepted changed) (store (before .state) words′ bytes′)
+          → AcceptedMet before encoded content (store (before .state) words′ bytes′)
       by-got words′ filled bytes′ d =
           subst
-          (λ bs. AddPromise before values content (accepted changed) (store (before .state) words′ bs))
+          (λ bs. AcceptedMet before encoded content (store (before .state) words′ bs))
           (sym (d ∙ ap (λ k. insertedPages b g 0 0 (packedBytes k content) bytes) ek))
-          (promise-got before values content (got .found .asked) small g x got words′ filled
-          (contained-got before values (packedKey values) content g x got lent-got whole words′ filled _ refl))
+          (promise-got before encoded content (got .found .asked) small g x got words′ filled
+          (contained-got before encoded (packedKey encoded) content g x got lent-got whole words′ filled _ refl))

@@ -8,7 +8,6 @@ use native.Mathlib.Omega.{arith}
 use native.Mathlib.Nat.{le-trans}
 use lib.ListN.{length}
 use lib.Pow.{pow-mono}
-use Rattle.shape.specs.Refusal.{accepted}
 use Rattle.shape.specs.Shape.{widthsOf, total, shapeNumber}
 use Rattle.shape.specs.declared.Shape.{Shape}
 use Rattle.shape.proofs.ShapeLaws.{widthsOf-fit, capacity-bounds}
@@ -21,12 +20,11 @@ use Rattle.pairs.proofs.PlaceLaws.{splitBit-place}
 use Rattle.pages.specs.Pages.{PageLent}
 use Rattle.directory_word.specs.Word.{wordOf}
 use Rattle.directory_word.specs.declared.Leaf.the-variants.{Page}
-use Rattle.model.specs.Model.{changed}
 use Rattle.store.specs.Store.{Store, memory, store}
 use Rattle.store.specs.Contained.{Contained}
-use Rattle.store.specs.Promises.{AddPromise}
 use Rattle.store.specs.declared.State.{State}
 use Rattle.tally.specs.Tally.{tallyHolds}
+use Rattle.refusals.proofs.PassedLaws.{unpackedKey-passed}
 use Rattle.change.specs.Divided.{Deepened, LeavesSet, dividedTally}
 use Rattle.change.proofs.RegionLaws.{changedStore}
 use Rattle.change_kept.specs.Tested.{LeafTested}
@@ -35,14 +33,14 @@ use Rattle.insert_cut.specs.declared.Cut.{Cut}
 use Rattle.insert_planned.specs.Found.{InsertAsked}
 use Rattle.insert_planned.specs.Planned.{SplitMet, DividePlanned}
 use Rattle.insert_planned.specs.declared.Split.{Split}
-use Rattle.insert_planned.proofs.MetLaws.{key-recordFor, unpacked-recordFor}
 use Rattle.insert_pages.specs.Inserted.{CutFits, dividedPages}
 use Rattle.insert_words.specs.Divided.{DoublingAsked, DirectoryDoubled, LeavesAsked, TallyAsked, LeavesCounted}
 use Rattle.insert_words.specs.Divided.{WordsDivided}
+use Rattle.insert_promise.proofs.TakeLaws.{AcceptedMet}
 use Rattle.insert_promise.proofs.DividedLaws.{lent-own, lent-free, start-le, place-le}
 use Rattle.insert_promise.proofs.SplitLaws.{promise-divided}
 
-module _ (before : Store) (values : List ℕ) (content : Content) where
+module _ (before : Store) (encoded : List ℕ) (content : Content) where
   abbrev s : Shape
   s = before .state .shape
 
@@ -52,31 +50,29 @@ module _ (before : Store) (values : List ℕ) (content : Content) where
   abbrev bytes : List ℕ
   bytes = before .memory .bytes
 
-  module _ (small : content .payload < 2 ^ 32) (key : ℕ) (ek : key ≡ packedKey values) where
-    module _ (split : Split) (cut : Cut) (free : ℕ) (dividing : DividePlanned before values split cut free)
-        (whole : LeafTested (before .state) (before .memory .words) values (split .depth)
+  module _ (small : content .payload < 2 ^ 32) (key : ℕ) (ek : key ≡ packedKey encoded) where
+    module _ (split : Split) (cut : Cut) (free : ℕ) (dividing : DividePlanned before encoded split cut free)
+        (whole : LeafTested (before .state) (before .memory .words) encoded (split .depth)
         (wordOf (Page (split .page) (split .depth)))) where
-      abbrev a : InsertAsked before values
+      abbrev a : InsertAsked before encoded
       a = dividing .found .asked
 
-      abbrev met : SplitMet before values split
+      abbrev met : SplitMet before encoded split
       met = dividing .found .met
 
-      key-bit : cut .bit ≡ splitBit (widthsOf s) values (split .step)
+      key-bit : cut .bit ≡ splitBit (widthsOf s) encoded (split .step)
       key-bit =
-          let same = sym (unpacked-recordFor s values content (a .shape) (a .fits) (a .four))
-          ∙ key-recordFor s values content (a .shape) (a .fits) (a .four) in
           dividing .found .half .bit-there
-          ∙ ap (λ k. pairBit (widthsOf s) k (split .pair)) same
-          ∙ sym (splitBit-place (widthsOf s) (widthsOf-fit s (a .shape)) values (split .pair)
+          ∙ ap (λ k. pairBit (widthsOf s) k (split .pair)) (unpackedKey-passed before encoded (a .passed))
+          ∙ sym (splitBit-place (widthsOf s) (widthsOf-fit s (a .passed .shape)) encoded (split .pair)
           (met .ends-met .ends .step-there (met .differ)))
-          ∙ ap (splitBit (widthsOf s) values) (sym (met .ends-met .step))
+          ∙ ap (splitBit (widthsOf s) encoded) (sym (met .ends-met .step))
 
       pub doubling-asked : DoublingAsked (before .state) split (length (before .memory .words))
       doubling-asked =
           record {
-            shape = a .shape;
-            lent = a .words-lent;
+            shape = a .passed .shape;
+            lent = a .passed .words-lent;
             short = a .short;
             bits = a .bits;
             within-limit = a .within-limit;
@@ -93,16 +89,16 @@ module _ (before : Store) (values : List ℕ) (content : Content) where
 
       pub pages-lent : PageLent b (split .page) bytes × PageLent b free bytes
       pages-lent = (
-        lent-own before values content a small split cut free dividing,
-        lent-free before values content a small split cut free dividing,
+        lent-own before encoded content a small split cut free dividing,
+        lent-free before encoded content a small split cut free dividing,
       )
 
       pub cut-fits : CutFits b cut
       cut-fits =
           record {
-            capacity-le = capacity-bounds s (a .shape) .1;
-            start-le = start-le before values content a small split cut free dividing;
-            place-le = place-le before values content a small split cut free dividing;
+            capacity-le = capacity-bounds s (a .passed .shape) .1;
+            start-le = start-le before encoded content a small split cut free dividing;
+            place-le = place-le before encoded content a small split cut free dividing;
             room = dividing .found .half .room;
           }
 
@@ -111,7 +107,7 @@ module _ (before : Store) (values : List ℕ) (content : Content) where
       module _ (deeper : State) (doubled : List ℕ)
           (d : DirectoryDoubled (before .state) split (before .memory .words) deeper doubled) where
         pub leaves-asked : DirectoryLent deeper (length doubled)
-            × LeavesAsked deeper values split (cut .bit) free
+            × LeavesAsked deeper encoded split (cut .bit) free
         leaves-asked =
             let deep : deeper .deepest ≡ max (before .state .deepest) (suc (split .step)) =
             ap (λ st. st .deepest) (d .state) in
@@ -119,29 +115,29 @@ module _ (before : Store) (values : List ℕ) (content : Content) where
             omega (arith, deep, a .within-limit, met .deep) in
             let same : deeper .shape ≡ s = ap (λ st. st .shape) (d .state) in (
               record {
-                shape = ap shapeNumber same ∙ a .shape;
+                shape = ap shapeNumber same ∙ a .passed .shape;
                 deep =
                     subst (λ v. deeper .deepest ≤ total (widthsOf v)) (sym same) (le-trans limit (a .bits));
                 short = le-trans limit (a .short);
                 room =
                     subst (λ n. 2 ^ deeper .deepest ≤ n) (sym (d .deepened .size))
-                    (le-trans (pow-mono limit) (a .words-lent));
+                    (le-trans (pow-mono limit) (a .passed .words-lent));
               },
               record {
                 below = met .below;
                 deep = omega (arith, deep);
                 page-lt = omega (arith, met .ends-met .met .within, a .pages-lent .few);
                 free-lt = omega (arith, dividing .free-within, a .pages-lent .few);
-                bit-is = key-bit ∙ ap (λ v. splitBit (widthsOf v) values (split .step)) (sym same);
+                bit-is = key-bit ∙ ap (λ v. splitBit (widthsOf v) encoded (split .step)) (sym same);
               },
             )
 
         -- the words set and the leaves counted
         words-divided : (words′ : List ℕ)
             → LeavesSet (widthsOf (deeper .shape)) (deeper .deepest) (split .depth) (split .step)
-            (splitBit (widthsOf (deeper .shape)) values) (split .page) free doubled words′
+            (splitBit (widthsOf (deeper .shape)) encoded) (split .page) free doubled words′
             → (after : State) → LeavesCounted deeper split after
-            → WordsDivided (before .state) values split free (before .memory .words) after words′
+            → WordsDivided (before .state) encoded split free (before .memory .words) after words′
         words-divided words′ l after c =
             record {
               doubled = doubled;
@@ -171,34 +167,35 @@ module _ (before : Store) (values : List ℕ) (content : Content) where
 
             leaves-at : Shape → ℕ → Type 0
             leaves-at v t =
-                LeavesSet (widthsOf v) t (split .depth) (split .step) (splitBit (widthsOf v) values) (split .page) free
+                LeavesSet (widthsOf v) t (split .depth) (split .step) (splitBit (widthsOf v) encoded) (split .page) free
                 doubled words′
 
         pub by-divided : (words′ : List ℕ)
             → LeavesSet (widthsOf (deeper .shape)) (deeper .deepest) (split .depth) (split .step)
-            (splitBit (widthsOf (deeper .shape)) values) (split .page) free doubled words′
+            (splitBit (widthsOf (deeper .shape)) encoded) (split .page) free doubled words′
             → (after : State) → LeavesCounted deeper split after → (bytes′ : List ℕ)
             → bytes′ ≡ dividedPages b (split .page) free cut (packedBytes key content) bytes
-            → AddPromise before values content (accepted changed) (store after words′ bytes′)
+            → AcceptedMet before encoded content (store after words′ bytes′)
         by-divided words′ l after c bytes′ e =
-            subst (λ st. AddPromise before values content (accepted changed) (store st words′ bytes′))
+            subst (λ st. AcceptedMet before encoded content (store st words′ bytes′))
             (sym (w .state))
             (subst
-            (λ bs. AddPromise before values content (accepted changed)
+            (λ bs. AcceptedMet before encoded content
             (changedStore before (after .deepest) (after .tally) (memory words′ bs)))
             (sym (e ∙ ap (λ k. dividedPages b (split .page) free cut (packedBytes k content) bytes) ek))
-            (promise-divided before values content a small split cut free dividing (after .deepest) (after .tally)
+            (promise-divided before encoded content a small split cut free dividing (after .deepest) (after .tally)
             (w .doubled) words′ (w .deeper) (w .tallied) (w .deepened) (w .leaves) contained))
           where
-            w : WordsDivided (before .state) values split free (before .memory .words) after words′
+            w : WordsDivided (before .state) encoded split free (before .memory .words) after words′
             w = words-divided words′ l after c
 
             new : List ℕ
-            new = dividedPages b (split .page) free cut (packedBytes (packedKey values) content) bytes
+            new = dividedPages b (split .page) free cut (packedBytes (packedKey encoded) content) bytes
 
             contained : Contained false before
-                (changedStore before (after .deepest) (after .tally) (memory words′ new)) (splitBit (widthsOf s) values)
+                (changedStore before (after .deepest) (after .tally) (memory words′ new))
+                (splitBit (widthsOf s) encoded)
             contained =
-                subst (λ st. Contained false before (store st words′ new) (splitBit (widthsOf s) values)) (w .state)
-                (contained-divided before values (packedKey values) content split cut free dividing pages-lent cut-fits
-                whole after words′ w new refl)
+                subst (λ st. Contained false before (store st words′ new) (splitBit (widthsOf s) encoded)) (w .state)
+                (contained-divided before encoded (packedKey encoded) content split cut free dividing pages-lent
+                cut-fits whole after words′ w new refl)

@@ -12,6 +12,7 @@ use Rattle.shape.proofs.ShapeLaws.{capacity-bounds}
 use Rattle.shape.specs.Shape.{widthsOf, total}
 use Rattle.record.specs.declared.Content.{Content}
 use Rattle.record.specs.Record.{Record, recordBit}
+use Rattle.record.proofs.CodecLaws.{length-packedBytes}
 use Rattle.record.specs.Packed.{packedKey, packedBytes}
 use Rattle.page.specs.Page.{countOf, recordsOf, pageSize, pageAt, recordsFrom}
 use Rattle.page.specs.Changes.{insertAt}
@@ -19,7 +20,6 @@ use Rattle.page.proofs.FieldLaws.{length-recordsFrom}
 use Rattle.pages.specs.Pages.{PageLent, carriedPages}
 use Rattle.pages.proofs.CarryLaws.{length-carriedPages, drop-carriedPages, pageAt-carriedPages-other}
 use Rattle.pages.proofs.CarryLaws.{recordsOf-carriedPages-from, recordsOf-carriedPages-to}
-use Rattle.model.specs.Model.{recordFor}
 use Rattle.store.specs.Store.{Store}
 use Rattle.store.proofs.ShownLaws.{pageRecords}
 use Rattle.store.specs.Sound.{Sound}
@@ -30,11 +30,11 @@ use Rattle.insert_planned.specs.Found.{InsertAsked, EndsMet}
 use Rattle.insert_planned.specs.Planned.{DividePlanned}
 use Rattle.insert_planned.specs.declared.Split.{Split}
 use Rattle.insert_planned.proofs.HalfLaws.{cut-le}
-use Rattle.insert_planned.proofs.MetLaws.{recordOf-recordFor, records-met}
+use Rattle.insert_planned.proofs.MetLaws.{recordWith, recordOf-passed, records-met}
 use Rattle.insert_pages.specs.Inserted.{dividedPages}
 use Rattle.insert_pages.proofs.InsertedLaws.{length-insertedPages, drop-insertedPages}
 use Rattle.insert_pages.proofs.InsertedLaws.{pageAt-insertedPages-other, recordsOf-insertedPages}
-use Rattle.insert_promise.proofs.TakeLaws.{page-lent, new-length}
+use Rattle.insert_promise.proofs.TakeLaws.{page-lent}
 use Rattle.insert_promise.proofs.HalfLaws.{halves-with}
 
 -- either of two, and neither
@@ -51,9 +51,9 @@ cond-apart : (β : Bool) (x y : ℕ) → (x ≡ y → ⊥) → cond β y x ≡ c
 cond-apart true x y n e = n (sym e)
 cond-apart false x y n e = n e
 
-module _ (before : Store) (values : List ℕ) (content : Content) (a : InsertAsked before values)
+module _ (before : Store) (encoded : List ℕ) (content : Content) (a : InsertAsked before encoded)
     (small : content .payload < 2 ^ 32) (split : Split) (cut : Cut) (free : ℕ)
-    (t : DividePlanned before values split cut free) where
+    (t : DividePlanned before encoded split cut free) where
   abbrev s : Shape
   s = before .state .shape
 
@@ -64,10 +64,10 @@ module _ (before : Store) (values : List ℕ) (content : Content) (a : InsertAsk
   bytes = before .memory .bytes
 
   abbrev r : Record
-  r = recordFor s values content
+  r = recordWith encoded content
 
   abbrev new : List ℕ
-  new = packedBytes (packedKey values) content
+  new = packedBytes (packedKey encoded) content
 
   abbrev g : ℕ
   g = split .page
@@ -78,25 +78,25 @@ module _ (before : Store) (values : List ℕ) (content : Content) (a : InsertAsk
   abbrev start : ℕ
   start = cut .start
 
-  abbrev met : EndsMet before values g (split .depth) (split .behind) (split .pair) m
+  abbrev met : EndsMet before encoded g (split .depth) (split .behind) (split .pair) m
   met = t .found .met .ends-met
 
   pub lent-own : PageLent b g bytes
-  lent-own = page-lent before values a g (met .met .within)
+  lent-own = page-lent before encoded a g (met .met .within)
 
   pub lent-free : PageLent b free bytes
-  lent-free = page-lent before values a free (t .free-within)
+  lent-free = page-lent before encoded a free (t .free-within)
 
   pub start-le : start ≤ b
   start-le =
-      cut-le before values content a g (split .depth) (split .behind) (split .pair) m met (t .found .met .differ) start
+      cut-le before encoded content a g (split .depth) (split .behind) (split .pair) m met (t .found .met .differ) start
       (t .found .half .cut-at)
 
   -- the two pages are two
   pub apart : free ≡ g → ⊥
   apart e =
       let same = ap (λ k. countOf (pageAt b bytes k)) e in
-      omega (arith, same, t .free-none, met .met .count, capacity-bounds s (a .shape) .0)
+      omega (arith, same, t .free-none, met .met .count, capacity-bounds s (a .passed .shape) .0)
 
   -- the page of the record's half, and how many records it has before
   abbrev pub own : ℕ
@@ -129,7 +129,7 @@ module _ (before : Store) (values : List ℕ) (content : Content) (a : InsertAsk
 
   pub lent-carried : PageLent b own carried
   lent-carried =
-      let l = page-lent before values a own own-lt in
+      let l = page-lent before encoded a own own-lt in
       record {
         capacity-le = l .capacity-le;
         number-lt = l .number-lt;
@@ -143,7 +143,7 @@ module _ (before : Store) (values : List ℕ) (content : Content) (a : InsertAsk
   unfolding dividedPages
   length-divided =
       length-insertedPages b own (cut .place) before-own new carried lent-carried place-le (t .found .half .room)
-      (new-length before values content a small)
+      (length-packedBytes (packedKey encoded) content)
       ∙ length-carried
 
   pub drop-divided : drop (before .state .limits .pages * pageSize b) after
@@ -151,7 +151,7 @@ module _ (before : Store) (values : List ℕ) (content : Content) (a : InsertAsk
   unfolding dividedPages
   drop-divided =
       drop-insertedPages b own (cut .place) before-own new carried lent-carried place-le (t .found .half .room)
-      (new-length before values content a small) (before .state .limits .pages) own-lt
+      (length-packedBytes (packedKey encoded) content) (before .state .limits .pages) own-lt
       ∙ drop-carriedPages b g start b free 0 bytes lent-own lent-free start-le (omega arith) run-le
       (before .state .limits .pages) (met .met .within) (t .free-within)
 
@@ -159,7 +159,7 @@ module _ (before : Store) (values : List ℕ) (content : Content) (a : InsertAsk
   unfolding dividedPages
   page-carried k n =
       pageAt-insertedPages-other b own (cut .place) before-own new carried lent-carried place-le (t .found .half .room)
-      (new-length before values content a small) k n
+      (length-packedBytes (packedKey encoded) content) k n
 
   pub others-divided : (k : ℕ) → (k ≡ g → ⊥) → (k ≡ free → ⊥) → pageRecords s after k ≡ recordsOn before k
   others-divided k n o =
@@ -173,7 +173,7 @@ module _ (before : Store) (values : List ℕ) (content : Content) (a : InsertAsk
   rs = recordsFrom s b 2 (pageAt b bytes g)
 
   same : recordsOn before g ≡ rs
-  same = records-met before values content a g (split .depth) b (met .met)
+  same = records-met before encoded content a g (split .depth) b (met .met)
 
   kept : pageRecords s carried g ≡ take start rs
   kept =
@@ -209,9 +209,9 @@ module _ (before : Store) (values : List ℕ) (content : Content) (a : InsertAsk
   unfolding dividedPages
   shown-own =
       recordsOf-insertedPages b own (cut .place) before-own new carried lent-carried place-le (t .found .half .room)
-      (new-length before values content a small) s
+      (length-packedBytes (packedKey encoded) content) s
       ∙ ap (λ q. insertAt (cut .place) q (recordsFrom s before-own 2 (pageAt b carried own)))
-      (recordOf-recordFor s values content (a .shape) (a .fits) (a .four) small)
+      (recordOf-passed before encoded (a .passed) content small)
       ∙ ap (λ n. insertAt (cut .place) r (recordsFrom s n 2 (pageAt b carried own))) (sym count-own)
       ∙ ap (insertAt (cut .place) r) (half-records (cut .bit))
 
@@ -220,7 +220,7 @@ module _ (before : Store) (values : List ℕ) (content : Content) (a : InsertAsk
   pub shows-divided : (S : List Record) → Sound before S → (β : Bool) → pageRecords s after (cond β free g)
       ≡ halfWith (recordBit s) (total (widthsOf s)) m r β (recordsOn before g)
   shows-divided S sound β =
-      halves-with before values content a g (split .depth) (split .behind) (split .pair) m met (t .found .met .differ)
+      halves-with before encoded content a g (split .depth) (split .behind) (split .pair) m met (t .found .met .differ)
       start (t .found .half .cut-at) S sound free (pageRecords s carried) (pageRecords s after) kept moved (cut .bit)
       (t .found .half .bit-there) (cut .place) (t .found .half .low) (t .found .half .high) shown-own
       (ap (recordsOf s) (page-carried (cond (cut .bit) g free) (cond-apart (cut .bit) free g apart)))

@@ -17,7 +17,7 @@ use Rattle.page.specs.Changes.{insertAt}
 use Rattle.pairs.specs.Pairs.{pairBit}
 use Rattle.page_place.specs.Find.{firstOne}
 use Rattle.page_place.proofs.SortedLaws.{Between}
-use Rattle.model.specs.Model.{recordFor}
+use Rattle.insert_planned.proofs.MetLaws.{recordWith}
 use Rattle.store.specs.Store.{Store}
 use Rattle.store.specs.Sound.{Sound}
 use Rattle.change.proofs.SharedLaws.{halfWith}
@@ -27,8 +27,8 @@ use Rattle.insert_planned.proofs.CutLaws.{insert-low, insert-high}
 use Rattle.insert_planned.proofs.FullLaws.{rs, order, between, step-lt}
 use Rattle.insert_planned.proofs.HalfLaws.{take-cut, drop-cut, cut-within, bit-is}
 
-module _ (before : Store) (values : List ℕ) (content : Content) (a : InsertAsked before values) (g x i pair m : ℕ)
-    (e : EndsMet before values g x i pair m) (split : pair < 64) (cut : ℕ)
+module _ (before : Store) (encoded : List ℕ) (content : Content) (a : InsertAsked before encoded) (g x i pair m : ℕ)
+    (e : EndsMet before encoded g x i pair m) (split : pair < 64) (cut : ℕ)
     (cut-at : cut
     ≡ firstOne (widthsOf (before .state .shape)) pair
     (pageAt (before .state .shape .capacity) (before .memory .bytes) g) (before .state .shape .capacity) 0)
@@ -43,31 +43,31 @@ module _ (before : Store) (values : List ℕ) (content : Content) (a : InsertAsk
   W = total ws
 
   abbrev r : Record
-  r = recordFor (before .state .shape) values content
+  r = recordWith encoded content
 
   abbrev records : List Record
-  records = rs before values content a g x i pair m e S sound
+  records = rs before encoded content a g x i pair m e S sound
 
   abbrev half : Bool → List Record
   half β = cond β (drop cut records) (take cut records)
 
   low-half : take cut records ≡ side bit false m records
-  low-half = take-cut before values content a g x i pair m e split cut cut-at S sound
+  low-half = take-cut before encoded content a g x i pair m e split cut cut-at S sound
 
   high-half : drop cut records ≡ side bit true m records
-  high-half = drop-cut before values content a g x i pair m e split cut cut-at S sound
+  high-half = drop-cut before encoded content a g x i pair m e split cut cut-at S sound
 
   in-order : sorted bit W 0 records ≡ true
-  in-order = order before values content a g x i pair m e S sound
+  in-order = order before encoded content a g x i pair m e S sound
 
   placed : Between bit W 0 r r records i
-  placed = between before values content a g x i pair m e S sound
+  placed = between before encoded content a g x i pair m e S sound
 
   m-lt : m < W
-  m-lt = step-lt before values content a g x i pair m e S sound split
+  m-lt = step-lt before encoded content a g x i pair m e S sound split
 
   within : cut ≤ length records
-  within = cut-within before values content a g x i pair m e split cut cut-at S sound
+  within = cut-within before encoded content a g x i pair m e split cut cut-at S sound
 
   insertAt-half : (β : Bool) (place : ℕ) → (β ≡ false → (i ≤ cut) × (place ≡ i))
       → (β ≡ true → (cut ≤ i) × (place ≡ i - cut)) → insertAt place r (half β) ≡ insert bit W 0 r (half β)
@@ -84,12 +84,12 @@ module _ (before : Store) (values : List ℕ) (content : Content) (a : InsertAsk
 
   -- page g shows the lower half and another the upper one; then that of the key's bit takes the record
   pub halves-with : (h : ℕ) (carried shown : ℕ → List Record) → carried g ≡ take cut records
-      → carried h ≡ drop cut records → (β : Bool) → β ≡ pairBit ws (unpackedKey (packedKey values)) pair → (place : ℕ)
+      → carried h ≡ drop cut records → (β : Bool) → β ≡ pairBit ws (unpackedKey (packedKey encoded)) pair → (place : ℕ)
       → (β ≡ false → (i ≤ cut) × (place ≡ i)) → (β ≡ true → (cut ≤ i) × (place ≡ i - cut))
       → shown (cond β h g) ≡ insertAt place r (half β) → shown (cond β g h) ≡ carried (cond β g h)
       → (γ : Bool) → shown (cond γ h g) ≡ halfWith bit W m r γ records
   halves-with h carried shown c₀ c₁ β there place low high own other =
-      let key-bit = bit-is before values content a g x i pair m e split cut cut-at S sound β there in
+      let key-bit = bit-is before encoded content a g x i pair m e split cut cut-at S sound β there in
       let taken = own ∙ insertAt-half β place low high ∙ ap (insert bit W 0 r) (sym (half-carried β)) in
       halves-of-carried bit W m r records g h carried shown (c₀ ∙ low-half) (c₁ ∙ high-half)
       (subst (λ δ. shown (cond δ h g) ≡ insert bit W 0 r (carried (cond δ h g))) (sym key-bit) taken)

@@ -4,21 +4,18 @@ use mathlib.Core.Path.{_≡_, sym, subst}
 use mathlib.Core.Bool.{false}
 use mathlib.Core.List.{List}
 use native.Mathlib.Omega.{arith}
-use Rattle.shape.specs.Refusal.{accepted}
 use Rattle.shape.specs.Shape.{widthsOf}
 use Rattle.shape.specs.declared.Shape.{Shape}
 use Rattle.split.specs.Bits.{splitBit}
 use Rattle.record.specs.declared.Content.{Content}
 use Rattle.record.specs.Record.{Record}
 use Rattle.record.specs.Packed.{packedKey, packedBytes}
-use Rattle.model.specs.Model.{recordFor, changed}
 use Rattle.store.specs.Store.{Store, memory}
 use Rattle.store.specs.Contained.{Contained}
-use Rattle.store.specs.Promises.{AddPromise}
 use Rattle.store.specs.declared.Tally.{Tally}
 use Rattle.change.specs.Divided.{Deepened, LeavesSet, dividedTally}
 use Rattle.change.proofs.RegionLaws.{changedStore}
-use Rattle.change.proofs.PromiseLaws.{drop-of-past}
+use Rattle.change.proofs.PromiseLaws.{drop-of-past, keeps-others}
 use Rattle.change.proofs.DirectoryLaws.{divided-past, divided-size}
 use Rattle.change.proofs.InsertLaws.{DividedLeaf}
 use Rattle.change.proofs.AddPromiseLaws.{OnSound, add-divided}
@@ -26,30 +23,30 @@ use Rattle.insert_planned.specs.Found.{InsertAsked}
 use Rattle.insert_planned.specs.Planned.{DividePlanned}
 use Rattle.insert_planned.specs.declared.Split.{Split}
 use Rattle.insert_cut.specs.declared.Cut.{Cut}
-use Rattle.insert_planned.proofs.MetLaws.{key-recordFor}
+use Rattle.insert_planned.proofs.MetLaws.{recordWith}
 use Rattle.insert_planned.proofs.SplitLaws.{meets-full}
 use Rattle.insert_pages.specs.Inserted.{dividedPages}
-use Rattle.insert_promise.proofs.TakeLaws.{keeps-others}
+use Rattle.insert_promise.proofs.TakeLaws.{AcceptedMet}
 use Rattle.insert_promise.proofs.DividedLaws.{length-divided, drop-divided, others-divided, shows-divided}
 
-module _ (before : Store) (values : List ℕ) (content : Content) (a : InsertAsked before values)
+module _ (before : Store) (encoded : List ℕ) (content : Content) (a : InsertAsked before encoded)
     (small : content .payload < 2 ^ 32) (split : Split) (cut : Cut) (free : ℕ)
-    (t : DividePlanned before values split cut free) (depth′ : ℕ) (tally′ : Tally) (words₁ words′ : List ℕ)
+    (t : DividePlanned before encoded split cut free) (depth′ : ℕ) (tally′ : Tally) (words₁ words′ : List ℕ)
     (deeper : depth′ ≡ max (before .state .deepest) (suc (split .step)))
     (tallied : tally′ .leaves
     ≡ dividedTally (split .depth) (suc (split .step - split .depth)) (before .state .tally .leaves))
     (deepened : Deepened (widthsOf (before .state .shape)) (before .state .deepest) depth′ (before .memory .words)
     words₁)
     (leaves : LeavesSet (widthsOf (before .state .shape)) depth′ (split .depth) (split .step)
-    (splitBit (widthsOf (before .state .shape)) values) (split .page) free words₁ words′) where
+    (splitBit (widthsOf (before .state .shape)) encoded) (split .page) free words₁ words′) where
   abbrev s : Shape
   s = before .state .shape
 
   abbrev r : Record
-  r = recordFor s values content
+  r = recordWith encoded content
 
   abbrev after : List ℕ
-  after = dividedPages (s .capacity) (split .page) free cut (packedBytes (packedKey values) content)
+  after = dividedPages (s .capacity) (split .page) free cut (packedBytes (packedKey encoded) content)
       (before .memory .bytes)
 
   divided : OnSound before
@@ -57,7 +54,7 @@ module _ (before : Store) (values : List ℕ) (content : Content) (a : InsertAsk
   divided S sound =
       record {
         met =
-            meets-full before values a (split .page) (split .depth) (split .behind) (split .pair) (split .step)
+            meets-full before encoded a (split .page) (split .depth) (split .behind) (split .pair) (split .step)
             (t .found .met .ends-met) (t .found .met .differ) (t .found .met .below) (t .found .met .deep) content S
             sound;
         within = t .free-within;
@@ -65,36 +62,36 @@ module _ (before : Store) (values : List ℕ) (content : Content) (a : InsertAsk
         depth = deeper;
         tally = tallied;
         deepened = deepened;
-        leaves =
-            subst
-            (λ k. LeavesSet (widthsOf s) depth′ (split .depth) (split .step) (splitBit (widthsOf s) k) (split .page)
-            free words₁ words′)
-            (sym (key-recordFor s values content (a .shape) (a .fits) (a .four))) leaves;
-        shows = shows-divided before values content a small split cut free t S sound;
-        others = λ k l n o. others-divided before values content a small split cut free t k n o;
+        leaves = leaves;
+        shows = shows-divided before encoded content a small split cut free t S sound;
+        others = λ k l n o. others-divided before encoded content a small split cut free t k n o;
       }
 
   pub depth-le-limit : depth′ ≤ before .state .limits .depth
   depth-le-limit = omega (arith, deeper, a .within-limit, t .found .met .deep)
 
   pub promise-divided : Contained false before (changedStore before depth′ tally′ (memory words′ after))
-      (splitBit (widthsOf s) values)
-      → AddPromise before values content (accepted changed)
-      (changedStore before depth′ tally′ (memory words′ after))
-  promise-divided contained =
-      add-divided before values content (a .early) (split .page) free (split .depth) (split .step) depth′ tally′
-      words₁ words′ after divided
+      (splitBit (widthsOf s) encoded)
+      → AcceptedMet before encoded content (changedStore before depth′ tally′ (memory words′ after))
+  promise-divided contained values early same =
+      add-divided before values content early (split .page) free (split .depth) (split .step) depth′ tally′
+      words₁ words′ after
+      (subst
+      (λ k. OnSound before
+      (DividedLeaf before (recordWith k content) (split .page) free (split .depth) (split .step) depth′ tally′ words₁
+      words′ after))
+      (sym same) divided)
       (record {
         words-length =
             divided-size (widthsOf s) (before .state .deepest) depth′ (split .depth) (split .step) _ (split .page) free
             (before .memory .words) words₁ words′ deepened leaves;
-        bytes-length = length-divided before values content a small split cut free t;
+        bytes-length = length-divided before encoded content a small split cut free t;
         words-past =
             drop-of-past depth′ (before .state .limits .depth) (before .memory .words) words′ depth-le-limit
             (divided-size (widthsOf s) (before .state .deepest) depth′ (split .depth) (split .step) _ (split .page) free
             (before .memory .words) words₁ words′ deepened leaves)
             (divided-past (widthsOf s) (before .state .deepest) depth′ (split .depth) (split .step) _ (split .page) free
             (before .memory .words) words₁ words′ deepened leaves);
-        bytes-past = drop-divided before values content a small split cut free t;
+        bytes-past = drop-divided before encoded content a small split cut free t;
       })
-      (keeps-others before values content a small _ contained)
+      (keeps-others false before encoded values same _ contained)

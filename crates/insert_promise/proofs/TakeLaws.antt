@@ -24,37 +24,43 @@ use Rattle.page.proofs.PartLaws.{page-end-le}
 use Rattle.page_place.proofs.FoundLaws.{insertAt-placed}
 use Rattle.directory_word.specs.Word.{wordOf}
 use Rattle.directory_word.specs.declared.Leaf.the-variants.{Page}
-use Rattle.model.specs.Model.{recordFor, changed}
+use Rattle.model.specs.Model.{changed}
 use Rattle.model.specs.Sets.{withRecord}
-use Rattle.store.specs.Store.{Store, memory, store, wordAt}
+use Rattle.store.specs.Store.{Store, memory, store}
 use Rattle.store.specs.Contained.{Contained}
 use Rattle.store.specs.Promises.{AddPromise}
-use Rattle.change.proofs.PromiseLaws.{drop-of-past, KeepsOthers}
+use Rattle.refusals.specs.Passed.{OfValues}
+use Rattle.refusals.proofs.PassedLaws.{unpackedKey-passed}
+use Rattle.change.proofs.PromiseLaws.{drop-of-past, keeps-others}
 use Rattle.change.proofs.InsertLaws.{TookRecord, GotPage}
 use Rattle.change.proofs.AddPromiseLaws.{OnSound, add-taken, add-got}
 use Rattle.insert_planned.specs.Found.{InsertAsked}
 use Rattle.insert_planned.specs.Planned.{RoomFound, GetPlanned}
-use Rattle.insert_planned.proofs.MetLaws.{key-recordFor, unpacked-recordFor, recordOf-recordFor}
-use Rattle.insert_planned.proofs.MetLaws.{page-bytes, meets, records-met}
+use Rattle.insert_planned.proofs.MetLaws.{recordWith, recordOf-passed, page-bytes, meets, records-met}
 use Rattle.insert_planned.proofs.MetLaws.{sorted-met, absent-met}
 use Rattle.insert_pages.specs.Inserted.{insertedPages}
 use Rattle.insert_pages.proofs.InsertedLaws.{length-insertedPages, drop-insertedPages, pageAt-insertedPages-other}
 use Rattle.insert_pages.proofs.InsertedLaws.{recordsOf-insertedPages}
 
+-- what `add` promises of a record that it accepts, of the call's values
+abbrev pub AcceptedMet : Store → List ℕ → Content → Store → Type 0
+AcceptedMet before encoded content after =
+    OfValues before encoded (λ values. AddPromise before values content (accepted changed) after)
+
 -- a page of the P is lent
-pub page-lent : (before : Store) (values : List ℕ) → InsertAsked before values → (g : ℕ)
+pub page-lent : (before : Store) (encoded : List ℕ) → InsertAsked before encoded → (g : ℕ)
     → g < before .state .limits .pages
     → PageLent (before .state .shape .capacity) g (before .memory .bytes)
-page-lent before values a g l =
+page-lent before encoded a g l =
     let b = before .state .shape .capacity in
     let lent = a .pages-lent in
     record {
-      capacity-le = capacity-bounds (before .state .shape) (a .shape) .1;
+      capacity-le = capacity-bounds (before .state .shape) (a .passed .shape) .1;
       number-lt = omega (arith, lent .few);
       whole = omega (arith, page-end-le b g (before .state .limits .pages) l, lent .lent);
     }
 
-module _ (before : Store) (values : List ℕ) (content : Content) (a : InsertAsked before values)
+module _ (before : Store) (encoded : List ℕ) (content : Content) (a : InsertAsked before encoded)
     (small : content .payload < 2 ^ 32) where
   abbrev s : Shape
   s = before .state .shape
@@ -63,25 +69,17 @@ module _ (before : Store) (values : List ℕ) (content : Content) (a : InsertAsk
   b = s .capacity
 
   abbrev r : Record
-  r = recordFor s values content
+  r = recordWith encoded content
 
   abbrev new : List ℕ
-  new = packedBytes (packedKey values) content
+  new = packedBytes (packedKey encoded) content
 
-  pub new-length : length new ≡ 12
-  new-length = length-packedBytes (packedKey values) content
-
-  pub key-is : r .key ≡ values
-  key-is = key-recordFor s values content (a .shape) (a .fits) (a .four)
-
-  -- what is kept outside the key's leaf: its string is that of its values
-  pub keeps-others : (after : Store) → Contained false before after (splitBit (widthsOf s) values)
-      → KeepsOthers false before values after
-  keeps-others after c = subst (λ k. Contained false before after (splitBit (widthsOf s) k)) (sym key-is) c
+  new-length : length new ≡ 12
+  new-length = length-packedBytes (packedKey encoded) content
 
   -- ---- a page takes the record
 
-  module _ (g i n : ℕ) (t : RoomFound before values g i n) where
+  module _ (g i n : ℕ) (t : RoomFound before encoded g i n) where
     abbrev page : List ℕ
     page = pageAt b (before .memory .bytes) g
 
@@ -89,24 +87,23 @@ module _ (before : Store) (values : List ℕ) (content : Content) (a : InsertAsk
     after = insertedPages b g i n new (before .memory .bytes)
 
     lent : PageLent b g (before .memory .bytes)
-    lent = page-lent before values a g (t .met .within)
+    lent = page-lent before encoded a g (t .met .within)
 
     took : OnSound before (TookRecord before r g (t .depth) after)
     took S sound =
         let met = t .met in
-        let same = records-met before values content a g (t .depth) n met in
+        let same = records-met before encoded content a g (t .depth) n met in
         record {
-          meets = meets before values content a g (t .depth) n met;
-          absent = absent-met before values content a g (t .depth) n met S sound i (t .place);
+          meets = meets before encoded content a g (t .depth) n met;
+          absent = absent-met before encoded content a g (t .depth) n met S sound i (t .place);
           room = omega (arith, ap length same, length-recordsFrom s n 2 page, t .room);
           shows =
               recordsOf-insertedPages b g i n new (before .memory .bytes) lent (t .place .0) (t .room) new-length s
               ∙ ap (λ q. insertAt i q (recordsFrom s n 2 page))
-              (recordOf-recordFor s values content (a .shape) (a .fits) (a .four) small)
-              ∙ insertAt-placed s r (packedKey values)
-              (unpacked-recordFor s values content (a .shape) (a .fits) (a .four)) page
-              (page-bytes before values content a g (t .depth) n met) n
-              (sorted-met before values content a g (t .depth) n met S sound) i (t .place)
+              (recordOf-passed before encoded (a .passed) content small)
+              ∙ insertAt-placed s r (packedKey encoded) (sym (unpackedKey-passed before encoded (a .passed))) page
+              (page-bytes before encoded content a g (t .depth) n met) n
+              (sorted-met before encoded content a g (t .depth) n met S sound) i (t .place)
               ∙ ap (withRecord s r) (sym same);
           others = λ k l d.
               ap (recordsOf s)
@@ -115,11 +112,11 @@ module _ (before : Store) (values : List ℕ) (content : Content) (a : InsertAsk
         }
 
     pub promise-taken : Contained false before (store (before .state) (before .memory .words) after)
-        (splitBit (widthsOf s) values)
-        → AddPromise before values content (accepted changed)
-        (store (before .state) (before .memory .words) after)
-    promise-taken contained =
-        add-taken before values content (a .early) g (t .depth) after took
+        (splitBit (widthsOf s) encoded)
+        → AcceptedMet before encoded content (store (before .state) (before .memory .words) after)
+    promise-taken contained values early same =
+        add-taken before values content early g (t .depth) after
+        (subst (λ k. OnSound before (TookRecord before (recordWith k content) g (t .depth) after)) (sym same) took)
         (record {
           words-length = refl;
           bytes-length =
@@ -129,49 +126,44 @@ module _ (before : Store) (values : List ℕ) (content : Content) (a : InsertAsk
               drop-insertedPages b g i n new (before .memory .bytes) lent (t .place .0) (t .room) new-length
               (before .state .limits .pages) (t .met .within);
         })
-        (keeps-others _ contained)
+        (keeps-others false before encoded values same _ contained)
 
   -- ---- an empty leaf gets a page
 
-  module _ (g x : ℕ) (t : GetPlanned before values g x) (words′ : List ℕ)
-      (filled : Filled (widthsOf s) (before .state .deepest) x (splitBit (widthsOf s) values) (wordOf (Page g x))
+  module _ (g x : ℕ) (t : GetPlanned before encoded g x) (words′ : List ℕ)
+      (filled : Filled (widthsOf s) (before .state .deepest) x (splitBit (widthsOf s) encoded) (wordOf (Page g x))
       (before .memory .words) words′) where
     abbrev got-after : List ℕ
     got-after = insertedPages b g 0 0 new (before .memory .bytes)
 
     got-lent : PageLent b g (before .memory .bytes)
-    got-lent = page-lent before values a g (t .within)
+    got-lent = page-lent before encoded a g (t .within)
 
     some : 0 < b
-    some = capacity-bounds s (a .shape) .0
+    some = capacity-bounds s (a .passed .shape) .0
 
     got : OnSound before (GotPage before r g x words′ got-after)
     unfolding insertAt
     got S sound =
         record {
           within = t .within;
-          word =
-              ap (λ k. wordAt s (before .state .deepest) (before .memory .words) (splitBit (widthsOf s) k)) key-is
-              ∙ t .found .own;
+          word = t .found .own;
           free = t .free;
-          filled =
-              subst
-              (λ k. Filled (widthsOf s) (before .state .deepest) x (splitBit (widthsOf s) k) (wordOf (Page g x))
-              (before .memory .words) words′)
-              (sym key-is) filled;
+          filled = filled;
           shows =
               recordsOf-insertedPages b g 0 0 new (before .memory .bytes) got-lent (omega arith) some new-length s
-              ∙ ap (λ q. q ∷ []) (recordOf-recordFor s values content (a .shape) (a .fits) (a .four) small);
+              ∙ ap (λ q. q ∷ []) (recordOf-passed before encoded (a .passed) content small);
           others = λ k l d.
               ap (recordsOf s)
               (pageAt-insertedPages-other b g 0 0 new (before .memory .bytes) got-lent (omega arith) some new-length k
               d);
         }
 
-    pub promise-got : Contained false before (store (before .state) words′ got-after) (splitBit (widthsOf s) values)
-        → AddPromise before values content (accepted changed) (store (before .state) words′ got-after)
-    promise-got contained =
-        add-got before values content (a .early) g x words′ got-after got
+    pub promise-got : Contained false before (store (before .state) words′ got-after) (splitBit (widthsOf s) encoded)
+        → AcceptedMet before encoded content (store (before .state) words′ got-after)
+    promise-got contained values early same =
+        add-got before values content early g x words′ got-after
+        (subst (λ k. OnSound before (GotPage before (recordWith k content) g x words′ got-after)) (sym same) got)
         (record {
           words-length = filled .size;
           bytes-length =
@@ -183,4 +175,4 @@ module _ (before : Store) (values : List ℕ) (content : Content) (a : InsertAsk
               drop-insertedPages b g 0 0 new (before .memory .bytes) got-lent (omega arith) some new-length
               (before .state .limits .pages) (t .within);
         })
-        (keeps-others _ contained)
+        (keeps-others false before encoded values same _ contained)

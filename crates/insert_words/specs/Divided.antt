@@ -45,12 +45,12 @@ pub record DirectoryDoubled (st : State) (split : Split) (before : List ℕ) (af
 -- ---- set the words
 
 -- the new leaves are at most T deep, their pages have numbers, and the bit is the key's
-pub record LeavesAsked (st : State) (values : List ℕ) (split : Split) (bit : Bool) (free : ℕ) : Type 0 where
+pub record LeavesAsked (st : State) (encoded : List ℕ) (split : Split) (bit : Bool) (free : ℕ) : Type 0 where
   pub below : split .depth ≤ split .step
   pub deep : split .step < st .deepest
   pub page-lt : split .page < 65535
   pub free-lt : free < 65535
-  pub bit-is : bit ≡ splitBit (widthsOf (st .shape)) values (split .step)
+  pub bit-is : bit ≡ splitBit (widthsOf (st .shape)) encoded (split .step)
 
 -- ---- the tally
 
@@ -70,7 +70,7 @@ pub record LeavesCounted (st : State) (split : Split) (after : State) : Type 0 w
 -- ---- all three
 
 -- words that were doubled, then set, and the state with the new T and tally
-pub record WordsDivided (st : State) (values : List ℕ) (split : Split) (free : ℕ) (words : List ℕ) (after : State)
+pub record WordsDivided (st : State) (encoded : List ℕ) (split : Split) (free : ℕ) (words : List ℕ) (after : State)
     (words′ : List ℕ) : Type 0 where
   pub doubled : List ℕ
   pub state : after
@@ -80,4 +80,4 @@ pub record WordsDivided (st : State) (values : List ℕ) (split : Split) (free :
       ≡ dividedTally (split .depth) (suc (split .step - split .depth)) (st .tally .leaves)
   pub deepened : Deepened (widthsOf (st .shape)) (st .deepest) (after .deepest) words doubled
   pub leaves : LeavesSet (widthsOf (st .shape)) (after .deepest) (split .depth) (split .step)
-      (splitBit (widthsOf (st .shape)) values) (split .page) free doubled words′
+      (splitBit (widthsOf (st .shape)) encoded) (split .page) free doubled words′

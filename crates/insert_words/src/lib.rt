@@ -53,31 +53,41 @@ fn greater(a: u64, b: u64) -> u64
 pub fn set_words(
     state: State,
     dir: &mut [u32],
-    values: [u32; 4],
+    encoded: [u32; 4],
     split: Split,
     bit: bool,
     free: u32,
 )
-    requires { ⌜ DirectoryLent state (length (now dir)) × LeavesAsked state values split bit free ⌝ }
+    requires { ⌜ DirectoryLent state (length (now dir)) × LeavesAsked state encoded split bit free ⌝ }
     ensures { λ _. ⌜ LeavesSet (widthsOf (state .shape)) (state .deepest) (split .depth) (split .step)
-        (splitBit (widthsOf (state .shape)) values) (split .page) free (now (dir .entry)) (now (dir .exit)) ⌝ }
+        (splitBit (widthsOf (state .shape)) encoded) (split .page) free (now (dir .entry)) (now (dir .exit)) ⌝ }
 {
     let widths = widths_of(state.shape);
     let t = state.deepest as u64;
     let x = split.depth as u64;
-    set_leaves(widths, values, x, split.step, t, split.page, free, bit, dir);
+    set_leaves(
+        widths,
+        encoded,
+        x,
+        split.step,
+        t,
+        split.page,
+        free,
+        bit,
+        dir,
+    );
 }
 
 // Set the words, I4 and I5, of a leaf that was empty: its cells get its page.
-pub fn set_word(state: State, dir: &mut [u32], values: [u32; 4], page: u32, depth: u32)
+pub fn set_word(state: State, dir: &mut [u32], encoded: [u32; 4], page: u32, depth: u32)
     requires { ⌜ DirectoryLent state (length (now dir)) × (depth ≤ state .deepest) × (page < 65535) ⌝ }
     ensures { λ _. ⌜ Filled (widthsOf (state .shape)) (state .deepest) depth
-        (splitBit (widthsOf (state .shape)) values) (wordOf (Page page depth)) (now (dir .entry)) (now (dir .exit)) ⌝ }
+        (splitBit (widthsOf (state .shape)) encoded) (wordOf (Page page depth)) (now (dir .entry)) (now (dir .exit)) ⌝ }
 {
     let widths = widths_of(state.shape);
     let t = state.deepest as u64;
     let word = pack_page(page, depth);
-    fill(widths, values, depth as u64, t, word, dir);
+    fill(widths, encoded, depth as u64, t, word, dir);
 }
 
 // The tally, I3 and I7: the new leaves are counted in place of the one that gave way.

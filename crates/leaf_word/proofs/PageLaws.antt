@@ -4,23 +4,18 @@ use Prim.Native.Nat.{ℕ, _-_, _/_, _%_, _^_, _≤_, _<_}
 use mathlib.Core.Path.{_≡_, refl, sym, ap, _∙_, subst}
 use mathlib.Core.Bool.{Bool, true}
 use mathlib.Core.List.{List}
-use lib.ListN.{length}
 use Rattle.shape.specs.Shape.{Fit, widthsOf, total, indexFits, shapeNumber}
-use Rattle.shape.specs.Key.{keyFits, encodings}
 use Rattle.shape.specs.declared.Shape.{Shape}
 use Rattle.shape.proofs.ShapeLaws.{widthsOf-fit, widths-fit}
 use Rattle.split.specs.Bits.{splitBit}
 use Rattle.cell.specs.Cell.{Agree}
 use Rattle.region.specs.Division.{leafDepth}
 use Rattle.record.specs.Record.{Record}
-use Rattle.record.specs.Packed.{packedKey, unpackedKey, SixteenBits}
-use Rattle.record.proofs.ByteLaws.{perAttribute-getD}
-use Rattle.record.proofs.PackedLaws.{unpackedKey-packedKey}
+use Rattle.record.specs.Packed.{unpackedKey}
 use Rattle.page.specs.Page.{countOf, pageAt}
 use Rattle.directory_word.specs.Word.{wordOf}
 use Rattle.directory_word.specs.declared.Leaf.the-variants.{Page}
 use Rattle.directory_word.proofs.WordLaws.{wordOf-depth, wordOf-page}
-use Rattle.model.proofs.SetLaws.{indexFits-encodings, SixteenBits-of-keyFits}
 use Rattle.store.specs.Store.{Store}
 use Rattle.store.specs.Sound.{Sound}
 use Rattle.store.proofs.ShownLaws.{wordOn, divisionOn, wordOn-depth}
@@ -43,21 +38,6 @@ module _ (s : Shape) (good : shapeNumber s ≡ 0) (x : ℕ) (deep : x ≤ total 
   endsAgree-mask mask e key fits page n =
       ap (λ m. endsAgree m key page n) (e ∙ ap (λ v. fixedBits v x) same)
       ∙ endsAgree-endsBegin (widthsOf s) refl (widthsOf-fit s good) x deep key fits page n
-
--- ---- a key that fits, back from its packed form
-
-module _ (s : Shape) (values : List ℕ) (good : shapeNumber s ≡ 0) (fits : keyFits s values ≡ true)
-    (four : length values ≡ 4) where
-  sixteen : SixteenBits values
-  sixteen = SixteenBits-of-keyFits s values good fits four
-
-  pub unpackedKey-values : unpackedKey (packedKey values) ≡ values
-  unpackedKey-values = unpackedKey-packedKey values sixteen ∙ perAttribute-getD values four
-
-  pub indexFits-packed : indexFits (widthsOf s) (unpackedKey (packedKey values)) ≡ true
-  unfolding encodings
-  indexFits-packed =
-      ap (indexFits (widthsOf s)) (unpackedKey-packedKey values sixteen) ∙ indexFits-encodings s values ∙ fits
 
 -- ---- a sound store
 

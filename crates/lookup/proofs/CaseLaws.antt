@@ -61,13 +61,13 @@ module _ (st : State) (bytes : List ℕ) (key word : ℕ) where
 
 -- ---- a store
 
-module _ (store : Store) (values : List ℕ) where
-  pub soughtAnswer-limits : limitsHold (store .state) ≡ false → refused 9 ≡ soughtAnswer store values
+module _ (store : Store) (encoded : List ℕ) where
+  pub soughtAnswer-limits : limitsHold (store .state) ≡ false → refused 9 ≡ soughtAnswer store encoded
   unfolding soughtAnswer
   soughtAnswer-limits e = rw e
 
   pub soughtAnswer-word : limitsHold (store .state) ≡ true → (word key : ℕ)
-      → word ≡ wordOn store (splitBit (widthsOf (store .state .shape)) values) → key ≡ packedKey values
-      → wordAnswer (store .state) (store .memory .bytes) key word ≡ soughtAnswer store values
+      → word ≡ wordOn store (splitBit (widthsOf (store .state .shape)) encoded) → key ≡ packedKey encoded
+      → wordAnswer (store .state) (store .memory .bytes) key word ≡ soughtAnswer store encoded
   unfolding soughtAnswer
   soughtAnswer-word e word key w k = rw (e, w, k)

@@ -8,7 +8,7 @@ use native.Mathlib.Omega.{arith}
 use lib.Dec.{ltb}
 use Rattle.shape.specs.Refusal.{Answer, accepted, refused}
 use Rattle.shape.specs.Shape.{widthsOf}
-use Rattle.shape.specs.Key.{keyFits}
+use Rattle.shape.specs.Key.{keyFits, encodings}
 use Rattle.shape.specs.declared.Shape.{Shape}
 use Rattle.split.specs.Bits.{splitBit}
 use Rattle.record.specs.declared.Content.{Content}
@@ -21,6 +21,7 @@ use Rattle.directory_word.specs.Word.{leafOf}
 use Rattle.directory_word.specs.declared.Leaf.{Leaf}
 use Rattle.directory_word.specs.declared.Leaf.the-variants.{Empty, Page}
 use Rattle.model.specs.Model.{lookupCall, Reply, found, outcome}
+use Rattle.model.proofs.SetLaws.{indexFits-encodings}
 use Rattle.store.specs.Store.{Store, fixedOf}
 use Rattle.store.specs.Promises.{keyNumber, LookupPromise}
 use Rattle.store.specs.declared.State.{State}
@@ -69,14 +70,14 @@ wordAnswer-ordinary st bytes key word =
     ordinary-or-nine (wordHolds st word) (leafAnswer (st .shape) bytes key (leafOf word))
     (leafAnswer-ordinary (st .shape) key bytes (leafOf word))
 
-soughtAnswer-ordinary : (store : Store) (values : List ℕ) → Ordinary (soughtAnswer store values)
+soughtAnswer-ordinary : (store : Store) (encoded : List ℕ) → Ordinary (soughtAnswer store encoded)
 unfolding soughtAnswer
-soughtAnswer-ordinary store values =
+soughtAnswer-ordinary store encoded =
     let st = store .state in
     let bytes = store .memory .bytes in
-    let word = wordOn store (splitBit (widthsOf (st .shape)) values) in
-    ordinary-or-nine (limitsHold st) (wordAnswer st bytes (packedKey values) word)
-    (wordAnswer-ordinary st bytes (packedKey values) word)
+    let word = wordOn store (splitBit (widthsOf (st .shape)) encoded) in
+    ordinary-or-nine (limitsHold st) (wordAnswer st bytes (packedKey encoded) word)
+    (wordAnswer-ordinary st bytes (packedKey encoded) word)
 
 -- ---- the promise
 
@@ -99,13 +100,13 @@ module _ (store : Store) (values : List ℕ) where
           ap refused (h ∙ ap (λ b. cond (not b) 3 0) f) ∙ sym (lookup-unfit (fixedOf (store .state)) S values f)
 
   -- none of them: the answer of the store
-  pub promise-sought : (answer : Answer Reply) → keyNumber store values ≡ 0 → answer ≡ soughtAnswer store values
-      → LookupPromise store values answer
+  pub promise-sought : (answer : Answer Reply) → keyNumber store values ≡ 0
+      → answer ≡ soughtAnswer store (encodings (store .state .shape) values) → LookupPromise store values answer
   promise-sought answer e a =
-      let fits = passed store values e .fits in
+      let fits = sym (indexFits-encodings (store .state .shape) values) ∙ passed store values e .fits in
       record {
         early-refused = λ n h. absurd (omega arith);
-        ordinary = λ h. subst Ordinary (sym a) (soughtAnswer-ordinary store values);
+        ordinary = λ h. subst Ordinary (sym a) (soughtAnswer-ordinary store (encodings (store .state .shape) values));
         answered-as = λ S w.
             a ∙ soughtAnswer-stored store values S w fits ∙ sym (lookup-stored (fixedOf (store .state)) S values fits);
       }

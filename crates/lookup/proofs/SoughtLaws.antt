@@ -9,7 +9,7 @@ use native.Mathlib.Omega.{arith}
 use lib.ListN.{length}
 use Rattle.lists.specs.Filter.{all, nonEmpty}
 use Rattle.lists.proofs.FilterLaws.{all-filter}
-use Rattle.shape.specs.Shape.{shapeNumber, widthsOf, total}
+use Rattle.shape.specs.Shape.{shapeNumber, widthsOf}
 use Rattle.shape.specs.Key.{keyFits, encodings}
 use Rattle.shape.specs.declared.Shape.{Shape}
 use Rattle.split.specs.Bits.{splitBit}
@@ -17,18 +17,19 @@ use Rattle.region.specs.Strings.{sameBits}
 use Rattle.region.specs.Division.{leafDepth, leafRecords}
 use Rattle.record.specs.Record.{Record, recordBit}
 use Rattle.record.specs.Packed.{packedKey, unpackedKey, SixteenBits}
+use Rattle.record.proofs.ByteLaws.{perAttribute-getD}
+use Rattle.record.proofs.PackedLaws.{unpackedKey-packedKey}
 use Rattle.page.specs.Page.{countOf, recordsOf, pageAt}
 use Rattle.page.proofs.FieldLaws.{length-recordsFrom}
 use Rattle.directory_word.specs.Word.{leafOf, wordOf}
 use Rattle.directory_word.specs.declared.Leaf.the-variants.{Page}
 use Rattle.directory_word.proofs.LeafLaws.{leafOf-empty}
 use Rattle.model.specs.Sets.{inShape, isSet, stored, divisionOf}
-use Rattle.model.proofs.SetLaws.{SixteenBits-encodings, inShape-of-isSet}
+use Rattle.model.proofs.SetLaws.{length-encodings, SixteenBits-encodings, inShape-of-isSet}
 use Rattle.store.specs.Store.{Store}
 use Rattle.store.specs.Sound.{Sound}
 use Rattle.store.specs.Promises.{keyNumber, keyQuery, withBytes, SoundWhereRead}
-use Rattle.store.proofs.AgreeLaws.{Agree-le, wordAt-agree}
-use Rattle.store.proofs.ShownLaws.{wordOn, wordOn-depth, shape-of-Sound, depth-of-Sound, leafRecords-page}
+use Rattle.store.proofs.ShownLaws.{wordOn-depth, shape-of-Sound, leafRecords-page}
 use Rattle.store.proofs.SetLaws.{length-leafRecords}
 use Rattle.store.proofs.DividedLaws.{leafDepth-le-total, leafRecords-divisionOf}
 use Rattle.store.proofs.KeyLaws.{keyWord, stored-no-page, stored-page}
@@ -42,8 +43,7 @@ use Rattle.page_ends.proofs.FairLaws.{fairCount-own}
 use Rattle.page_ends.proofs.SoundLaws.{endsBegin-shown}
 use Rattle.lookup.specs.Private.{countAnswer, pageAnswer, wordAnswer, soughtAnswer}
 use Rattle.lookup.proofs.CaseLaws.{countAnswer-some, wordAnswer-empty, wordAnswer-page, soughtAnswer-word}
-use Rattle.lookup.proofs.KeyBitLaws.{packedKey-encodings, unpackedKey-encodings}
-use Rattle.lookup.proofs.KeyBitLaws.{Agree-encodings, agrees-keyQuery}
+use Rattle.lookup.proofs.KeyBitLaws.{agrees-keyQuery}
 use Rattle.lookup.proofs.StoredLaws.{storedAnswer, placeAnswer-stored}
 
 -- ---- a leaf's page
@@ -118,26 +118,17 @@ module _ (store : Store) (values : List ℕ) (S : List Record)
         pages-lent = omega (arith, sound .pages-lent, w .2);
       }))
 
-  -- the cell of the values is the cell of the key
-  word-key : keyWord whole key ≡ wordOn store (splitBit (widthsOf s) values)
-  word-key =
-      sym
-      (wordAt-agree s good (store .state .deepest) (store .memory .words) (splitBit (widthsOf s) values) bits
-      (Agree-le (splitBit (widthsOf s) values) bits (store .state .deepest) (total (widthsOf s))
-      (depth-of-Sound whole S sound) (Agree-encodings s values good)))
-
   wordAnswer-sound : keyFits s values ≡ true → (field : ℕ) → keyWord whole key % 2 ^ 16 ≡ field
-      → wordAnswer (store .state) (store .memory .bytes) (packedKey values) (keyWord whole key)
+      → wordAnswer (store .state) (store .memory .bytes) (packedKey key) (keyWord whole key)
       ≡ storedAnswer (stored key S)
   wordAnswer-sound f zero e =
-      sym (wordAnswer-empty (store .state) (store .memory .bytes) (packedKey values) (keyWord whole key)
+      sym (wordAnswer-empty (store .state) (store .memory .bytes) (packedKey key) (keyWord whole key)
       (word-of-sound whole S sound bits) _ (leafOf-empty (keyWord whole key) e))
       ∙ ap storedAnswer (sym (stored-no-page whole S sound key e))
   wordAnswer-sound f (suc g) e =
-      sym (wordAnswer-page (store .state) (store .memory .bytes) (packedKey values) (keyWord whole key)
+      sym (wordAnswer-page (store .state) (store .memory .bytes) (packedKey key) (keyWord whole key)
       (word-of-sound whole S sound bits) g _ (leafOf-suc (keyWord whole key) g e))
-      ∙ ap (pageAnswer s depth (packedKey values)) read
-      ∙ ap (countAnswer _ page) (packedKey-encodings s values)
+      ∙ ap (pageAnswer s depth (packedKey key)) read
       ∙ countAnswer-stored s good S (sound .set) bits (s .capacity) _ key page own sixteen (leaf .2) (leaf .3)
       (length-leafRecords s S (sound .set) (sound .shape) bits)
       ∙ ap storedAnswer (sym (stored-page whole S sound key g plus .1))
@@ -161,10 +152,10 @@ module _ (store : Store) (values : List ℕ) (S : List Record)
       depth : ℕ
       depth = keyWord whole key / 2 ^ 16
 
-      unpacked : unpackedKey (packedKey values) ≡ key
-      unpacked = ap unpackedKey (packedKey-encodings s values) ∙ unpackedKey-encodings s values sixteen
+      unpacked : unpackedKey (packedKey key) ≡ key
+      unpacked = unpackedKey-packedKey key sixteen ∙ perAttribute-getD key (length-encodings s values)
 
-      own : ownPage s depth (packedKey values) page (countOf page) ≡ true
+      own : ownPage s depth (packedKey key) page (countOf page) ≡ true
       own =
           ap (λ k. endsBegin (widthsOf s) depth (splitBit (widthsOf s) k) page (countOf page)) unpacked
           ∙ ap (λ x. endsBegin (widthsOf s) x bits page (countOf page)) (wordOn-depth whole S sound bits)
@@ -174,8 +165,8 @@ module _ (store : Store) (values : List ℕ) (S : List Record)
       read : pageAt (s .capacity) (store .memory .bytes) g ≡ page
       read = w .3 bits (agrees-keyQuery s values good _ (leafDepth-le-total s S bits)) g _ (leaf .0) (leaf .1)
 
-  pub soughtAnswer-stored : keyFits s values ≡ true → soughtAnswer store values ≡ storedAnswer (stored key S)
+  pub soughtAnswer-stored : keyFits s values ≡ true → soughtAnswer store key ≡ storedAnswer (stored key S)
   soughtAnswer-stored f =
       let limits = limits-of-sound whole S sound in
-      sym (soughtAnswer-word store values limits (keyWord whole key) (packedKey values) word-key refl)
+      sym (soughtAnswer-word store key limits (keyWord whole key) (packedKey key) refl refl)
       ∙ wordAnswer-sound f (keyWord whole key % 2 ^ 16) refl

@@ -59,9 +59,9 @@ pub record KeyPassed (st : State) (bytes : List ℕ) (key : ℕ) : Type 0 where
 
 -- ---- a store
 
--- the answer after 1, 2 and 3: 9 for limits that no sound store has
+-- the answer after 1, 2 and 3 for a key by its encodings: 9 for limits that no sound store has
 unfoldable pub soughtAnswer : Store → List ℕ → Answer Reply
-soughtAnswer store values =
+soughtAnswer store encoded =
     let st = store .state in
-    let word = wordAt (st .shape) (st .deepest) (store .memory .words) (splitBit (widthsOf (st .shape)) values) in
-    cond (limitsHold st) (wordAnswer st (store .memory .bytes) (packedKey values) word) (refused 9)
+    let word = wordAt (st .shape) (st .deepest) (store .memory .words) (splitBit (widthsOf (st .shape)) encoded) in
+    cond (limitsHold st) (wordAnswer st (store .memory .bytes) (packedKey encoded) word) (refused 9)

@@ -2,6 +2,7 @@
 // "Calls").
 use directory_word::Leaf;
 use directory_word::unpack;
+use key_encoding::encode_key;
 use leaf_word::key_word;
 use leaf_word::own_count;
 use leaf_word::word_holds;
@@ -24,8 +25,9 @@ ghost use Rattle.page.specs.Fields.{recordOffset};
 ghost use Rattle.page.specs.Page.{pageAt};
 ghost use Rattle.page_matches.specs.KeyPlace.{keyPlace};
 ghost use Rattle.store.specs.Answers.{foundAnswer};
-ghost use Rattle.store.specs.Promises.{keyNumber, LookupPromise};
+ghost use Rattle.store.specs.Promises.{LookupPromise};
 ghost use Rattle.store.specs.Store.{store};
+ghost use Rattle.refusals.specs.Passed.{Passed};
 ghost use Rattle.leaf_word.specs.Hold.{LeafAsked};
 ghost use Rattle.lookup.specs.Private.{placeAnswer, pageAnswer, wordAnswer, soughtAnswer, KeyPassed};
 
@@ -39,19 +41,21 @@ pub fn lookup(state: State, dir: &[u32], pages: &[u8], key: Key) -> Found
     if number != 0 {
         return Found::Refused(number);
     }
-    seek_key(state, dir, pages, key)
+    let encoded = encode_key(state.shape, key);
+    seek_key(state, dir, pages, encoded)
 }
 
-// The record of a key after 1, 2 and 3: 9 for limits that no sound store has.
-fn seek_key(state: State, dir: &[u32], pages: &[u8], key: Key) -> Found
-    requires { ⌜ keyNumber (store state (now dir) (now pages)) (key .values) ≡ 0 ⌝ }
+// The record of a key, given by its encodings, after 1, 2 and 3: 9 for limits that no sound store
+// has.
+fn seek_key(state: State, dir: &[u32], pages: &[u8], encoded: Key) -> Found
+    requires { ⌜ Passed (store state (now dir) (now pages)) (encoded .values) ⌝ }
     ensures { λ r. ⌜ foundAnswer r
-        ≡ soughtAnswer (store state (now (dir .entry)) (now (pages .entry))) (key .values) ⌝ }
+        ≡ soughtAnswer (store state (now (dir .entry)) (now (pages .entry))) (encoded .values) ⌝ }
 {
     if !limits_hold(state) {
         return Found::Refused(9);
     }
-    let packed = pack_key(key);
+    let packed = pack_key(encoded);
     let widths = widths_of(state.shape);
     let word = key_word(widths, state.deepest as u64, dir, packed);
     seek_by_word(state, pages, word, packed)

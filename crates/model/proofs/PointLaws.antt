@@ -17,6 +17,7 @@ use Rattle.shape.specs.Range.{endsFit, rangeFits, endsRise, rangeRises, pointOf
 use Rattle.shape.specs.declared.Shape.{Shape}
 use Rattle.shape.proofs.AttributeLaws.{getD-perAttribute, getD-widthsOf}
 use Rattle.shape.proofs.BoundsLaws.{test-of-allBelow, allBelow-ext}
+use Rattle.shape.proofs.EncodingLaws.{valueFits-encode}
 use Rattle.shape.proofs.ShapeLaws.{widthsOf-fit}
 use Rattle.split.specs.Steps.{stepNumber, attributeDepth}
 use Rattle.split.specs.Bits.{bitOf}
@@ -125,7 +126,8 @@ module _ (s : Shape) (q : List (Option ℕ)) where
       encoding-below j l v e =
           rw (getD-widthsOf s j l)
           (ltb-true (encode s j v) (2 ^ widthOf s j)
-          (rw e at (test-of-allBelow (λ i. ifGiven (valueFits s i) (getD q i none)) 4 j f l)))
+          (sym (valueFits-encode s j v)
+          ∙ (rw e at (test-of-allBelow (λ i. ifGiven (valueFits s i) (getD q i none)) 4 j f l))))
 
       -- attribute j of the region holds the query's value exactly if their bits agree
       agrees-at : (k j : ℕ) → j < 4 → k < getD (widthsOf s) j 0 → stepNumber (widthsOf s) k j < x

@@ -1,6 +1,6 @@
 -- Whole intervals: a range that gives an attribute all its values has the numbers, the list and the reads of the range
 -- that leaves it free. Assumes nothing.
-use Prim.Native.Nat.{ℕ, _-_, _^_, _<_}
+use Prim.Native.Nat.{ℕ, _-_, _^_, _<_, _≤_}
 use mathlib.Core.Path.{_≡_, refl, sym, ap, _∙_}
 use mathlib.Core.Bool.{Bool, true, _||_, not}
 use mathlib.Core.List.{List}
@@ -9,7 +9,7 @@ use mathlib.Core.Option.{Option, none, some}
 use native.Mathlib.Omega.{arith}
 use lib.Dec.{leb, ltb}
 use lib.ListN.{getD, length, set}
-use lib.Pow.{pow-pos}
+use lib.Pow.{pow-pos, pow-mono}
 use lib.Seq.{getD-set-same, getD-set-other}
 use borrow.Author.Tests.{le-leb, lt-ltb}
 use Rattle.lists.specs.Filter.{filter, nonEmpty}
@@ -17,12 +17,13 @@ use Rattle.lists.proofs.Bools.{and-both}
 use Rattle.lists.proofs.FilterLaws.{filter-ext, filter-cong}
 use Rattle.lists.proofs.Numbers.{eq-or-ne}
 use Rattle.shape.specs.Shape.{widthOf, allBelow, shapeNumber}
-use Rattle.shape.specs.Key.{valueFits, isGiven, ifGiven, namesUnused}
+use Rattle.shape.specs.Key.{valueFits, encode, decode, isGiven, ifGiven, namesUnused}
 use Rattle.shape.specs.Range.{Interval, endsFit, rangeFits, endsRise, rangeRises}
 use Rattle.shape.specs.declared.Shape.{Shape}
 use Rattle.shape.proofs.AttributeLaws.{getD-widthsOf}
 use Rattle.shape.proofs.BoundsLaws.{allBelow-ext, attributes-le}
-use Rattle.shape.proofs.ShapeLaws.{inBounds-of}
+use Rattle.shape.proofs.EncodingLaws.{valueFits-encode, encode-decode}
+use Rattle.shape.proofs.ShapeLaws.{inBounds-of, widthsOf-fit}
 use Rattle.region.specs.Division.{leaves, depth, stringBit}
 use Rattle.record.specs.Record.{Record}
 use Rattle.record.proofs.KeyLaws.{key-below}
@@ -67,30 +68,52 @@ module _ (s : Shape) (n : shapeNumber s ≡ 0) (r : List (Option Interval)) (fou
       (tests-same (λ i o. ltb i (s .attributes) || not (isGiven o)) (rw (lt-ltb j (s .attributes) used))
       (rw (lt-ltb j (s .attributes) used)))
 
+  -- the greatest encoding
+  abbrev last : ℕ
+  last = 2 ^ widthOf s j - 1
+
+  power-le : 2 ^ widthOf s j ≤ 2 ^ 16
+  power-le =
+      let width : widthOf s j ≤ 16 = rw (← getD-widthsOf s j below-four) (widthsOf-fit s n j) in
+      pow-mono width
+
+  of-zero : encode s j (decode s j 0) ≡ 0
+  of-zero = encode-decode s j 0 (omega arith)
+
+  of-last : encode s j (decode s j last) ≡ last
+  of-last = encode-decode s j last (omega (arith, power-le))
+
   pub rangeFits-whole : rangeFits s whole ≡ rangeFits s unnamed
   unfolding rangeFits
   rangeFits-whole =
       tests-same (λ i o. ifGiven (endsFit s i) o)
-      (and-both (valueFits s j 0) (valueFits s j (2 ^ widthOf s j - 1))
-      (lt-ltb 0 (2 ^ widthOf s j) (pow-pos (widthOf s j)))
-      (lt-ltb (2 ^ widthOf s j - 1) (2 ^ widthOf s j) (omega (arith, pow-pos (widthOf s j)))))
+      (and-both (valueFits s j (decode s j 0)) (valueFits s j (decode s j last))
+      (fits 0 of-zero (pow-pos (widthOf s j))) (fits last of-last (omega (arith, pow-pos (widthOf s j)))))
       refl
+    where
+      fits : (e : ℕ) → encode s j (decode s j e) ≡ e → e < 2 ^ widthOf s j → valueFits s j (decode s j e) ≡ true
+      fits e same l =
+          valueFits-encode s j (decode s j e)
+          ∙ ap (λ y. ltb y (2 ^ widthOf s j)) same
+          ∙ lt-ltb e (2 ^ widthOf s j) l
 
   pub rangeRises-whole : rangeRises s whole ≡ rangeRises s unnamed
   unfolding rangeRises
   rangeRises-whole =
-      tests-same (λ i o. ifGiven (endsRise s i) o) (le-leb 0 (2 ^ widthOf s j - 1) (omega arith)) refl
+      tests-same (λ i o. ifGiven (endsRise s i) o)
+      ((λ i. leb (of-zero i) (of-last i)) ∙ le-leb 0 last (omega arith)) refl
 
   -- ---- boxes
 
   -- a test of each attribute of their boxes
-  boxes-same : (test : ℕ → Option Interval → Bool) → test j (encodeEnds s j (some (wholeInterval s j))) ≡ true
+  boxes-same : (test : ℕ → Option Interval → Bool) → test j (some (record { low = 0; high = last })) ≡ true
       → test j none ≡ true
       → allBelow 4 (λ i. test i (getD (boxOf s whole) i none))
       ≡ allBelow 4 (λ i. test i (getD (boxOf s unnamed) i none))
   boxes-same test h k =
       allBelow-ext 4 _ _ (λ i l. ap (test i) (getD-boxOf s whole i l))
-      ∙ tests-same (λ i o. test i (encodeEnds s i o)) h k
+      ∙ tests-same (λ i o. test i (encodeEnds s i o))
+      ((λ i. test j (some (record { low = of-zero i; high = of-last i }))) ∙ h) k
       ∙ allBelow-ext 4 _ _ (λ i l. ap (test i) (sym (getD-boxOf s unnamed i l)))
 
   inBox-whole : (x : Record) → inShape s x ≡ true → inBox (boxOf s whole) (x .key) ≡ inBox (boxOf s unnamed) (x .key)
@@ -99,8 +122,8 @@ module _ (s : Shape) (n : shapeNumber s ≡ 0) (r : List (Option Interval)) (fou
       let small : getD (x .key) j 0 < 2 ^ widthOf s j =
       rw (← getD-widthsOf s j below-four) (key-below s n (x .key) (fits-of-inShape s x f) j below-four) in
       boxes-same (λ i o. ifGiven (inInterval (getD (x .key) i 0)) o)
-      (and-both (leb 0 (getD (x .key) j 0)) (leb (getD (x .key) j 0) (2 ^ widthOf s j - 1))
-      (le-leb 0 (getD (x .key) j 0) (omega arith)) (le-leb (getD (x .key) j 0) (2 ^ widthOf s j - 1) (omega arith)))
+      (and-both (leb 0 (getD (x .key) j 0)) (leb (getD (x .key) j 0) last)
+      (le-leb 0 (getD (x .key) j 0) (omega arith)) (le-leb (getD (x .key) j 0) last (omega arith)))
       refl
 
   boxMeets-whole-interval : (p : ℕ → Bool) (x : ℕ) → boxMeets s (boxOf s whole) p x ≡ boxMeets s (boxOf s unnamed) p x
@@ -108,9 +131,9 @@ module _ (s : Shape) (n : shapeNumber s ≡ 0) (r : List (Option Interval)) (fou
   boxMeets-whole-interval p x =
       let small : highest s p x j < 2 ^ widthOf s j = rw (← getD-widthsOf s j below-four) (highest-lt s p j x) in
       boxes-same (λ i o. ifGiven (meetsInterval (lowest s p x i) (highest s p x i)) o)
-      (and-both (leb 0 (highest s p x j)) (leb (lowest s p x j) (2 ^ widthOf s j - 1))
+      (and-both (leb 0 (highest s p x j)) (leb (lowest s p x j) last)
       (le-leb 0 (highest s p x j) (omega arith))
-      (le-leb (lowest s p x j) (2 ^ widthOf s j - 1) (omega (arith, lowest-le-highest s p j x))))
+      (le-leb (lowest s p x j) last (omega (arith, lowest-le-highest s p j x))))
       refl
 
   -- ---- list and reads

@@ -8,7 +8,7 @@ use mathlib.Core.Option.{Option, none, some}
 use lib.ListN.{length, set}
 use Rattle.shape.specs.Shape.{widthOf, widthsOf, total}
 use Rattle.shape.specs.Refusal.{refused}
-use Rattle.shape.specs.Key.{namesUnused}
+use Rattle.shape.specs.Key.{decode, namesUnused}
 use Rattle.shape.specs.Range.{Interval, rangeFits, rangeRises, pointRange}
 use Rattle.shape.specs.declared.Shape.{Shape}
 use Rattle.record.specs.Record.{Record}
@@ -16,9 +16,9 @@ use Rattle.range_box.specs.Box.{boxOf, boxMeets, HoldsKey}
 use Rattle.model.specs.Sets.{isSet}
 use Rattle.model.specs.Model.{Fixed, queryCall, rangeCall, inside, outcome}
 
--- the interval of all values of attribute j
+-- the interval of all values of attribute j: those of the encodings from 0 to 2^w_j - 1
 abbrev pub wholeInterval : Shape → ℕ → Interval
-wholeInterval s j = record { low = 0; high = 2 ^ widthOf s j - 1 }
+wholeInterval s j = record { low = decode s j 0; high = decode s j (2 ^ widthOf s j - 1) }
 
 -- what holds of every range on a set of records of a shape within its bounds
 pub record SetRanges (f : Fixed) (S : List Record) : Type 0 where

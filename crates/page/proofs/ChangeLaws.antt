@@ -10,7 +10,7 @@ use lib.Seq.{paste, length-paste, take-length}
 use Rattle.moves.proofs.PasteLaws.{window-paste-before, window-paste-in, drop-paste-past}
 use Rattle.shape.specs.declared.Shape.{Shape}
 use Rattle.record.specs.Bytes.{recordSize, littleEndian, numberOf, field, recordOf}
-use Rattle.record.proofs.CodecLaws.{numberOf-littleEndian-two}
+use Rattle.record.proofs.ByteLaws.{numberOf-littleEndian-two}
 use Rattle.page.specs.Page.{countOf, recordsFrom, recordsOf}
 use Rattle.page.specs.Fields.{recordOffset, fieldsFrom}
 use Rattle.page.specs.Changes.{countedPage, insertedPage, removedPage, appendedPage, insertAt, removeAt}

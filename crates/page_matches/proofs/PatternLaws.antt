@@ -12,7 +12,7 @@ use lib.Dec.{eqb}
 use lib.ListN.{getD}
 use borrow.Author.Tests.{eq-eqb, ne-eqb, eqb-true, eqb-false}
 use Rattle.lists.proofs.Bools.{and-split, and-both, eq-of-iff}
-use Rattle.shape.specs.Key.{wantedValue, wantedValues, ifGiven}
+use Rattle.shape.specs.Key.{encode, encodeField, wantedValue, wantedValues, ifGiven}
 use Rattle.shape.specs.declared.Shape.{Shape}
 use Rattle.shape.specs.declared.Query.{Query}
 use Rattle.shape.specs.declared.Wanted.the-variants.{Free}
@@ -138,7 +138,7 @@ and-turn false b c d = refl
 -- the test under the mask is the query's
 pub passes-matches : (s : Shape) (q : List (Option ℕ)) (bytes : List ℕ) → GivenSixteenBits q → AreBytes bytes
     → passes (patternOf q) bytes ≡ matches s q (recordOf s bytes)
-unfolding passes patternOf matches packedKey recordOf
+unfolding passes patternOf matches packedKey recordOf encodeField encode
 passes-matches s q bytes g b =
     let v = SixteenBits-recordOf s bytes b in
     let value : ℕ → ℕ = λ j. numberOf (field bytes (2 * j) 2) in

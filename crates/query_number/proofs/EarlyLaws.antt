@@ -1,7 +1,7 @@
 -- Laws of the query's early refusals, one for each way that the tests end. Assumes nothing.
 use Prim.Native.Nat.{ℕ, _^_}
 use mathlib.Core.Path.{_≡_, refl, sym, _∙_}
-use mathlib.Core.Bool.{Bool, true, false, not, cond, _&&_, _||_}
+use mathlib.Core.Bool.{Bool, true, false, not, cond, _||_}
 use mathlib.Core.List.{List}
 use mathlib.Core.Option.{Option, none, some}
 use native.Mathlib.Omega.{arith}
@@ -11,10 +11,12 @@ use lib.Pow.{pow-pos}
 use borrow.Author.Tests.{lt-ltb}
 use Rattle.shape.specs.Refusal.{firstNumber}
 use Rattle.shape.specs.Shape.{shapeNumber, shapeConditions, inBounds, widthOf, widthsOf, indexFits}
-use Rattle.shape.specs.Key.{valueFits, keyFits, ifGiven, namesUnused, queryFits, encodings}
+use Rattle.shape.specs.Key.{valueFits, encodeWanted, encodedWanted, ifGiven, namesUnused, queryFits}
 use Rattle.shape.specs.declared.Shape.{Shape}
+use Rattle.shape.proofs.AttributeLaws.{indexFits-four}
+use Rattle.shape.proofs.BoundsLaws.{allBelow-ext}
+use Rattle.shape.proofs.EncodingLaws.{valueFits-encode}
 use Rattle.model.specs.Model.{queryConditions}
-use Rattle.model.proofs.SetLaws.{indexFits-encodings}
 use Rattle.record.proofs.KeyLaws.{key-below-bytes}
 use Rattle.page_matches.specs.Pattern.{wantedBits, bitsOf, GivenSixteenBits}
 use Rattle.store.specs.Store.{store, lentConditions, pagesSize}
@@ -25,22 +27,23 @@ use Rattle.query_number.specs.Number.{queryNumberBy}
 
 -- ---- 8 and 3
 
-fits-wantedBits : (s : Shape) (j : ℕ) (w : Option ℕ) → valueFits s j (wantedBits w) ≡ ifGiven (valueFits s j) w
-fits-wantedBits s j none = lt-ltb 0 (2 ^ widthOf s j) (pow-pos (widthOf s j))
-fits-wantedBits s j (some v) = refl
-
 -- free attributes count as 0
-pub indexFits-query : (s : Shape) (q : List (Option ℕ)) → indexFits (widthsOf s) (bitsOf q) ≡ queryFits s q
-unfolding encodings keyFits queryFits
-indexFits-query s q =
-    let e : (j : ℕ) → valueFits s j (wantedBits (getD q j none)) ≡ ifGiven (valueFits s j) (getD q j none) =
-    λ j. fits-wantedBits s j (getD q j none) in
-    indexFits-encodings s (bitsOf q) ∙ (λ i. ((e 0 i && e 1 i) && e 2 i) && e 3 i)
+fits-encoded : (s : Shape) (j : ℕ) (w : Option ℕ)
+    → ltb (wantedBits (encodeWanted s j w)) (2 ^ widthOf s j) ≡ ifGiven (valueFits s j) w
+fits-encoded s j none = lt-ltb 0 (2 ^ widthOf s j) (pow-pos (widthOf s j))
+fits-encoded s j (some v) = sym (valueFits-encode s j v)
 
--- given values that fit a shape have 16 bits
+pub indexFits-query : (s : Shape) (q : List (Option ℕ))
+    → indexFits (widthsOf s) (bitsOf (encodedWanted s q)) ≡ queryFits s q
+unfolding widthsOf queryFits encodedWanted
+indexFits-query s q =
+    indexFits-four (widthOf s) (λ j. wantedBits (encodeWanted s j (getD q j none)))
+    ∙ allBelow-ext 4 _ _ (λ j l. fits-encoded s j (getD q j none))
+
+-- the encodings of given values that fit a shape have 16 bits
 pub sixteen-of-fits : (s : Shape) → shapeNumber s ≡ 0 → (q : List (Option ℕ)) → queryFits s q ≡ true
-    → GivenSixteenBits q
-sixteen-of-fits s n q f = key-below-bytes s n (bitsOf q) refl (indexFits-query s q ∙ f)
+    → GivenSixteenBits (encodedWanted s q)
+sixteen-of-fits s n q f = key-below-bytes s n (bitsOf (encodedWanted s q)) refl (indexFits-query s q ∙ f)
 
 module _ (st : State) (words bytes : ℕ) (q : List (Option ℕ)) where
   two-some : (a b : Bool) (n : ℕ) → (_≡_ {A = ℕ} (cond a 1 (cond b 2 0)) 0 → ⊥)

@@ -2,6 +2,7 @@
 // calls").
 use address_formula::Index;
 use address_formula::index_fits;
+use key_encoding::encode_query;
 use refusals::lent_number;
 use shape::Query;
 use shape::Shape;
@@ -65,15 +66,16 @@ fn allowed_at(shape: Shape, query: Query, j: usize) -> bool
     }
 }
 
-// Whether each value that a query gives fits its attribute.
+// Whether each value that a query gives fits its attribute: its encoding does.
 pub fn query_fits(shape: Shape, query: Query) -> bool
     requires { ⌜ shapeNumber shape ≡ 0 ⌝ }
     ensures { λ r. ⌜ r ≡ queryFits shape (wantedValues query) ⌝ }
 {
-    let i0 = value_at(query, 0);
-    let i1 = value_at(query, 1);
-    let i2 = value_at(query, 2);
-    let i3 = value_at(query, 3);
+    let encoded = encode_query(shape, query);
+    let i0 = value_at(encoded, 0);
+    let i1 = value_at(encoded, 1);
+    let i2 = value_at(encoded, 2);
+    let i3 = value_at(encoded, 3);
     index_fits(widths_of(shape), Index { i0, i1, i2, i3 })
 }
 

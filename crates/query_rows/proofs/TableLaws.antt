@@ -3,48 +3,59 @@ use Prim.Native.Nat.{ℕ, zero, suc, _+_, _*_, _≤_, _<_}
 use mathlib.Core.Path.{_≡_, refl, sym, ap, _∙_, subst}
 use mathlib.Core.Bool.{true, cond}
 use mathlib.Core.List.{List, [], _∷_}
-use mathlib.Core.Option.{Option, none, some}
+use mathlib.Core.Option.{Option, none}
 use native.Mathlib.Omega.{arith}
 use lib.Dec.{ltb}
 use lib.ListN.{getD, length}
-use Rattle.shape.specs.Shape.{Fit, inBounds, widthsOf, total}
+use Rattle.shape.specs.Shape.{Fit, inBounds, shapeNumber, widthsOf, total}
+use Rattle.shape.specs.Key.{encodeWanted, encodedWanted}
 use Rattle.shape.specs.declared.Shape.{Shape}
+use Rattle.shape.proofs.AttributeLaws.{getD-perAttribute}
 use Rattle.shape.proofs.ShapeLaws.{shapeNumber-true, widthsOf-fit}
 use Rattle.split.specs.Steps.{step, steps}
 use Rattle.split.proofs.StepLaws.{length-steps}
+use Rattle.split.proofs.DepthLaws.{step-of, step-here}
 use Rattle.region.specs.Query.{QueryBit}
-use Rattle.model.specs.Sets.{queryBitOf, queryBits, encodeWanted}
+use Rattle.record.proofs.KeyLaws.{length-steps-widthsOf}
+use Rattle.model.specs.Sets.{queryBitOf, queryBits}
 use Rattle.store.specs.declared.State.{State}
 use Rattle.query_rows.specs.Private.{RowsFilled}
 use Rattle.query_rows.specs.Rows.{wantedAt, stepRow, Rows, talliedDepths, limited, Table, mostPages}
 use Rattle.query_rows.proofs.LaneLaws.{fourNumbers}
 use Rattle.query_rows.proofs.StoreRunLaws.{getD-sets-before, getD-sets}
 
--- an encoding is the value itself
-wantedAt-queryBits : (s : Shape) (wanted : List (Option ℕ)) (t : ℕ)
-    → wantedAt (widthsOf s) wanted t ≡ queryBits s wanted t
-unfolding queryBits
-wantedAt-queryBits s wanted t =
-    let z = step (widthsOf s) t .attribute in
-    ap (queryBitOf (getD (widthsOf s) z 0) (step (widthsOf s) t .bit)) (same z (getD wanted z none))
-  where
-    same : (j : ℕ) (o : Option ℕ) → o ≡ encodeWanted s j o
-    same j none = refl
-    same j (some v) = refl
-
--- all rows, for the query of a shape
-pub rows-filled : (s : Shape) (wanted : List (Option ℕ)) (t g x : ℕ) (rows : List ℕ)
-    → RowsFilled (widthsOf s) (wantedAt (widthsOf s) wanted) t g x rows → t ≤ x
-    → Rows (widthsOf s) (queryBits s wanted) t rows
-unfolding stepRow
-rows-filled s wanted t g x rows inv h = record {
-  row = λ y i a b.
-      inv .row y i (omega arith) b ∙ ap (λ q. getD (row-with y q) i 0) (wantedAt-queryBits s wanted y);
+-- all rows
+pub rows-filled : (ws : List ℕ) (q : ℕ → QueryBit) (t g x : ℕ) (rows : List ℕ) → RowsFilled ws q t g x rows → t ≤ x
+    → Rows ws q t rows
+rows-filled ws q t g x rows inv h = record {
+  row = λ y i a b. inv .row y i (omega arith) b;
   fixed = λ y a. inv .fixed y (omega arith);
 }
-  where
-    row-with : ℕ → QueryBit → List ℕ
-    row-with y q = stepRow (widthsOf s) (λ t. q) y
+
+-- the rows of a query's encodings are the query's
+module _ (s : Shape) (good : shapeNumber s ≡ 0) (wanted : List (Option ℕ)) where
+  wantedAt-encoded : (t : ℕ) → t < total (widthsOf s)
+      → wantedAt (widthsOf s) (encodedWanted s wanted) t ≡ queryBits s wanted t
+  unfolding queryBits encodedWanted
+  wantedAt-encoded t l =
+      let ws = widthsOf s in
+      let st = step-of ws t (rw (length-steps-widthsOf s good) l) in
+      let j : ℕ = step ws t .attribute in
+      let below : j < 4 = rw (step-here ws (widthsOf-fit s good) (st .0) (st .1) (st .2) (st .3) (st .4)) (st .2) in
+      ap (queryBitOf (getD ws j 0) (step ws t .bit))
+      (getD-perAttribute (λ i. encodeWanted s i (getD wanted i none)) none j below)
+
+  pub rows-encoded : (t : ℕ) (rows : List ℕ) → t ≤ total (widthsOf s)
+      → Rows (widthsOf s) (wantedAt (widthsOf s) (encodedWanted s wanted)) t rows
+      → Rows (widthsOf s) (queryBits s wanted) t rows
+  unfolding stepRow
+  rows-encoded t rows h r = record {
+    row = λ y i a b. r .row y i a b ∙ ap (λ q. getD (row-with y q) i 0) (wantedAt-encoded y (omega arith));
+    fixed = r .fixed;
+  }
+    where
+      row-with : ℕ → QueryBit → List ℕ
+      row-with y q = stepRow (widthsOf s) (λ t. q) y
 
 -- and behind them P, b, T and the depths in the tally
 module _ (st : State) (rows : List ℕ) (deep : st .deepest ≤ 12) where

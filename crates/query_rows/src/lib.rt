@@ -35,7 +35,7 @@ ghost use lib.Seq.{sets};
 ghost use Rattle.shape.specs.Shape.{widthList, widthsOf};
 ghost use Rattle.shape.specs.Key.{wantedValues};
 ghost use Rattle.split.specs.Steps.{stepsBelow};
-ghost use Rattle.model.specs.Sets.{queryBits, queryBitOf};
+ghost use Rattle.model.specs.Sets.{queryBitOf};
 ghost use Rattle.query_rows.specs.Rows.{Rows, RowsAsked, stepRow, rowList, wantedAt, wantedNumber};
 ghost use Rattle.query_rows.specs.Rows.{otherDepth, multiplier, talliedDepths, limited, mostPages};
 ghost use Rattle.query_rows.specs.Vectors.{Addressable, rowAddress};
@@ -79,11 +79,12 @@ pub struct Row {
     pub value: u64,
 }
 
-// Writes the rows of the steps below t, and the bits that are fixed at each depth up to t.
+// Writes the rows of the steps below t for a query, given by its encodings, and the bits that are
+// fixed at each depth up to t.
 pub fn fill_rows(shape: Shape, query: Query, t: usize, rows: &mut [u64; TABLE])
     requires { ⌜ RowsAsked shape t (length (now rows)) ⌝ }
     ensures { λ _. ⌜ (length (now (rows .exit)) ≡ length (now (rows .entry)))
-        × Rows (widthsOf shape) (queryBits shape (wantedValues query)) t (now (rows .exit)) ⌝ }
+        × Rows (widthsOf shape) (wantedAt (widthsOf shape) (wantedValues query)) t (now (rows .exit)) ⌝ }
 {
     let widths = widths_of(shape);
     rows[FIXED] = fixed_bits_before(widths, 0);
@@ -233,7 +234,7 @@ fn multiplier_of(s: u64, r: u64) -> u64
     (65536u64 << s) + (1u64 << r)
 }
 
-// What the query says of a bit of attribute j: the bit of the value, and 2 more where it is free.
+// What the query says of a bit of attribute j: the encoding's bit, and 2 more where it is free.
 fn wanted_bit(query: Query, j: usize, width: u64, bit: u64) -> u64
     requires { ⌜ BitOf width bit j ⌝ }
     ensures { λ r. ⌜ r ≡ wantedNumber (queryBitOf width bit (getD (wantedValues query) j none)) ⌝ }
@@ -242,7 +243,7 @@ fn wanted_bit(query: Query, j: usize, width: u64, bit: u64) -> u64
     ((value >> (width - 1 - bit)) & 1) + free_mark(query, j)
 }
 
-// The value that the query gives for attribute j; 0 where it is free.
+// The encoding that the query gives for attribute j; 0 where it is free.
 fn given_value(query: Query, j: usize) -> u64
     requires { ⌜ j < 4 ⌝ }
     ensures { λ r. ⌜ r ≡ valueOrZero (getD (wantedValues query) j none) ⌝ }

@@ -10,7 +10,7 @@ use lib.ListN.{getD}
 use borrow.Author.Tests.{le-leb}
 use Rattle.lists.proofs.Bools.{and-both}
 use Rattle.shape.specs.Shape.{shapeNumber, widthsOf, within}
-use Rattle.shape.specs.Key.{ifGiven}
+use Rattle.shape.specs.Key.{encodeWanted, encodedWanted, ifGiven}
 use Rattle.shape.specs.Range.{Interval, rangeFits}
 use Rattle.shape.specs.declared.Shape.{Shape}
 use Rattle.shape.proofs.AttributeLaws.{getD-perAttribute}
@@ -29,7 +29,8 @@ use Rattle.range_walk.specs.Meeting.{TellsMeeting}
 use Rattle.range_walk.proofs.BoxLaws.{EndsOf, TellsMeeting-packed}
 
 EndsOf-encodeEnds : (s : Shape) (j : ℕ) (o : Option Interval) (low high : ℕ)
-    → low ≡ valueOr 0 (lowEnd o) → high ≡ valueOr 65535 (highEnd o) → EndsOf (encodeEnds s j o) low high
+    → low ≡ valueOr 0 (encodeWanted s j (lowEnd o)) → high ≡ valueOr 65535 (encodeWanted s j (highEnd o))
+    → EndsOf (encodeEnds s j o) low high
 EndsOf-encodeEnds s j none low high a b = (a, b)
 EndsOf-encodeEnds s j (some i) low high a b = (a, b)
 
@@ -44,39 +45,46 @@ module _ (s : Shape) (n : shapeNumber s ≡ 0) (r : List (Option Interval)) (fit
   abbrev box : Box
   box = boxOf s r
 
+  -- the encodings of the ends
+  abbrev lows : List (Option ℕ)
+  lows = encodedWanted s (lowEnds r)
+
+  abbrev highs : List (Option ℕ)
+  highs = encodedWanted s (highEnds r)
+
   abbrev low : ℕ → ℕ
-  low j = valueOr 0 (getD (lowEnds r) j none)
+  low j = valueOr 0 (getD lows j none)
 
   abbrev high : ℕ → ℕ
-  high j = valueOr 65535 (getD (highEnds r) j none)
+  high j = valueOr 65535 (getD highs j none)
 
-  low-bits : SixteenBits (valuesOr 0 (lowEnds r))
-  low-bits = valuesOr-lt 0 (lowEnds r) (omega arith) (low-sixteen s n r fits)
+  low-bits : SixteenBits (valuesOr 0 lows)
+  low-bits = valuesOr-lt 0 lows (omega arith) (low-sixteen s n r fits)
 
-  high-bits : SixteenBits (valuesOr 65535 (highEnds r))
-  high-bits = valuesOr-lt 65535 (highEnds r) (omega arith) (high-sixteen s n r fits)
+  high-bits : SixteenBits (valuesOr 65535 highs)
+  high-bits = valuesOr-lt 65535 highs (omega arith) (high-sixteen s n r fits)
 
   EndsOf-box : (j : ℕ) → j < 4 → EndsOf (getD box j none) (low j) (high j)
   EndsOf-box j l =
       subst (λ o. EndsOf o (low j) (high j)) (sym (getD-boxOf s r j l))
       (EndsOf-encodeEnds s j (getD r j none) (low j) (high j)
-      (ap (valueOr 0) (getD-lowEnds r j l)) (ap (valueOr 65535) (getD-highEnds r j l)))
+      (ap (valueOr 0) (getD-lowEnds s r j l)) (ap (valueOr 65535) (getD-highEnds s r j l)))
 
   -- a walk by the packed ends enters the regions that the box meets
-  pub TellsMeeting-keys : (T : ℕ) → TellsMeeting (widthsOf s) T (lowKey r) (highKey r) (boxEnters s box)
+  pub TellsMeeting-keys : (T : ℕ) → TellsMeeting (widthsOf s) T (lowKey s r) (highKey s r) (boxEnters s box)
   unfolding lowKey highKey
   TellsMeeting-keys =
       TellsMeeting-packed s n box (boxFits-boxOf s r ∙ fits) low high low-bits high-bits EndsOf-box
 
   -- the test of a record's bytes is that of the record
   pub liesIn-inBox : (bytes : List ℕ) → AreBytes bytes
-      → liesIn (lowKey r) (highKey r) bytes ≡ inBox box (recordOf s bytes .key)
+      → liesIn (lowKey s r) (highKey s r) bytes ≡ inBox box (recordOf s bytes .key)
   unfolding lowKey highKey inBox
   liesIn-inBox bytes b =
       let key : List ℕ = recordOf s bytes .key in
-      liesIn-keyWithin s (valuesOr 0 (lowEnds r)) (valuesOr 65535 (highEnds r)) low-bits high-bits bytes b
+      liesIn-keyWithin s (valuesOr 0 lows) (valuesOr 65535 highs) low-bits high-bits bytes b
       ∙ allBelow-ext 4
-      (λ j. within (getD (valuesOr 0 (lowEnds r)) j 0) (getD (valuesOr 65535 (highEnds r)) j 0) (getD key j 0))
+      (λ j. within (getD (valuesOr 0 lows) j 0) (getD (valuesOr 65535 highs) j 0) (getD key j 0))
       (λ j. ifGiven (inInterval (getD key j 0)) (getD box j none))
       (λ j l.
       (λ i. within (getD-perAttribute low 0 j l i) (getD-perAttribute high 0 j l i) (getD key j 0))

@@ -8,6 +8,7 @@ use native.Mathlib.Nat.{le-trans}
 use lib.ListN.{length, take}
 use Rattle.shape.specs.Shape.{shapeNumber}
 use Rattle.shape.specs.Refusal.{accepted, refused}
+use Rattle.shape.specs.Key.{encodedWanted}
 use Rattle.shape.specs.Range.{Interval, rangeFits}
 use Rattle.shape.specs.declared.Shape.{Shape}
 use Rattle.region.specs.Strings.{emptyString}
@@ -67,10 +68,10 @@ module _ (st : State) (words bytes : List ℕ) (r : List (Option Interval))
   fits : rangeFits s r ≡ true
   fits = parts-of-rangeNumberBy st (length words) (length bytes) r none .1
 
-  pub low-of-none : GivenSixteenBits (lowEnds r)
+  pub low-of-none : GivenSixteenBits (encodedWanted s (lowEnds r))
   low-of-none = low-sixteen s shape-of-none r fits
 
-  pub high-of-none : GivenSixteenBits (highEnds r)
+  pub high-of-none : GivenSixteenBits (encodedWanted s (highEnds r))
   high-of-none = high-sixteen s shape-of-none r fits
 
   pub nine-limits : (out : List ℕ) → limitsHold st ≡ false → RangePromise (store st words bytes) r out (refused 9) out
@@ -94,7 +95,7 @@ module _ (st : State) (words bytes : List ℕ) (r : List (Option Interval))
         (le-trans (mostPages-le rows (st .deepest) 0) l)
 
     module _ (list : List ℕ) (noted : Noted) (later : List ℕ)
-        (o : Meeting st (lowKey r) (highKey r) words bytes list noted later) where
+        (o : Meeting st (lowKey s r) (highKey s r) words bytes list noted later) where
       -- by the test of the box
       put : Put list (walkSeenBy st words bytes (boxEnters s box)) noted later
       put = o (boxEnters s box) (TellsMeeting-keys s shape-of-none r fits (st .deepest))
@@ -117,7 +118,7 @@ module _ (st : State) (words bytes : List ℕ) (r : List (Option Interval))
 
         module _ (are : AreBytes bytes) (out : List ℕ) where
           abbrev fs : List (List ℕ)
-          fs = listHits (liesIn (lowKey r) (highKey r)) (s .capacity) bytes (take n later)
+          fs = listHits (liesIn (lowKey s r) (highKey s r)) (s .capacity) bytes (take n later)
 
           abbrev wanted : Record → Bool
           wanted x = inBox box (x .key)
@@ -126,11 +127,11 @@ module _ (st : State) (words bytes : List ℕ) (r : List (Option Interval))
               → (n ≡ rangeReadsOf s r S) × (map (recordOf s) fs ≡ inside (fixedOf st) S r)
           as-model S h = (
             reads-as-model st words bytes limits-lent (boxEnters s box) list noted later put long n e within are
-                (liesIn (lowKey r) (highKey r)) wanted (liesIn-inBox s shape-of-none r fits) (meeting s box) S
+                (liesIn (lowKey s r) (highKey s r)) wanted (liesIn-inBox s shape-of-none r fits) (meeting s box) S
                 (λ p x rs m k. m) h begins
                 ∙ sym (rangeReadsOf-walk s shape-of-none r fits S),
             records-as-model st words bytes limits-lent (boxEnters s box) list noted later put long n e within are
-                (liesIn (lowKey r) (highKey r)) wanted (liesIn-inBox s shape-of-none r fits) (meeting s box) S
+                (liesIn (lowKey s r) (highKey s r)) wanted (liesIn-inBox s shape-of-none r fits) (meeting s box) S
                 (λ p x rs m k. m) h begins
                 (λ x p q d. boxMeets-same s box p q x d)
                 (λ a f m x l. boxMeets-record s shape-of-none box a f m x),
@@ -144,5 +145,5 @@ module _ (st : State) (words bytes : List ℕ) (r : List (Option Interval))
               written total out′ t w d
               (promise-listed st words bytes r out none fs
               (IsField-fields st words bytes limits-lent (boxEnters s box) list noted later put long n e within are
-              (liesIn (lowKey r) (highKey r)))
+              (liesIn (lowKey s r) (highKey s r)))
               n as-model)

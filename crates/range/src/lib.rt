@@ -74,8 +74,8 @@ fn read_pages(
     ensures { λ r. ⌜ RangePromise (store state (now (dir .entry)) (now (pages .entry))) (rangeIntervals range)
         (now (out .entry)) (listedAnswer r) (now (out .exit)) ⌝ }
 {
-    let low = low_key(range);
-    let high = high_key(range);
+    let low = low_key(state.shape, range);
+    let high = high_key(state.shape, range);
     fill_limits(state, rows);
     let noted = note_met(state, rows, low, high, dir, pages, list);
     let Noted::Pages(n) = noted else {

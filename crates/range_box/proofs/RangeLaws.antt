@@ -1,6 +1,6 @@
 -- Laws of a range's box: its ends fit and rise exactly if the range's do. Assumes nothing.
 use Prim.Native.Nat.{ℕ, _^_, _<_}
-use mathlib.Core.Path.{_≡_, refl, ap, _∙_}
+use mathlib.Core.Path.{_≡_, refl, sym, ap, _∙_}
 use mathlib.Core.Bool.{_&&_}
 use mathlib.Core.List.{List}
 use mathlib.Core.Option.{Option, none, some}
@@ -12,6 +12,7 @@ use Rattle.shape.specs.Range.{Interval, endsFit, rangeFits, endsRise, rangeRise
 use Rattle.shape.specs.declared.Shape.{Shape}
 use Rattle.shape.proofs.AttributeLaws.{getD-perAttribute}
 use Rattle.shape.proofs.BoundsLaws.{allBelow-ext}
+use Rattle.shape.proofs.EncodingLaws.{valueFits-encode}
 use Rattle.range_box.specs.Box.{encodeEnds, boxOf, boxFits, boxRises}
 
 module _ (s : Shape) (r : List (Option Interval)) where
@@ -31,7 +32,7 @@ module _ (s : Shape) (r : List (Option Interval)) where
           → ifGiven (λ i. ltb (i .low) (2 ^ widthOf s j) && ltb (i .high) (2 ^ widthOf s j)) (encodeEnds s j o)
           ≡ ifGiven (endsFit s j) o
       at j none = refl
-      at j (some i) = refl
+      at j (some i) = λ k. sym (valueFits-encode s j (i .low)) k && sym (valueFits-encode s j (i .high)) k
 
   pub boxRises-boxOf : boxRises (boxOf s r) ≡ rangeRises s r
   unfolding boxRises rangeRises

@@ -10,7 +10,7 @@ use lib.ListN.{getD}
 use borrow.Author.Tests.{le-leb}
 use Rattle.lists.proofs.Bools.{and-split}
 use Rattle.shape.specs.Shape.{shapeNumber, within}
-use Rattle.shape.specs.Key.{isGiven, ifGiven, valueFits, namesUnused, queryFits}
+use Rattle.shape.specs.Key.{valueFits, encode, encodeWanted, encodedWanted, isGiven, ifGiven, namesUnused, queryFits}
 use Rattle.shape.specs.Range.{Interval, spanInterval, rangeIntervals, endsFit, endsRise, rangeFits, rangeRises}
 use Rattle.shape.specs.declared.Shape.{Shape}
 use Rattle.shape.specs.declared.Range.{Range}
@@ -84,51 +84,61 @@ rangeFits-ends s r =
     ∙ (λ i. and-pairs (l 0 && l 1) (h 0 && h 1) (l 2) (h 2) i && (l 3 && h 3))
     ∙ and-pairs ((l 0 && l 1) && l 2) ((h 0 && h 1) && h 2) (l 3) (h 3)
 
--- both have 16 bits if the range fits a shape
+-- the encodings of both have 16 bits if the range fits a shape
 pub low-sixteen : (s : Shape) → shapeNumber s ≡ 0 → (r : List (Option Interval)) → rangeFits s r ≡ true
-    → GivenSixteenBits (lowEnds r)
+    → GivenSixteenBits (encodedWanted s (lowEnds r))
 low-sixteen s n r f =
     sixteen-of-fits s n (lowEnds r)
     (and-split (queryFits s (lowEnds r)) (queryFits s (highEnds r)) (sym (rangeFits-ends s r) ∙ f) .0)
 
 pub high-sixteen : (s : Shape) → shapeNumber s ≡ 0 → (r : List (Option Interval)) → rangeFits s r ≡ true
-    → GivenSixteenBits (highEnds r)
+    → GivenSixteenBits (encodedWanted s (highEnds r))
 high-sixteen s n r f =
     sixteen-of-fits s n (highEnds r)
     (and-split (queryFits s (lowEnds r)) (queryFits s (highEnds r)) (sym (rangeFits-ends s r) ∙ f) .1)
 
 -- ---- 10
 
-pub getD-lowEnds : (r : List (Option Interval)) (j : ℕ) → j < 4 → getD (lowEnds r) j none ≡ lowEnd (getD r j none)
-unfolding lowEnds
-getD-lowEnds r j l = getD-perAttribute (λ i. lowEnd (getD r i none)) none j l
+-- the encodings of the ends, by attribute
+module _ (s : Shape) (r : List (Option Interval)) (j : ℕ) (l : j < 4) where
+  pub getD-lowEnds : getD (encodedWanted s (lowEnds r)) j none ≡ encodeWanted s j (lowEnd (getD r j none))
+  unfolding encodedWanted lowEnds
+  getD-lowEnds =
+      getD-perAttribute (λ i. encodeWanted s i (getD (lowEnds r) i none)) none j l
+      ∙ ap (encodeWanted s j) (getD-perAttribute (λ i. lowEnd (getD r i none)) none j l)
 
-pub getD-highEnds : (r : List (Option Interval)) (j : ℕ) → j < 4 → getD (highEnds r) j none ≡ highEnd (getD r j none)
-unfolding highEnds
-getD-highEnds r j l = getD-perAttribute (λ i. highEnd (getD r i none)) none j l
+  pub getD-highEnds : getD (encodedWanted s (highEnds r)) j none ≡ encodeWanted s j (highEnd (getD r j none))
+  unfolding encodedWanted highEnds
+  getD-highEnds =
+      getD-perAttribute (λ i. encodeWanted s i (getD (highEnds r) i none)) none j l
+      ∙ ap (encodeWanted s j) (getD-perAttribute (λ i. highEnd (getD r i none)) none j l)
 
 rise-ends : (s : Shape) (j : ℕ) (o : Option Interval)
-    → within (valueOr 0 (lowEnd o)) (valueOr 65535 (highEnd o)) (valueOr 0 (lowEnd o)) ≡ ifGiven (endsRise s j) o
+    → let low = valueOr 0 (encodeWanted s j (lowEnd o)) in
+    within low (valueOr 65535 (encodeWanted s j (highEnd o))) low ≡ ifGiven (endsRise s j) o
 rise-ends s j none = refl
-rise-ends s j (some i) = ap (λ b. b && leb (i .low) (i .high)) (le-leb (i .low) (i .low) (omega arith))
+rise-ends s j (some i) =
+    let low = encode s j (i .low) in
+    ap (λ b. b && leb low (encode s j (i .high))) (le-leb low low (omega arith))
 
 -- the low ends lie between both
 pub rangeRises-ends : (s : Shape) (r : List (Option Interval))
-    → GivenSixteenBits (lowEnds r) → GivenSixteenBits (highEnds r)
-    → liesBetween (lowKey r) (highKey r) (lowKey r) ≡ rangeRises s r
+    → GivenSixteenBits (encodedWanted s (lowEnds r)) → GivenSixteenBits (encodedWanted s (highEnds r))
+    → liesBetween (lowKey s r) (highKey s r) (lowKey s r) ≡ rangeRises s r
 unfolding rangeRises liesBetween lowKey highKey
 rangeRises-ends s r low-six high-six =
-    let low : (j : ℕ) → j < 4 → packedValue (lowKey r) j ≡ valueOr 0 (lowEnd (getD r j none)) =
+    let lows = encodedWanted s (lowEnds r) in
+    let highs = encodedWanted s (highEnds r) in
+    let low : (j : ℕ) → j < 4 → packedValue (lowKey s r) j ≡ valueOr 0 (encodeWanted s j (lowEnd (getD r j none))) =
     λ j l.
-    packedValue-packedKey (λ i. valueOr 0 (getD (lowEnds r) i none))
-    (valuesOr-lt 0 (lowEnds r) (omega arith) low-six) j l
-    ∙ ap (valueOr 0) (getD-lowEnds r j l) in
-    let high : (j : ℕ) → j < 4 → packedValue (highKey r) j ≡ valueOr 65535 (highEnd (getD r j none)) =
+    packedValue-packedKey (λ i. valueOr 0 (getD lows i none)) (valuesOr-lt 0 lows (omega arith) low-six) j l
+    ∙ ap (valueOr 0) (getD-lowEnds s r j l) in
+    let high : (j : ℕ) → j < 4
+    → packedValue (highKey s r) j ≡ valueOr 65535 (encodeWanted s j (highEnd (getD r j none))) =
     λ j l.
-    packedValue-packedKey (λ i. valueOr 65535 (getD (highEnds r) i none))
-    (valuesOr-lt 65535 (highEnds r) (omega arith) high-six) j l
-    ∙ ap (valueOr 65535) (getD-highEnds r j l) in
+    packedValue-packedKey (λ i. valueOr 65535 (getD highs i none)) (valuesOr-lt 65535 highs (omega arith) high-six) j l
+    ∙ ap (valueOr 65535) (getD-highEnds s r j l) in
     allBelow-ext 4
-    (λ j. within (packedValue (lowKey r) j) (packedValue (highKey r) j) (packedValue (lowKey r) j))
+    (λ j. within (packedValue (lowKey s r) j) (packedValue (highKey s r) j) (packedValue (lowKey s r) j))
     (λ j. ifGiven (endsRise s j) (getD r j none))
     (λ j l. (λ i. within (low j l i) (high j l i) (low j l i)) ∙ rise-ends s j (getD r j none))

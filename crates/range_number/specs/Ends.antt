@@ -3,8 +3,9 @@ use Prim.Native.Nat.{ℕ}
 use mathlib.Core.List.{List}
 use mathlib.Core.Option.{Option, none, some}
 use lib.ListN.{getD}
-use Rattle.shape.specs.Key.{perAttribute}
+use Rattle.shape.specs.Key.{perAttribute, encodedWanted}
 use Rattle.shape.specs.Range.{Interval}
+use Rattle.shape.specs.declared.Shape.{Shape}
 use Rattle.record.specs.Packed.{packedKey}
 
 -- ---- as queries
@@ -34,9 +35,9 @@ valueOr free (some v) = v
 abbrev pub valuesOr : ℕ → List (Option ℕ) → List ℕ
 valuesOr free q = perAttribute (λ j. valueOr free (getD q j none))
 
--- the ends that every value of 16 bits lies between where an attribute is free
-unfoldable pub lowKey : List (Option Interval) → ℕ
-lowKey r = packedKey (valuesOr 0 (lowEnds r))
+-- by their encodings; where an attribute is free, the ends that every number of 16 bits lies between
+unfoldable pub lowKey : Shape → List (Option Interval) → ℕ
+lowKey s r = packedKey (valuesOr 0 (encodedWanted s (lowEnds r)))
 
-unfoldable pub highKey : List (Option Interval) → ℕ
-highKey r = packedKey (valuesOr 65535 (highEnds r))
+unfoldable pub highKey : Shape → List (Option Interval) → ℕ
+highKey s r = packedKey (valuesOr 65535 (encodedWanted s (highEnds r)))

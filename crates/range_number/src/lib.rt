@@ -1,6 +1,7 @@
 // The ends of a range, and its first refusal that needs no look into words and pages (document 02,
 // request 1). A range is two queries, of its low and of its high ends.
 use key_between::lies_between;
+use key_encoding::encode_query;
 use query_number::query_fits;
 use query_number::query_number;
 use record::pack_key;
@@ -8,6 +9,7 @@ use shape::Attribute;
 use shape::Key;
 use shape::Query;
 use shape::Range;
+use shape::Shape;
 use shape::Span;
 use shape::Wanted;
 use store::State;
@@ -15,7 +17,7 @@ ghost use mathlib.Core.Path.{_≡_};
 ghost use Prim.Native.Nat.{_<_};
 ghost use mathlib.Core.Option.{none};
 ghost use lib.ListN.{getD};
-ghost use Rattle.shape.specs.Key.{wantedValue, wantedValues};
+ghost use Rattle.shape.specs.Key.{wantedValue, wantedValues, encodedWanted};
 ghost use Rattle.shape.specs.Range.{rangeIntervals};
 ghost use Rattle.record.specs.Packed.{packedKey};
 ghost use Rattle.page_matches.specs.Pattern.{GivenSixteenBits};
@@ -38,28 +40,28 @@ pub fn range_number(state: State, words: usize, bytes: usize, range: Range) -> u
     if !query_fits(state.shape, highs) {
         return 3;
     }
-    let low = low_key(range);
-    if lies_between(low, high_key(range), low) {
+    let low = low_key(state.shape, range);
+    if lies_between(low, high_key(state.shape, range), low) {
         0
     } else {
         10
     }
 }
 
-// The low ends as a packed key; 0 where an attribute is free.
-pub fn low_key(range: Range) -> u64
-    requires { ⌜ GivenSixteenBits (lowEnds (rangeIntervals range)) ⌝ }
-    ensures { λ r. ⌜ r ≡ lowKey (rangeIntervals range) ⌝ }
+// The encodings of the low ends as a packed key; 0 where an attribute is free.
+pub fn low_key(shape: Shape, range: Range) -> u64
+    requires { ⌜ GivenSixteenBits (encodedWanted shape (lowEnds (rangeIntervals range))) ⌝ }
+    ensures { λ r. ⌜ r ≡ lowKey shape (rangeIntervals range) ⌝ }
 {
-    key_or(low_ends(range), 0)
+    key_or(encode_query(shape, low_ends(range)), 0)
 }
 
-// The high ends as a packed key; 2^16 - 1 where an attribute is free.
-pub fn high_key(range: Range) -> u64
-    requires { ⌜ GivenSixteenBits (highEnds (rangeIntervals range)) ⌝ }
-    ensures { λ r. ⌜ r ≡ highKey (rangeIntervals range) ⌝ }
+// The encodings of the high ends as a packed key; 2^16 - 1 where an attribute is free.
+pub fn high_key(shape: Shape, range: Range) -> u64
+    requires { ⌜ GivenSixteenBits (encodedWanted shape (highEnds (rangeIntervals range))) ⌝ }
+    ensures { λ r. ⌜ r ≡ highKey shape (rangeIntervals range) ⌝ }
 {
-    key_or(high_ends(range), 0xffff)
+    key_or(encode_query(shape, high_ends(range)), 0xffff)
 }
 
 // The query that gives the low end of each interval.

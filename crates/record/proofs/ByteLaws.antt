@@ -6,8 +6,9 @@ use native.Mathlib.Omega.{arith}
 use native.Mathlib.Nat.{one-le-pow, pow-zero, pow-succ'}
 use lib.ListN.{length, getD, take, drop, length-append, length-drop}
 use lib.Seq.{length-take-le, take-all, take-add, drop-drop, getD-drop}
-use Rattle.shape.specs.Key.{perAttribute}
+use Rattle.shape.specs.Key.{perAttribute, decode, encodeField}
 use Rattle.shape.specs.declared.Shape.{Shape}
+use Rattle.shape.proofs.EncodingLaws.{encodeField-decode, decode-encodeField, encodeField-lt}
 use Rattle.record.specs.Record.{Record}
 use Rattle.record.specs.Bytes.{recordSize, littleEndian, numberOf, field, recordBytes, recordOf, recordsBytes}
 
@@ -97,16 +98,37 @@ perAttribute-getD (a ∷ b ∷ []) e = absurd (omega arith)
 perAttribute-getD (a ∷ b ∷ c ∷ []) e = absurd (omega arith)
 perAttribute-getD (a ∷ b ∷ c ∷ d ∷ f ∷ key) e = absurd (omega arith)
 
+-- a field's 16 bits, written and read again
+pub numberOf-littleEndian-two : (x : ℕ) → numberOf (littleEndian 2 x) ≡ x % 2 ^ 16
+numberOf-littleEndian-two x = omega arith
+
+-- of a greater number the low 16 bits are written
+littleEndian-low : (x : ℕ) → littleEndian 2 x ≡ littleEndian 2 (x % 2 ^ 16)
+littleEndian-low x =
+    let first : x % 256 ≡ x % 2 ^ 16 % 256 = omega arith in
+    let above : x / 256 ≡ x % 2 ^ 16 / 256 + 256 * (x / 2 ^ 16) = omega arith in
+    let lower : (y z : ℕ) → (y + 256 * z) % 256 ≡ y % 256 = λ y z. omega arith in
+    let second = ap (λ y. y % 256) above ∙ lower (x % 2 ^ 16 / 256) (x / 2 ^ 16) in
+    λ i. first i ∷ second i ∷ []
+
 module _ (s : Shape) where
+  -- an encoding as a field, and back
+  encoding-back : (j e : ℕ) → e < 2 ^ 16 → encodeField s j (numberOf (littleEndian 2 (decode s j e))) ≡ e
+  encoding-back j e l = ap (encodeField s j) (numberOf-littleEndian-two (decode s j e)) ∙ encodeField-decode s j e l
+
+  field-back : (j f : ℕ) → f < 2 ^ 16 → littleEndian 2 (decode s j (encodeField s j f)) ≡ littleEndian 2 f
+  field-back j f l =
+      littleEndian-low (decode s j (encodeField s j f)) ∙ ap (littleEndian 2) (decode-encodeField s j f l)
+
   pub recordOf-recordBytes : (r : Record) → FitsBytes r → recordOf s (recordBytes s r) ≡ r
   unfolding recordOf recordBytes
   recordOf-recordBytes r f =
       (λ i. record {
         key =
-            numberOf-littleEndian 2 (getD (r .key) 0 0) (f .below 0) i
-            ∷ numberOf-littleEndian 2 (getD (r .key) 1 0) (f .below 1) i
-            ∷ numberOf-littleEndian 2 (getD (r .key) 2 0) (f .below 2) i
-            ∷ numberOf-littleEndian 2 (getD (r .key) 3 0) (f .below 3) i
+            encoding-back 0 (getD (r .key) 0 0) (f .below 0) i
+            ∷ encoding-back 1 (getD (r .key) 1 0) (f .below 1) i
+            ∷ encoding-back 2 (getD (r .key) 2 0) (f .below 2) i
+            ∷ encoding-back 3 (getD (r .key) 3 0) (f .below 3) i
             ∷ [];
         content = record { payload = numberOf-littleEndian 4 (r .content .payload) (f .payload-below) i };
       })
@@ -119,13 +141,16 @@ module _ (s : Shape) where
       let back : (offset n : ℕ) → offset + n ≤ recordSize
       → littleEndian n (numberOf (field bytes offset n)) ≡ field bytes offset n =
       λ offset n h. littleEndian-numberOf-field bytes b offset n (omega arith) in
+      let value : (j : ℕ) → 2 * j + 2 ≤ recordSize
+      → littleEndian 2 (decode s j (encodeField s j (numberOf (field bytes (2 * j) 2)))) ≡ field bytes (2 * j) 2 =
+      λ j h. field-back j _ (numberOf-field-lt bytes b (2 * j) 2) ∙ back (2 * j) 2 h in
       let last : field bytes 6 2 ++ field bytes 8 4 ≡ field bytes 6 6 = field-append-field bytes 6 2 4 in
       let from-4 : field bytes 4 2 ++ field bytes 6 6 ≡ field bytes 4 8 = field-append-field bytes 4 2 6 in
       let from-2 : field bytes 2 2 ++ field bytes 4 8 ≡ field bytes 2 10 = field-append-field bytes 2 2 8 in
       (λ i.
-      back 0 2 (omega arith) i
-      ++ (back 2 2 (omega arith) i
-      ++ (back 4 2 (omega arith) i ++ (back 6 2 (omega arith) i ++ back 8 4 (omega arith) i))))
+      value 0 (omega arith) i
+      ++ (value 1 (omega arith) i
+      ++ (value 2 (omega arith) i ++ (value 3 (omega arith) i ++ back 8 4 (omega arith) i))))
       ∙ ap (λ ys. field bytes 0 2 ++ (field bytes 2 2 ++ (field bytes 4 2 ++ ys))) last
       ∙ ap (λ ys. field bytes 0 2 ++ (field bytes 2 2 ++ ys)) from-4
       ∙ ap (λ ys. field bytes 0 2 ++ ys) from-2
@@ -142,10 +167,10 @@ module _ (s : Shape) where
   }
     where
       below : (j : ℕ) → getD (recordOf s bytes .key) j 0 < 2 ^ 16
-      below zero = numberOf-field-lt bytes b 0 2
-      below (suc zero) = numberOf-field-lt bytes b 2 2
-      below (suc (suc zero)) = numberOf-field-lt bytes b 4 2
-      below (suc (suc (suc zero))) = numberOf-field-lt bytes b 6 2
+      below zero = encodeField-lt s 0 _ (numberOf-field-lt bytes b 0 2)
+      below (suc zero) = encodeField-lt s 1 _ (numberOf-field-lt bytes b 2 2)
+      below (suc (suc zero)) = encodeField-lt s 2 _ (numberOf-field-lt bytes b 4 2)
+      below (suc (suc (suc zero))) = encodeField-lt s 3 _ (numberOf-field-lt bytes b 6 2)
       below (suc (suc (suc (suc j)))) = omega arith
 
 -- ---- records one after the other

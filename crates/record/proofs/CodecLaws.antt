@@ -1,20 +1,20 @@
 -- Laws of records and their packed keys: which bytes a packed key and a content make, read by offset and read again.
 -- Assumes nothing.
-use Prim.Native.Nat.{ℕ, zero, suc, _+_, _*_, _/_, _%_, _^_, _≤_, _<_}
+use Prim.Native.Nat.{ℕ, suc, _+_, _*_, _/_, _%_, _^_, _≤_, _<_}
 use mathlib.Core.Path.{_≡_, refl, sym, ap, _∙_}
 use mathlib.Core.List.{List, [], _∷_, _++_}
 use native.Mathlib.Omega.{arith}
 use lib.ListN.{length, getD}
 use lib.Seq.{paste}
 use Rattle.moves.proofs.PasteLaws.{paste-paste}
+use Rattle.shape.specs.Key.{encode, decode, encodeField}
 use Rattle.shape.specs.declared.Shape.{Shape}
 use Rattle.record.specs.declared.Content.{Content}
 use Rattle.record.specs.Record.{Record}
 use Rattle.record.specs.Bytes.{recordSize, littleEndian, numberOf, field, recordBytes, recordOf}
 use Rattle.record.specs.Packed.{packedKey, SixteenBits, unpackedKey, keyIn, contentIn, packedBytes}
 use Rattle.record.proofs.PackedLaws.{field-field, packedKey-bytes, unpackedKey-packedKey}
-use Rattle.record.proofs.ByteLaws.{numberOf-field-lt}
-use Rattle.record.proofs.ByteLaws.{AreBytes}
+use Rattle.record.proofs.ByteLaws.{AreBytes, numberOf-littleEndian-two, fitsBytes-recordOf}
 
 -- ---- reading and writing by offset
 
@@ -38,9 +38,6 @@ paste-packedBytes bytes b c at key content h e f =
 -- ---- numbers
 
 -- a number, written and read again
-pub numberOf-littleEndian-two : (x : ℕ) → numberOf (littleEndian 2 x) ≡ x % 2 ^ 16
-numberOf-littleEndian-two x = omega arith
-
 numberOf-littleEndian-four : (x : ℕ) → x < 2 ^ 32 → numberOf (littleEndian 4 x) ≡ x
 numberOf-littleEndian-four x h = omega arith
 
@@ -60,7 +57,7 @@ littleEndian-above n v x h =
 module _ (s : Shape) where
   pub recordBytes-packed : (r : Record) → SixteenBits (r .key)
       → recordBytes s r ≡ packedBytes (packedKey (r .key)) (r .content)
-  unfolding recordBytes packedBytes packedKey
+  unfolding recordBytes decode packedBytes packedKey
   recordBytes-packed r b =
       let v0 = getD (r .key) 0 0 in
       let v1 = getD (r .key) 1 0 in
@@ -79,16 +76,11 @@ module _ (s : Shape) where
   recordOf-content bytes = refl
 
   pub packedKey-recordOf : (bytes : List ℕ) → packedKey (recordOf s bytes .key) ≡ keyIn bytes
-  unfolding recordOf
+  unfolding recordOf encodeField encode
   packedKey-recordOf bytes = packedKey-bytes bytes
 
   pub SixteenBits-recordOf : (bytes : List ℕ) → AreBytes bytes → SixteenBits (recordOf s bytes .key)
-  unfolding recordOf
-  SixteenBits-recordOf bytes b zero = numberOf-field-lt bytes b 0 2
-  SixteenBits-recordOf bytes b (suc zero) = numberOf-field-lt bytes b 2 2
-  SixteenBits-recordOf bytes b (suc (suc zero)) = numberOf-field-lt bytes b 4 2
-  SixteenBits-recordOf bytes b (suc (suc (suc zero))) = numberOf-field-lt bytes b 6 2
-  SixteenBits-recordOf bytes b (suc (suc (suc (suc j)))) = omega arith
+  SixteenBits-recordOf bytes b = fitsBytes-recordOf s bytes b .below
 
   pub unpackedKey-keyIn : (bytes : List ℕ) → AreBytes bytes → unpackedKey (keyIn bytes) ≡ recordOf s bytes .key
   unfolding recordOf
@@ -100,7 +92,7 @@ module _ (s : Shape) where
 
   pub recordOf-packedBytes : (key : ℕ) (content : Content) → key < 2 ^ 64 → content .payload < 2 ^ 32
       → recordOf s (packedBytes key content) ≡ record { key = unpackedKey key; content = content }
-  unfolding recordOf packedBytes unpackedKey
+  unfolding recordOf encodeField encode packedBytes unpackedKey
   recordOf-packedBytes key content h l =
       let one : key / 256 / 256 ≡ key / 2 ^ 16 = omega arith in
       let two : key / 256 / 256 / 256 / 256 ≡ key / 2 ^ 32 = omega arith in

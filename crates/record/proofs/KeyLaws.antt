@@ -60,7 +60,7 @@ eq-of-bitOf (suc w) u v hu hv h =
 -- ---- a key by its split bits
 
 module _ (ws : List ℕ) (fit : Fit ws) (key other : List ℕ) where
-  pub splitBit-same : ((j : ℕ) → j < 4 → getD key j 0 ≡ getD other j 0) → (t : ℕ) → t < length (steps ws)
+  splitBit-same : ((j : ℕ) → j < 4 → getD key j 0 ≡ getD other j 0) → (t : ℕ) → t < length (steps ws)
       → splitBit ws key t ≡ splitBit ws other t
   splitBit-same h t l =
       let st = step-of ws t l in

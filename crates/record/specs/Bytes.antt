@@ -12,7 +12,7 @@
 use Prim.Native.Nat.{ℕ, zero, suc, _+_, _*_, _/_, _%_}
 use mathlib.Core.List.{List, [], _∷_, _++_}
 use lib.ListN.{getD, take, drop}
-use Rattle.shape.specs.Key.{encode, decode, perAttribute}
+use Rattle.shape.specs.Key.{decode, encodeField, perAttribute}
 use Rattle.shape.specs.declared.Shape.{Shape}
 use Rattle.record.specs.Record.{Record}
 
@@ -51,7 +51,7 @@ recordBytes s r =
 unfoldable pub recordOf : Shape → List ℕ → Record
 recordOf s bytes =
     record {
-      key = perAttribute (λ j. encode s j (numberOf (field bytes (2 * j) 2)));
+      key = perAttribute (λ j. encodeField s j (numberOf (field bytes (2 * j) 2)));
       content = record { payload = numberOf (field bytes 8 4) };
     }
 

@@ -1,4 +1,4 @@
--- Laws of keys that fit: none of the values has a bit past its width. Assumes nothing.
+-- Laws of keys that fit: none of the four numbers has a bit past its width. Assumes nothing.
 use Prim.Native.Nat.{ℕ, _*_, _/_, _^_, _<_}
 use mathlib.Core.Path.{_≡_, refl, sym, ap, _∙_}
 use mathlib.Core.Bool.{Bool, true, false, _&&_}
@@ -7,13 +7,14 @@ use native.Mathlib.Omega.{arith}
 use native.Mathlib.Nat.{div-lt-iff-lt-mul}
 use lib.Bits.{bitOr, or-add-and, and-le-l, and-le-r}
 use lib.Dec.{ltb, eqb}
-use lib.ListN.{getD}
+use lib.ListN.{length, getD}
 use lib.Pow.{pow-pos}
 use borrow.Author.Tests.{lt-ltb, ltb-true, eq-eqb, eqb-true}
 use Rattle.lists.proofs.Bools.{and-split, and-both, eq-of-iff}
-use Rattle.shape.specs.Shape.{widthOf, widthsOf}
-use Rattle.shape.specs.Key.{keyFits}
+use Rattle.shape.specs.Shape.{widthOf, widthsOf, indexFits}
 use Rattle.shape.specs.declared.Shape.{Shape}
+use Rattle.shape.proofs.AttributeLaws.{indexFits-four}
+use Rattle.record.proofs.ByteLaws.{perAttribute-getD}
 
 -- a value of w bits has none past them
 ltb-shifted : (v w : ℕ) → ltb v (2 ^ w) ≡ eqb (v / 2 ^ w) 0
@@ -50,18 +51,23 @@ eqb-or-four a b c d =
     ∙ (λ i. eqb-or a b i && eqb-or c d i)
     ∙ and-regroup (eqb a 0) (eqb b 0) (eqb c 0) (eqb d 0)
 
-module _ (s : Shape) (values : List ℕ) where
-  -- what the value of attribute j has past its width
+module _ (s : Shape) (key : List ℕ) (four : length key ≡ 4) where
+  -- what the number of attribute j has past its width
   abbrev past : List ℕ → ℕ → ℕ
-  past ws j = getD values j 0 / 2 ^ getD ws j 0
+  past ws j = getD key j 0 / 2 ^ getD ws j 0
 
-  pub keyFits-past : (ws : List ℕ) → ws ≡ widthsOf s
-      → eqb (bitOr (bitOr (past ws 0) (past ws 1)) (bitOr (past ws 2) (past ws 3))) 0 ≡ keyFits s values
-  unfolding keyFits widthsOf
-  keyFits-past ws same =
+  pub indexFits-past : (ws : List ℕ) → ws ≡ widthsOf s
+      → eqb (bitOr (bitOr (past ws 0) (past ws 1)) (bitOr (past ws 2) (past ws 3))) 0 ≡ indexFits (widthsOf s) key
+  unfolding widthsOf
+  indexFits-past ws same =
       eqb-or-four (past ws 0) (past ws 1) (past ws 2) (past ws 3)
       ∙ ap (λ v. ((eqb (past v 0) 0 && eqb (past v 1) 0) && eqb (past v 2) 0) && eqb (past v 3) 0) same
       ∙ (λ i. ((fits 0 i && fits 1 i) && fits 2 i) && fits 3 i)
+      ∙ sym (indexFits-four (widthOf s) (λ j. getD key j 0))
+      ∙ ap (indexFits (widthsOf s)) (perAttribute-getD key four)
     where
-      fits : (j : ℕ) → eqb (getD values j 0 / 2 ^ widthOf s j) 0 ≡ ltb (getD values j 0) (2 ^ widthOf s j)
-      fits j = sym (ltb-shifted (getD values j 0) (widthOf s j))
+      test : ℕ → Bool
+      test j = ltb (getD key j 0) (2 ^ widthOf s j)
+
+      fits : (j : ℕ) → eqb (getD key j 0 / 2 ^ widthOf s j) 0 ≡ test j
+      fits j = sym (ltb-shifted (getD key j 0) (widthOf s j))

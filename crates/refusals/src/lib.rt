@@ -1,7 +1,6 @@
 // What a call on a store finds without a look into words and pages (document 01, "Refused calls"): 1,
 // then 2, then 3 of a key; and limits that no sound store has, which is 9.
-use address_formula::Index;
-use address_formula::index_fits;
+use key_encoding::encode_key;
 use page::page_start;
 use shape::Key;
 use shape::Shape;
@@ -10,8 +9,7 @@ use shape::total_of;
 use shape::widths_of;
 use store::State;
 ghost use mathlib.Core.Path.{_≡_};
-ghost use Rattle.shape.specs.Key.{keyFits};
-ghost use Rattle.shape.specs.Shape.{shapeNumber};
+ghost use Rattle.shape.specs.Shape.{shapeNumber, widthsOf, indexFits};
 ghost use Rattle.refusals.specs.Limits.{limitsHold};
 ghost use Rattle.refusals.specs.Lengths.{lacksMemory, lentNumberBy, keyNumberBy};
 
@@ -39,7 +37,8 @@ pub fn key_number(state: State, words: usize, bytes: usize, key: Key) -> u32
         return number;
     }
     let shape = state.shape;
-    if key_fits(shape, key) { 0 } else { 3 }
+    let encoded = encode_key(shape, key);
+    if encodings_fit(shape, encoded) { 0 } else { 3 }
 }
 
 // Whether P is 1 to 4,096, L at most 12 and at most W, and T at most L.
@@ -63,12 +62,12 @@ pub fn limits_hold(state: State) -> bool
     state.deepest <= limits.depth
 }
 
-// Whether each value of a key fits its attribute: none has a bit past its width.
-fn key_fits(shape: Shape, key: Key) -> bool
+// Whether each encoding of a key fits its attribute: none has a bit past its width.
+fn encodings_fit(shape: Shape, encoded: Key) -> bool
     requires { ⌜ shapeNumber shape ≡ 0 ⌝ }
-    ensures { λ r. ⌜ r ≡ keyFits shape (key .values) ⌝ }
+    ensures { λ r. ⌜ r ≡ indexFits (widthsOf shape) (encoded .values) ⌝ }
 {
-    let values = key.values;
+    let values = encoded.values;
     let widths = widths_of(shape);
     let low = ((values[0] as u64) >> widths.w0) | ((values[1] as u64) >> widths.w1);
     let high = ((values[2] as u64) >> widths.w2) | ((values[3] as u64) >> widths.w3);

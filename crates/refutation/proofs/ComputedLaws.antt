@@ -7,7 +7,7 @@ use mathlib.Core.List.{List, [], _∷_, _++_}
 use lib.ListN.{length, getD, replicate}
 use Rattle.shape.specs.Refusal.{accepted, refused, firstNumber}
 use Rattle.shape.specs.Shape.{inBounds, shapeConditions, widthsOf}
-use Rattle.shape.specs.Key.{keyFits, encodings, namesUnused, queryFits}
+use Rattle.shape.specs.Key.{valueFits, encode, keyFits, encodings, namesUnused, queryFits}
 use Rattle.split.specs.Steps.{stepsBelow, steps, step, stepNumber, stepsOf, attributeDepth}
 use Rattle.split.specs.Bits.{splitBit}
 use Rattle.address.specs.Address.{highestBit, createdBy, latestStep, formula, addressFrom, address}
@@ -56,7 +56,7 @@ pub record Fitting : Type 0 where
   pub fourth-full : keyNumber (threeRecords 2) (key 2 1) ≡ 0
 
 pub fitting : Fitting
-unfolding firstNumber inBounds shapeConditions keyFits recordBytes lentConditions keyNumber
+unfolding firstNumber inBounds shapeConditions keyFits recordBytes lentConditions keyNumber valueFits
 fitting =
     record {
       first = refl;
@@ -93,7 +93,7 @@ pub record Inserts (content : Content) : Type 0 where
   pub fourth-refused : outcomeOn (threeRecords 2) setOfThree (insertCall (key 2 1) content) .answer ≡ refused 7
 
 pub inserts : (content : Content) → (content .payload ≡ 0 → ⊥) → Inserts content
-unfolding firstNumber widthsOf keyFits encodings stepsBelow steps step splitBit addNumber divisionOf
+unfolding firstNumber widthsOf keyFits encodings stepsBelow steps step splitBit addNumber divisionOf valueFits encode
 inserts content some =
     record {
       first-answer = answer noRecord [] (key 0 0);
@@ -130,7 +130,7 @@ pub record Deletes : Type 0 where
 
 pub deletes : Deletes
 unfolding
-    firstNumber inBounds shapeConditions widthsOf keyFits encodings namesUnused queryFits
+    firstNumber inBounds shapeConditions widthsOf keyFits encodings namesUnused queryFits valueFits encode
     stepsBelow steps step stepNumber stepsOf attributeDepth splitBit matches recordBytes
     numberFor replyTo setAfter outputOf outputAfter outcome next divisionOf queryBits readsOf
 deletes =
@@ -171,7 +171,7 @@ pub record Reads (out : List ℕ) : Type 0 where
 
 pub reads : (out : List ℕ) → Reads out
 unfolding
-    firstNumber inBounds shapeConditions widthsOf keyFits encodings namesUnused queryFits
+    firstNumber inBounds shapeConditions widthsOf keyFits encodings namesUnused queryFits valueFits encode
     stepsBelow steps step stepNumber stepsOf attributeDepth splitBit matches recordBytes
     numberFor replyTo setAfter outputOf outputAfter outcome next divisionOf queryBits readsOf givenDepths readsBound
 reads out =

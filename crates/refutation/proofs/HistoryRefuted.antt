@@ -7,7 +7,7 @@ use native.Mathlib.Omega.{arith}
 use lib.ListN.{length, getD}
 use Rattle.shape.specs.Refusal.{Answer, accepted, refused, firstNumber}
 use Rattle.shape.specs.Shape.{widthsOf}
-use Rattle.shape.specs.Key.{keyFits, encodings, namesUnused, queryFits}
+use Rattle.shape.specs.Key.{valueFits, encode, keyFits, encodings, namesUnused, queryFits}
 use Rattle.split.specs.Steps.{stepsBelow, steps, step, stepNumber, stepsOf, attributeDepth}
 use Rattle.split.specs.Bits.{splitBit}
 use Rattle.record.specs.declared.Content.{Content}
@@ -47,7 +47,7 @@ record AfterFirst (content : Content) (out : List ℕ) : Type 0 where
 
 after-first : (content : Content) → (content .payload ≡ 0 → ⊥) → (out : List ℕ) → AfterFirst content out
 unfolding
-    firstNumber widthsOf keyFits encodings namesUnused queryFits
+    firstNumber widthsOf keyFits encodings namesUnused queryFits valueFits encode
     stepsBelow steps step stepNumber stepsOf attributeDepth splitBit matches
     logarithm pageLimitOf depthLimitOf freshShape fixedBy
     addNumber numberFor replyTo outcome run divisionOf queryBits readsOf
@@ -67,7 +67,7 @@ record AfterFour (out : List ℕ) : Type 0 where
 
 after-four : (out : List ℕ) → AfterFour out
 unfolding
-    firstNumber widthsOf keyFits encodings namesUnused queryFits
+    firstNumber widthsOf keyFits encodings namesUnused queryFits valueFits encode
     stepsBelow steps step stepNumber stepsOf attributeDepth splitBit matches
     logarithm pageLimitOf depthLimitOf freshShape fixedBy
     numberFor replyTo setAfter outcome next run divisionOf queryBits readsOf

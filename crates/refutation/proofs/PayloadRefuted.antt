@@ -10,7 +10,7 @@ use lib.ListN.{length, getD}
 use Rattle.lists.specs.Members.{Member}
 use Rattle.shape.specs.Refusal.{Answer, accepted, refused, firstNumber}
 use Rattle.shape.specs.Shape.{inBounds, shapeConditions, widthsOf}
-use Rattle.shape.specs.Key.{keyFits, encodings, namesUnused, queryFits}
+use Rattle.shape.specs.Key.{valueFits, encode, keyFits, encodings, namesUnused, queryFits}
 use Rattle.shape.specs.Range.{rangeFits, rangeRises}
 use Rattle.shape.specs.declared.Shape.{Shape}
 use Rattle.split.specs.Steps.{stepsBelow, steps, step, stepNumber, stepsOf, attributeDepth}
@@ -86,14 +86,14 @@ module _ (after : Store) where
 
   -- 9, since the store is not sound
   pub nine-for-eleven : InsertPromise wordPastPages (key 0 0) noPayload (refused 9) after → ⊥
-  unfolding firstNumber inBounds shapeConditions keyFits recordBytes lentConditions keyNumber
+  unfolding firstNumber inBounds shapeConditions keyFits recordBytes lentConditions keyNumber valueFits
   nine-for-eleven p =
       let same : _≡_ {A = ℕ} 9 11 = refused-number (answer-of-zero noPayload p refl refl) in
       omega (arith, same)
 
   -- "after 3": 11 for a value out of bounds
   pub eleven-before-three : InsertPromise noRecord (key 4 0) noPayload (refused 11) after → ⊥
-  unfolding firstNumber inBounds shapeConditions keyFits lentConditions keyNumber
+  unfolding firstNumber inBounds shapeConditions keyFits lentConditions keyNumber valueFits
   eleven-before-three p =
       let same : _≡_ {A = ℕ} 11 3 = refused-number (answer-of-early noPayload p 2 refl) in
       omega (arith, same)
@@ -115,7 +115,7 @@ eleven-when-added store after values content fits p =
 -- any refusal, where the leaf has room
 pub not-added : (n : ℕ) (after : Store) → AddPromise noRecord (key 0 0) noPayload (refused n) after → ⊥
 unfolding
-    firstNumber widthsOf keyFits encodings stepsBelow steps step stepNumber stepsOf attributeDepth splitBit
+    firstNumber widthsOf keyFits encodings stepsBelow steps step stepNumber stepsOf attributeDepth splitBit valueFits
     addNumber divisionOf
 not-added n after p = refused-not-accepted changed n (p .answered-as [] noRecord-sound)
 
@@ -132,7 +132,7 @@ record ModelAnswers (out : List ℕ) : Type 0 where
 
 model-answers : (out : List ℕ) → ModelAnswers out
 unfolding
-    firstNumber widthsOf keyFits encodings namesUnused queryFits rangeFits rangeRises
+    firstNumber widthsOf keyFits encodings namesUnused queryFits rangeFits rangeRises valueFits encode
     stepsBelow steps step stepNumber stepsOf attributeDepth matches
     boxOf inBox number boxMeets numberFor replyTo outcome divisionOf queryBits readsOf rangeReadsOf
 model-answers out =

@@ -1,4 +1,5 @@
 pub mod AttributeLaws
 pub mod BoundsLaws
+pub mod EncodingLaws
 pub mod RefusalLaws
 pub mod ShapeLaws

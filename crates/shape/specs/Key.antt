@@ -19,16 +19,20 @@ perAttribute f = f 0 ∷ f 1 ∷ f 2 ∷ f 3 ∷ []
 -- ---- values
 
 -- "A value of attribute j is a whole number below 2^w_j"; of an unused attribute, 0
-abbrev pub valueFits : Shape → ℕ → ℕ → Bool
+unfoldable pub valueFits : Shape → ℕ → ℕ → Bool
 valueFits s j v = ltb v (2 ^ widthOf s j)
 
 -- "Its encoding is the value itself."
-abbrev pub encode : Shape → ℕ → ℕ → ℕ
+unfoldable pub encode : Shape → ℕ → ℕ → ℕ
 encode s j v = v
 
 -- and back
-abbrev pub decode : Shape → ℕ → ℕ → ℕ
+unfoldable pub decode : Shape → ℕ → ℕ → ℕ
 decode s j e = e
+
+-- the encoding of the value that a 16-bit field of a record holds
+unfoldable pub encodeField : Shape → ℕ → ℕ → ℕ
+encodeField s j f = encode s j f
 
 -- ---- keys
 
@@ -50,6 +54,14 @@ wantedValue Free = none
 -- the values that a query gives, by attribute
 unfoldable pub wantedValues : Query → List (Option ℕ)
 wantedValues q = perAttribute (λ j. wantedValue (getD (q .attributes) j (record { wanted = Free }) .wanted))
+
+-- their encodings
+abbrev pub encodeWanted : Shape → ℕ → Option ℕ → Option ℕ
+encodeWanted s j none = none
+encodeWanted s j (some v) = some (encode s j v)
+
+unfoldable pub encodedWanted : Shape → List (Option ℕ) → List (Option ℕ)
+encodedWanted s q = perAttribute (λ j. encodeWanted s j (getD q j none))
 
 abbrev pub isGiven : {A : Type 0} → Option A → Bool
 isGiven none = false

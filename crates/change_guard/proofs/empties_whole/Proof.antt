@@ -8,10 +8,10 @@ use Rattle.change_guard.proofs.empties_whole.Statement.{statement}
 use Rattle.change_guard.proofs.empties_whole.Tie as tie
 
 abbrev Inv-loop : tie.InvT-loop
-Inv-loop state dir values m y z₀ z = EmptyTo state dir values m y z
+Inv-loop state dir encoded m y z₀ z = EmptyTo state dir encoded m y z
 
 abbrev μ-loop : tie.MeasureT-loop
-μ-loop state dir values m y z₀ z = m - z
+μ-loop state dir encoded m y z₀ z = m - z
 
 loop-holds : tie.Need-loop-holds Inv-loop μ-loop
 loop-holds c = emptyTo-start _ _ _ _ _ (c .before .pre .above)

@@ -25,7 +25,7 @@ returns : tie.Need-returns
 returns c =
     let a = c .before .before .before .before .args in
     subst
-    (λ ws. FoldTold ws (a .u) (a .state .deepest) (splitBit ws (a .values)) (a .dir .now)
+    (λ ws. FoldTold ws (a .u) (a .state .deepest) (splitBit ws (a .encoded)) (a .dir .now)
     (c .folds .result)) (c .before .before .widths-of .ensures) (c .folds .ensures)
 
 pub halving-whole-spec : {M : Type 1} → statement M

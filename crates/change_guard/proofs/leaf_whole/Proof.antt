@@ -25,7 +25,7 @@ returns : tie.Need-returns
 returns c =
     let a = c .before .before .before .before .args in
     subst
-    (λ ws. RegionTold ws (a .state .deepest) (a .x) (splitBit ws (a .values)) (a .word) (a .dir .now)
+    (λ ws. RegionTold ws (a .state .deepest) (a .x) (splitBit ws (a .encoded)) (a .word) (a .dir .now)
     (c .region-holds .result)) (c .before .before .widths-of .ensures) (c .region-holds .ensures)
 
 pub leaf-whole-spec : {M : Type 1} → statement M

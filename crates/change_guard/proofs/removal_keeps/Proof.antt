@@ -38,7 +38,7 @@ returns-2 : tie.Need-returns-2
 returns-2 c =
     let a = c .before .before .before .before .before .before .before .before .args in
     let told = subst
-    (λ ws. RegionTold ws (a .state .deepest) (a .found .depth) (splitBit ws (a .values))
+    (λ ws. RegionTold ws (a .state .deepest) (a .found .depth) (splitBit ws (a .encoded))
     (c .before .before .before .before .pack-page .result) (a .dir .now) (c .region-holds .result))
     (c .before .before .before .widths-of .ensures) (c .region-holds .ensures) in
     deleteTold-one _ _ _ (a .found) _ _ (c .before .before .before .before .pack-page .ensures) told

@@ -27,7 +27,7 @@ returns : tie.Need-returns
 returns c =
     let a = c .before .before .before .before .args in
     subst
-    (λ ws. RegionTold ws (a .state .deepest) (suc (a .z)) (sibling (splitBit ws (a .values)) (a .z)) (a .word)
+    (λ ws. RegionTold ws (a .state .deepest) (suc (a .z)) (sibling (splitBit ws (a .encoded)) (a .z)) (a .word)
     (a .dir .now) (c .sibling-holds .result)) (c .before .before .widths-of .ensures) (c .sibling-holds .ensures)
 
 pub sibling-whole-spec : {M : Type 1} → statement M

@@ -1,13 +1,17 @@
 -- `delete::delete` meets its contract: the promise is kept by an early refusal, by a refusal of the plan or of the
 -- tests, and by what the planned steps leave. Assumes nothing.
+use Prim.Native.Nat.{ℕ}
 use mathlib.Core.Path.{_≡_, sym, subst, _∙_}
+use mathlib.Core.List.{List}
 use native.Mathlib.Omega.{arith}
 use lib.ListN.{length, length-map}
 use Rattle.store.specs.Answers.{changedAnswer}
 use Rattle.store.specs.Promises.{keyNumber}
 use Rattle.store.specs.Store.{Store, store}
+use Rattle.refusals.specs.Passed.{Passed, OfValues}
 use Rattle.refusals.proofs.LentLaws.{keyNumber-by}
 use Rattle.refusals.proofs.LimitsLaws.{limits-parts}
+use Rattle.refusals.proofs.PassedLaws.{passed}
 use Rattle.delete_plan.specs.Plan.{KeepPlanned, JoinPlanned, DeletePlanned}
 use Rattle.delete_plan.proofs.MetLaws.{directoryLent}
 use Rattle.delete_promise.proofs.FoundLaws.{promise-early, recordLent}
@@ -33,31 +37,43 @@ number c =
 abbrev given : tie.Start → Store
 given s = store (s .args .state) (s .args .dir .now) (s .args .pages .now)
 
+-- where the key was encoded, and its encodings
+abbrev encoding : tie.After-plan-delete → tie.After-encode-key
+encoding p = p .before .before .before .before
+
+abbrev encoded : tie.After-plan-delete → List ℕ
+encoded p = encoding p .encode-key .result .values
+
 -- where the call began, from the plan
 abbrev start : tie.After-plan-delete → tie.Start
-start p = p .before .before .before .before .before .before .before
+start p = encoding p .before .before .before .before .before
 
 -- the early refusals let the key pass
-early : (p : tie.After-plan-delete) → let s = start p in keyNumber (given s) (s .args .key .values) ≡ 0
-early p =
-    let e = p .before .before .before in
-    sym (number (e .before)) ∙ e .if1 .left
+early : (c : tie.Else1)
+    → let s = c .before .before .before .before in keyNumber (given s) (s .args .key .values) ≡ 0
+early c = sym (number (c .before)) ∙ c .if1 .left
+
+-- what holds of all values with these encodings holds of the call's
+called : (p : tie.After-plan-delete) (X : List ℕ → Type 0) → OfValues (given (start p)) (encoded p) X
+    → X (start p .args .key .values)
+called p X told =
+    told (start p .args .key .values) (early (encoding p .before)) (sym (encoding p .encode-key .ensures))
 
 -- the plan of a leaf that stays
 kept : (c : tie.After-plan2)
-    → let s = start (c .before .before .before) in
-    KeepPlanned (given s) (s .args .key .values) (c .plan2 .given .0 .0)
+    → let p = c .before .before in
+    KeepPlanned (given (start p)) (encoded p) (c .plan2 .given .0 .0)
 kept c =
-    let p = c .before .before .before in
-    subst (DeletePlanned (given (start p)) (start p .args .key .values)) (c .plan2 .given .1) (p .plan-delete .ensures)
+    let p = c .before .before in
+    subst (DeletePlanned (given (start p)) (encoded p)) (c .plan2 .given .1) (p .plan-delete .ensures)
 
 -- and of one that is joined
 joined : (c : tie.After-plan3)
-    → let s = start (c .before .before .before) in
-    JoinPlanned (given s) (s .args .key .values) (c .plan3 .given .0 .0) (c .plan3 .given .0 .1 .0)
+    → let p = c .before .before in
+    JoinPlanned (given (start p)) (encoded p) (c .plan3 .given .0 .0) (c .plan3 .given .0 .1 .0)
 joined c =
-    let p = c .before .before .before in
-    subst (DeletePlanned (given (start p)) (start p .args .key .values)) (c .plan3 .given .1) (p .plan-delete .ensures)
+    let p = c .before .before in
+    subst (DeletePlanned (given (start p)) (encoded p)) (c .plan3 .given .1) (p .plan-delete .ensures)
 
 key-number-requires : tie.Need-key-number-requires
 key-number-requires c κs = search needs
@@ -68,8 +84,13 @@ returns c =
     let s = c .before .before .before .before in
     promise-early (given s) (s .args .key .values) (c .before .key-number .result) (number (c .before)) (c .if1 .taken)
 
+encode-key-requires : tie.Need-encode-key-requires
+encode-key-requires c κs = search needs
+
 plan-delete-requires : tie.Need-plan-delete-requires
-plan-delete-requires c κs = sym (number (c .before .before .before)) ∙ c .before .before .if1 .left
+plan-delete-requires c κs =
+    let e = c .before .before .before in
+    subst (Passed _) (sym (e .encode-key .ensures)) (passed _ _ (early (e .before)))
 
 enum-known-plan : tie.Need-enum-known-plan
 enum-known-plan c = search needs
@@ -79,11 +100,12 @@ enum-known-plan-2 c = search needs
 
 removal-keeps-requires : tie.Need-removal-keeps-requires
 removal-keeps-requires c κs =
-    let s = start (c .before .before .before .before .before) in
+    let p = c .before .before .before .before in
+    let s = start p in
     let leaf = kept (c .before .before) .found .leaf in
     let few = limits-parts (s .args .state) (leaf .limits) .1 in
     record {
-      lent = directoryLent (given s) (s .args .key .values) _ _ leaf;
+      lent = directoryLent (given s) (encoded p) _ _ leaf;
       deep = leaf .deep;
       page-lt = omega (arith, leaf .own-within, few);
     }
@@ -97,18 +119,20 @@ same-length-2 c = search needs
 returns-2 : tie.Need-returns-2
 unfolding changedAnswer
 returns-2 c =
-    let p = c .before .before .before .before .before .before .before in
-    promise-not-whole (given (start p)) (start p .args .key .values) _ (kept (c .before .before .before .before)) _
-    (c .before .removal-keeps .ensures) (not-true _ (c .if2 .taken)) (early p)
+    let p = c .before .before .before .before .before .before in
+    called p _
+    (promise-not-whole (given (start p)) (encoded p) _ (kept (c .before .before .before .before)) _
+    (c .before .removal-keeps .ensures) (not-true _ (c .if2 .taken)))
 
 keep-leaf-requires : tie.Need-keep-leaf-requires
 keep-leaf-requires c κs =
-    let s = start (c .before .before .before .before .before .before .before .before .before) in
+    let p = c .before .before .before .before .before .before .before .before in
+    let s = start p in
     let f = kept (c .before .before .before .before .before .before) .found in
     record {
-      lent = directoryLent (given s) (s .args .key .values) _ _ (f .leaf);
+      lent = directoryLent (given s) (encoded p) _ _ (f .leaf);
       deep = f .leaf .deep;
-      own = recordLent (given s) (s .args .key .values) _ f;
+      own = recordLent (given s) (encoded p) _ f;
     }
 
 enum-known-plan-3 : tie.Need-enum-known-plan-3
@@ -116,8 +140,9 @@ enum-known-plan-3 c = search needs
 
 join-keeps-requires : tie.Need-join-keeps-requires
 join-keeps-requires c κs =
-    let s = start (c .before .before .before .before .before) in
-    let v = s .args .key .values in
+    let p = c .before .before .before .before in
+    let s = start p in
+    let v = encoded p in
     let k = joined (c .before .before) in
     let leaf = k .found .leaf in
     let few = limits-parts (s .args .state) (leaf .limits) .1 in
@@ -137,14 +162,16 @@ same-length-4 c = search needs
 returns-3 : tie.Need-returns-3
 unfolding changedAnswer
 returns-3 c =
-    let p = c .before .before .before .before .before .before .before in
-    promise-not-whole (given (start p)) (start p .args .key .values) _ (joined (c .before .before .before .before)) _
-    (c .before .join-keeps .ensures) (not-true _ (c .if3 .taken)) (early p)
+    let p = c .before .before .before .before .before .before in
+    called p _
+    (promise-not-whole (given (start p)) (encoded p) _ (joined (c .before .before .before .before)) _
+    (c .before .join-keeps .ensures) (not-true _ (c .if3 .taken)))
 
 join-leaves-requires : tie.Need-join-leaves-requires
 join-leaves-requires c κs =
-    let s = start (c .before .before .before .before .before .before .before .before .before) in
-    let v = s .args .key .values in
+    let p = c .before .before .before .before .before .before .before .before in
+    let s = start p in
+    let v = encoded p in
     let k = joined (c .before .before .before .before .before .before) in
     record {
       lent = directoryLent (given s) v _ _ (k .found .leaf);
@@ -161,9 +188,9 @@ same-length-6 c = search needs
 returns-4 : tie.Need-returns-4
 unfolding changedAnswer
 returns-4 c =
-    let p = c .before .before .before .before in
-    subst (DeletePlanned (given (start p)) (start p .args .key .values)) (c .before .plan .given .1)
-    (p .plan-delete .ensures)
+    let p = c .before .before .before in
+    called p _
+    (subst (DeletePlanned (given (start p)) (encoded p)) (c .before .plan .given .1) (p .plan-delete .ensures))
 
 same-length-7 : tie.Need-same-length-7
 same-length-7 c = search needs
@@ -174,14 +201,15 @@ same-length-8 c = search needs
 returns-5 : tie.Need-returns-5
 unfolding changedAnswer
 returns-5 c =
-    let s = start (c .before .before .before .before .before .before .before .before .before .before .before .before
-    .before .before) in
+    let p = c .before .before .before .before .before .before .before .before .before .before .before .before
+    .before in
     let k = kept (c .before .before .before .before .before .before .before .before .before .before .before) in
     let test = c .before .before .before .before .before .before .before in
     let done = c .before .before .before .before .keep-leaf in
-    promise-kept (given s) (s .args .key .values) _ (k .found) _ _ (done .ensures .words-are)
+    called p _
+    (promise-kept (given (start p)) (encoded p) _ (k .found) _ _ (done .ensures .words-are)
     (done .ensures .bytes-are) (k .alone)
-    (test .before .removal-keeps .ensures .yes (not-false _ (test .if2 .left)))
+    (test .before .removal-keeps .ensures .yes (not-false _ (test .if2 .left))))
 
 same-length-9 : tie.Need-same-length-9
 same-length-9 c = search needs
@@ -192,14 +220,15 @@ same-length-10 c = search needs
 returns-6 : tie.Need-returns-6
 unfolding changedAnswer
 returns-6 c =
-    let s = start (c .before .before .before .before .before .before .before .before .before .before .before .before
-    .before .before) in
+    let p = c .before .before .before .before .before .before .before .before .before .before .before .before
+    .before in
     let k = joined (c .before .before .before .before .before .before .before .before .before .before .before) in
     let test = c .before .before .before .before .before .before .before in
     let done = c .before .before .before .before .join-leaves in
-    promise-joined (given s) (s .args .key .values) _ (k .found) _ k (done .result) _ _
-    (done .ensures .words-are) (done .ensures .bytes-are) (thirteen s)
-    (test .before .join-keeps .ensures .yes (not-false _ (test .if3 .left)))
+    called p _
+    (promise-joined (given (start p)) (encoded p) _ (k .found) _ k (done .result) _ _
+    (done .ensures .words-are) (done .ensures .bytes-are) (thirteen (start p))
+    (test .before .join-keeps .ensures .yes (not-false _ (test .if3 .left))))
 
 pub delete-spec : {M : Type 1} → statement M
 delete-spec =
@@ -207,6 +236,7 @@ delete-spec =
     (tie.spec
     key-number-requires
     returns
+    encode-key-requires
     plan-delete-requires
     enum-known-plan
     enum-known-plan-2

@@ -3,67 +3,54 @@
 use mathlib.Core.Path.{_≡_, sym, ap, _∙_}
 use mathlib.Core.Bool.{true}
 use native.Mathlib.Nat.{le-trans}
-use lib.ListN.{length, length-map}
 use lib.Pow.{pow-mono}
 use borrow.Author.Tests.{not-true, not-false}
 use Rattle.directory_word.specs.Word.{leafOf}
 use Rattle.directory_word.specs.declared.Leaf.the-variants.{Page}
 use Rattle.record.specs.Packed.{unpackedKey}
-use Rattle.model.proofs.SetLaws.{SixteenBits-of-keyFits}
 use Rattle.store.specs.Store.{store}
 use Rattle.change.specs.Delete.{keyString}
 use Rattle.refusals.specs.Limits.{limitsHold}
 use Rattle.refusals.proofs.LimitsLaws.{limits-parts}
 use Rattle.leaf_word.specs.Hold.{wordHolds}
-use Rattle.leaf_word.proofs.PageLaws.{unpackedKey-values}
 use Rattle.leaf_word.proofs.WordLaws.{key-word-asks, key-word-is}
 use Rattle.store.proofs.ShownLaws.{wordOn}
-use Rattle.refusals.proofs.PassedLaws.{passed}
+use Rattle.refusals.proofs.PassedLaws.{SixteenBits-passed, unpackedKey-passed}
 use Rattle.delete_plan.proofs.MetLaws.{refused-limits, refused-word, refused-empty, leafMet}
 use borrow.Author.Needs.{needs}
 use Rattle.delete_plan.proofs.plan_delete.Statement.{statement}
 use Rattle.delete_plan.proofs.plan_delete.Tie as tie
-
--- the array of a key's values has four: what owning the key tells
-four : (c : tie.Start) → length (c .args .key .values) ≡ 4
-four c = sym (length-map (c .args .key .values) (λ v. v)) ∙ c .good .1 .1 .1 .0 .1 .1 .0 .1 .0 .1
 
 -- the limits hold
 limited : (c : tie.Else1) → limitsHold (c .before .before .before .before .args .state) ≡ true
 limited c = sym (c .before .limits-hold .ensures) ∙ not-false (c .before .limits-hold .result) (c .if1 .left)
 
 pack-key-requires : tie.Need-pack-key-requires
-pack-key-requires c κs =
-    let s = c .before .before .before .before .before .before in
-    let a = s .args in
-    let p = passed (store (a .state) (a .dir .now) (a .pages .now)) (a .key .values) (s .pre) in
-    SixteenBits-of-keyFits (a .state .shape) (a .key .values) (p .shape) (p .fits) (four s)
+pack-key-requires c κs = SixteenBits-passed _ _ (c .before .before .before .before .before .before .pre)
 
 -- the key, back from its packed form
 back : (c : tie.After-pack-key)
-    → unpackedKey (c .pack-key .result) ≡ c .before .before .before .before .before .before .before .args .key .values
+    → unpackedKey (c .pack-key .result)
+    ≡ c .before .before .before .before .before .before .before .args .encoded .values
 back c =
-    let s = c .before .before .before .before .before .before .before in
-    let a = s .args in
-    let p = passed (store (a .state) (a .dir .now) (a .pages .now)) (a .key .values) (s .pre) in
     ap unpackedKey (c .pack-key .ensures)
-    ∙ unpackedKey-values (a .state .shape) (a .key .values) (p .shape) (p .fits) (four s)
+    ∙ unpackedKey-passed _ _ (c .before .before .before .before .before .before .before .pre)
 
 -- the word that was found, of the state's own shape
 found : (c : tie.After-key-word)
     → let a = c .before .before .before .before .before .before .before .before .args in
     let before = store (a .state) (a .dir .now) (a .pages .now) in
-    c .key-word .result ≡ wordOn before (keyString before (a .key .values))
+    c .key-word .result ≡ wordOn before (keyString before (a .encoded .values))
 found c =
     let a = c .before .before .before .before .before .before .before .before .args in
     key-word-is (a .state .shape) _ (c .before .before .before .widths-of .ensures) (a .state .deepest) (a .dir .now)
-    (a .key .values) _ _ (back (c .before)) (c .key-word .ensures)
+    (a .encoded .values) _ _ (back (c .before)) (c .key-word .ensures)
 
 -- it holds
 held : (c : tie.Else2)
     → let a = c .before .before .before .before .before .before .before .before .before .before .args in
     let before = store (a .state) (a .dir .now) (a .pages .now) in
-    wordHolds (a .state) (wordOn before (keyString before (a .key .values))) ≡ true
+    wordHolds (a .state) (wordOn before (keyString before (a .encoded .values))) ≡ true
 held c =
     let a = c .before .before .before .before .before .before .before .before .before .before .args in
     ap (wordHolds (a .state)) (sym (found (c .before .before)))
@@ -75,7 +62,7 @@ named : (c : tie.After-found)
     → let words = c .before .before .before .before .before .before in
     let a = words .before .before .before .before .before .before .before .args in
     let before = store (a .state) (a .dir .now) (a .pages .now) in
-    leafOf (wordOn before (keyString before (a .key .values)))
+    leafOf (wordOn before (keyString before (a .encoded .values)))
     ≡ Page (c .found .given .0 .0) (c .found .given .0 .1 .0)
 named c =
     ap leafOf (sym (found (c .before .before .before .before .before)))
@@ -83,19 +70,14 @@ named c =
     ∙ c .found .given .1
 
 limits-hold-requires : tie.Need-limits-hold-requires
-limits-hold-requires c κs =
-    let s = c .before .before in
-    let a = s .args in
-    let before = store (a .state) (a .dir .now) (a .pages .now) in
-    passed before (a .key .values) (s .pre) .shape
+limits-hold-requires c κs = c .before .before .pre .shape
 
 returns : tie.Need-returns
 returns c =
-    let s = c .before .before .before .before in
-    let a = s .args in
+    let a = c .before .before .before .before .args in
     let before = store (a .state) (a .dir .now) (a .pages .now) in
     let holds = c .before .limits-hold in
-    refused-limits before (a .key .values) (s .pre)
+    refused-limits before (a .encoded .values)
     (sym (holds .ensures) ∙ not-true (holds .result) (c .if1 .taken))
 
 widths-of-requires : tie.Need-widths-of-requires
@@ -108,8 +90,7 @@ key-word-requires : tie.Need-key-word-requires
 key-word-requires c κs =
     let s = c .before .before .before .before .before .before .before in
     let a = s .args in
-    let before = store (a .state) (a .dir .now) (a .pages .now) in
-    let p = passed before (a .key .values) (s .pre) in
+    let p = s .pre in
     let l = limits-parts (a .state) (limited (c .before .before .before)) in
     key-word-asks (a .state .shape) _ (c .before .before .widths-of .ensures) (a .state .deepest) (p .shape)
     (le-trans (l .4) (l .3)) _ (le-trans (pow-mono (l .4)) (p .words-lent))
@@ -122,11 +103,10 @@ word-holds-requires c κs =
 
 returns-2 : tie.Need-returns-2
 returns-2 c =
-    let s = c .before .before .before .before .before .before .before .before .before .before in
-    let a = s .args in
+    let a = c .before .before .before .before .before .before .before .before .before .before .args in
     let before = store (a .state) (a .dir .now) (a .pages .now) in
     let holds = c .before .word-holds in
-    refused-word before (a .key .values) (s .pre) (keyString before (a .key .values))
+    refused-word before (a .encoded .values) (keyString before (a .encoded .values))
     (ap (wordHolds (a .state)) (sym (found (c .before .before)))
     ∙ sym (holds .ensures)
     ∙ not-true (holds .result) (c .if2 .taken))
@@ -145,7 +125,7 @@ returns-3 c =
     let s = c .before .before .before .before .before .before .before .before .before .before .before .before .before in
     let a = s .args in
     let before = store (a .state) (a .dir .now) (a .pages .now) in
-    refused-empty before (a .key .values) (s .pre) (four s) _
+    refused-empty before (a .encoded .values) _
     (ap leafOf (sym (found (c .before .before .before .before .before)))
     ∙ sym (c .before .before .unpack .ensures)
     ∙ c .enum-told .given .1)
@@ -157,7 +137,7 @@ plan-leaf-requires c κs =
     let s = limits .before .before .before .before in
     let a = s .args in
     let before = store (a .state) (a .dir .now) (a .pages .now) in
-    leafMet before (a .key .values) (s .pre) (four s) (limited limits) _ _ (named (c .before))
+    leafMet before (a .encoded .values) (s .pre) (limited limits) _ _ (named (c .before))
     (held (c .before .before .before .before))
 
 returns-4 : tie.Need-returns-4

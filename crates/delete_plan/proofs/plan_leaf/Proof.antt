@@ -7,8 +7,7 @@ use Rattle.page.specs.Page.{pageAt}
 use Rattle.page_ends.specs.Ends.{fixedBits}
 use Rattle.page_ends.proofs.FairLaws.{fair-of-count}
 use Rattle.store.specs.Store.{Store, store}
-use Rattle.refusals.proofs.PassedLaws.{passed}
-use Rattle.model.proofs.SetLaws.{SixteenBits-of-keyFits}
+use Rattle.refusals.proofs.PassedLaws.{SixteenBits-passed}
 use Rattle.leaf_word.proofs.PageLaws.{fixed-bits-asks}
 use Rattle.delete_plan.specs.Plan.{RecordFound}
 use Rattle.delete_plan.specs.Met.{Sought}
@@ -36,7 +35,7 @@ mask-is c =
 -- what was sought is the key, packed
 sought : (k : tie.After-seek)
     → let a = start k .args in
-    Sought (a .state .shape .capacity) (packedKey (a .key .values)) (k .before .before .before .fixed-bits .result)
+    Sought (a .state .shape .capacity) (packedKey (a .encoded .values)) (k .before .before .before .fixed-bits .result)
     (pageAt (a .state .shape .capacity) (a .pages .now) (a .page)) (a .page) (a .depth) (k .seek .result)
 sought k =
     let a = start k .args in
@@ -48,10 +47,10 @@ sought k =
 -- the record that was found
 found : (k : tie.After-seek) → (k .seek .result .count ≡ 0 → ⊥)
     → (k .seek .result .place ≡ k .seek .result .count → ⊥)
-    → RecordFound (given (start k)) (start k .args .key .values) (k .seek .result)
+    → RecordFound (given (start k)) (start k .args .encoded .values) (k .seek .result)
 found k some other =
     let s = start k in
-    recordFound (given s) (s .args .key .values) (s .args .page) (s .args .depth) (s .pre) _
+    recordFound (given s) (s .args .encoded .values) (s .args .page) (s .args .depth) (s .pre) _
     (mask-is (k .before .before .before)) (k .seek .result) (sought k) some other
 
 widths-of-requires : tie.Need-widths-of-requires
@@ -61,16 +60,12 @@ fixed-bits-requires : tie.Need-fixed-bits-requires
 fixed-bits-requires c κs =
     let s = c .before .before .before .before in
     let a = s .args in
-    let lent = directoryLent (given s) (a .key .values) (a .page) (a .depth) (s .pre) in
+    let lent = directoryLent (given s) (a .encoded .values) (a .page) (a .depth) (s .pre) in
     fixed-bits-asks (a .state .shape) (lent .shape) (a .depth) (omega (arith, s .pre .deep, lent .deep))
     (widthList (c .widths-of .result)) (c .widths-of .ensures)
 
 pack-key-requires : tie.Need-pack-key-requires
-pack-key-requires c κs =
-    let s = c .before .before .before .before .before in
-    let a = s .args in
-    let k = passed (given s) (a .key .values) (s .pre .early) in
-    SixteenBits-of-keyFits (a .state .shape) (a .key .values) (k .shape) (k .fits) (s .pre .four)
+pack-key-requires c κs = SixteenBits-passed _ _ (c .before .before .before .before .before .pre .passed)
 
 cast-seek : tie.Need-cast-seek
 cast-seek c = search needs
@@ -79,14 +74,14 @@ seek-requires : tie.Need-seek-requires
 seek-requires c κs =
     let s = c .before .before .before .before .before .before .before in
     let a = s .args in
-    pageLent (given s) (a .key .values) (a .page) (a .depth) (s .pre) (a .page) (s .pre .own-within)
+    pageLent (given s) (a .encoded .values) (a .page) (a .depth) (s .pre) (a .page) (s .pre .own-within)
 
 returns : tie.Need-returns
 returns c =
     let k = c .before .before in
     let s = start k in
     let a = s .args in
-    refused-page (given s) (a .key .values) (a .page) (a .depth) (s .pre) _ (k .seek .result .count)
+    refused-page (given s) (a .encoded .values) (a .page) (a .depth) (s .pre) _ (k .seek .result .count)
     (mask-is (k .before .before .before)) (sought k .counted) (c .if1 .taken)
 
 returns-2 : tie.Need-returns-2
@@ -97,7 +92,7 @@ returns-2 c =
     let r = k .seek .result in
     let fair = fair-of-count (a .state .shape .capacity) _ _ (r .count) (sought k .counted)
     (c .before .before .if1 .left) in
-    refused-absent (given s) (a .key .values) (a .page) (a .depth) (s .pre)
+    refused-absent (given s) (a .encoded .values) (a .page) (a .depth) (s .pre)
     (λ i. k .before .before .before .before .before .before .shared-slice-known2 .given i .fits)
     (r .count) (fair .counted) (r .place) (sought k .placed) (c .if2 .taken)
 
@@ -106,7 +101,10 @@ returns-3 c =
     let k = c .before .before .before .before .before in
     let s = start k in
     let f = found k (c .before .before .before .if1 .left) (c .before .if2 .left) in
-    record { found = f; alone = stays-root (given s) (s .args .key .values) _ f (sought k .depth-is ∙ c .if3 .taken) }
+    record {
+      found = f;
+      alone = stays-root (given s) (s .args .encoded .values) _ f (sought k .depth-is ∙ c .if3 .taken);
+    }
 
 plan-sibling-requires : tie.Need-plan-sibling-requires
 plan-sibling-requires c κs =

@@ -7,11 +7,10 @@ use Rattle.record.specs.Packed.{unpackedKey}
 use Rattle.page.specs.Page.{countOf, pageAt}
 use Rattle.page_ends.specs.Ends.{endsAgree}
 use Rattle.page_ends.proofs.FairLaws.{Fair, fair-of-count}
-use Rattle.model.proofs.SetLaws.{SixteenBits-of-keyFits}
 use Rattle.store.specs.Store.{Store, store}
-use Rattle.refusals.proofs.PassedLaws.{passed}
+use Rattle.refusals.proofs.PassedLaws.{SixteenBits-passed, unpackedKey-passed}
 use Rattle.delete_plan.specs.Met.{JoinMade}
-use Rattle.delete_plan.proofs.MetLaws.{directoryLent, pageLent, values-back}
+use Rattle.delete_plan.proofs.MetLaws.{directoryLent, pageLent}
 use Rattle.delete_plan.proofs.PairLaws.{refused-other, refused-tally, stays-full, joinPlanned}
 use borrow.Author.Needs.{needs}
 use Rattle.delete_plan.proofs.plan_pair.Statement.{statement}
@@ -41,7 +40,7 @@ count-on-requires : tie.Need-count-on-requires
 count-on-requires c κs =
     let s = c .before .before .before .before in
     let a = s .args in
-    pageLent (given s) (a .key .values) (a .found .page) (a .found .depth) (s .pre .leaf .found .leaf) (a .other)
+    pageLent (given s) (a .encoded .values) (a .found .page) (a .found .depth) (s .pre .leaf .found .leaf) (a .other)
     (s .pre .other-within)
 
 returns : tie.Need-returns
@@ -49,8 +48,8 @@ returns c =
     let k = c .before in
     let s = start k in
     let a = s .args in
-    refused-other (given s) (a .key .values) (a .found) (a .mask) (a .other) (a .beside) (s .pre) (k .count-on .result)
-    (k .count-on .ensures .is) (c .if1 .taken)
+    refused-other (given s) (a .encoded .values) (a .found) (a .mask) (a .other) (a .beside) (s .pre)
+    (k .count-on .result) (k .count-on .ensures .is) (c .if1 .taken)
 
 add-if2 : tie.Need-add-if2
 add-if2 c = search needs
@@ -66,7 +65,7 @@ returns-2 c =
     record {
       found = s .pre .leaf .found;
       alone =
-          stays-full (given s) (a .key .values) (a .found) (a .mask) (a .other) (a .beside) (s .pre) _ (fair e)
+          stays-full (given s) (a .encoded .values) (a .found) (a .mask) (a .other) (a .beside) (s .pre) _ (fair e)
           (c .if2 .taken);
     }
 
@@ -78,16 +77,13 @@ returns-3 c =
     let s = start (c .before .before .before .before .before) in
     let a = s .args in
     let holds = c .before .tally-holds in
-    refused-tally (given s) (a .key .values) (a .found) (a .mask) (a .other) (a .beside) (s .pre)
+    refused-tally (given s) (a .encoded .values) (a .found) (a .mask) (a .other) (a .beside) (s .pre)
     (sym (holds .ensures) ∙ not-true (holds .result) (c .if3 .taken))
 
 pack-key-requires : tie.Need-pack-key-requires
 pack-key-requires c κs =
     let s = start (c .before .before .before .before .before) in
-    let a = s .args in
-    let leaf = s .pre .leaf .found .leaf in
-    let p = passed (given s) (a .key .values) (leaf .early) in
-    SixteenBits-of-keyFits (a .state .shape) (a .key .values) (p .shape) (p .fits) (leaf .four)
+    SixteenBits-passed _ _ (s .pre .leaf .found .leaf .passed)
 
 plan-join-requires : tie.Need-plan-join-requires
 plan-join-requires c κs =
@@ -95,7 +91,7 @@ plan-join-requires c κs =
     let a = s .args in
     let leaf = s .pre .leaf .found .leaf in
     record {
-      lent = directoryLent (given s) (a .key .values) (a .found .page) (a .found .depth) leaf;
+      lent = directoryLent (given s) (a .encoded .values) (a .found .page) (a .found .depth) leaf;
       divided = s .pre .leaf .divided;
       deep = leaf .deep;
     }
@@ -107,8 +103,8 @@ returns-4 c =
     let a = s .args in
     let holds = c .before .before .before .tally-holds in
     let back = ap unpackedKey (c .before .pack-key .ensures)
-    ∙ values-back (given s) (a .key .values) (a .found .page) (a .found .depth) (s .pre .leaf .found .leaf) in
-    joinPlanned (given s) (a .key .values) (a .found) (a .mask) (a .other) (a .beside) (s .pre) _ (fair e)
+    ∙ unpackedKey-passed _ _ (s .pre .leaf .found .leaf .passed) in
+    joinPlanned (given s) (a .encoded .values) (a .found) (a .mask) (a .other) (a .beside) (s .pre) _ (fair e)
     (c .before .before .before .before .if2 .left)
     (sym (holds .ensures) ∙ not-false (holds .result) (c .before .before .if3 .left)) _
     (subst

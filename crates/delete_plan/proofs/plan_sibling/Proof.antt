@@ -10,12 +10,11 @@ use Rattle.record.specs.Packed.{packedKey, unpackedKey}
 use Rattle.directory_word.specs.Word.{leafOf}
 use Rattle.directory_word.specs.declared.Leaf.the-variants.{Page}
 use Rattle.store.specs.Store.{Store, store}
-use Rattle.refusals.proofs.PassedLaws.{passed}
-use Rattle.model.proofs.SetLaws.{SixteenBits-of-keyFits}
+use Rattle.refusals.proofs.PassedLaws.{SixteenBits-passed, unpackedKey-passed, indexFits-passed}
 use Rattle.change.specs.Delete.{AtSibling}
 use Rattle.leaf_word.specs.Hold.{wordHolds}
 use Rattle.delete_siblings.specs.Siblings.{SiblingKey}
-use Rattle.delete_plan.proofs.MetLaws.{directoryLent, values-back, packed-fits}
+use Rattle.delete_plan.proofs.MetLaws.{directoryLent}
 use Rattle.delete_plan.proofs.BesideLaws.{refused-sibling, held-sibling}
 use Rattle.delete_plan.proofs.BesideLaws.{stays-empty, stays-deep, siblingMet}
 use borrow.Author.Needs.{needs}
@@ -32,23 +31,22 @@ start k = k .before .before .before .before .before
 -- the key that falls into the sibling, from the key's own packed form
 there : (k : tie.After-find-sibling)
     → let a = start k .args in
-    SiblingKey (a .state .shape) (packedKey (a .key .values)) (a .found .depth - 1) (k .find-sibling .result .key)
+    SiblingKey (a .state .shape) (packedKey (a .encoded .values)) (a .found .depth - 1) (k .find-sibling .result .key)
 there k =
     let a = start k .args in
     subst (λ key. SiblingKey (a .state .shape) key (a .found .depth - 1) (k .find-sibling .result .key))
     (k .before .before .pack-key .ensures) (k .find-sibling .ensures .beside)
 
 -- the key, back from its packed form
-back : (k : tie.After-find-sibling) → unpackedKey (k .before .before .pack-key .result) ≡ start k .args .key .values
+back : (k : tie.After-find-sibling) → unpackedKey (k .before .before .pack-key .result) ≡ start k .args .encoded .values
 back k =
-    let s = start k in
     ap unpackedKey (k .before .before .pack-key .ensures)
-    ∙ values-back (given s) (s .args .key .values) (s .args .found .page) (s .args .found .depth) (s .pre .found .leaf)
+    ∙ unpackedKey-passed _ _ (start k .pre .found .leaf .passed)
 
 -- the word of the sibling's cell
 beside : (k : tie.After-find-sibling)
     → let s = start k in
-    AtSibling (given s) (s .args .key .values) (s .args .found .depth - 1) (λ w. k .find-sibling .result .word ≡ w)
+    AtSibling (given s) (s .args .encoded .values) (s .args .found .depth - 1) (λ w. k .find-sibling .result .word ≡ w)
 beside k =
     let s = start k in
     subst
@@ -63,7 +61,7 @@ held c =
     let k = c .before .before in
     let s = start k in
     let holds = c .before .sibling-word-holds in
-    held-sibling (given s) (s .args .key .values) (s .args .found) (s .pre .found) (s .pre .divided) _
+    held-sibling (given s) (s .args .encoded .values) (s .args .found) (s .pre .found) (s .pre .divided) _
     (beside k) (sym (holds .ensures) ∙ not-false (holds .result) (c .if1 .left))
 
 -- the leaf with a page that it names
@@ -73,12 +71,7 @@ named : (c : tie.After-sibling)
 named c = sym (c .before .before .unpack .ensures) ∙ c .sibling .given .1
 
 pack-key-requires : tie.Need-pack-key-requires
-pack-key-requires c κs =
-    let s = c .before .before in
-    let a = s .args in
-    let leaf = s .pre .found .leaf in
-    let k = passed (given s) (a .key .values) (leaf .early) in
-    SixteenBits-of-keyFits (a .state .shape) (a .key .values) (k .shape) (k .fits) (leaf .four)
+pack-key-requires c κs = SixteenBits-passed _ _ (c .before .before .pre .found .leaf .passed)
 
 sub-find-sibling : tie.Need-sub-find-sibling
 sub-find-sibling c = search needs
@@ -89,11 +82,11 @@ find-sibling-requires c κs =
     let a = s .args in
     let leaf = s .pre .found .leaf in
     record {
-      lent = directoryLent (given s) (a .key .values) (a .found .page) (a .found .depth) leaf;
+      lent = directoryLent (given s) (a .encoded .values) (a .found .page) (a .found .depth) leaf;
       below = omega (arith, s .pre .divided, leaf .deep);
       fits =
           ap (λ n. indexFits (widthsOf (a .state .shape)) (unpackedKey n)) (c .before .pack-key .ensures)
-          ∙ packed-fits (given s) (a .key .values) (a .found .page) (a .found .depth) leaf;
+          ∙ indexFits-passed _ _ (leaf .passed);
     }
 
 sibling-word-holds-requires : tie.Need-sibling-word-holds-requires
@@ -101,7 +94,7 @@ sibling-word-holds-requires c κs =
     let s = start c in
     let a = s .args in
     let leaf = s .pre .found .leaf in
-    let lent = directoryLent (given s) (a .key .values) (a .found .page) (a .found .depth) leaf in
+    let lent = directoryLent (given s) (a .encoded .values) (a .found .page) (a .found .depth) leaf in
     (lent .short, omega (arith, leaf .deep, lent .short))
 
 returns : tie.Need-returns
@@ -109,7 +102,7 @@ returns c =
     let k = c .before .before in
     let s = start k in
     let holds = c .before .sibling-word-holds in
-    refused-sibling (given s) (s .args .key .values) (s .args .found) (s .pre .found) (s .pre .divided) _
+    refused-sibling (given s) (s .args .encoded .values) (s .args .found) (s .pre .found) (s .pre .divided) _
     (beside k) (sym (holds .ensures) ∙ not-true (holds .result) (c .if1 .taken))
 
 unpack-requires : tie.Need-unpack-requires
@@ -128,7 +121,7 @@ returns-2 c =
     record {
       found = s .pre .found;
       alone =
-          stays-empty (given s) (s .args .key .values) (s .args .found) (s .pre .found) (s .pre .divided) _
+          stays-empty (given s) (s .args .encoded .values) (s .args .found) (s .pre .found) (s .pre .divided) _
           (beside k) (held (c .before .before .before)) _
           (sym (c .before .before .unpack .ensures) ∙ c .enum-told .given .1);
     }
@@ -140,7 +133,7 @@ returns-3 c =
     record {
       found = s .pre .found;
       alone =
-          stays-deep (given s) (s .args .key .values) (s .args .found) (s .pre .found) (s .pre .divided) _
+          stays-deep (given s) (s .args .encoded .values) (s .args .found) (s .pre .found) (s .pre .divided) _
           (beside k) (held (c .before .before .before .before .before .before)) _ _
           (named (c .before .before .before)) (c .if2 .taken);
     }
@@ -149,7 +142,7 @@ plan-pair-requires : tie.Need-plan-pair-requires
 plan-pair-requires c κs =
     let k = c .before .before .before .before .before .before .before .before in
     let s = start k in
-    siblingMet (given s) (s .args .key .values) (s .args .found) (s .pre .found) (s .pre .divided) _
+    siblingMet (given s) (s .args .encoded .values) (s .args .found) (s .pre .found) (s .pre .divided) _
     (beside k) (held (c .before .before .before .before .before .before)) _ _
     (named (c .before .before .before)) (c .if2 .left) (s .args .mask) (s .pre .fixed) _ (there k)
 

@@ -95,7 +95,7 @@ returns c =
             depth = depth .ensures;
             new-leaf =
                 filled-shape (a .state) (widthList (w .result)) (w .ensures) (depth .result) (a .join .top)
-                (a .values) _ _ (a .dir .now) _
+                (a .encoded) _ _ (a .dir .now) _
                 (c .before .before .before .before .before .before .pack-page .ensures
                 ∙ ap (λ k. wordOf (Page k (a .join .top))) (records .kept))
                 (c .before .before .fill .ensures);

@@ -65,7 +65,7 @@ returns-2 c =
           record {
             emptied = λ e.
                 filled-shape (a .state) (widthList (w .result)) (w .ensures) (a .state .deepest) (a .found .depth)
-                (a .values) _ _ (a .dir .now) _ word filled;
+                (a .encoded) _ _ (a .dir .now) _ word filled;
             same = λ n. absurd (n (c .before .before .before .before .before .before .before .before .if1 .left));
           };
       bytes-are = earlier .before .before .before .remove-record .ensures;

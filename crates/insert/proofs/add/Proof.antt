@@ -1,14 +1,14 @@
 -- `insert::add` meets its contract: a refusal is what find and allocate tell, and each plan that is carried out keeps
 -- the promise. Assumes nothing.
-use Prim.Native.Nat.{_^_, _<_}
-use mathlib.Core.Path.{_≡_, refl, sym, ap, _∙_, subst}
+use Prim.Native.Nat.{ℕ, _^_, _<_}
+use mathlib.Core.Path.{_≡_, refl, sym, ap, subst}
+use mathlib.Core.List.{List}
 use native.Mathlib.Omega.{arith}
-use lib.ListN.{length, length-map}
 use borrow.Author.Needs.{needs}
 use Rattle.store.specs.Answers.{changedAnswer}
 use Rattle.store.specs.Store.{Store, store}
-use Rattle.refusals.proofs.PassedLaws.{passed}
-use Rattle.insert_planned.proofs.MetLaws.{sixteen}
+use Rattle.refusals.specs.Passed.{Passed, OfValues}
+use Rattle.refusals.proofs.PassedLaws.{passed, SixteenBits-passed}
 use Rattle.insert_allocate.specs.Planned.{InsertPlanned}
 use Rattle.insert_allocate.specs.declared.Plan.{Plan}
 use Rattle.insert_promise.proofs.CallLaws.{lent-taken, by-taken, lent-got, word-asked, by-got}
@@ -21,35 +21,47 @@ use Rattle.insert.proofs.add.Tie as tie
 abbrev given : tie.Start → Store
 given s = store (s .args .state) (s .args .dir .now) (s .args .pages .now)
 
+-- where the key was encoded, and its encodings
+abbrev encoding : tie.After-allocate → tie.After-encode-key
+encoding p = p .before .before .before .before .before .before .before
+
+abbrev encoded : tie.After-allocate → List ℕ
+encoded p = encoding p .encode-key .result .values
+
 -- where the function began
 abbrev start : tie.After-allocate → tie.Start
-start p = p .before .before .before .before .before .before .before .before .before
+start p = encoding p .before .before .before
+
+-- the early refusals let the key pass
+through : (c : tie.After-encode-key)
+    → Passed (given (c .before .before .before)) (c .encode-key .result .values)
+through c = subst (Passed _) (sym (c .encode-key .ensures)) (passed _ _ (c .before .before .before .pre))
 
 -- what the plan tells
 planned : (p : tie.After-allocate) (plan : Plan) → p .allocate .result ≡ plan
-    → let s = start p in InsertPlanned (given s) (s .args .key .values) plan
-planned p plan e =
-    let s = start p in subst (InsertPlanned (given s) (s .args .key .values)) e (p .allocate .ensures)
+    → InsertPlanned (given (start p)) (encoded p) plan
+planned p plan e = subst (InsertPlanned (given (start p)) (encoded p)) e (p .allocate .ensures)
+
+-- what holds of all values with these encodings holds of the call's
+called : (p : tie.After-allocate) (X : List ℕ → Type 0) → OfValues (given (start p)) (encoded p) X
+    → X (start p .args .key .values)
+called p X told = told (start p .args .key .values) (start p .pre) (sym (encoding p .encode-key .ensures))
 
 -- a payload has 32 bits: what owning the record tells
 small : (s : tie.Start) → s .args .content .payload < 2 ^ 32
 small s = s .good .1 .1 .1 .1 .0 .1 .1 .0 .1
 
--- the array of a key's values has four: what owning the key tells
-four : (s : tie.Start) → length (s .args .key .values) ≡ 4
-four s = sym (length-map (s .args .key .values) (λ v. v)) ∙ s .good .1 .1 .1 .0 .1 .1 .0 .1 .0 .1
+encode-key-requires : tie.Need-encode-key-requires
+encode-key-requires c κs = search needs
 
 find-requires : tie.Need-find-requires
-find-requires c κs = search needs
+find-requires c κs = through (c .before .before .before)
 
 allocate-requires : tie.Need-allocate-requires
 allocate-requires c κs = c .before .before .find .ensures
 
 pack-key-requires : tie.Need-pack-key-requires
-pack-key-requires c κs =
-    let s = start c in
-    let p = passed (given s) (s .args .key .values) (s .pre) in
-    sixteen (s .args .state .shape) (s .args .key .values) (s .args .content) (p .shape) (p .fits) (four s)
+pack-key-requires c κs = SixteenBits-passed _ _ (through (encoding c))
 
 cast-b : tie.Need-cast-b
 cast-b c = search needs
@@ -67,7 +79,7 @@ returns : tie.Need-returns
 unfolding changedAnswer
 returns c =
     let p = c .before .before .before .before .before in
-    planned p _ (c .before .plan .given .1) (start p .args .content)
+    called p _ (planned p _ (c .before .plan .given .1)) (start p .args .content)
 
 -- ---- the page is not full
 
@@ -82,7 +94,7 @@ insert-record-requires c κs =
     let plan = c .before .before in
     let p = plan .before .before .before .before in
     let s = start p in
-    lent-taken (given s) (s .args .key .values) (s .args .content) (small s) _ refl _ _ _
+    lent-taken (given s) (encoded p) (s .args .content) (small s) _ refl _ _ _
     (planned p _ (plan .plan2 .given .1))
 
 same-length-3 : tie.Need-same-length-3
@@ -99,8 +111,9 @@ returns-2 c =
     let k = plan .before .before .before in
     let p = k .before in
     let s = start p in
-    by-taken (given s) (s .args .key .values) (s .args .content) (small s) _ (k .pack-key .ensures) _ _ _
-    (planned p _ (plan .plan2 .given .1)) _ (inserted .insert-record .ensures)
+    called p _
+    (by-taken (given s) (encoded p) (s .args .content) (small s) _ (k .pack-key .ensures) _ _ _
+    (planned p _ (plan .plan2 .given .1)) _ (inserted .insert-record .ensures))
 
 -- ---- the page was null
 
@@ -116,7 +129,7 @@ insert-record-requires-2 c κs =
     let p = plan .before .before .before .before in
     let s = start p in
     let told = planned p _ (plan .plan3 .given .1) in
-    lent-got (given s) (s .args .key .values) (s .args .content) (small s) _ refl _ _ (told .0) (told .1)
+    lent-got (given s) (encoded p) (s .args .content) (small s) _ refl _ _ (told .0) (told .1)
 
 set-word-requires : tie.Need-set-word-requires
 set-word-requires c κs =
@@ -124,7 +137,7 @@ set-word-requires c κs =
     let p = plan .before .before .before .before in
     let s = start p in
     let told = planned p _ (plan .plan3 .given .1) in
-    word-asked (given s) (s .args .key .values) (s .args .content) (small s) _ refl _ _ (told .0) (told .1)
+    word-asked (given s) (encoded p) (s .args .content) (small s) _ refl _ _ (told .0) (told .1)
 
 same-length-5 : tie.Need-same-length-5
 same-length-5 c = search needs
@@ -142,8 +155,9 @@ returns-3 c =
     let p = k .before in
     let s = start p in
     let told = planned p _ (plan .plan3 .given .1) in
-    by-got (given s) (s .args .key .values) (s .args .content) (small s) _ (k .pack-key .ensures) _ _ (told .0)
-    (told .1) _ (set .set-word .ensures) _ (inserted .insert-record2 .ensures)
+    called p _
+    (by-got (given s) (encoded p) (s .args .content) (small s) _ (k .pack-key .ensures) _ _ (told .0)
+    (told .1) _ (set .set-word .ensures) _ (inserted .insert-record2 .ensures))
 
 -- ---- the page is full
 
@@ -156,7 +170,7 @@ double-requires c κs =
     let p = plan .before .before .before .before in
     let s = start p in
     let told = planned p _ (plan .plan4 .given .1) in
-    doubling-asked (given s) (s .args .key .values) (s .args .content) (small s) _ refl _ _ _ (told .0) (told .1)
+    doubling-asked (given s) (encoded p) (s .args .content) (small s) _ refl _ _ _ (told .0) (told .1)
 
 set-words-requires : tie.Need-set-words-requires
 set-words-requires c κs =
@@ -165,7 +179,7 @@ set-words-requires c κs =
     let p = plan .before .before .before .before in
     let s = start p in
     let told = planned p _ (plan .plan4 .given .1) in
-    leaves-asked (given s) (s .args .key .values) (s .args .content) (small s) _ refl _ _ _ (told .0) (told .1) _ _
+    leaves-asked (given s) (encoded p) (s .args .content) (small s) _ refl _ _ _ (told .0) (told .1) _ _
     (doubled .double .ensures)
 
 count-leaves-requires : tie.Need-count-leaves-requires
@@ -175,7 +189,7 @@ count-leaves-requires c κs =
     let p = plan .before .before .before .before in
     let s = start p in
     let told = planned p _ (plan .plan4 .given .1) in
-    tally-asked (given s) (s .args .key .values) (s .args .content) (small s) _ refl _ _ _ (told .0) (told .1) _
+    tally-asked (given s) (encoded p) (s .args .content) (small s) _ refl _ _ _ (told .0) (told .1) _
     (ap (λ st. st .tally) (doubled .double .ensures .state))
 
 cast-divide-pages : tie.Need-cast-divide-pages
@@ -194,8 +208,8 @@ divide-pages-requires c κs =
     let p = plan .before .before .before .before in
     let s = start p in
     let told = planned p _ (plan .plan4 .given .1) in (
-      pages-lent (given s) (s .args .key .values) (s .args .content) (small s) _ refl _ _ _ (told .0) (told .1),
-      cut-fits (given s) (s .args .key .values) (s .args .content) (small s) _ refl _ _ _ (told .0) (told .1),
+      pages-lent (given s) (encoded p) (s .args .content) (small s) _ refl _ _ _ (told .0) (told .1),
+      cut-fits (given s) (encoded p) (s .args .content) (small s) _ refl _ _ _ (told .0) (told .1),
     )
 
 same-length-7 : tie.Need-same-length-7
@@ -216,14 +230,16 @@ returns-4 c =
     let p = k .before in
     let s = start p in
     let told = planned p _ (plan .plan4 .given .1) in
-    by-divided (given s) (s .args .key .values) (s .args .content) (small s) _ (k .pack-key .ensures) _ _ _ (told .0)
+    called p _
+    (by-divided (given s) (encoded p) (s .args .content) (small s) _ (k .pack-key .ensures) _ _ _ (told .0)
     (told .1) _ _ (doubled .double .ensures) _ (set .set-words .ensures) _ (counted .count-leaves .ensures) _
-    (pages .divide-pages .ensures)
+    (pages .divide-pages .ensures))
 
 pub add-spec : {M : Type 1} → statement M
 add-spec =
     tie.close
     (tie.spec
+    encode-key-requires
     find-requires
     allocate-requires
     pack-key-requires

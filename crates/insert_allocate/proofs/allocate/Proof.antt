@@ -9,9 +9,9 @@ use Rattle.insert_allocate.proofs.allocate.Tie as tie
 
 -- what was found
 found : (s : tie.Start) (it : Found) → s .args .found ≡ it
-    → InsertFound (store (s .args .state) (s .args .dir .now) (s .args .pages .now)) (s .args .values) it
+    → InsertFound (store (s .args .state) (s .args .dir .now) (s .args .pages .now)) (s .args .encoded) it
 found s it e =
-    subst (InsertFound (store (s .args .state) (s .args .dir .now) (s .args .pages .now)) (s .args .values)) e (s .pre)
+    subst (InsertFound (store (s .args .state) (s .args .dir .now) (s .args .pages .now)) (s .args .encoded)) e (s .pre)
 
 enum-known-found : tie.Need-enum-known-found
 enum-known-found c = search needs

@@ -23,7 +23,7 @@ returns : tie.Need-returns
 returns c =
     let f = c .before .before in
     let s = start f in
-    seven-empty (given s) (s .args .values) _ _ (f .spare-page .ensures) (s .args .depth) (s .pre) (c .if1 .taken)
+    seven-empty (given s) (s .args .encoded) _ _ (f .spare-page .ensures) (s .args .depth) (s .pre) (c .if1 .taken)
 
 pack-empty-requires : tie.Need-pack-empty-requires
 pack-empty-requires c κs =
@@ -33,14 +33,14 @@ pack-empty-requires c κs =
 leaf-whole-requires : tie.Need-leaf-whole-requires
 leaf-whole-requires c κs =
     let s = start (c .before .before .before) in
-    (directory-lent (given s) (s .args .values) (s .pre .asked), s .pre .depth-le)
+    (directory-lent (given s) (s .args .encoded) (s .pre .asked), s .pre .depth-le)
 
 returns-2 : tie.Need-returns-2
 returns-2 c =
     let t = c .before in
     let f = t .before .before .before .before in
     let s = start f in
-    nine-empty (given s) (s .args .values) _ _ (f .spare-page .ensures) (s .args .depth) (s .pre) _
+    nine-empty (given s) (s .args .encoded) _ _ (f .spare-page .ensures) (s .args .depth) (s .pre) _
     (t .before .pack-empty .ensures) _ (t .leaf-whole .ensures) (not-true _ (c .if2 .taken))
 
 returns-3 : tie.Need-returns-3
@@ -49,7 +49,7 @@ returns-3 c =
     let room = t .before .before in
     let f = room .before .before in
     let s = start f in
-    get-planned (given s) (s .args .values) _ _ (f .spare-page .ensures) (s .args .depth) (s .pre) _
+    get-planned (given s) (s .args .encoded) _ _ (f .spare-page .ensures) (s .args .depth) (s .pre) _
     (t .before .pack-empty .ensures) _ (t .leaf-whole .ensures) (room .if1 .left) (not-false _ (c .if2 .left))
 
 pub allocate-first-spec : {M : Type 1} → statement M

@@ -22,24 +22,24 @@ returns : tie.Need-returns
 returns c =
     let f = c .before .before in
     let s = start f in
-    seven-full (given s) (s .args .values) _ _ (f .spare-page .ensures) _ _ (s .pre) (c .if1 .taken)
+    seven-full (given s) (s .args .encoded) _ _ (f .spare-page .ensures) _ _ (s .pre) (c .if1 .taken)
 
 pack-page-requires : tie.Need-pack-page-requires
 pack-page-requires c κs =
     let s = start (c .before .before) in
-    own-word-fits (given s) (s .args .values) _ _ (s .pre)
+    own-word-fits (given s) (s .args .encoded) _ _ (s .pre)
 
 leaf-whole-requires : tie.Need-leaf-whole-requires
 leaf-whole-requires c κs =
     let s = start (c .before .before .before) in
-    (directory-lent (given s) (s .args .values) (s .pre .asked), s .pre .met .ends-met .met .depth-le)
+    (directory-lent (given s) (s .args .encoded) (s .pre .asked), s .pre .met .ends-met .met .depth-le)
 
 returns-2 : tie.Need-returns-2
 returns-2 c =
     let t = c .before in
     let f = t .before .before .before .before in
     let s = start f in
-    nine-full (given s) (s .args .values) _ _ (f .spare-page .ensures) _ _ (s .pre) _ (t .before .pack-page .ensures) _
+    nine-full (given s) (s .args .encoded) _ _ (f .spare-page .ensures) _ _ (s .pre) _ (t .before .pack-page .ensures) _
     (t .leaf-whole .ensures) (not-true _ (c .if2 .taken))
 
 returns-3 : tie.Need-returns-3
@@ -48,7 +48,7 @@ returns-3 c =
     let room = t .before .before in
     let f = room .before .before in
     let s = start f in
-    divide-planned (given s) (s .args .values) _ _ (f .spare-page .ensures) _ _ (s .pre) _
+    divide-planned (given s) (s .args .encoded) _ _ (f .spare-page .ensures) _ _ (s .pre) _
     (t .before .pack-page .ensures) _ (t .leaf-whole .ensures) (room .if1 .left) (not-false _ (c .if2 .left))
 
 pub allocate-half-spec : {M : Type 1} → statement M

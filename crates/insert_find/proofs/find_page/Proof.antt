@@ -50,7 +50,7 @@ find-place-requires c κs =
     )
 
 returns : tie.Need-returns
-returns c words values m =
+returns c words encoded m =
     let leaf = c .before in
     let s = leaf .before .before .before .before in
     let h = held-empty (s .args .state) (s .args .word) (s .pre .1) _
@@ -63,10 +63,10 @@ returns c words values m =
     }
 
 returns-2 : tie.Need-returns-2
-returns-2 c words values m =
+returns-2 c words encoded m =
     let h = held (c .before .before) in
     let s = c .before .before .before .before .before .before in
-    c .find-place .ensures words values
+    c .find-place .ensures words encoded
     (record {
       asked = m .asked;
       key-is = m .key-is;

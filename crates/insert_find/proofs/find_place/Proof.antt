@@ -62,18 +62,18 @@ count-at-requires : tie.Need-count-at-requires
 count-at-requires c κs = c .before .before .before .pre .1
 
 returns : tie.Need-returns
-returns c words values m =
+returns c words encoded m =
     let f = c .before in
     let a = f .before .before .before .before .args in
-    nine-count (store (a .state) words (a .pages .now)) values (a .key) (a .page) (a .depth) m _
+    nine-count (store (a .state) words (a .pages .now)) encoded (a .key) (a .page) (a .depth) m _
     (f .count-at .ensures .0)
     (inl (c .if1 .taken))
 
 returns-2 : tie.Need-returns-2
-returns-2 c words values m =
+returns-2 c words encoded m =
     let f = c .before .before in
     let a = f .before .before .before .before .args in
-    nine-count (store (a .state) words (a .pages .now)) values (a .key) (a .page) (a .depth) m _
+    nine-count (store (a .state) words (a .pages .now)) encoded (a .key) (a .page) (a .depth) m _
     (f .count-at .ensures .0)
     (inr (c .if2 .taken))
 
@@ -90,11 +90,11 @@ page-holds-requires c κs =
     }
 
 returns-3 : tie.Need-returns-3
-returns-3 c words values m =
+returns-3 c words encoded m =
     let f = c .before .before .before .before in
     let a = f .before .before .before .before .args in
     let holds = c .before .page-holds in
-    nine-ends (store (a .state) words (a .pages .now)) values (a .key) (a .page) (a .depth) m _
+    nine-ends (store (a .state) words (a .pages .now)) encoded (a .key) (a .page) (a .depth) m _
     (f .count-at .ensures .0) (sym (holds .ensures) ∙ not-true (holds .result) (c .if3 .taken))
 
 page-start-requires : tie.Need-page-start-requires
@@ -138,14 +138,14 @@ enum-told : tie.Need-enum-told
 enum-told c = search needs
 
 returns-4 : tie.Need-returns-4
-returns-4 c words values m =
+returns-4 c words encoded m =
     let d = c .before .before in
     let few = d .before .before .before .before .before .before .before in
     let f = few .before .before in
     let s = f .before .before .before .before in
     let a = s .args in
     let known = f .before .before .before .shared-slice-known .given in
-    four-stored (store (a .state) words (a .pages .now)) values (a .key) (a .page) (a .depth) m _
+    four-stored (store (a .state) words (a .pages .now)) encoded (a .key) (a .page) (a .depth) m _
     (f .count-at .ensures .0)
     (omega (arith, few .if2 .left)) (own d) (λ i. omega (arith, known i)) _
     (subst
@@ -154,14 +154,14 @@ returns-4 c words values m =
     (c .enum-told .given .1) (place d))
 
 returns-5 : tie.Need-returns-5
-returns-5 c words values m =
+returns-5 c words encoded m =
     let found = c .before .before .place in
     let d = c .before .before .before .before in
     let few = d .before .before .before .before .before .before .before in
     let f = few .before .before in
     let a = f .before .before .before .before .args in
     let known = f .before .before .before .shared-slice-known .given in
-    room-found (store (a .state) words (a .pages .now)) values (a .key) (a .page) (a .depth) m _
+    room-found (store (a .state) words (a .pages .now)) encoded (a .key) (a .page) (a .depth) m _
     (f .count-at .ensures .0) (omega (arith, few .if2 .left)) (own d)
     (λ i. omega (arith, known i)) _
     (subst
@@ -176,15 +176,15 @@ find-split-requires c κs =
     (s .pre .0, s .pre .1)
 
 returns-6 : tie.Need-returns-6
-returns-6 c words values m =
+returns-6 c words encoded m =
     let found = c .before .before .before .place in
     let d = c .before .before .before .before .before in
     let few = d .before .before .before .before .before .before .before in
     let f = few .before .before in
     let a = f .before .before .before .before .args in
     let known = f .before .before .before .shared-slice-known .given in
-    c .find-split .ensures words values
-    (full-met (store (a .state) words (a .pages .now)) values (a .key) (a .page) (a .depth) m _
+    c .find-split .ensures words encoded
+    (full-met (store (a .state) words (a .pages .now)) encoded (a .key) (a .page) (a .depth) m _
     (f .count-at .ensures .0)
     (omega (arith, few .if2 .left)) (own d) (λ i. omega (arith, known i)) _
     (subst

@@ -73,20 +73,20 @@ enum-told : tie.Need-enum-told
 enum-told c = search needs
 
 returns : tie.Need-returns
-returns c words values m =
+returns c words encoded m =
     let h = c .before .before in
     let size = h .before .before .before in
     let a = size .before .before .before .before .before .before .args in
-    nine-half (store (a .state) words (a .pages .now)) values (a .key) (a .split) m _ _ (h .before .widths-of .ensures)
+    nine-half (store (a .state) words (a .pages .now)) encoded (a .key) (a .split) m _ _ (h .before .widths-of .ensures)
     (part size)
     (h .half-of .result) (h .half-of .ensures) (c .enum-told .given .1)
 
 returns-2 : tie.Need-returns-2
-returns-2 c words values m =
+returns-2 c words encoded m =
     let h = c .before .before .before in
     let size = h .before .before .before in
     let a = size .before .before .before .before .before .before .args in
-    full-found (store (a .state) words (a .pages .now)) values (a .key) (a .split) m _ _
+    full-found (store (a .state) words (a .pages .now)) encoded (a .key) (a .split) m _ _
     (h .before .widths-of .ensures) (part size) (h .half-of .result) (h .half-of .ensures) _ (c .before .half .given .1)
 
 pub find-cut-spec : {M : Type 1} → statement M

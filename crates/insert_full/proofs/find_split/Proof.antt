@@ -41,14 +41,14 @@ part c =
 met : (c : tie.After-ends-pair)
     → let w = c .before .before .before .before in
     let a = w .before .before .before .before .before .args in
-    (words values : List ℕ)
-    → FullMet (store (a .state) words (a .pages .now)) values (a .key) (a .page) (a .depth) (a .i)
-    → EndsMet (store (a .state) words (a .pages .now)) values (a .page) (a .depth) (a .i) (c .ends-pair .result)
+    (words encoded : List ℕ)
+    → FullMet (store (a .state) words (a .pages .now)) encoded (a .key) (a .page) (a .depth) (a .i)
+    → EndsMet (store (a .state) words (a .pages .now)) encoded (a .page) (a .depth) (a .i) (c .ends-pair .result)
     (length (stepsBelow (widthList (w .widths-of .result)) (c .ends-pair .result)))
-met c words values m =
+met c words encoded m =
     let w = c .before .before .before .before in
     let a = w .before .before .before .before .before .args in
-    ends-met (store (a .state) words (a .pages .now)) values (a .key) (a .page) (a .depth) (a .i)
+    ends-met (store (a .state) words (a .pages .now)) encoded (a .key) (a .page) (a .depth) (a .i)
     (c .ends-pair .result) _
     m (widthList (w .widths-of .result)) _ (w .widths-of .ensures)
     (part (c .before .before)) (c .ends-pair .ensures) refl
@@ -60,16 +60,16 @@ below c = omega (arith, c .before .ends-pair .ensures .most, c .if1 .left)
 met-step : (c : tie.After-steps-before)
     → let e = c .before .before in
     let a = e .before .before .before .before .before .before .before .before .before .args in
-    (words values : List ℕ)
-    → FullMet (store (a .state) words (a .pages .now)) values (a .key) (a .page) (a .depth) (a .i)
-    → EndsMet (store (a .state) words (a .pages .now)) values (a .page) (a .depth) (a .i) (e .ends-pair .result)
+    (words encoded : List ℕ)
+    → FullMet (store (a .state) words (a .pages .now)) encoded (a .key) (a .page) (a .depth) (a .i)
+    → EndsMet (store (a .state) words (a .pages .now)) encoded (a .page) (a .depth) (a .i) (e .ends-pair .result)
     (c .steps-before .result)
-met-step c words values m =
+met-step c words encoded m =
     let e = c .before .before in
     let a = e .before .before .before .before .before .before .before .before .before .args in
     subst
-    (EndsMet (store (a .state) words (a .pages .now)) values (a .page) (a .depth) (a .i) (e .ends-pair .result))
-    (c .steps-before .ensures .before) (met e words values m)
+    (EndsMet (store (a .state) words (a .pages .now)) encoded (a .page) (a .depth) (a .i) (e .ends-pair .result))
+    (c .steps-before .ensures .before) (met e words encoded m)
 
 cast-capacity : tie.Need-cast-capacity
 cast-capacity c = search needs
@@ -107,9 +107,9 @@ ends-pair-requires c κs =
     (b .0, b .1, omega (arith, whole), fit w)
 
 returns : tie.Need-returns
-returns c words values m =
+returns c words encoded m =
     let a = c .before .before .before .before .before .before .before .before .before .before .args in
-    nine-ends (store (a .state) words (a .pages .now)) values (m .asked) _ _ _ _ _ (met (c .before) words values m)
+    nine-ends (store (a .state) words (a .pages .now)) encoded (m .asked) _ _ _ _ _ (met (c .before) words encoded m)
     (c .if1 .taken)
 
 steps-before-requires : tie.Need-steps-before-requires
@@ -119,28 +119,28 @@ cast-if2 : tie.Need-cast-if2
 cast-if2 c = search needs
 
 returns-2 : tie.Need-returns-2
-returns-2 c words values m =
+returns-2 c words encoded m =
     let t = c .before .before in
     let a = t .before .before .before .before .before .before .before .before .before .before .before .args in
-    six-alike (store (a .state) words (a .pages .now)) values (m .asked) _ _ _ _ _ (met-step t words values m)
+    six-alike (store (a .state) words (a .pages .now)) encoded (m .asked) _ _ _ _ _ (met-step t words encoded m)
     (below (t .before)) (c .if2 .taken)
 
 returns-3 : tie.Need-returns-3
-returns-3 c words values m =
+returns-3 c words encoded m =
     let t = c .before .before .before in
     let a = t .before .before .before .before .before .before .before .before .before .before .before .args in
-    nine-below (store (a .state) words (a .pages .now)) values (m .asked) _ _ _ _ _ (met-step t words values m)
+    nine-below (store (a .state) words (a .pages .now)) encoded (m .asked) _ _ _ _ _ (met-step t words encoded m)
     (below (t .before)) (c .if3 .taken)
 
 tally-holds-requires : tie.Need-tally-holds-requires
 tally-holds-requires c κs = search needs
 
 returns-4 : tie.Need-returns-4
-returns-4 c words values m =
+returns-4 c words encoded m =
     let e = c .before .before .before .before .before .before in
     let a = e .before .before .before .before .before .before .before .before .before .before .args in
     let tally = c .before .tally-holds in
-    nine-tally (store (a .state) words (a .pages .now)) values (m .asked)
+    nine-tally (store (a .state) words (a .pages .now)) encoded
     (sym (tally .ensures) ∙ not-true (tally .result) (c .if4 .taken))
 
 find-cut-requires : tie.Need-find-cut-requires
@@ -155,16 +155,16 @@ find-cut-requires c κs =
     )
 
 returns-5 : tie.Need-returns-5
-returns-5 c words values m =
+returns-5 c words encoded m =
     let t = c .before .before .before .before .before .before in
     let tally = c .before .before .tally-holds in
-    c .find-cut .ensures words values
+    c .find-cut .ensures words encoded
     (record {
       asked = m .asked;
       key-is = m .key-is;
       split-met =
           record {
-            ends-met = met-step t words values m;
+            ends-met = met-step t words encoded m;
             differ = below (t .before);
             below = omega (arith, c .before .before .before .if3 .left);
             deep = omega (arith, c .before .before .before .before .if2 .left);

@@ -32,7 +32,7 @@ returns c =
     let packed = c .before .before .before .before in
     let w = packed .before .before in
     let a = w .before .before .args in
-    filled-shape (a .state) _ (w .widths-of .ensures) _ _ (a .values) _ _ _ _ (packed .pack-page .ensures)
+    filled-shape (a .state) _ (w .widths-of .ensures) _ _ (a .encoded) _ _ _ _ (packed .pack-page .ensures)
     (c .before .before .fill .ensures)
 
 pub set-word-spec : {M : Type 1} → statement M

@@ -30,7 +30,7 @@ set-leaves-requires c κs =
       ),
       (
         (asked .page-lt, asked .free-lt),
-        asked .bit-is ∙ ap (λ ws. splitBit ws (a .values) (a .split .step)) (sym (w .widths-of .ensures)),
+        asked .bit-is ∙ ap (λ ws. splitBit ws (a .encoded) (a .split .step)) (sym (w .widths-of .ensures)),
       ),
     )
 
@@ -43,7 +43,7 @@ returns c =
     let w = c .before .before .before .before .before .before in
     let a = w .before .before .args in
     subst
-    (λ ws. LeavesSet ws (a .state .deepest) (a .split .depth) (a .split .step) (splitBit ws (a .values))
+    (λ ws. LeavesSet ws (a .state .deepest) (a .split .depth) (a .split .step) (splitBit ws (a .encoded))
     (a .split .page) (a .free) (a .dir .now) (set .last .1 .1 .1 .1 .1 .1 .1 .1 .0))
     (w .widths-of .ensures) (set .ensures)
 

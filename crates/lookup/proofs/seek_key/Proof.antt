@@ -2,33 +2,27 @@
 use mathlib.Core.Path.{_≡_, sym, ap, _∙_, subst}
 use mathlib.Core.Bool.{true}
 use native.Mathlib.Nat.{le-trans}
-use lib.ListN.{length, length-map}
 use lib.Pow.{pow-mono}
 use borrow.Author.Needs.{needs}
 use borrow.Author.Tests.{not-true, not-false}
 use Rattle.shape.specs.Shape.{widthsOf, indexFits}
 use Rattle.split.specs.Bits.{splitBit}
 use Rattle.record.specs.Packed.{unpackedKey}
-use Rattle.model.proofs.SetLaws.{SixteenBits-of-keyFits}
 use Rattle.store.specs.Answers.{foundAnswer}
 use Rattle.store.specs.Store.{store, wordAt}
 use Rattle.refusals.specs.Limits.{limitsHold}
 use Rattle.refusals.proofs.LimitsLaws.{limited}
-use Rattle.refusals.proofs.PassedLaws.{Passed, passed}
-use Rattle.leaf_word.proofs.PageLaws.{unpackedKey-values, indexFits-packed}
+use Rattle.refusals.specs.Passed.{Passed}
+use Rattle.refusals.proofs.PassedLaws.{SixteenBits-passed, unpackedKey-passed, indexFits-passed}
 use Rattle.leaf_word.proofs.WordLaws.{key-word-asks, key-word-is}
 use Rattle.lookup.proofs.CaseLaws.{soughtAnswer-limits, soughtAnswer-word}
 use Rattle.lookup.proofs.seek_key.Statement.{statement}
 use Rattle.lookup.proofs.seek_key.Tie as tie
 
--- the array of a key's values has four: what owning the key tells
-four : (c : tie.Start) → length (c .args .key .values) ≡ 4
-four c = sym (length-map (c .args .key .values) (λ v. v)) ∙ c .good .1 .1 .1 .0 .1 .1 .0 .1 .0 .1
-
 -- what the early refusals leave
 early : (c : tie.After-shared-slice-known2)
-    → let a = c .before .before .args in Passed (store (a .state) (a .dir .now) (a .pages .now)) (a .key .values)
-early c = passed _ _ (c .before .before .pre)
+    → let a = c .before .before .args in Passed (store (a .state) (a .dir .now) (a .pages .now)) (a .encoded .values)
+early c = c .before .before .pre
 
 -- and the limits
 held : (c : tie.Else1) → limitsHold (c .before .before .before .before .args .state) ≡ true
@@ -41,34 +35,27 @@ returns : tie.Need-returns
 unfolding foundAnswer
 returns c =
     let a = c .before .before .before .before .args in
-    soughtAnswer-limits (store (a .state) (a .dir .now) (a .pages .now)) (a .key .values)
+    soughtAnswer-limits (store (a .state) (a .dir .now) (a .pages .now)) (a .encoded .values)
     (sym (c .before .limits-hold .ensures) ∙ not-true (c .before .limits-hold .result) (c .if1 .taken))
 
 pack-key-requires : tie.Need-pack-key-requires
-pack-key-requires c κs =
-    let s = c .before .before .before .before in
-    let p = early (c .before .before) in
-    SixteenBits-of-keyFits (s .args .state .shape) (s .args .key .values) (p .shape) (p .fits) (four s)
+pack-key-requires c κs = SixteenBits-passed _ _ (early (c .before .before))
 
 -- the key, back from its packed form
 back : (c : tie.After-pack-key)
-    → unpackedKey (c .pack-key .result) ≡ c .before .before .before .before .before .args .key .values
-back c =
-    let s = c .before .before .before .before .before in
-    let p = early (c .before .before .before) in
-    ap unpackedKey (c .pack-key .ensures)
-    ∙ unpackedKey-values (s .args .state .shape) (s .args .key .values) (p .shape) (p .fits) (four s)
+    → unpackedKey (c .pack-key .result) ≡ c .before .before .before .before .before .args .encoded .values
+back c = ap unpackedKey (c .pack-key .ensures) ∙ unpackedKey-passed _ _ (early (c .before .before .before))
 
 -- the word that was found, of the state's own shape
 found : (c : tie.After-key-word)
     → let a = c .before .before .before .before .before .before .before .before .args in
     c .key-word .result
     ≡ wordAt (a .state .shape) (a .state .deepest) (a .dir .now)
-    (splitBit (widthsOf (a .state .shape)) (a .key .values))
+    (splitBit (widthsOf (a .state .shape)) (a .encoded .values))
 found c =
     let a = c .before .before .before .before .before .before .before .before .args in
     key-word-is (a .state .shape) _ (c .before .before .widths-of .ensures) (a .state .deepest) (a .dir .now)
-    (a .key .values) _ _ (back (c .before .before .before)) (c .key-word .ensures)
+    (a .encoded .values) _ _ (back (c .before .before .before)) (c .key-word .ensures)
 
 widths-of-requires : tie.Need-widths-of-requires
 widths-of-requires c κs = search needs
@@ -98,7 +85,7 @@ seek-by-word-requires c κs =
       bits = le-trans (l .depth-within) (l .depth-bits);
       lent = p .pages-lent;
       fits = subst (λ k. indexFits (widthsOf (st .shape)) (unpackedKey k) ≡ true) (sym (packed .pack-key .ensures))
-          (indexFits-packed (st .shape) (s .args .key .values) (p .shape) (p .fits) (four s));
+          (indexFits-passed _ _ p);
     }
 
 returns-2 : tie.Need-returns-2
@@ -106,8 +93,8 @@ returns-2 c =
     let packed = c .before .before .before .before in
     let a = packed .before .before .before .before .before .args in
     c .seek-by-word .ensures
-    ∙ soughtAnswer-word (store (a .state) (a .dir .now) (a .pages .now)) (a .key .values) (held (packed .before)) _ _
-    (found (c .before)) (packed .pack-key .ensures)
+    ∙ soughtAnswer-word (store (a .state) (a .dir .now) (a .pages .now)) (a .encoded .values) (held (packed .before)) _
+    _ (found (c .before)) (packed .pack-key .ensures)
 
 pub seek-key-spec : {M : Type 1} → statement M
 seek-key-spec =

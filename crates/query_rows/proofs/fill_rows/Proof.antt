@@ -94,7 +94,7 @@ returns c =
     let l = c .before .loop in
     let wanted = wantedValues (a .query) in (
       l .inv .0 ∙ length-set (a .rows .now) 5 _,
-      rows-filled (a .shape) wanted (a .t) (4 * l .bit) (l .x) (l .rows)
+      rows-filled _ _ (a .t) (4 * l .bit) (l .x) (l .rows)
           (subst (λ ws. RowsFilled ws (wantedAt ws wanted) (a .t) (4 * l .bit) (l .x) (l .rows))
           (c .before .before .before .widths-of .ensures) (l .inv .1))
           (c .loop-test .left),

@@ -59,8 +59,9 @@ note-met-requires c κs =
 -- the walk was by the range's packed ends
 met : (c : tie.After-note-met)
     → let a = c .before .before .before .before .before .before .before .before .before .before .before .args in
-    Meeting (a .state) (lowKey (rangeIntervals (a .range))) (highKey (rangeIntervals (a .range))) (a .dir .now)
-    (a .pages .now) (a .list .now) (c .note-met .result) (c .note-met .last .1 .1 .1 .1 .1 .1 .0)
+    let r = rangeIntervals (a .range) in
+    Meeting (a .state) (lowKey (a .state .shape) r) (highKey (a .state .shape) r) (a .dir .now) (a .pages .now)
+    (a .list .now) (c .note-met .result) (c .note-met .last .1 .1 .1 .1 .1 .1 .0)
 met c =
     let high = c .before .before .before .before .before in
     let low = high .before in
@@ -68,7 +69,8 @@ met c =
     let r = rangeIntervals (a .range) in
     let later = c .note-met .last .1 .1 .1 .1 .1 .1 .0 in
     subst
-    (λ k. Meeting (a .state) k (highKey r) (a .dir .now) (a .pages .now) (a .list .now) (c .note-met .result) later)
+    (λ k. Meeting (a .state) k (highKey (a .state .shape) r) (a .dir .now) (a .pages .now) (a .list .now)
+    (c .note-met .result) later)
     (low .low-key .ensures)
     (subst
     (λ k. Meeting (a .state) (low .low-key .result) k (a .dir .now) (a .pages .now) (a .list .now) (c .note-met .result)

@@ -1,9 +1,11 @@
--- `range_number::low_key` meets its contract: the query's values are the low ends. Assumes nothing.
-use mathlib.Core.Path.{sym, ap, subst, _∙_}
+-- `range_number::low_key` meets its contract: the query's values are the encodings of the low ends. Assumes nothing.
+use mathlib.Core.Path.{_≡_, sym, ap, subst, _∙_}
 use native.Mathlib.Omega.{arith}
+use Rattle.shape.specs.Key.{wantedValues, encodedWanted}
+use Rattle.shape.specs.Range.{rangeIntervals}
 use Rattle.record.specs.Packed.{packedKey}
 use Rattle.page_matches.specs.Pattern.{GivenSixteenBits}
-use Rattle.range_number.specs.Ends.{valuesOr, lowKey}
+use Rattle.range_number.specs.Ends.{lowEnds, valuesOr, lowKey}
 use borrow.Author.Needs.{needs}
 use Rattle.range_number.proofs.low_key.Statement.{statement}
 use Rattle.range_number.proofs.low_key.Tie as tie
@@ -11,13 +13,21 @@ use Rattle.range_number.proofs.low_key.Tie as tie
 low-ends-requires : tie.Need-low-ends-requires
 low-ends-requires c κs = search needs
 
+encode-query-requires : tie.Need-encode-query-requires
+encode-query-requires c κs = search needs
+
+-- what the query gives
+given : (c : tie.After-encode-query)
+    → let a = c .before .before .args in
+    wantedValues (c .encode-query .result) ≡ encodedWanted (a .shape) (lowEnds (rangeIntervals (a .range)))
+given c = c .encode-query .ensures ∙ ap (encodedWanted (c .before .before .args .shape)) (c .before .low-ends .ensures)
+
 key-or-requires : tie.Need-key-or-requires
-key-or-requires c κs =
-    (subst (λ q. GivenSixteenBits q) (sym (c .low-ends .ensures)) (c .before .pre), omega arith)
+key-or-requires c κs = (subst (λ q. GivenSixteenBits q) (sym (given c)) (c .before .before .pre), omega arith)
 
 returns : tie.Need-returns
 unfolding lowKey
-returns c = c .key-or .ensures ∙ ap (λ q. packedKey (valuesOr 0 q)) (c .before .low-ends .ensures)
+returns c = c .key-or .ensures ∙ ap (λ q. packedKey (valuesOr 0 q)) (given (c .before))
 
 pub low-key-spec : {M : Type 1} → statement M
-low-key-spec = tie.close (tie.spec low-ends-requires key-or-requires returns)
+low-key-spec = tie.close (tie.spec low-ends-requires encode-query-requires key-or-requires returns)

@@ -3,7 +3,7 @@ use mathlib.Core.Path.{_≡_, sym, ap, _∙_}
 use mathlib.Core.Bool.{true}
 use borrow.Author.Tests.{not-true, not-false}
 use Rattle.shape.specs.Shape.{shapeNumber}
-use Rattle.shape.specs.Key.{queryFits}
+use Rattle.shape.specs.Key.{encodedWanted, queryFits}
 use Rattle.shape.specs.Range.{rangeIntervals, rangeRises}
 use Rattle.page_matches.specs.Pattern.{GivenSixteenBits}
 use Rattle.refusals.proofs.LentLaws.{memoryLent}
@@ -80,7 +80,8 @@ high-fits : (c : tie.Else2)
 high-fits c = sym (high-fit (c .before)) ∙ not-false _ (c .if2 .left)
 
 sixteen-low : (c : tie.Else2)
-    → GivenSixteenBits (lowEnds (rangeIntervals (c .before .before .before .before .before .before .args .range)))
+    → let a = c .before .before .before .before .before .before .args in
+    GivenSixteenBits (encodedWanted (a .state .shape) (lowEnds (rangeIntervals (a .range))))
 sixteen-low c =
     let low = c .before .before .before in
     let a = low .before .before .before .args in
@@ -89,7 +90,8 @@ sixteen-low c =
     (parts-of-queryNumberBy (a .state) (a .words) (a .bytes) q (low-none low) .1)
 
 sixteen-high : (c : tie.Else2)
-    → GivenSixteenBits (highEnds (rangeIntervals (c .before .before .before .before .before .before .args .range)))
+    → let a = c .before .before .before .before .before .before .args in
+    GivenSixteenBits (encodedWanted (a .state .shape) (highEnds (rangeIntervals (a .range))))
 sixteen-high c =
     let low = c .before .before .before in
     let a = low .before .before .before .args in

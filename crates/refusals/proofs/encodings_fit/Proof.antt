@@ -1,11 +1,18 @@
--- `refusals::key_fits` meets its contract: a shift by a width leaves what a value has past it. Assumes nothing.
+-- `refusals::encodings_fit` meets its contract: a shift by a width leaves what an encoding has past it. Assumes
+-- nothing.
+use mathlib.Core.Path.{_≡_, sym, _∙_}
 use native.Mathlib.Omega.{arith}
+use lib.ListN.{length, length-map}
 use borrow.Author.Needs.{needs}
 use Rattle.shape.specs.Shape.{Fit, widthList}
 use Rattle.shape.proofs.ShapeLaws.{widths-fit}
-use Rattle.refusals.proofs.FitLaws.{keyFits-past}
-use Rattle.refusals.proofs.key_fits.Statement.{statement}
-use Rattle.refusals.proofs.key_fits.Tie as tie
+use Rattle.refusals.proofs.FitLaws.{indexFits-past}
+use Rattle.refusals.proofs.encodings_fit.Statement.{statement}
+use Rattle.refusals.proofs.encodings_fit.Tie as tie
+
+-- the array of a key's numbers has four: what owning the key tells
+four : (c : tie.Start) → length (c .args .encoded .values) ≡ 4
+four c = sym (length-map (c .args .encoded .values) (λ v. v)) ∙ c .good .1 .0 .1 .1 .0 .1 .0 .1
 
 fit : (c : tie.After-widths-of) → Fit (widthList (c .widths-of .result))
 fit c =
@@ -55,10 +62,11 @@ returns : tie.Need-returns
 returns c =
     let w = c .before .before .before .before in
     let a = w .before .before .args in
-    keyFits-past (a .shape) (a .key .values) (widthList (w .widths-of .result)) (w .widths-of .ensures)
+    indexFits-past (a .shape) (a .encoded .values) (four (w .before .before)) (widthList (w .widths-of .result))
+    (w .widths-of .ensures)
 
-pub key-fits-spec : {M : Type 1} → statement M
-key-fits-spec =
+pub encodings-fit-spec : {M : Type 1} → statement M
+encodings-fit-spec =
     tie.close
     (tie.spec
     widths-of-requires
