@@ -49,6 +49,7 @@ unfolding wholeRegion
 walks-whole st words bytes k ws same r whole =
     subst (λ r. Walks st ws words bytes r × TallyRoom (st .deepest - r .depth) (replicate 13 0)) (sym whole) (
       record {
+        shape = k .shape;
         directory = record {
           fit = subst Fit (sym same) (widthsOf-fit (st .shape) (k .shape));
           deep = subst (λ v. st .deepest ≤ total v) (sym same) (le-trans (k .within) (k .bits));

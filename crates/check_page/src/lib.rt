@@ -8,6 +8,7 @@ use key_order::Order;
 use key_order::compare;
 use key_order::first_step;
 use numbers::below;
+use page::code_at;
 use page::key_at;
 use record::value_at;
 use shape::Widths;
@@ -21,10 +22,18 @@ ghost use Rattle.page.specs.Fields.{recordOffset};
 ghost use Rattle.check_page.specs.PageTest.{keyCode, ascending, pagePasses, TestedPage};
 
 // Whether a page holds 1 to b records in split order, each within the widths and beginning with the
-// x bits of the number `string`. Records in split order all begin as the first and the last one do.
-pub fn page_passes(widths: Widths, capacity: u32, page: &[u8], x: u64, string: u64) -> bool
+// x bits of the number `string`, where a shape adds a bias to its values. Records in split order all
+// begin as the first and the last one do.
+pub fn page_passes(
+    widths: Widths,
+    capacity: u32,
+    bias: u64,
+    page: &[u8],
+    x: u64,
+    string: u64,
+) -> bool
     requires { ⌜ TestedPage (widthList widths) capacity x (length (now page)) ⌝ }
-    ensures { λ r. ⌜ r ≡ pagePasses (widthList widths) capacity x string (now (page .entry)) ⌝ }
+    ensures { λ r. ⌜ r ≡ pagePasses (widthList widths) capacity x string bias (now (page .entry)) ⌝ }
 {
     let n = number_at(page, 0);
     if n == 0 {
@@ -34,21 +43,25 @@ pub fn page_passes(widths: Widths, capacity: u32, page: &[u8], x: u64, string: u
         return false;
     }
     let count = n as usize;
-    let first = key_at(page, 0);
+    let first = code_at(page, 0, bias);
     if !begins(widths, first, x, string) {
         return false;
     }
-    if first_step(widths, first, key_at(page, count - 1)) < x {
+    if first_step(widths, first, code_at(page, count - 1, bias)) < x {
         return false;
     }
-    ascends(widths, page, count)
+    if bias == 0 {
+        return ascends(widths, page, count);
+    }
+    marked_ascends(widths, bias, page, count)
 }
 
-// Whether the n records of a page are in split order, each within the widths: the bits that any of
-// them has are those of a key within the widths.
+// Whether the n records of a page are in split order, each within the widths, where a shape has no
+// marks: a record's fields are its encodings. The bits that any of them has are those of a key
+// within the widths.
 fn ascends(widths: Widths, page: &[u8], n: usize) -> bool
     requires { ⌜ (0 < n) × (recordOffset n ≤ length (now page)) × Fit (widthList widths) ⌝ }
-    ensures { λ r. ⌜ r ≡ ascending (widthList widths) (now (page .entry)) n ⌝ }
+    ensures { λ r. ⌜ r ≡ ascending (widthList widths) 0 (now (page .entry)) n ⌝ }
 {
     let mut last = key_at(page, 0);
     let mut bits = last;
@@ -60,6 +73,26 @@ fn ascends(widths: Widths, page: &[u8], n: usize) -> bool
         }
         bits = bits | key;
         last = key;
+        k += 1;
+    }
+    key_fits(widths, bits)
+}
+
+// The same of a shape with marks, which adds a bias to a record's fields.
+fn marked_ascends(widths: Widths, bias: u64, page: &[u8], n: usize) -> bool
+    requires { ⌜ (0 < n) × (recordOffset n ≤ length (now page)) × Fit (widthList widths) ⌝ }
+    ensures { λ r. ⌜ r ≡ ascending (widthList widths) bias (now (page .entry)) n ⌝ }
+{
+    let mut last = code_at(page, 0, bias);
+    let mut bits = last;
+    let mut k = 1;
+    while k < n {
+        let code = code_at(page, k, bias);
+        if !stands_before(widths, last, code) {
+            return false;
+        }
+        bits = bits | code;
+        last = code;
         k += 1;
     }
     key_fits(widths, bits)

@@ -11,9 +11,9 @@ unfoldable pub failed : Seen
 failed = record { ok = false; records = 0; pages = 0; depth = 0 }
 
 -- a leaf with a page of so many bytes
-unfoldable pub pageSeen : List ℕ → ℕ → ℕ → ℕ → List ℕ → Seen
-pageSeen ws b x s page =
-    cond (pagePasses ws b x s page) (record { ok = true; records = countOf page; pages = 1; depth = 0 }) failed
+unfoldable pub pageSeen : List ℕ → ℕ → ℕ → ℕ → ℕ → List ℕ → Seen
+pageSeen ws b x s bias page =
+    cond (pagePasses ws b x s bias page) (record { ok = true; records = countOf page; pages = 1; depth = 0 }) failed
 
 -- a region from its sides
 unfoldable pub joinedSeen : ℕ → Seen → Seen → Seen

@@ -39,12 +39,12 @@ pub fn fails() -> Seen
     }
 }
 
-// What a leaf with a page has.
-pub fn page_seen(widths: Widths, capacity: u32, page: &[u8], x: u64, string: u64) -> Seen
+// What a leaf with a page has, where a shape adds a bias to its values.
+pub fn page_seen(widths: Widths, capacity: u32, bias: u64, page: &[u8], x: u64, string: u64) -> Seen
     requires { ⌜ TestedPage (widthList widths) capacity x (length (now page)) ⌝ }
-    ensures { λ r. ⌜ r ≡ pageSeen (widthList widths) capacity x string (now (page .entry)) ⌝ }
+    ensures { λ r. ⌜ r ≡ pageSeen (widthList widths) capacity x string bias (now (page .entry)) ⌝ }
 {
-    if !page_passes(widths, capacity, page, x, string) {
+    if !page_passes(widths, capacity, bias, page, x, string) {
         return fails();
     }
     Seen {

@@ -6,7 +6,7 @@ use mathlib.Core.Bool.{true, not}
 use mathlib.Core.List.{List, [], _∷_, _++_}
 use lib.ListN.{length, take, replicate, set}
 use Rattle.lists.specs.Filter.{all}
-use Rattle.shape.specs.Key.{encode, decode, encodeField}
+use Rattle.shape.specs.Key.{marked, bias, encode, decode, encodeField}
 use Rattle.shape.specs.Refusal.{firstNumber}
 use Rattle.shape.specs.Shape.{inBounds, shapeConditions, widthsOf}
 use Rattle.shape.specs.declared.Shape.{Shape}
@@ -28,7 +28,7 @@ use Rattle.check_test.specs.Test.{soundTest, shownSet}
 -- ---- stores of widths 2, 2 and b = 2, with L = 3
 
 abbrev shape : Shape
-shape = record { attributes = 2; widths = 2 ∷ 2 ∷ 0 ∷ 0 ∷ []; capacity = 2 }
+shape = record { attributes = 2; widths = 2 ∷ 2 ∷ 0 ∷ 0 ∷ []; capacity = 2; signs = 0 }
 
 abbrev key : ℕ → ℕ → ℕ → Record
 key x y payload = record { key = x ∷ y ∷ 0 ∷ 0 ∷ []; content = record { payload = payload } }
@@ -144,7 +144,7 @@ unfolding
     soundTest limitsHold lentNumber lentConditions firstNumber shapeConditions inBounds widthsOf
     stepsBelow steps step stepNumber stepsOf attributeDepth splitBit
     highestBit createdBy latestStep formula addressFrom address sides sumBits cell cellAddress recordBytes recordOf
-    encode decode encodeField
+    marked bias encode decode encodeField
 examples = (refl, refl)
 
 -- why soundness speaks of page numbers below P: past them a word has two readings
@@ -156,5 +156,5 @@ pub read-off : shownSet four ≡ key 0 0 10 ∷ key 2 0 11 ∷ key 2 1 13 ∷ ke
 unfolding
     widthsOf stepsBelow steps step stepNumber stepsOf attributeDepth
     highestBit createdBy latestStep formula addressFrom address sides sumBits cell cellAddress recordBytes recordOf
-    encode decode encodeField
+    marked bias encode decode encodeField
 read-off = refl

@@ -7,9 +7,10 @@ use native.Mathlib.Omega.{arith}
 use lib.ListN.{length, take, drop}
 use borrow.Author.Tests.{le-ltb, ne-eqb}
 use Rattle.lists.specs.Filter.{nonEmpty}
-use Rattle.shape.specs.Shape.{total}
+use Rattle.shape.specs.Shape.{shapeNumber, total}
 use Rattle.region.specs.Division.{leaf}
 use Rattle.record.specs.Record.{Record}
+use Rattle.record.specs.Lanes.{biasKey}
 use Rattle.record.proofs.ByteLaws.{length-field}
 use Rattle.page.specs.Page.{pageSize, countOf, recordsOf, pageAt}
 use Rattle.page.proofs.FieldLaws.{length-recordsFrom}
@@ -32,6 +33,7 @@ use Rattle.check_walk.proofs.SumLaws.{sees-failed}
 module _ (st : State) (ws : List ℕ) (r : Region) where
   pub pageAsked-walks : (words bytes : ℕ) → Walks st ws words bytes r → PageAsked st ws bytes r
   pageAsked-walks words bytes w = record {
+    shape = w .shape;
     fit = w .directory .fit;
     bits = omega (arith, w .within, w .directory .deep);
     region = w .region;
@@ -62,6 +64,7 @@ module _ (st : State) (ws : List ℕ) (r : Region) where
 pub sub-walks : (st : State) (ws : List ℕ) (words bytes : ℕ) (r : Region) → Walks st ws words bytes r → (side : Region)
     → RegionIn ws side → side .depth ≡ r .depth + 1 → r .depth < st .deepest → Walks st ws words bytes side
 sub-walks st ws words bytes r w side i d l = record {
+  shape = w .shape;
   directory = w .directory;
   within = omega arith;
   region = i;
@@ -90,7 +93,7 @@ module _ (st : State) (ws words bytes : List ℕ) (r : Region) (p : ℕ → Bool
         sees-failed (pageTest v p (r .depth) f) (leaf (fieldRecords v f))
         (ap (pageTest v p (r .depth)) field ∙ rw (le-ltb (f - 1) (st .limits .pages) h))
 
-    module _ (number : f - 1 < st .limits .pages) (bits : r .depth ≤ total ws) where
+    module _ (good : shapeNumber (st .shape) ≡ 0) (number : f - 1 < st .limits .pages) (bits : r .depth ≤ total ws) where
       abbrev b : ℕ
       b = st .shape .capacity
 
@@ -98,13 +101,13 @@ module _ (st : State) (ws words bytes : List ℕ) (r : Region) (p : ℕ → Bool
       page = pageAt (st .shape .capacity) bytes (f - 1)
 
       abbrev passes : Bool
-      passes = pagePasses ws b (r .depth) (r .string) page
+      passes = pagePasses ws b (r .depth) (r .string) (biasKey (st .shape)) page
 
       test : pageTest v p (r .depth) f ≡ passes
       test =
           ap (pageTest v p (r .depth)) field
           ∙ pageTest-chain v (r .depth) (r .string) p (n .string) bits (f - 1) number
-          ∙ pageChain-pagePasses (st .shape) ws b (r .depth) (r .string) page
+          ∙ pageChain-pagePasses (st .shape) good ws b (r .depth) (r .string) page
 
       -- a page that passes has a record
       filled : passes ≡ true → nonEmpty (recordsOf (st .shape) page) ≡ true
@@ -112,7 +115,8 @@ module _ (st : State) (ws words bytes : List ℕ) (r : Region) (p : ℕ → Bool
         where
           none : countOf page ≡ 0 → ⊥
           none z =
-              false≢true (pagePasses-none ws b (r .depth) (r .string) page (countOf page) refl z ∙ e)
+              false≢true
+              (pagePasses-none ws b (r .depth) (r .string) (biasKey (st .shape)) page (countOf page) refl z ∙ e)
 
       told : (γ : Bool) → passes ≡ γ
           → Sees γ (leaf (recordsOf (st .shape) page))
@@ -126,7 +130,7 @@ module _ (st : State) (ws words bytes : List ℕ) (r : Region) (p : ℕ → Bool
           }
       told false e = sees-failed false (leaf (recordsOf (st .shape) page)) refl
 
-      pub page-told : (seen : Seen) → seen ≡ pageSeen ws b (r .depth) (r .string) page
+      pub page-told : (seen : Seen) → seen ≡ pageSeen ws b (r .depth) (r .string) (biasKey (st .shape)) page
           → Told seen
       unfolding pageSeen
       page-told seen e =

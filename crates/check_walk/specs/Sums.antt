@@ -5,7 +5,7 @@ use mathlib.Core.Bool.{Bool, true, cond, _&&_}
 use mathlib.Core.List.{List}
 use lib.Dec.{eqb}
 use lib.ListN.{getD, length}
-use Rattle.shape.specs.Shape.{Fit, total, indexFits}
+use Rattle.shape.specs.Shape.{shapeNumber, Fit, total, indexFits}
 use Rattle.split.specs.Bits.{splitBit}
 use Rattle.directory.specs.Directory.{DirectoryFits}
 use Rattle.region.specs.Division.{Division, leaf, divided, allRecords, nonEmptyLeaves, greatestDepth}
@@ -58,6 +58,7 @@ pub record Tells (x : ℕ) (before : List ℕ) (seen : Seen) (after : List ℕ) 
 module _ (st : State) (ws : List ℕ) where
   -- a region, and pages that are lent
   pub record PageAsked (bytes : ℕ) (r : Region) : Type 0 where
+    pub shape : shapeNumber (st .shape) ≡ 0
     pub fit : Fit ws
     pub bits : r .depth ≤ total ws
     pub region : RegionIn ws r
@@ -66,6 +67,7 @@ module _ (st : State) (ws : List ℕ) where
 
   -- a region, and a directory and pages that are lent
   pub record Walks (words bytes : ℕ) (r : Region) : Type 0 where
+    pub shape : shapeNumber (st .shape) ≡ 0
     pub directory : DirectoryFits ws (st .deepest) words
     pub within : r .depth ≤ st .deepest
     pub region : RegionIn ws r

@@ -7,6 +7,7 @@ use check_seen::depth_of;
 use check_seen::fails;
 use check_seen::joined;
 use check_seen::page_seen;
+use key_encoding::bias_key;
 use page::page_size;
 use regions::Region;
 use regions::same_words;
@@ -104,9 +105,11 @@ fn leaf_page(state: State, widths: Widths, region: Region, field: u32, pages: &[
     let size = page_size(capacity as usize);
     let start = (page as usize) * size;
     let end = start + size;
+    let bias = bias_key(state.shape);
     page_seen(
         widths,
         capacity,
+        bias,
         &pages[start..end],
         region.depth,
         region.string,

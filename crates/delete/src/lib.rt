@@ -7,7 +7,8 @@ use delete_plan::plan_delete;
 use delete_steps::join_leaves;
 use delete_steps::keep_leaf;
 use key_encoding::encode_key;
-use refusals::key_number;
+use refusals::encodings_fit;
+use refusals::lent_number;
 use shape::Key;
 use store::Change;
 use store::Changed;
@@ -23,7 +24,7 @@ pub fn delete(state: State, dir: &mut [u32], pages: &mut [u8], key: Key) -> Chan
     ensures { λ r. ⌜ DeletePromise (store state (now (dir .entry)) (now (pages .entry))) (key .values)
         (changedAnswer (r .answer)) (store (r .state) (now (dir .exit)) (now (pages .exit))) ⌝ }
 {
-    let number = key_number(state, dir.len(), pages.len(), key);
+    let number = lent_number(state, dir.len(), pages.len());
     if number != 0 {
         return Change {
             answer: Changed::Refused(number),
@@ -31,6 +32,12 @@ pub fn delete(state: State, dir: &mut [u32], pages: &mut [u8], key: Key) -> Chan
         };
     }
     let encoded = encode_key(state.shape, key);
+    if !encodings_fit(state.shape, encoded) {
+        return Change {
+            answer: Changed::Refused(3),
+            state,
+        };
+    }
     let encodings = encoded.values;
     let plan = plan_delete(state, dir, pages, encoded);
     match plan {

@@ -16,6 +16,7 @@ use Rattle.shape.specs.declared.Shape.{Shape}
 use Rattle.shape.proofs.ShapeLaws.{capacity-bounds}
 use Rattle.split.specs.Bits.{splitBit}
 use Rattle.record.specs.Record.{Record}
+use Rattle.record.specs.Lanes.{biasKey, fieldsKey}
 use Rattle.record.specs.Packed.{packedKey, unpackedKey, SixteenBits}
 use Rattle.record.proofs.ByteLaws.{AreBytes, AreBytes-field}
 use Rattle.page.specs.Page.{countOf, recordsOf, recordsFrom, pageSize, pageAt}
@@ -168,7 +169,7 @@ module _ (before : Store) (encoded : List ℕ) where
 
     -- a leaf's page has 1 to b records, the first and the last of which begin with the leaf's string
     pub refused-page : (mask n : ℕ) → mask ≡ fixedBits (widthsOf s) x
-        → n ≡ fairCount (s .capacity) (endsAgree mask (packedKey encoded) page (countOf page)) page → n ≡ 0
+        → n ≡ fairCount (s .capacity) (endsAgree (biasKey s) mask (packedKey encoded) page (countOf page)) page → n ≡ 0
         → RefusalMet before encoded 9
     refused-page mask n fixed e none =
         refused-unsound
@@ -187,22 +188,23 @@ module _ (before : Store) (encoded : List ℕ) where
       counted = ap (λ k. recordsFrom s k 2 page) e
 
       -- no record of the page has the key
-      pub refused-absent : (i : ℕ) → i ≡ keyPlace (packedKey encoded) page n 0 → i ≡ n
+      pub refused-absent : (i : ℕ) → i ≡ keyPlace (fieldsKey s (packedKey encoded)) page n 0 → i ≡ n
           → RefusalMet before encoded 5
       refused-absent i q h values early same =
           delete-absent before values early g (λ S sound. rw same field)
           (λ S sound. rw same
-          (ap nonEmpty (ap (stored encoded) (sym counted) ∙ sameKey-absent s encoded six page page-are n (sym q ∙ h))))
+          (ap nonEmpty (ap (stored encoded) (sym counted) ∙ sameKey-absent s (m .passed .shape) encoded six page page-are n (sym q ∙ h))))
 
     -- the record that was sought
     pub recordFound : (mask : ℕ) → mask ≡ fixedBits (widthsOf s) x → (r : Stored)
-        → Sought (s .capacity) (packedKey encoded) mask page g x r → (r .count ≡ 0 → ⊥) → (r .place ≡ r .count → ⊥)
+        → Sought (s .capacity) (biasKey s) (packedKey encoded) mask page g x r → (r .count ≡ 0 → ⊥) → (r .place ≡ r .count → ⊥)
         → RecordFound before encoded r
     recordFound mask fixed r k some h =
         let n = r .count in
+        let fields = fieldsKey s (packedKey encoded) in
         let fair = fair-of-count (s .capacity) _ page n (k .counted) some in
-        let l : r .place < n = omega (arith, k .placed, keyPlace-le (packedKey encoded) page n 0) in
-        let within : keyPlace (packedKey encoded) page n 0 < 0 + n = omega (arith, k .placed) in
+        let l : r .place < n = omega (arith, k .placed, keyPlace-le fields page n 0) in
+        let within : keyPlace fields page n 0 < 0 + n = omega (arith, k .placed) in
         record {
           leaf =
               subst (λ h. LeafMet before encoded h (r .depth)) (sym (k .page-is))
@@ -212,13 +214,13 @@ module _ (before : Store) (encoded : List ℕ) where
           ends =
               subst (λ y. ownPage s y (packedKey encoded) (pageOf (r .page)) n ≡ true) (sym (k .depth-is))
               (ap (λ h. ownPage s x (packedKey encoded) (pageOf h) n) (k .page-is)
-              ∙ sym (endsAgree-mask s (m .passed .shape) x deep (widthsOf s) refl mask fixed
+              ∙ sym (endsAgree-mask s (m .passed .shape) x deep (widthsOf s) refl (biasKey s) mask fixed
               (packedKey encoded) packed-fits page n)
-              ∙ ap (endsAgree mask (packedKey encoded) page) (fair .counted)
+              ∙ ap (endsAgree (biasKey s) mask (packedKey encoded) page) (fair .counted)
               ∙ fair .owned);
           place-lt = l;
           here =
               ap (λ h. keyAt (pageOf h) (r .place)) (k .page-is)
               ∙ ap (keyAt page) (k .placed)
-              ∙ keyAt-keyPlace (packedKey encoded) page n 0 within;
+              ∙ keyAt-keyPlace fields page n 0 within;
         }

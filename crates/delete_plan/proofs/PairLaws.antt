@@ -9,6 +9,7 @@ use Rattle.shape.specs.Shape.{widthsOf, total, shapeNumber}
 use Rattle.split.specs.Bits.{splitBit}
 use Rattle.cell.specs.Cell.{Agree}
 use Rattle.region.specs.Strings.{sibling}
+use Rattle.record.specs.Lanes.{biasKey}
 use Rattle.record.specs.Packed.{unpackedKey}
 use Rattle.page.specs.Page.{countOf, pageAt}
 use Rattle.page_ends.specs.Ends.{endsBegin, endsAgree}
@@ -41,6 +42,9 @@ module _ (before : Store) (encoded : List ℕ) (r : Stored) (mask h beside : ℕ
 
   abbrev ws : List ℕ
   ws = widthsOf (before .state .shape)
+
+  abbrev bias : ℕ
+  bias = biasKey (before .state .shape)
 
   abbrev p : ℕ → Bool
   p = keyString before encoded
@@ -76,7 +80,7 @@ module _ (before : Store) (encoded : List ℕ) (r : Stored) (mask h beside : ℕ
       (s .key-there .agree)
 
   -- its page has 1 to b records, the first and the last of which begin with the sibling's string
-  pub refused-other : (k : ℕ) → k ≡ fairCount b (endsAgree mask beside (pageOf h) (countOf (pageOf h))) (pageOf h)
+  pub refused-other : (k : ℕ) → k ≡ fairCount b (endsAgree bias mask beside (pageOf h) (countOf (pageOf h))) (pageOf h)
       → k ≡ 0
       → RefusalMet before encoded 9
   refused-other k e none =
@@ -91,7 +95,7 @@ module _ (before : Store) (encoded : List ℕ) (r : Stored) (mask h beside : ℕ
   refused-tally e =
       refused-unsound before encoded (λ S sound. true≢false (sym (tallyHolds-of-sound before S sound) ∙ e))
 
-  module _ (k : ℕ) (fair : Fair b (endsAgree mask beside (pageOf h) (countOf (pageOf h))) (pageOf h) k) where
+  module _ (k : ℕ) (fair : Fair b (endsAgree bias mask beside (pageOf h) (countOf (pageOf h))) (pageOf h) k) where
     -- both do not fit one page
     pub stays-full : b + 1 < r .count + k → StaysAlone before encoded (r .page) x
     stays-full l =
@@ -103,21 +107,21 @@ module _ (before : Store) (encoded : List ℕ) (r : Stored) (mask h beside : ℕ
         rw (sym same) (omega (arith, fair .counted, f .counted)))
 
     -- the ends of its page
-    ends-there : (m : ℕ) → x ≡ suc m → endsBegin ws (suc m) (sibling p m) (pageOf h) k ≡ true
+    ends-there : (m : ℕ) → x ≡ suc m → endsBegin ws bias (suc m) (sibling p m) (pageOf h) k ≡ true
     ends-there m d =
         let same : x - 1 ≡ m = omega arith in
-        endsBegin-agree ws (suc m) (sibling p m) (splitBit ws (unpackedKey beside))
+        endsBegin-agree ws bias (suc m) (sibling p m) (splitBit ws (unpackedKey beside))
         (subst (λ z. Agree (suc z) (sibling p z) (splitBit ws (unpackedKey beside))) same there) (pageOf h) k
-        ∙ ap (λ y. endsBegin ws y (splitBit ws (unpackedKey beside)) (pageOf h) k) (sym d)
-        ∙ sym (endsAgree-mask (before .state .shape) good x deep ws refl mask (s .leaf .fixed) beside
+        ∙ ap (λ y. endsBegin ws bias y (splitBit ws (unpackedKey beside)) (pageOf h) k) (sym d)
+        ∙ sym (endsAgree-mask (before .state .shape) good x deep ws refl bias mask (s .leaf .fixed) beside
         (s .key-there .fits) (pageOf h) k)
-        ∙ ap (endsAgree mask beside (pageOf h)) (fair .counted)
+        ∙ ap (endsAgree bias mask beside (pageOf h)) (fair .counted)
         ∙ fair .owned
 
-    own-ends : (m : ℕ) → x ≡ suc m → endsBegin ws (suc m) p (pageOf (r .page)) (r .count) ≡ true
+    own-ends : (m : ℕ) → x ≡ suc m → endsBegin ws bias (suc m) p (pageOf (r .page)) (r .count) ≡ true
     own-ends m d =
-        subst (λ y. endsBegin ws y p (pageOf (r .page)) (r .count) ≡ true) d
-        (subst (λ v. endsBegin ws x (splitBit ws v) (pageOf (r .page)) (r .count) ≡ true)
+        subst (λ y. endsBegin ws bias y p (pageOf (r .page)) (r .count) ≡ true) d
+        (subst (λ v. endsBegin ws bias x (splitBit ws v) (pageOf (r .page)) (r .count) ≡ true)
         (unpackedKey-passed before encoded (f .leaf .passed)) (f .ends))
 
     pub joinPlanned : r .count + k ≤ b + 1 → tallyHolds (before .state .tally .leaves) ≡ true
@@ -128,8 +132,8 @@ module _ (before : Store) (encoded : List ℕ) (r : Stored) (mask h beside : ℕ
           depth-step = made .depth-step;
           met = met;
           apart = λ d.
-              siblings-apart ws (j .step) p (pageOf (r .page)) (r .count) k (own-ends (j .step) (made .depth-step))
-              (ap (λ i. endsBegin ws (suc (j .step)) (sibling p (j .step)) (pageOf i) k) (d ∙ made .other)
+              siblings-apart ws bias (j .step) p (pageOf (r .page)) (r .count) k (own-ends (j .step) (made .depth-step))
+              (ap (λ i. endsBegin ws bias (suc (j .step)) (sibling p (j .step)) (pageOf i) k) (d ∙ made .other)
               ∙ ends-there (j .step) (made .depth-step));
           counted = rw (made .other) (made .count ∙ fair .counted);
           few = rw (made .count) (fair .few);

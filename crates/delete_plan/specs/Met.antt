@@ -5,6 +5,7 @@ use mathlib.Core.Path.{_≡_}
 use mathlib.Core.List.{List}
 use Rattle.shape.specs.Shape.{widthsOf}
 use Rattle.split.specs.Bits.{splitBit}
+use Rattle.record.specs.Lanes.{laneDifference}
 use Rattle.record.specs.Packed.{packedKey}
 use Rattle.page.specs.Page.{countOf}
 use Rattle.page_ends.specs.Ends.{fixedBits, endsAgree}
@@ -23,16 +24,16 @@ use Rattle.delete_plan.specs.declared.Join.{Join}
 
 -- a page has n records, 1 to b of them, and the first and the last agree with a packed key in the bits of a mask; n is
 -- 0 for another page
-pub record LeafCount (b mask key : ℕ) (page : List ℕ) (n : ℕ) : Type 0 where
-  pub is : n ≡ fairCount b (endsAgree mask key page (countOf page)) page
+pub record LeafCount (b bias mask key : ℕ) (page : List ℕ) (n : ℕ) : Type 0 where
+  pub is : n ≡ fairCount b (endsAgree bias mask key page (countOf page)) page
   pub few : n ≤ b
 
 -- where a packed key is on page g of a leaf of depth x that fixes the bits of a mask
-pub record Sought (b key mask : ℕ) (page : List ℕ) (g x : ℕ) (r : Stored) : Type 0 where
+pub record Sought (b bias key mask : ℕ) (page : List ℕ) (g x : ℕ) (r : Stored) : Type 0 where
   pub page-is : r .page ≡ g
   pub depth-is : r .depth ≡ x
-  pub counted : r .count ≡ fairCount b (endsAgree mask key page (countOf page)) page
-  pub placed : r .place ≡ keyPlace key page (r .count) 0
+  pub counted : r .count ≡ fairCount b (endsAgree bias mask key page (countOf page)) page
+  pub placed : r .place ≡ keyPlace (laneDifference key bias) page (r .count) 0
 
 module _ (before : Store) (encoded : List ℕ) where
   -- the key's record is found, in a leaf below depth 0 that fixes the bits of a mask

@@ -7,6 +7,7 @@ use mathlib.Core.List.{List}
 use Rattle.shape.specs.Refusal.{refused}
 use Rattle.shape.specs.Shape.{widthsOf}
 use Rattle.region.specs.Strings.{sibling}
+use Rattle.record.specs.Lanes.{biasKey, fieldsKey}
 use Rattle.record.specs.Packed.{packedKey}
 use Rattle.page.specs.Page.{countOf, pageAt}
 use Rattle.page.specs.Fields.{keyAt}
@@ -57,7 +58,8 @@ module _ (before : Store) (encoded : List ℕ) where
     pub ends : ownPage (before .state .shape) (r .depth) (packedKey encoded)
         (pageAt b (before .memory .bytes) (r .page)) (r .count) ≡ true
     pub place-lt : r .place < r .count
-    pub here : keyAt (pageAt b (before .memory .bytes) (r .page)) (r .place) ≡ packedKey encoded
+    pub here : keyAt (pageAt b (before .memory .bytes) (r .page)) (r .place)
+        ≡ fieldsKey (before .state .shape) (packedKey encoded)
 
   -- its sibling is no leaf with a page, or both do not fit one page without the record
   abbrev pub StaysAlone : ℕ → ℕ → Type 0
@@ -79,7 +81,7 @@ module _ (before : Store) (encoded : List ℕ) where
     pub counted : j .count ≡ countBefore (j .other)
     pub few : j .count ≤ b
     -- the sibling's first and last record have values in bounds and begin with its string
-    pub ends : endsBegin (widthsOf (before .state .shape)) (suc (j .step))
+    pub ends : endsBegin (widthsOf (before .state .shape)) (biasKey (before .state .shape)) (suc (j .step))
         (sibling (keyString before encoded) (j .step)) (pageAt b (before .memory .bytes) (j .other)) (j .count) ≡ true
     pub bit : j .bit ≡ keyString before encoded (j .step)
     pub tally : tallyHolds (before .state .tally .leaves) ≡ true

@@ -6,6 +6,8 @@ use delete_siblings::sibling_word_holds;
 use delete_siblings::step_bit;
 use directory_word::Leaf;
 use directory_word::unpack;
+use key_encoding::bias_key;
+use key_encoding::to_fields;
 use leaf_word::key_word;
 use leaf_word::word_holds;
 use page::page_size;
@@ -88,8 +90,17 @@ fn plan_leaf(state: State, dir: &[u32], pages: &[u8], encoded: Key, page: u32, d
 {
     let shape = state.shape;
     let mask = fixed_bits(widths_of(shape), depth as u64);
+    let bias = bias_key(shape);
     let packed = pack_key(encoded);
-    let found = seek(pages, shape.capacity as usize, packed, mask, page, depth);
+    let found = seek(
+        pages,
+        shape.capacity as usize,
+        bias,
+        packed,
+        mask,
+        page,
+        depth,
+    );
     if found.count == 0 {
         return Plan::Refused(9);
     }
@@ -104,12 +115,21 @@ fn plan_leaf(state: State, dir: &[u32], pages: &[u8], encoded: Key, page: u32, d
 
 // Where a packed key is on the page of a leaf that fixes the bits of a mask: at place n where none of
 // its n records has it, with n = 0 for a page that cannot be the leaf's.
-fn seek(pages: &[u8], capacity: usize, key: u64, mask: u64, page: u32, depth: u32) -> Stored
+fn seek(
+    pages: &[u8],
+    capacity: usize,
+    bias: u64,
+    key: u64,
+    mask: u64,
+    page: u32,
+    depth: u32,
+) -> Stored
     requires { ⌜ PageLent capacity page (now pages) ⌝ }
-    ensures { λ r. ⌜ Sought capacity key mask (pageAt capacity (now (pages .entry)) page) page depth r ⌝ }
+    ensures { λ r. ⌜ Sought capacity bias key mask (pageAt capacity (now (pages .entry)) page) page depth r ⌝ }
 {
-    let count = count_on(pages, capacity, page as usize, key, mask);
-    let place = place_on(pages, capacity, page as usize, count, key);
+    let count = count_on(pages, capacity, page as usize, bias, key, mask);
+    let fields = to_fields(bias, key);
+    let place = place_on(pages, capacity, page as usize, count, fields);
     Stored {
         page,
         depth,
@@ -120,23 +140,24 @@ fn seek(pages: &[u8], capacity: usize, key: u64, mask: u64, page: u32, depth: u3
 
 // How many records page g has, where it can be that of a leaf that fixes the bits of a mask and in
 // which a packed key falls; 0 for another page.
-fn count_on(pages: &[u8], capacity: usize, g: usize, key: u64, mask: u64) -> usize
+fn count_on(pages: &[u8], capacity: usize, g: usize, bias: u64, key: u64, mask: u64) -> usize
     requires { ⌜ PageLent capacity g (now pages) ⌝ }
-    ensures { λ r. ⌜ LeafCount capacity mask key (pageAt capacity (now (pages .entry)) g) r ⌝ }
+    ensures { λ r. ⌜ LeafCount capacity bias mask key (pageAt capacity (now (pages .entry)) g) r ⌝ }
 {
     let start = page_start(capacity, g);
     let end = start + page_size(capacity);
-    fair_count(&pages[start..end], capacity, key, mask)
+    fair_count(&pages[start..end], capacity, bias, key, mask)
 }
 
-// The place of the first of the n records of page g that has a packed key; n where none has.
-fn place_on(pages: &[u8], capacity: usize, g: usize, n: usize, key: u64) -> usize
+// The place of the first of the n records of page g that has the packed fields of a key; n where none
+// has.
+fn place_on(pages: &[u8], capacity: usize, g: usize, n: usize, fields: u64) -> usize
     requires { ⌜ PageLent capacity g (now pages) × (n ≤ capacity) ⌝ }
-    ensures { λ r. ⌜ r ≡ keyPlace key (pageAt capacity (now (pages .entry)) g) n 0 ⌝ }
+    ensures { λ r. ⌜ r ≡ keyPlace fields (pageAt capacity (now (pages .entry)) g) n 0 ⌝ }
 {
     let start = page_start(capacity, g);
     let end = start + page_size(capacity);
-    find_key(&pages[start..end], n, key)
+    find_key(&pages[start..end], n, fields)
 }
 
 // The plan for a leaf below depth 0, which fixes the bits of a mask: it stays where its sibling is
@@ -186,7 +207,8 @@ fn plan_pair(
 {
     let shape = state.shape;
     let capacity = shape.capacity as usize;
-    let count = count_on(pages, capacity, other as usize, beside, mask);
+    let bias = bias_key(shape);
+    let count = count_on(pages, capacity, other as usize, bias, beside, mask);
     if count == 0 {
         return Plan::Refused(9);
     }

@@ -16,9 +16,11 @@ use Rattle.region.specs.Sets.{inOrder}
 use Rattle.region.proofs.StringLeafLaws.{all-leafRecords}
 use Rattle.record.specs.Record.{Record, recordBit, sameKey}
 use Rattle.record.specs.Bytes.{recordOf}
+use Rattle.record.specs.Lanes.{laneSum, biasKey, fieldsKey}
 use Rattle.record.specs.Packed.{packedKey}
-use Rattle.record.proofs.CodecLaws.{packedKey-recordOf}
+use Rattle.record.proofs.FieldLaws.{packedKey-recordOf, laneSum-fieldsKey}
 use Rattle.record.proofs.KeyLaws.{key-below-bytes}
+use Rattle.record.proofs.PackedLaws.{packedKey-lt}
 use Rattle.page.specs.Page.{countOf, recordsOf, pageAt}
 use Rattle.page.specs.Fields.{recordField, keyAt}
 use Rattle.page.specs.Changes.{removeAt}
@@ -81,7 +83,7 @@ module _ (before : Store) (S : List Record) (sound : Sound before S) where
     module _ (four : length key ≡ 4) (fits : indexFits (widthsOf s) key ≡ true) (g x : ℕ) (within : g < P)
         (own : wordOn before (keyString before key) ≡ wordOf (Page g x)) (i n : ℕ)
         (count : countOf (pageAt b bytes g) ≡ n) (l : i < n)
-        (here : keyAt (pageAt b bytes g) i ≡ packedKey key) where
+        (here : keyAt (pageAt b bytes g) i ≡ fieldsKey s (packedKey key)) where
       abbrev page : List ℕ
       page = pageAt b bytes g
 
@@ -111,10 +113,15 @@ module _ (before : Store) (S : List Record) (sound : Sound before S) where
 
       sameKey-here : sameKey key (getD (recordsOn g) i r) ≡ true
       sameKey-here =
+          let six = key-below-bytes s good key four fits in
+          let small = key-below-bytes s good (r .key) (length-of-inShape s r inShape-here)
+          (fits-of-inShape s r inShape-here) in
           ap (sameKey key) record-here
-          ∙ sameKey-packed key r (key-below-bytes s good key four fits)
-          (key-below-bytes s good (r .key) (length-of-inShape s r inShape-here) (fits-of-inShape s r inShape-here))
-          ∙ eq-eqb (packedKey (r .key)) (packedKey key) (packedKey-recordOf s (recordField page i) ∙ here)
+          ∙ sameKey-packed key r six small
+          ∙ eq-eqb (packedKey (r .key)) (packedKey key)
+          (packedKey-recordOf s good (recordField page i) small
+          ∙ ap (λ k. laneSum k (biasKey s)) here
+          ∙ laneSum-fieldsKey s good (packedKey key) (packedKey-lt key six))
 
       withoutKey-removeAt : withoutKey key (recordsOn g) ≡ removeAt i (recordsOn g)
       unfolding removeAt
@@ -142,7 +149,7 @@ module _ (before : Store) (S : List Record) (sound : Sound before S) where
     module _ (four : length key ≡ 4) (fits : indexFits (widthsOf s) key ≡ true) (g h m y : ℕ)
         (found : JoinFound before key g h m y) (apart : h ≡ g → ⊥) (i n k : ℕ) (count : countOf (pageAt b bytes g) ≡ n)
         (count-h : countOf (pageAt b bytes h) ≡ k) (l : i < n)
-        (here : keyAt (pageAt b bytes g) i ≡ packedKey key) where
+        (here : keyAt (pageAt b bytes g) i ≡ fieldsKey s (packedKey key)) where
       abbrev β : Bool
       β = keyString before key m
 

@@ -13,7 +13,7 @@ use store::State;
 use store::Tally;
 ghost use mathlib.Core.Path.{_≡_};
 ghost use mathlib.Core.List.{_∷_};
-ghost use Prim.Native.Nat.{_*_, _<_, _≤_};
+ghost use Prim.Native.Nat.{_*_, _%_, _^_, _<_, _≤_};
 ghost use lib.ListN.{length, set, replicate};
 ghost use Rattle.shape.specs.Refusal.{refused};
 ghost use Rattle.shape.specs.Shape.{shapeNumber};
@@ -70,6 +70,7 @@ fn refuse(number: u32) -> Change
         attributes: 0,
         widths,
         capacity: 0,
+        signs: 0,
     };
     let limits = Limits { pages: 0, depth: 0 };
     let leaves = [0u32; 13];
@@ -146,7 +147,7 @@ fn clear_count(page: &mut [u8])
     page[1] = 0;
 }
 
-// The shape with its widths past d as 0.
+// The shape with its widths past d as 0, and without its marks past d.
 fn fresh_shape(shape: Shape) -> Shape
     requires { ⌜ shapeNumber shape ≡ 0 ⌝ }
     ensures { λ r. ⌜ r ≡ freshShape shape ⌝ }
@@ -162,7 +163,16 @@ fn fresh_shape(shape: Shape) -> Shape
         attributes: shape.attributes,
         widths,
         capacity: shape.capacity,
+        signs: marks_below(shape.signs, shape.attributes),
     }
+}
+
+// The marks of the first d attributes.
+fn marks_below(signs: u32, d: u32) -> u32
+    requires { ⌜ d ≤ 4 ⌝ }
+    ensures { λ r. ⌜ r ≡ signs % 2 ^ d ⌝ }
+{
+    signs % (1u32 << d)
 }
 
 // The tally of one leaf, at depth 0.

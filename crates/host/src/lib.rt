@@ -35,9 +35,9 @@ ghost use Rattle.shape.specs.Range.{intervalsOf};
 ghost use Rattle.host_changes.specs.Changes.{LentChangePromise};
 ghost use Rattle.host_changes.specs.Fresh.{LentFreshPromise};
 
-// Makes a store without records in lent memory: the first 22 state words, word 0 and the counts of
-// the P pages. Refused with 1 for a shape outside its bounds, then with 2 for fewer than 22 state
-// words, no directory word or no whole page; a refused call changes nothing.
+// Makes a store without records in lent memory: the words of its state, word 0 and the counts of the
+// P pages. Refused with 1 for a shape outside its bounds, then with 2 for fewer words than a state has,
+// no directory word or no whole page; a refused call changes nothing.
 #[no_mangle]
 pub extern "C" fn mdeh_fresh(
     shape: Shape,

@@ -1,4 +1,4 @@
--- Laws of changes on a state in lent words: an accepted one has 22 words; the promise over the words from that of the
+-- Laws of changes on a state in lent words: an accepted one has a state's words; the promise over the words from that of the
 -- call. Assumes nothing.
 use Prim.Native.Nat.{ℕ, zero, suc, _≤_, _<_}
 use mathlib.Core.Path.{_≡_, refl, sym, ap, subst, _∙_}
@@ -85,7 +85,7 @@ module _ (ds bs ds′ bs′ values : List ℕ) where
 module _ {Promise : State → Answer Reply → State → Type 0} (judged : Judged Promise) (words : List ℕ) where
   module _ (state : State) (read : state ≡ stateIn words) (change : Change)
       (p : Promise state (changedAnswer (change .answer)) (change .state)) where
-    -- fewer than 22 words show no shape, so that the call is refused
+    -- fewer words than a state has show no shape, so that the call is refused
     pub words-of-done : changedAnswer (change .answer) ≡ accepted changed → stateSize ≤ length words
     words-of-done done = go (decLt (length words) stateSize)
       where

@@ -129,7 +129,7 @@ module _ (s : Shape) (words ds bs : List ℕ) where
   unfolding freshState freshShape widthsOf
   lists-of-fresh = stateIn-statePut (freshState s m) words refl refl
 
-  -- with 22 words or more nothing of Fresh's promise is lost: the words show the state that it returns
+  -- with a state's words nothing of Fresh's promise is lost: the words show the state that it returns
   module _ (long : stateSize ≤ length words) (number : ℕ) (words′ : List ℕ) (m′ : Memory) where
     pub fresh-promise-of : LentFreshPromise s words m number words′ m′
         → FreshPromise s m (answered number changed)

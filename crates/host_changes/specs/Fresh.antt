@@ -12,7 +12,7 @@ use Rattle.store.specs.Fresh.{freshNumber, freshState, freshMemory}
 use Rattle.store.specs.Store.{Memory}
 use Rattle.host_state.specs.Image.{stateSize, statePut}
 
--- Fresh's number: 1, then 2; and 2 for fewer than 22 state words
+-- Fresh's number: 1, then 2; and 2 for fewer words than a state has
 unfoldable pub lentFreshNumber : Shape → List ℕ → Memory → ℕ
 lentFreshNumber s words m =
     ifAccepted (freshNumber s m) (cond (ltb (length words) stateSize) 2 0) (freshNumber s m)

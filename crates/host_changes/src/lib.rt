@@ -1,6 +1,6 @@
 // Fresh and the calls that change a store, for hosts: the state lies in lent words (crate
-// `host_state`), and the answer is a number, 0 for an accepted call. Fewer than 22 state words show
-// no shape, so that insert and delete are refused with 1.
+// `host_state`), and the answer is a number, 0 for an accepted call. Fewer words than a state has
+// show no shape, so that insert and delete are refused with 1.
 use delete::delete;
 use fresh::fresh;
 use host_results::settle;
@@ -16,9 +16,9 @@ ghost use Rattle.store.specs.Promises.{InsertPromise, DeletePromise};
 ghost use Rattle.host_changes.specs.Changes.{LentChangePromise};
 ghost use Rattle.host_changes.specs.Fresh.{LentFreshPromise};
 
-// Makes a store without records in lent memory: the first 22 state words, word 0 and the counts of
-// the P pages. Refused with 1 for a shape outside its bounds, then with 2 for fewer than 22 state
-// words, no directory word or no whole page; a refused call changes nothing.
+// Makes a store without records in lent memory: the words of its state, word 0 and the counts of the
+// P pages. Refused with 1 for a shape outside its bounds, then with 2 for fewer words than a state has,
+// no directory word or no whole page; a refused call changes nothing.
 pub fn fresh_in_words(shape: Shape, state: &mut [u32], dir: &mut [u32], pages: &mut [u8]) -> u32
     ensures { λ r. ⌜ LentFreshPromise shape (now (state .entry)) (memory (now (dir .entry)) (now (pages .entry))) r
         (now (state .exit)) (memory (now (dir .exit)) (now (pages .exit))) ⌝ }

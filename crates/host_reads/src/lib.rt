@@ -1,7 +1,7 @@
 // The calls that read a store, for hosts: the state lies in lent words (crate `host_state`), and an answer is
 // a struct of numbers. A number of 0 stands for an accepted call; any other is the refusal's (document
-// 01, "Refused calls"), and the values beside it are 0. Fewer than 22 state words show no shape, so
-// that a call is refused with 1.
+// 01, "Refused calls"), and the values beside it are 0. Fewer words than a state has show no shape,
+// so that a call is refused with 1.
 use check_call::check;
 use host_results::CheckResult;
 use host_results::HostQuery;

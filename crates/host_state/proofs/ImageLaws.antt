@@ -9,7 +9,7 @@ use native.Mathlib.Numerals.{add-one}
 use native.Mathlib.Omega.{arith}
 use borrow.Author.Tests.{lt-ltb, le-ltb}
 use lib.Dec.{ltb}
-use lib.ListN.{length, getD, drop, set, length-drop}
+use lib.ListN.{length, getD, drop, set}
 use lib.Seq.{paste, paste-suc, drop-cons, drop-length, take-length}
 use Rattle.store.specs.Fresh.{noState}
 use Rattle.store.specs.declared.State.{State}
@@ -43,7 +43,7 @@ stateIn-long words h =
 
 -- ---- the state written
 
--- the words past the first 22 stay
+-- the words past the state's stay
 pub drop-statePut : (s : State) (words : List ℕ) → drop stateSize (statePut s words) ≡ drop stateSize words
 unfolding statePut stateWords
 drop-statePut s words = refl
@@ -61,7 +61,13 @@ wordsFrom-drop (suc n) i words e =
 abbrev withLists : State → List ℕ → List ℕ → State
 withLists s widths leaves =
     record {
-      shape = record { attributes = s .shape .attributes; widths = widths; capacity = s .shape .capacity };
+      shape =
+          record {
+            attributes = s .shape .attributes;
+            widths = widths;
+            capacity = s .shape .capacity;
+            signs = s .shape .signs;
+          };
       limits = s .limits;
       deepest = s .deepest;
       tally = record { leaves = leaves };

@@ -5,6 +5,7 @@
 //     word 5        b
 //     words 6-8     P, L, T
 //     words 9-21    the tally of depths 0 to 12
+//     word 22       the marks of signed attributes
 use shape::Shape;
 use store::Limits;
 use store::State;
@@ -14,13 +15,13 @@ ghost use Prim.Native.Nat.{_≤_};
 ghost use mathlib.Core.List.{_++_};
 ghost use lib.ListN.{length, drop};
 ghost use Rattle.store.specs.Fresh.{noState};
-ghost use Rattle.host_state.specs.Image.{shownState, stateIn, statePut};
+ghost use Rattle.host_state.specs.Image.{stateSize, shownState, stateIn, statePut};
 
 // The words of a state.
-pub const STATE_SIZE: usize = 22;
+pub const STATE_SIZE: usize = 23;
 
-// The state that a slice of words shows: that of its first 22. Fewer show the state without
-// attributes, on which every call is refused with 1.
+// The state that a slice of words shows: that of its first. Fewer than a state has show the state
+// without attributes, on which every call is refused with 1.
 pub fn state_in(words: &[u32]) -> State
     ensures { λ r. ⌜ r ≡ stateIn (now (words .entry)) ⌝ }
 {
@@ -30,9 +31,9 @@ pub fn state_in(words: &[u32]) -> State
     shown_state(words)
 }
 
-// Writes a state into the first 22 words. The others stay.
+// Writes a state into the first words. The others stay.
 pub fn put_state(words: &mut [u32], state: State)
-    requires { ⌜ 22 ≤ length (now words) ⌝ }
+    requires { ⌜ stateSize ≤ length (now words) ⌝ }
     ensures { λ _. ⌜ now (words .exit) ≡ statePut state (now (words .entry)) ⌝ }
 {
     let shape = state.shape;
@@ -62,6 +63,7 @@ pub fn put_state(words: &mut [u32], state: State)
         leaves[10],
         leaves[11],
         leaves[12],
+        shape.signs,
     ];
     put_words(words, &image);
 }
@@ -75,6 +77,7 @@ fn no_state() -> State
         attributes: 0,
         widths,
         capacity: 0,
+        signs: 0,
     };
     let limits = Limits { pages: 0, depth: 0 };
     let leaves = [0u32; 13];
@@ -87,9 +90,9 @@ fn no_state() -> State
     }
 }
 
-// The state of the first 22 words.
+// The state of the first words.
 fn shown_state(words: &[u32]) -> State
-    requires { ⌜ 22 ≤ length (now words) ⌝ }
+    requires { ⌜ stateSize ≤ length (now words) ⌝ }
     ensures { λ r. ⌜ r ≡ shownState (now (words .entry)) ⌝ }
 {
     let widths = [words[1], words[2], words[3], words[4]];
@@ -97,6 +100,7 @@ fn shown_state(words: &[u32]) -> State
         attributes: words[0],
         widths,
         capacity: words[5],
+        signs: words[22],
     };
     let limits = Limits {
         pages: words[6],

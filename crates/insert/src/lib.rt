@@ -10,10 +10,13 @@ use insert_words::count_leaves;
 use insert_words::double;
 use insert_words::set_word;
 use insert_words::set_words;
+use key_encoding::bias_key;
 use key_encoding::encode_key;
+use key_encoding::to_fields;
 use record::Content;
 use record::pack_key;
-use refusals::key_number;
+use refusals::encodings_fit;
+use refusals::lent_number;
 use shape::Key;
 use store::Change;
 use store::Changed;
@@ -30,9 +33,13 @@ pub fn insert(state: State, dir: &mut [u32], pages: &mut [u8], key: Key, content
     ensures { λ r. ⌜ InsertPromise (store state (now (dir .entry)) (now (pages .entry))) (key .values) content
         (changedAnswer (r .answer)) (store (r .state) (now (dir .exit)) (now (pages .exit))) ⌝ }
 {
-    let number = key_number(state, dir.len(), pages.len(), key);
+    let number = lent_number(state, dir.len(), pages.len());
     if number != 0 {
         let answer = Changed::Refused(number);
+        return Change { answer, state };
+    }
+    if !encodings_fit(state.shape, encode_key(state.shape, key)) {
+        let answer = Changed::Refused(3);
         return Change { answer, state };
     }
     if content.payload == 0 {
@@ -57,6 +64,7 @@ pub fn add(state: State, dir: &mut [u32], pages: &mut [u8], key: Key, content: C
     // allocate: I2
     let plan = allocate(state, dir, pages, encodings, found);
     let packed = pack_key(encoded);
+    let fields = to_fields(bias_key(state.shape), packed);
     let b = state.shape.capacity as usize;
     match plan {
         Plan::Refused(n) => {
@@ -65,12 +73,12 @@ pub fn add(state: State, dir: &mut [u32], pages: &mut [u8], key: Key, content: C
         }
         // I2, page p is not full: the record
         Plan::Take(page, place, count) => {
-            insert_record(pages, b, page as usize, place, count, packed, content);
+            insert_record(pages, b, page as usize, place, count, fields, content);
             return Change { answer, state };
         }
         // I2, page p was null: the record; set the words: I4, I5
         Plan::Get(page, depth) => {
-            insert_record(pages, b, page as usize, 0, 0, packed, content);
+            insert_record(pages, b, page as usize, 0, 0, fields, content);
             set_word(state, dir, encodings, page, depth);
             return Change { answer, state };
         }
@@ -88,7 +96,7 @@ pub fn add(state: State, dir: &mut [u32], pages: &mut [u8], key: Key, content: C
                 split.page as usize,
                 free as usize,
                 cut,
-                packed,
+                fields,
                 content,
             );
             return Change { answer, state };

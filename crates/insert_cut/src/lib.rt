@@ -1,7 +1,7 @@
 // Halves of a full page and one key more: the pair at which they part, and the page's cut there.
 use key_order::first_pair;
 use key_order::pair_bit;
-use page::key_at;
+use page::code_at;
 use page_place::first_one;
 use shape::Widths;
 ghost use mathlib.Core.Path.{_≡_};
@@ -28,40 +28,52 @@ pub enum Half {
 
 // The place of the first pair in which the first and the last differ of the n keys of a page and one
 // more, which falls before record i; 64 where they do not.
-pub fn ends_pair(page: &[u8], n: usize, widths: Widths, key: u64, i: usize) -> u64
+pub fn ends_pair(page: &[u8], n: usize, widths: Widths, bias: u64, key: u64, i: usize) -> u64
     requires { ⌜ (1 ≤ n) × (n ≤ 16) × (recordOffset n ≤ length (now page)) × Fit (widthList widths) ⌝ }
-    ensures { λ r. ⌜ FirstPair (widthList widths) (unpackedKey (firstKey (now (page .entry)) key i))
-        (unpackedKey (lastKey (now (page .entry)) n key i)) r ⌝ }
+    ensures { λ r. ⌜ FirstPair (widthList widths) (unpackedKey (firstKey bias (now (page .entry)) key i))
+        (unpackedKey (lastKey bias (now (page .entry)) n key i)) r ⌝ }
 {
-    let first = first_key(page, key, i);
-    let last = last_key(page, n, key, i);
+    let first = first_key(page, bias, key, i);
+    let last = last_key(page, n, bias, key, i);
     first_pair(widths, first, last)
 }
 
 // The first key of all.
-fn first_key(page: &[u8], key: u64, i: usize) -> u64
+fn first_key(page: &[u8], bias: u64, key: u64, i: usize) -> u64
     requires { ⌜ recordOffset 1 ≤ length (now page) ⌝ }
-    ensures { λ r. ⌜ r ≡ firstKey (now (page .entry)) key i ⌝ }
+    ensures { λ r. ⌜ r ≡ firstKey bias (now (page .entry)) key i ⌝ }
 {
-    if i == 0 { key } else { key_at(page, 0) }
+    if i == 0 { key } else { code_at(page, 0, bias) }
 }
 
 // The last key of all.
-fn last_key(page: &[u8], n: usize, key: u64, i: usize) -> u64
+fn last_key(page: &[u8], n: usize, bias: u64, key: u64, i: usize) -> u64
     requires { ⌜ (1 ≤ n) × (n ≤ 16) × (recordOffset n ≤ length (now page)) ⌝ }
-    ensures { λ r. ⌜ r ≡ lastKey (now (page .entry)) n key i ⌝ }
+    ensures { λ r. ⌜ r ≡ lastKey bias (now (page .entry)) n key i ⌝ }
 {
-    if i == n { key } else { key_at(page, n - 1) }
+    if i == n {
+        key
+    } else {
+        code_at(page, n - 1, bias)
+    }
 }
 
 // Cuts a page of n records at its first record with bit 1 at the place of a split step, where a key
 // falls before record i.
-pub fn half_of(page: &[u8], n: usize, widths: Widths, key: u64, i: usize, pair: u64) -> Half
+pub fn half_of(
+    page: &[u8],
+    n: usize,
+    widths: Widths,
+    bias: u64,
+    key: u64,
+    i: usize,
+    pair: u64,
+) -> Half
     requires { ⌜ (1 ≤ n) × (n ≤ 16) × (recordOffset n ≤ length (now page)) × Fit (widthList widths) ⌝ }
     requires { ⌜ (pair < 64) × (pair / 4 < getD (widthList widths) (pair % 4) 0) ⌝ }
-    ensures { λ r. ⌜ Halved (widthList widths) (now (page .entry)) n key i pair r ⌝ }
+    ensures { λ r. ⌜ Halved (widthList widths) bias (now (page .entry)) n key i pair r ⌝ }
 {
-    let start = first_one(page, n, widths, pair);
+    let start = first_one(page, n, widths, bias, pair);
     if pair_bit(widths, key, pair) {
         if i < start {
             return Half::Damaged;

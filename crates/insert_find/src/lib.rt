@@ -4,6 +4,7 @@ use directory_word::Leaf;
 use directory_word::unpack;
 use insert_full::find_split;
 use insert_planned::Found;
+use key_encoding::bias_key;
 use leaf_word::key_word;
 use leaf_word::page_holds;
 use leaf_word::word_holds;
@@ -80,7 +81,13 @@ fn find_place(state: State, pages: &[u8], key: u64, page: u32, depth: u32) -> Fo
     }
     let start = page_start(capacity, page as usize);
     let end = start + page_size(capacity);
-    let place = page_place::find(&pages[start..end], n, widths_of(shape), key);
+    let place = page_place::find(
+        &pages[start..end],
+        n,
+        widths_of(shape),
+        bias_key(shape),
+        key,
+    );
     let Place::Before(i) = place else {
         return Found::Refused(4);
     };

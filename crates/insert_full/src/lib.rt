@@ -6,6 +6,7 @@ use insert_cut::ends_pair;
 use insert_cut::half_of;
 use insert_planned::Found;
 use insert_planned::Split;
+use key_encoding::bias_key;
 use page::page_size;
 use page::page_start;
 use pairs::steps_before;
@@ -30,10 +31,11 @@ pub fn find_split(state: State, pages: &[u8], key: u64, page: u32, depth: u32, i
     let shape = state.shape;
     let limits = state.limits;
     let capacity = shape.capacity as usize;
+    let bias = bias_key(shape);
     let widths = widths_of(shape);
     let start = page_start(capacity, page as usize);
     let end = start + page_size(capacity);
-    let pair = ends_pair(&pages[start..end], capacity, widths, key, i);
+    let pair = ends_pair(&pages[start..end], capacity, widths, bias, key, i);
     if pair == 64 {
         return Found::Refused(9);
     }
@@ -78,6 +80,7 @@ fn find_cut(state: State, pages: &[u8], key: u64, split: Split) -> Found
         &pages[start..end],
         capacity,
         widths_of(shape),
+        bias_key(shape),
         key,
         split.behind,
         split.pair,

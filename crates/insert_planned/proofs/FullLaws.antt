@@ -22,12 +22,13 @@ use Rattle.region.proofs.OrderLaws.{sameBits-before}
 use Rattle.record.specs.declared.Content.{Content}
 use Rattle.record.specs.Record.{Record, recordBit}
 use Rattle.record.specs.Bytes.{recordSize}
+use Rattle.record.specs.Lanes.{biasKey}
 use Rattle.record.specs.Packed.{packedKey, unpackedKey}
 use Rattle.record.proofs.KeyLaws.{length-steps-widthsOf}
-use Rattle.record.proofs.CodecLaws.{unpackedKey-keyIn}
+use Rattle.record.proofs.FieldLaws.{unpackedKey-keyIn}
 use Rattle.record.proofs.ByteLaws.{AreBytes-field}
 use Rattle.page.specs.Page.{recordsFrom, pageAt}
-use Rattle.page.specs.Fields.{recordOffset, recordField, keyAt}
+use Rattle.page.specs.Fields.{recordOffset, recordField, codeAt}
 use Rattle.page.proofs.FieldLaws.{length-recordsFrom}
 use Rattle.key_order.specs.Order.{FirstPair}
 use Rattle.key_order.proofs.CommonLaws.{sameBits-all}
@@ -76,7 +77,7 @@ module _ (before : Store) (encoded : List ℕ) (content : Content) (a : InsertAs
 
   pub between : Between (recordBit s) (total ws) 0 r r rs i
   between =
-      placed-between s r (packedKey encoded) own-key page (page-bytes before encoded content a g x b (e .met))
+      placed-between s (a .passed .shape) r (packedKey encoded) own-key page (page-bytes before encoded content a g x b (e .met))
       b order i (e .place)
 
   pub size : length rs ≡ b
@@ -93,29 +94,29 @@ module _ (before : Store) (encoded : List ℕ) (content : Content) (a : InsertAs
   abbrev last : Record
   last = lastWith (recordBit s) (total ws) 0 r r rs i order between some
 
-  key-there : (k : ℕ) → k < b → unpackedKey (keyAt page k) ≡ getD rs k r .key
+  key-there : (k : ℕ) → k < b → unpackedKey (codeAt (biasKey s) page k) ≡ getD rs k r .key
   key-there k l =
       let bytes = page-bytes before encoded content a g x b (e .met) in
-      unpackedKey-keyIn s (recordField page k) (AreBytes-field page (recordOffset k) recordSize bytes)
-      ∙ ap (λ q. q .key) (sym (record-at s r (packedKey encoded) own-key page bytes b order k l))
+      unpackedKey-keyIn s (a .passed .shape) (recordField page k) (AreBytes-field page (recordOffset k) recordSize bytes)
+      ∙ ap (λ q. q .key) (sym (record-at s (a .passed .shape) r (packedKey encoded) own-key page bytes b order k l))
 
-  first-key : unpackedKey (firstKey page (packedKey encoded) i) ≡ first .key
+  first-key : unpackedKey (firstKey (biasKey s) page (packedKey encoded) i) ≡ first .key
   first-key =
-      chosen-key (eqb i 0) (packedKey encoded) (keyAt page 0) r (getD rs 0 r) (sym own-key)
+      chosen-key (eqb i 0) (packedKey encoded) (codeAt (biasKey s) page 0) r (getD rs 0 r) (sym own-key)
       (key-there 0 (omega (arith, size, some)))
 
-  last-key : unpackedKey (lastKey page b (packedKey encoded) i) ≡ last .key
+  last-key : unpackedKey (lastKey (biasKey s) page b (packedKey encoded) i) ≡ last .key
   last-key =
       subst
-      (λ k. unpackedKey (lastKey page b (packedKey encoded) i) ≡ cond (eqb i k) r (getD rs (k - 1) r) .key)
+      (λ k. unpackedKey (lastKey (biasKey s) page b (packedKey encoded) i) ≡ cond (eqb i k) r (getD rs (k - 1) r) .key)
       (sym size)
-      (chosen-key (eqb i b) (packedKey encoded) (keyAt page (b - 1)) r (getD rs (b - 1) r) (sym own-key)
+      (chosen-key (eqb i b) (packedKey encoded) (codeAt (biasKey s) page (b - 1)) r (getD rs (b - 1) r) (sym own-key)
       (key-there (b - 1) (omega (arith, size, some))))
 
   ends : FirstPair ws (first .key) (last .key) pair
   ends =
       subst (λ k. FirstPair ws k (last .key) pair) first-key
-      (subst (λ k. FirstPair ws (unpackedKey (firstKey page (packedKey encoded) i)) k pair) last-key (e .ends))
+      (subst (λ k. FirstPair ws (unpackedKey (firstKey (biasKey s) page (packedKey encoded) i)) k pair) last-key (e .ends))
 
   pub fit : Fit ws
   fit = widthsOf-fit s (a .passed .shape)

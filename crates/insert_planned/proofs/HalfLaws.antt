@@ -15,6 +15,7 @@ use Rattle.region.specs.Sets.{sorted}
 use Rattle.region.specs.Division.{side}
 use Rattle.record.specs.declared.Content.{Content}
 use Rattle.record.specs.Record.{Record, recordBit}
+use Rattle.record.specs.Lanes.{biasKey}
 use Rattle.record.specs.Packed.{packedKey, unpackedKey}
 use Rattle.page.specs.Page.{pageAt}
 use Rattle.pairs.specs.Pairs.{pairBit}
@@ -33,7 +34,7 @@ use Rattle.insert_planned.proofs.FullLaws.{rs, order, between, size, fi
 module _ (before : Store) (encoded : List ℕ) (content : Content) (a : InsertAsked before encoded) (g x i pair m : ℕ)
     (e : EndsMet before encoded g x i pair m) (split : pair < 64) (cut : ℕ)
     (cut-at : cut
-    ≡ firstOne (widthsOf (before .state .shape)) pair
+    ≡ firstOne (widthsOf (before .state .shape)) (biasKey (before .state .shape)) pair
     (pageAt (before .state .shape .capacity) (before .memory .bytes) g) (before .state .shape .capacity) 0) where
   abbrev s : Shape
   s = before .state .shape
@@ -52,7 +53,7 @@ module _ (before : Store) (encoded : List ℕ) (content : Content) (a : InsertAs
 
   -- on any store
   pub cut-le : cut ≤ b
-  cut-le = omega (arith, cut-at, firstOne-le ws pair page b 0)
+  cut-le = omega (arith, cut-at, firstOne-le ws (biasKey s) pair page b 0)
 
   module _ (S : List Record) (sound : Sound before S) where
     abbrev records : List Record
@@ -80,13 +81,13 @@ module _ (before : Store) (encoded : List ℕ) (content : Content) (a : InsertAs
     pub take-cut : take cut records ≡ side (recordBit s) false m records
     take-cut =
         rw (cut-at, e .step)
-        (take-firstOne s (fit before encoded content a g x i pair m e S sound) pair live page
+        (take-firstOne s (a .passed .shape) (fit before encoded content a g x i pair m e S sound) pair live page
         (page-bytes before encoded content a g x b (e .met)) (total ws - suc m) b order-there)
 
     pub drop-cut : drop cut records ≡ side (recordBit s) true m records
     drop-cut =
         rw (cut-at, e .step)
-        (drop-firstOne s (fit before encoded content a g x i pair m e S sound) pair live page
+        (drop-firstOne s (a .passed .shape) (fit before encoded content a g x i pair m e S sound) pair live page
         (page-bytes before encoded content a g x b (e .met)) (total ws - suc m) b order-there)
 
     pub cut-within : cut ≤ length records

@@ -17,9 +17,9 @@ use Rattle.directory_lent.specs.Lent.{DirectoryLent}
 use Rattle.record.specs.declared.Content.{Content}
 use Rattle.record.specs.Record.{Record, recordBit}
 use Rattle.record.specs.Bytes.{recordOf}
+use Rattle.record.specs.Lanes.{biasKey, fieldsKey}
 use Rattle.record.specs.Packed.{packedKey, unpackedKey, packedBytes}
-use Rattle.record.proofs.PackedLaws.{packedKey-lt}
-use Rattle.record.proofs.CodecLaws.{recordOf-packedBytes}
+use Rattle.record.proofs.FieldLaws.{recordOf-fieldsKey}
 use Rattle.record.proofs.ByteLaws.{AreBytes, AreBytes-field}
 use Rattle.page.specs.Page.{recordsFrom, pageSize, pageAt}
 use Rattle.page_place.specs.Find.{Placed}
@@ -32,7 +32,7 @@ use Rattle.store.specs.Store.{Store}
 use Rattle.store.specs.Sound.{Sound}
 use Rattle.store.proofs.DividedLaws.{leafRecords-divisionOf}
 use Rattle.refusals.specs.Passed.{Passed}
-use Rattle.refusals.proofs.PassedLaws.{SixteenBits-passed, unpackedKey-passed}
+use Rattle.refusals.proofs.PassedLaws.{unpackedKey-passed}
 use Rattle.change.proofs.MeetLaws.{recordsOn, MeetsPage, sorted-page, records-of-page}
 use Rattle.insert_planned.specs.Found.{InsertAsked, PageMet, FallsBefore}
 
@@ -45,10 +45,10 @@ recordWith encoded content = record { key = encoded; content = content }
 -- the record that its bytes hold
 pub recordOf-passed : (before : Store) (encoded : List ℕ) → Passed before encoded → (content : Content)
     → content .payload < 2 ^ 32
-    → recordOf (before .state .shape) (packedBytes (packedKey encoded) content) ≡ recordWith encoded content
+    → let s = before .state .shape in
+    recordOf s (packedBytes (fieldsKey s (packedKey encoded)) content) ≡ recordWith encoded content
 recordOf-passed before encoded p content l =
-    recordOf-packedBytes (before .state .shape) (packedKey encoded) content
-    (packedKey-lt encoded (SixteenBits-passed before encoded p)) l
+    recordOf-fieldsKey (before .state .shape) (p .shape) (packedKey encoded) content l
     ∙ ap (λ k. recordWith k content) (unpackedKey-passed before encoded p)
 
 -- ---- the directory
@@ -110,15 +110,15 @@ module _ (before : Store) (encoded : List ℕ) (content : Content) (a : InsertAs
     pub absent-met : (i : ℕ) → FallsBefore before encoded g n i
         → nonEmpty (stored (r .key) (recordsOn before g)) ≡ false
     absent-met i p =
-        let none = absent-placed s r (packedKey encoded) key-is page page-bytes n sorted-met i p in
+        let none = absent-placed s (a .passed .shape) r (packedKey encoded) key-is page page-bytes n sorted-met i p in
         not-true _
         (sym (absent-stored s (a .passed .shape) (recordsOn before g) set-met r inside) ∙ rw records-met none)
 
     -- at a record: it is
-    pub stored-met : (i : ℕ) → Placed (widthsOf s) (unpackedKey (packedKey encoded)) page n (At i)
+    pub stored-met : (i : ℕ) → Placed (widthsOf s) (biasKey s) (unpackedKey (packedKey encoded)) page n (At i)
         → nonEmpty (stored (r .key) (recordsOn before g)) ≡ true
     stored-met i p =
-        let one = withPrefix-placed s r (packedKey encoded) key-is page page-bytes n sorted-met i p in
+        let one = withPrefix-placed s (a .passed .shape) r (packedKey encoded) key-is page page-bytes n sorted-met i p in
         ap nonEmpty
         (stored-withPrefix s (a .passed .shape) (recordsOn before g) set-met (r .key) (fits-of-inShape s r inside))
         ∙ rw (records-met, one)

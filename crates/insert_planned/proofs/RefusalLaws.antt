@@ -14,6 +14,7 @@ use Rattle.shape.specs.declared.Shape.{Shape}
 use Rattle.split.specs.Bits.{splitBit}
 use Rattle.record.specs.declared.Content.{Content}
 use Rattle.record.specs.Record.{Record}
+use Rattle.record.specs.Lanes.{biasKey}
 use Rattle.record.specs.Packed.{packedKey, unpackedKey}
 use Rattle.page.specs.Page.{countOf, pageAt}
 use Rattle.page_place.specs.Find.{Placed}
@@ -106,8 +107,8 @@ module _ (before : Store) (encoded : List ℕ) where
         let p = splitBit (widthsOf s) encoded in
         false≢true
         (sym h
-        ∙ ap (λ q. endsBegin (widthsOf s) x (splitBit (widthsOf s) q) (page g) n) unpacked
-        ∙ ap (endsBegin (widthsOf s) x p (page g)) e
+        ∙ ap (λ q. endsBegin (widthsOf s) (biasKey s) x (splitBit (widthsOf s) q) (page g) n) unpacked
+        ∙ ap (endsBegin (widthsOf s) (biasKey s) x p (page g)) e
         ∙ endsBegin-word before S sound p g x small (m .own) p (λ t l. refl)))
       where
         unpacked : unpackedKey key ≡ encoded
@@ -129,10 +130,10 @@ module _ (before : Store) (encoded : List ℕ) where
             bytes = bytes;
           }
 
-      pub four-stored : (i : ℕ) → Placed (widthsOf s) (unpackedKey key) (page g) n (At i) → RefusalMet before encoded 4
+      pub four-stored : (i : ℕ) → Placed (widthsOf s) (biasKey s) (unpackedKey key) (page g) n (At i) → RefusalMet before encoded 4
       four-stored i p =
           let a = m .asked in
-          let there = subst (λ k. Placed (widthsOf s) (unpackedKey k) (page g) n (At i)) (m .key-is) p in
+          let there = subst (λ k. Placed (widthsOf s) (biasKey s) (unpackedKey k) (page g) n (At i)) (m .key-is) p in
           refused-by 4
           (λ r. OnSound before (MeetsPage before r g x)
           × OnSound before (nonEmpty (stored (r .key) (recordsOn before g)) ≡ true))
@@ -142,9 +143,9 @@ module _ (before : Store) (encoded : List ℕ) where
             (λ S sound. stored-met before encoded content a g x n page-met S sound i there),
           ))
 
-      module _ (i : ℕ) (p : Placed (widthsOf s) (unpackedKey key) (page g) n (Before i)) where
-        falls : Placed (widthsOf s) (unpackedKey (packedKey encoded)) (page g) n (Before i)
-        falls = subst (λ k. Placed (widthsOf s) (unpackedKey k) (page g) n (Before i)) (m .key-is) p
+      module _ (i : ℕ) (p : Placed (widthsOf s) (biasKey s) (unpackedKey key) (page g) n (Before i)) where
+        falls : Placed (widthsOf s) (biasKey s) (unpackedKey (packedKey encoded)) (page g) n (Before i)
+        falls = subst (λ k. Placed (widthsOf s) (biasKey s) (unpackedKey k) (page g) n (Before i)) (m .key-is) p
 
         pub room-found : n < b → InsertFound before encoded (Room g i n)
         room-found l = record { asked = m .asked; depth = x; met = page-met; room = l; place = falls }
@@ -157,5 +158,5 @@ module _ (before : Store) (encoded : List ℕ) where
               key-is = m .key-is;
               met = subst (PageMet before encoded g x) full page-met;
               place =
-                  subst (λ k. Placed (widthsOf s) (unpackedKey (packedKey encoded)) (page g) k (Before i)) full falls;
+                  subst (λ k. Placed (widthsOf s) (biasKey s) (unpackedKey (packedKey encoded)) (page g) k (Before i)) full falls;
             }

@@ -12,6 +12,7 @@ use Rattle.shape.specs.declared.Shape.{Shape}
 use Rattle.split.specs.Steps.{stepsBelow}
 use Rattle.record.specs.declared.Content.{Content}
 use Rattle.record.specs.Record.{recordBit}
+use Rattle.record.specs.Lanes.{biasKey}
 use Rattle.record.specs.Packed.{packedKey, unpackedKey}
 use Rattle.page.specs.Page.{pageAt}
 use Rattle.page.proofs.FieldLaws.{length-recordsFrom}
@@ -54,19 +55,21 @@ module _ (before : Store) (encoded : List ℕ) where
 
   -- ---- the first and the last key, as the code has them
 
-  pub ends-met : (key g x i pair m : ℕ) → FullMet before encoded key g x i → (ws′ page′ : List ℕ) → ws′ ≡ widthsOf s
-      → page′ ≡ page g
-      → FirstPair ws′ (unpackedKey (firstKey page′ key i)) (unpackedKey (lastKey page′ b key i)) pair
+  pub ends-met : (key g x i pair m : ℕ) → FullMet before encoded key g x i → (ws′ page′ : List ℕ) (bias′ : ℕ)
+      → ws′ ≡ widthsOf s → page′ ≡ page g → bias′ ≡ biasKey s
+      → FirstPair ws′ (unpackedKey (firstKey bias′ page′ key i)) (unpackedKey (lastKey bias′ page′ b key i)) pair
       → m ≡ length (stepsBelow ws′ pair) → EndsMet before encoded g x i pair m
-  ends-met key g x i pair m f ws′ page′ e d p t =
-      let ends : ℕ → List ℕ → List ℕ → Type 0 =
-      λ k pg ws. FirstPair ws (unpackedKey (firstKey pg k i)) (unpackedKey (lastKey pg b k i)) pair in
+  ends-met key g x i pair m f ws′ page′ bias′ e d h p t =
+      let with : ℕ → ℕ → List ℕ → List ℕ → Type 0 =
+      λ c k pg ws. FirstPair ws (unpackedKey (firstKey c pg k i)) (unpackedKey (lastKey c pg b k i)) pair in
+      let ends : ℕ → List ℕ → List ℕ → Type 0 = with (biasKey s) in
       record {
         met = f .met;
         place = f .place;
         ends =
             subst (λ k. ends k (page g) (widthsOf s)) (f .key-is)
-            (subst (λ pg. ends key pg (widthsOf s)) d (subst (λ ws. ends key page′ ws) e p));
+            (subst (λ pg. ends key pg (widthsOf s)) d
+            (subst (λ ws. ends key page′ ws) e (subst (λ c. with c key page′ ws′) h p)));
         step = t ∙ ap (λ ws. length (stepsBelow ws pair)) e;
       }
 
@@ -133,17 +136,17 @@ module _ (before : Store) (encoded : List ℕ) where
   -- ---- the cut
 
   module _ (key : ℕ) (split : Split) (d : DividingMet before encoded key split) (ws′ page′ : List ℕ)
-      (ew : ws′ ≡ widthsOf s) (ep : page′ ≡ page (split .page)) where
+      (bias′ : ℕ) (ew : ws′ ≡ widthsOf s) (ep : page′ ≡ page (split .page)) (eb : bias′ ≡ biasKey s) where
     abbrev met : SplitMet before encoded split
     met = d .split-met
 
-    pub nine-half : (half : Half) → Halved ws′ page′ b key (split .behind) (split .pair) half → half ≡ Damaged
+    pub nine-half : (half : Half) → Halved ws′ bias′ page′ b key (split .behind) (split .pair) half → half ≡ Damaged
         → RefusalMet before encoded 9
     nine-half half h q =
         nine-unsound before encoded
         (λ S sound.
         let e = met .ends-met in
-        let start = firstOne (widthsOf s) (split .pair) (page (split .page)) b 0 in
+        let start = firstOne (widthsOf s) (biasKey s) (split .pair) (page (split .page)) b 0 in
         let bit = pairBit (widthsOf s) (unpackedKey (packedKey encoded)) (split .pair) in
         there
         (falls-low before encoded unread (d .asked) _ _ _ _ _ e (met .differ) start refl S sound bit refl)
@@ -151,20 +154,21 @@ module _ (before : Store) (encoded : List ℕ) where
         (half-room before encoded unread (d .asked) _ _ _ _ _ e (met .differ) start refl S sound bit refl))
       where
         damaged : ℕ → List ℕ → List ℕ → Type 0
-        damaged k pg ws = Halved ws pg b k (split .behind) (split .pair) Damaged
+        damaged k pg ws = Halved ws (biasKey s) pg b k (split .behind) (split .pair) Damaged
 
         there : damaged (packedKey encoded) (page (split .page)) (widthsOf s)
         there =
             subst (λ k. damaged k (page (split .page)) (widthsOf s)) (d .key-is)
             (subst (λ pg. damaged key pg (widthsOf s)) ep
             (subst (λ ws. damaged key page′ ws) ew
-            (subst (Halved ws′ page′ b key (split .behind) (split .pair)) q h)))
+            (subst (λ c. Halved ws′ c page′ b key (split .behind) (split .pair) Damaged) eb
+            (subst (Halved ws′ bias′ page′ b key (split .behind) (split .pair)) q h))))
 
-    pub full-found : (half : Half) → Halved ws′ page′ b key (split .behind) (split .pair) half → (cut : Cut)
+    pub full-found : (half : Half) → Halved ws′ bias′ page′ b key (split .behind) (split .pair) half → (cut : Cut)
         → half ≡ Own cut → InsertFound before encoded (Full split cut)
     full-found half h cut q =
         let halves : ℕ → List ℕ → List ℕ → Type 0 =
-        λ k pg ws. HalfMet ws pg b k (split .behind) (split .pair) cut in
+        λ k pg ws. HalfMet ws (biasKey s) pg b k (split .behind) (split .pair) cut in
         record {
           asked = d .asked;
           met = met;
@@ -172,5 +176,6 @@ module _ (before : Store) (encoded : List ℕ) where
               subst (λ k. halves k (page (split .page)) (widthsOf s)) (d .key-is)
               (subst (λ pg. halves key pg (widthsOf s)) ep
               (subst (λ ws. halves key page′ ws) ew
-              (subst (Halved ws′ page′ b key (split .behind) (split .pair)) q h)));
+              (subst (λ c. Halved ws′ c page′ b key (split .behind) (split .pair) (Own cut)) eb
+              (subst (Halved ws′ bias′ page′ b key (split .behind) (split .pair)) q h))));
         }

@@ -8,6 +8,7 @@ use lib.ListN.{getD, length}
 use Rattle.shape.specs.Shape.{widthsOf, total}
 use Rattle.split.specs.Steps.{stepsBelow}
 use Rattle.split.specs.Bits.{splitBit}
+use Rattle.record.specs.Lanes.{biasKey}
 use Rattle.record.specs.Packed.{packedKey, unpackedKey}
 use Rattle.page.specs.Page.{countOf, pageAt}
 use Rattle.key_order.specs.Order.{FirstPair}
@@ -33,6 +34,10 @@ module _ (before : Store) (encoded : List ℕ) where
   abbrev ws : List ℕ
   ws = widthsOf (before .state .shape)
 
+  -- what is added to the fields of a page
+  abbrev bias : ℕ
+  bias = biasKey (before .state .shape)
+
   -- page g
   abbrev page : ℕ → List ℕ
   page g = pageAt (before .state .shape .capacity) (before .memory .bytes) g
@@ -55,13 +60,13 @@ module _ (before : Store) (encoded : List ℕ) where
 
   -- the key stands between records i - 1 and i of page g, which has n
   abbrev pub FallsBefore : ℕ → ℕ → ℕ → Type 0
-  FallsBefore g n i = Placed ws (unpackedKey (packedKey encoded)) (page g) n (Before i)
+  FallsBefore g n i = Placed ws bias (unpackedKey (packedKey encoded)) (page g) n (Before i)
 
   -- of the keys on a full page g and the new one, which falls before record i, the first and the last differ first at
   -- the place `pair` of a split step, whose number is m
   pub record EndsMet (g x i pair m : ℕ) : Type 0 where
     pub met : PageMet g x (before .state .shape .capacity)
     pub place : FallsBefore g (before .state .shape .capacity) i
-    pub ends : FirstPair ws (unpackedKey (firstKey (page g) (packedKey encoded) i))
-        (unpackedKey (lastKey (page g) (before .state .shape .capacity) (packedKey encoded) i)) pair
+    pub ends : FirstPair ws (unpackedKey (firstKey bias (page g) (packedKey encoded) i))
+        (unpackedKey (lastKey bias (page g) (before .state .shape .capacity) (packedKey encoded) i)) pair
     pub step : m ≡ length (stepsBelow ws pair)

@@ -8,6 +8,7 @@ use Rattle.shape.specs.Refusal.{refused}
 use Rattle.shape.specs.Shape.{widthsOf, total, indexFits}
 use Rattle.split.specs.Bits.{splitBit}
 use Rattle.record.specs.declared.Content.{Content}
+use Rattle.record.specs.Lanes.{biasKey}
 use Rattle.record.specs.Packed.{packedKey, unpackedKey}
 use Rattle.page.specs.Page.{countOf, pageAt}
 use Rattle.directory_word.specs.Word.{wordOf}
@@ -75,8 +76,8 @@ module _ (before : Store) (encoded : List ℕ) where
   pub record FullFound (split : Split) (cut : Cut) : Type 0 where
     pub asked : InsertAsked before encoded
     pub met : SplitMet split
-    pub half : HalfMet ws (page (split .page)) (before .state .shape .capacity) (packedKey encoded) (split .behind)
-        (split .pair) cut
+    pub half : HalfMet ws (biasKey (before .state .shape)) (page (split .page)) (before .state .shape .capacity)
+        (packedKey encoded) (split .behind) (split .pair) cut
 
   -- a refusal is what `add` promises of the call's values, whatever the record holds
   abbrev pub RefusalMet : ℕ → Type 0

@@ -1,6 +1,6 @@
 -- Laws of a record that is added to a page with room or to an empty leaf: what the steps ask holds, and what they leave
 -- keeps the promise. Assumes nothing.
-use Prim.Native.Nat.{ℕ, _-_, _^_, _≤_, _<_}
+use Prim.Native.Nat.{ℕ, _^_, _≤_, _<_}
 use mathlib.Core.Path.{_≡_, refl, sym, ap, _∙_, subst}
 use mathlib.Core.List.{List}
 use native.Mathlib.Omega.{arith}
@@ -12,6 +12,7 @@ use Rattle.split.specs.Bits.{splitBit}
 use Rattle.directory.specs.Directory.{Filled}
 use Rattle.directory_lent.specs.Lent.{DirectoryLent}
 use Rattle.record.specs.declared.Content.{Content}
+use Rattle.record.specs.Lanes.{fieldsKey}
 use Rattle.record.specs.Packed.{packedKey, packedBytes}
 use Rattle.pages.specs.Pages.{PageLent}
 use Rattle.directory_word.specs.Word.{wordOf}
@@ -34,7 +35,7 @@ module _ (before : Store) (encoded : List ℕ) (content : Content) where
   abbrev bytes : List ℕ
   bytes = before .memory .bytes
 
-  module _ (small : content .payload < 2 ^ 32) (key : ℕ) (ek : key ≡ packedKey encoded) where
+  module _ (small : content .payload < 2 ^ 32) (key : ℕ) (ek : key ≡ fieldsKey s (packedKey encoded)) where
     -- ---- a page takes the record
 
     module _ (g i n : ℕ) (taken : RoomFound before encoded g i n) where
@@ -48,7 +49,7 @@ module _ (before : Store) (encoded : List ℕ) (content : Content) where
           (λ bs. AcceptedMet before encoded content (store (before .state) (before .memory .words) bs))
           (sym (d ∙ ap (λ k. insertedPages b g i n (packedBytes k content) bytes) ek))
           (promise-taken before encoded content (taken .asked) small g i n taken
-          (contained-taken before encoded (packedKey encoded) content g i n taken lent-taken _ refl))
+          (contained-taken before encoded (fieldsKey s (packedKey encoded)) content g i n taken lent-taken _ refl))
 
     -- ---- an empty leaf gets a page
 
@@ -79,4 +80,4 @@ module _ (before : Store) (encoded : List ℕ) (content : Content) where
           (λ bs. AcceptedMet before encoded content (store (before .state) words′ bs))
           (sym (d ∙ ap (λ k. insertedPages b g 0 0 (packedBytes k content) bytes) ek))
           (promise-got before encoded content (got .found .asked) small g x got words′ filled
-          (contained-got before encoded (packedKey encoded) content g x got lent-got whole words′ filled _ refl))
+          (contained-got before encoded (fieldsKey s (packedKey encoded)) content g x got lent-got whole words′ filled _ refl))

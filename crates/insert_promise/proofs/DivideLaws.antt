@@ -14,6 +14,7 @@ use Rattle.shape.proofs.ShapeLaws.{widthsOf-fit, capacity-bounds}
 use Rattle.split.specs.Bits.{splitBit}
 use Rattle.directory_lent.specs.Lent.{DirectoryLent}
 use Rattle.record.specs.declared.Content.{Content}
+use Rattle.record.specs.Lanes.{fieldsKey}
 use Rattle.record.specs.Packed.{packedKey, packedBytes}
 use Rattle.pairs.specs.Pairs.{pairBit}
 use Rattle.pairs.proofs.PlaceLaws.{splitBit-place}
@@ -50,7 +51,7 @@ module _ (before : Store) (encoded : List ℕ) (content : Content) where
   abbrev bytes : List ℕ
   bytes = before .memory .bytes
 
-  module _ (small : content .payload < 2 ^ 32) (key : ℕ) (ek : key ≡ packedKey encoded) where
+  module _ (small : content .payload < 2 ^ 32) (key : ℕ) (ek : key ≡ fieldsKey s (packedKey encoded)) where
     module _ (split : Split) (cut : Cut) (free : ℕ) (dividing : DividePlanned before encoded split cut free)
         (whole : LeafTested (before .state) (before .memory .words) encoded (split .depth)
         (wordOf (Page (split .page) (split .depth)))) where
@@ -190,12 +191,12 @@ module _ (before : Store) (encoded : List ℕ) (content : Content) where
             w = words-divided words′ l after c
 
             new : List ℕ
-            new = dividedPages b (split .page) free cut (packedBytes (packedKey encoded) content) bytes
+            new = dividedPages b (split .page) free cut (packedBytes (fieldsKey s (packedKey encoded)) content) bytes
 
             contained : Contained false before
                 (changedStore before (after .deepest) (after .tally) (memory words′ new))
                 (splitBit (widthsOf s) encoded)
             contained =
                 subst (λ st. Contained false before (store st words′ new) (splitBit (widthsOf s) encoded)) (w .state)
-                (contained-divided before encoded (packedKey encoded) content split cut free dividing pages-lent
+                (contained-divided before encoded (fieldsKey s (packedKey encoded)) content split cut free dividing pages-lent
                 cut-fits whole after words′ w new refl)

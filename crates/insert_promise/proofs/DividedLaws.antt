@@ -13,6 +13,7 @@ use Rattle.shape.specs.Shape.{widthsOf, total}
 use Rattle.record.specs.declared.Content.{Content}
 use Rattle.record.specs.Record.{Record, recordBit}
 use Rattle.record.proofs.CodecLaws.{length-packedBytes}
+use Rattle.record.specs.Lanes.{fieldsKey}
 use Rattle.record.specs.Packed.{packedKey, packedBytes}
 use Rattle.page.specs.Page.{countOf, recordsOf, pageSize, pageAt, recordsFrom}
 use Rattle.page.specs.Changes.{insertAt}
@@ -67,7 +68,7 @@ module _ (before : Store) (encoded : List ℕ) (content : Content) (a : InsertAs
   r = recordWith encoded content
 
   abbrev new : List ℕ
-  new = packedBytes (packedKey encoded) content
+  new = packedBytes (fieldsKey s (packedKey encoded)) content
 
   abbrev g : ℕ
   g = split .page
@@ -143,7 +144,7 @@ module _ (before : Store) (encoded : List ℕ) (content : Content) (a : InsertAs
   unfolding dividedPages
   length-divided =
       length-insertedPages b own (cut .place) before-own new carried lent-carried place-le (t .found .half .room)
-      (length-packedBytes (packedKey encoded) content)
+      (length-packedBytes (fieldsKey s (packedKey encoded)) content)
       ∙ length-carried
 
   pub drop-divided : drop (before .state .limits .pages * pageSize b) after
@@ -151,7 +152,7 @@ module _ (before : Store) (encoded : List ℕ) (content : Content) (a : InsertAs
   unfolding dividedPages
   drop-divided =
       drop-insertedPages b own (cut .place) before-own new carried lent-carried place-le (t .found .half .room)
-      (length-packedBytes (packedKey encoded) content) (before .state .limits .pages) own-lt
+      (length-packedBytes (fieldsKey s (packedKey encoded)) content) (before .state .limits .pages) own-lt
       ∙ drop-carriedPages b g start b free 0 bytes lent-own lent-free start-le (omega arith) run-le
       (before .state .limits .pages) (met .met .within) (t .free-within)
 
@@ -159,7 +160,7 @@ module _ (before : Store) (encoded : List ℕ) (content : Content) (a : InsertAs
   unfolding dividedPages
   page-carried k n =
       pageAt-insertedPages-other b own (cut .place) before-own new carried lent-carried place-le (t .found .half .room)
-      (length-packedBytes (packedKey encoded) content) k n
+      (length-packedBytes (fieldsKey s (packedKey encoded)) content) k n
 
   pub others-divided : (k : ℕ) → (k ≡ g → ⊥) → (k ≡ free → ⊥) → pageRecords s after k ≡ recordsOn before k
   others-divided k n o =
@@ -209,7 +210,7 @@ module _ (before : Store) (encoded : List ℕ) (content : Content) (a : InsertAs
   unfolding dividedPages
   shown-own =
       recordsOf-insertedPages b own (cut .place) before-own new carried lent-carried place-le (t .found .half .room)
-      (length-packedBytes (packedKey encoded) content) s
+      (length-packedBytes (fieldsKey s (packedKey encoded)) content) s
       ∙ ap (λ q. insertAt (cut .place) q (recordsFrom s before-own 2 (pageAt b carried own)))
       (recordOf-passed before encoded (a .passed) content small)
       ∙ ap (λ n. insertAt (cut .place) r (recordsFrom s n 2 (pageAt b carried own))) (sym count-own)

@@ -10,6 +10,7 @@ use Rattle.shape.specs.Shape.{widthsOf, total}
 use Rattle.region.specs.Sets.{sorted, insert}
 use Rattle.region.specs.Division.{side}
 use Rattle.record.specs.declared.Content.{Content}
+use Rattle.record.specs.Lanes.{biasKey}
 use Rattle.record.specs.Record.{Record, recordBit}
 use Rattle.record.specs.Packed.{packedKey, unpackedKey}
 use Rattle.page.specs.Page.{pageAt}
@@ -30,7 +31,7 @@ use Rattle.insert_planned.proofs.HalfLaws.{take-cut, drop-cut, cut-within, bit-
 module _ (before : Store) (encoded : List ℕ) (content : Content) (a : InsertAsked before encoded) (g x i pair m : ℕ)
     (e : EndsMet before encoded g x i pair m) (split : pair < 64) (cut : ℕ)
     (cut-at : cut
-    ≡ firstOne (widthsOf (before .state .shape)) pair
+    ≡ firstOne (widthsOf (before .state .shape)) (biasKey (before .state .shape)) pair
     (pageAt (before .state .shape .capacity) (before .memory .bytes) g) (before .state .shape .capacity) 0)
     (S : List Record) (sound : Sound before S) where
   abbrev bit : Record → ℕ → Bool

@@ -9,6 +9,7 @@ use Rattle.shape.specs.declared.Shape.{Shape}
 use Rattle.split.specs.Bits.{splitBit}
 use Rattle.record.specs.declared.Content.{Content}
 use Rattle.record.specs.Record.{Record}
+use Rattle.record.specs.Lanes.{fieldsKey}
 use Rattle.record.specs.Packed.{packedKey, packedBytes}
 use Rattle.store.specs.Store.{Store, memory}
 use Rattle.store.specs.Contained.{Contained}
@@ -46,7 +47,7 @@ module _ (before : Store) (encoded : List ℕ) (content : Content) (a : InsertAs
   r = recordWith encoded content
 
   abbrev after : List ℕ
-  after = dividedPages (s .capacity) (split .page) free cut (packedBytes (packedKey encoded) content)
+  after = dividedPages (s .capacity) (split .page) free cut (packedBytes (fieldsKey s (packedKey encoded)) content)
       (before .memory .bytes)
 
   divided : OnSound before

@@ -14,6 +14,7 @@ use Rattle.split.specs.Bits.{splitBit}
 use Rattle.directory.specs.Directory.{Filled}
 use Rattle.record.specs.declared.Content.{Content}
 use Rattle.record.specs.Record.{Record}
+use Rattle.record.specs.Lanes.{fieldsKey}
 use Rattle.record.specs.Packed.{packedKey, packedBytes}
 use Rattle.record.proofs.CodecLaws.{length-packedBytes}
 use Rattle.page.specs.Page.{recordsOf, recordsFrom, pageAt}
@@ -72,10 +73,10 @@ module _ (before : Store) (encoded : List ℕ) (content : Content) (a : InsertAs
   r = recordWith encoded content
 
   abbrev new : List ℕ
-  new = packedBytes (packedKey encoded) content
+  new = packedBytes (fieldsKey s (packedKey encoded)) content
 
   new-length : length new ≡ 12
-  new-length = length-packedBytes (packedKey encoded) content
+  new-length = length-packedBytes (fieldsKey s (packedKey encoded)) content
 
   -- ---- a page takes the record
 
@@ -101,7 +102,7 @@ module _ (before : Store) (encoded : List ℕ) (content : Content) (a : InsertAs
               recordsOf-insertedPages b g i n new (before .memory .bytes) lent (t .place .0) (t .room) new-length s
               ∙ ap (λ q. insertAt i q (recordsFrom s n 2 page))
               (recordOf-passed before encoded (a .passed) content small)
-              ∙ insertAt-placed s r (packedKey encoded) (sym (unpackedKey-passed before encoded (a .passed))) page
+              ∙ insertAt-placed s (a .passed .shape) r (packedKey encoded) (sym (unpackedKey-passed before encoded (a .passed))) page
               (page-bytes before encoded content a g (t .depth) n met) n
               (sorted-met before encoded content a g (t .depth) n met S sound) i (t .place)
               ∙ ap (withRecord s r) (sym same);

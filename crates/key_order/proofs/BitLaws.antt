@@ -1,4 +1,4 @@
--- Laws of bits: by a number's bounds, one alone, of a remainder, of the values in a packed key, of an exclusive-or.
+-- Laws of bits: by a number's bounds, one alone, of the values in a packed key, of an exclusive-or.
 -- Assumes nothing.
 use Prim.Native.Nat.{ℕ, zero, suc, _+_, _*_, _-_, _/_, _%_, _^_, _≤_, _<_}
 use mathlib.Core.Path.{_≡_, refl, sym, ap, _∙_, subst}
@@ -9,8 +9,8 @@ use native.Mathlib.Omega.{arith}
 use borrow.Author.Tests.{eqb-true, eqb-false}
 use lib.Dec.{eqb}
 use lib.Bits.{bitAnd, bitOr, bitXor, and-high, and-shr, and-mod, or-shr, or-mod, xor-shr, xor-mod}
-use lib.Pow.{field, mod-mod-pow, pow-mono, pow-pos, shl-shr, shr-lt, shr-mono, shr-shr}
-use Rattle.lists.proofs.Numbers.{lt-or-le, pow-double}
+use lib.Pow.{pow-mono, pow-pos, shl-shr, shr-lt, shr-mono, shr-shr}
+use Rattle.lists.proofs.Numbers.{lt-or-le, pow-double, bit-mod}
 use Rattle.split.specs.Bits.{bitOf}
 use Rattle.record.specs.Packed.{packedValue}
 use Rattle.key_order.specs.Private.{hasBit}
@@ -65,18 +65,6 @@ and-bit n s =
 pub hasBit-alone : (β : Bool) (s : ℕ) → hasBit s (cond β (2 ^ s) 0) ≡ β
 hasBit-alone true s = hasBit-highest (2 ^ s) s (omega arith) (omega (arith, pow-double s, pow-pos s))
 hasBit-alone false s = ap (λ x. eqb (x % 2) 1) (zero-div (2 ^ s))
-
--- ---- of a remainder
-
--- the bits below w are those of the remainder
-pub bit-mod : (w v i : ℕ) → i < w → (v % 2 ^ w) / 2 ^ i % 2 ≡ v / 2 ^ i % 2
-bit-mod w v i h =
-    let e : w ≡ suc (w - suc i) + i = omega arith in
-    let f : suc (w - suc i) ≡ (w - suc i) + 1 = omega arith in
-    ap (λ k. (v % 2 ^ k) / 2 ^ i % 2) e
-    ∙ ap (λ x. x % 2) (field v (suc (w - suc i)) i)
-    ∙ ap (λ k. v / 2 ^ i % 2 ^ k % 2) f
-    ∙ mod-mod-pow (v / 2 ^ i) (w - suc i) 1
 
 -- ---- of a packed key
 

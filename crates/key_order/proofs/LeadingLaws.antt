@@ -10,11 +10,11 @@ use lib.Bits.{shifted-even}
 use lib.Count.{leadingZeros, leading-of-zero, leading-top, leading-le}
 use lib.Dec.{eqb}
 use lib.Pow.{pow-pos, pow-add, shl-lt, shl-shr, shr-shr, mod-pow-add}
-use Rattle.lists.proofs.Numbers.{lt-or-le, eq-or-ne}
+use Rattle.lists.proofs.Numbers.{lt-or-le, eq-or-ne, bit-mod}
 use Rattle.split.specs.Bits.{bitOf}
 use Rattle.record.specs.Packed.{packedValue}
 use Rattle.key_order.specs.Private.{hasBit, topBits, LeadingOne, FirstBit}
-use Rattle.key_order.proofs.BitLaws.{bit-mod, hasBit-past, hasBit-highest}
+use Rattle.key_order.proofs.BitLaws.{hasBit-past, hasBit-highest}
 
 -- ---- shifted to the top
 

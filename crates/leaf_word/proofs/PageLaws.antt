@@ -11,6 +11,7 @@ use Rattle.split.specs.Bits.{splitBit}
 use Rattle.cell.specs.Cell.{Agree}
 use Rattle.region.specs.Division.{leafDepth}
 use Rattle.record.specs.Record.{Record}
+use Rattle.record.specs.Lanes.{biasKey}
 use Rattle.record.specs.Packed.{unpackedKey}
 use Rattle.page.specs.Page.{countOf, pageAt}
 use Rattle.directory_word.specs.Word.{wordOf}
@@ -31,13 +32,13 @@ module _ (s : Shape) (good : shapeNumber s ≡ 0) (x : ℕ) (deep : x ≤ total 
   fixed-bits-asks = (widths-fit s ws good same, subst (λ v. x ≤ total v) (sym same) deep)
 
   -- a page's ends agree with a key in the bits that are fixed at depth x: they begin with the key's first x split bits
-  pub endsAgree-mask : (mask : ℕ) → mask ≡ fixedBits ws x → (key : ℕ)
+  pub endsAgree-mask : (bias mask : ℕ) → mask ≡ fixedBits ws x → (key : ℕ)
       → indexFits (widthsOf s) (unpackedKey key) ≡ true → (page : List ℕ) (n : ℕ)
-      → endsAgree mask key page n ≡ endsBegin (widthsOf s) x (splitBit (widthsOf s) (unpackedKey key)) page n
+      → endsAgree bias mask key page n ≡ endsBegin (widthsOf s) bias x (splitBit (widthsOf s) (unpackedKey key)) page n
   unfolding widthsOf
-  endsAgree-mask mask e key fits page n =
-      ap (λ m. endsAgree m key page n) (e ∙ ap (λ v. fixedBits v x) same)
-      ∙ endsAgree-endsBegin (widthsOf s) refl (widthsOf-fit s good) x deep key fits page n
+  endsAgree-mask bias mask e key fits page n =
+      ap (λ m. endsAgree bias m key page n) (e ∙ ap (λ v. fixedBits v x) same)
+      ∙ endsAgree-endsBegin (widthsOf s) refl (widthsOf-fit s good) x deep key fits bias page n
 
 -- ---- a sound store
 
@@ -46,12 +47,12 @@ pub endsBegin-word : (store : Store) (S : List Record) → Sound store S → (p 
     → wordOn store p ≡ wordOf (Page g x) → (q : ℕ → Bool) → Agree x q p
     → let s = store .state .shape in
     let page = pageAt (s .capacity) (store .memory .bytes) g in
-    endsBegin (widthsOf s) x q page (countOf page) ≡ true
+    endsBegin (widthsOf s) (biasKey s) x q page (countOf page) ≡ true
 endsBegin-word store S sound p g x l e q a =
     let s = store .state .shape in
     let page = pageAt (s .capacity) (store .memory .bytes) g in
     let depth : x ≡ leafDepth p 0 (divisionOn store S) =
     sym (ap (λ w. w / 2 ^ 16) e ∙ wordOf-depth g x l) ∙ wordOn-depth store S sound p in
-    endsBegin-agree (widthsOf s) x q p a page (countOf page)
-    ∙ ap (λ y. endsBegin (widthsOf s) y p page (countOf page)) depth
+    endsBegin-agree (widthsOf s) (biasKey s) x q p a page (countOf page)
+    ∙ ap (λ y. endsBegin (widthsOf s) (biasKey s) y p page (countOf page)) depth
     ∙ endsBegin-sound store S sound p g (ap (λ w. w % 2 ^ 16) e ∙ wordOf-page g x l)

@@ -8,6 +8,7 @@ use lib.ListN.{getD}
 use Rattle.shape.specs.Shape.{Fit, widthsOf, total, indexFits, shapeNumber}
 use Rattle.shape.specs.declared.Shape.{Shape}
 use Rattle.split.specs.Bits.{splitBit}
+use Rattle.record.specs.Lanes.{biasKey}
 use Rattle.record.specs.Packed.{unpackedKey}
 use Rattle.page.specs.Page.{countOf}
 use Rattle.pages.specs.Pages.{PageLent}
@@ -33,7 +34,7 @@ wordHolds st w =
 -- a page of n records can be that of the leaf of depth x in which a packed key falls: its first and its last record
 -- have values in bounds and begin with the key's first x split bits, the leaf's string
 abbrev pub ownPage : Shape → ℕ → ℕ → List ℕ → ℕ → Bool
-ownPage s x key page n = endsBegin (widthsOf s) x (splitBit (widthsOf s) (unpackedKey key)) page n
+ownPage s x key page n = endsBegin (widthsOf s) (biasKey s) x (splitBit (widthsOf s) (unpackedKey key)) page n
 
 -- how many records such a page has: 1 to b; 0 for another page
 abbrev pub ownCount : Shape → ℕ → ℕ → List ℕ → ℕ

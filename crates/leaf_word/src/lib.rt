@@ -3,6 +3,7 @@
 use directory_cell::find_cell;
 use directory_word::depth_of;
 use directory_word::field_of;
+use key_encoding::bias_key;
 use page::page_size;
 use page::page_start;
 use page_ends::ends_agree;
@@ -58,10 +59,11 @@ pub fn page_holds(shape: Shape, pages: &[u8], g: usize, n: usize, depth: u32, ke
     ensures { λ r. ⌜ r ≡ ownPage shape depth key (pageAt (shape .capacity) (now (pages .entry)) g) n ⌝ }
 {
     let mask = fixed_bits(widths_of(shape), depth as u64);
+    let bias = bias_key(shape);
     let capacity = shape.capacity as usize;
     let start = page_start(capacity, g);
     let end = start + page_size(capacity);
-    ends_agree(&pages[start..end], n, key, mask)
+    ends_agree(&pages[start..end], n, bias, key, mask)
 }
 
 // How many records page g has, where it can be that of the leaf of a depth in which a packed key
@@ -72,8 +74,9 @@ pub fn own_count(shape: Shape, pages: &[u8], g: usize, depth: u32, key: u64) -> 
     ensures { λ r. ⌜ r ≡ ownCount shape depth key (pageAt (shape .capacity) (now (pages .entry)) g) ⌝ }
 {
     let mask = fixed_bits(widths_of(shape), depth as u64);
+    let bias = bias_key(shape);
     let capacity = shape.capacity as usize;
     let start = page_start(capacity, g);
     let end = start + page_size(capacity);
-    fair_count(&pages[start..end], capacity, key, mask)
+    fair_count(&pages[start..end], capacity, bias, key, mask)
 }

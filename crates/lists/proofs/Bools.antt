@@ -1,6 +1,9 @@
--- Laws of tests: cases, conjunctions that hold, equal and unequal bits. Assumes nothing.
-use mathlib.Core.Path.{_≡_, refl}
+-- Laws of tests: cases, conjunctions that hold, tests that agree, equal and unequal bits. Assumes nothing.
+use Prim.Native.Nat.{ℕ, _≤_}
+use mathlib.Core.Path.{_≡_, refl, sym}
 use mathlib.Core.Bool.{Bool, true, false, not, _&&_, cond, Bool·beq, false≢true}
+use lib.Dec.{leb}
+use borrow.Author.Tests.{leb-true, le-leb}
 
 -- ---- cases
 
@@ -19,12 +22,24 @@ and-split false b e = absurd (false≢true e)
 pub and-both : (a b : Bool) → a ≡ true → b ≡ true → (a && b) ≡ true
 and-both a b h k = rw (h, k)
 
+-- ---- tests that agree
+
 -- two tests, either of which passes where the other does
 pub eq-of-iff : (a b : Bool) → (a ≡ true → b ≡ true) → (b ≡ true → a ≡ true) → a ≡ b
 eq-of-iff true true h k = refl
 eq-of-iff true false h k = absurd (false≢true (h refl))
 eq-of-iff false true h k = k refl
 eq-of-iff false false h k = refl
+
+-- a test that passes only where another does
+pub and-only : (a t b : Bool) → (a ≡ true → t ≡ true) → (t ≡ true → a ≡ b) → a ≡ (t && b)
+and-only a true b h k = k refl
+and-only true false b h k = sym (h refl)
+and-only false false b h k = refl
+
+-- `ltb a b` is `leb (suc a) b`
+pub leb-iff : (a b c d : ℕ) → (a ≤ b → c ≤ d) → (c ≤ d → a ≤ b) → leb a b ≡ leb c d
+leb-iff a b c d h k = eq-of-iff _ _ (λ e. le-leb c d (h (leb-true a b e))) (λ e. le-leb a b (k (leb-true c d e)))
 
 -- ---- equal bits
 

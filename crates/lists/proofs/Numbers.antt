@@ -1,11 +1,11 @@
 -- Laws of numbers: cases by order, powers of two, digits, the greatest of four. Assumes nothing.
-use Prim.Native.Nat.{ℕ, zero, suc, _+_, _*_, _^_, _≤_, _<_, max}
-use mathlib.Core.Path.{_≡_}
+use Prim.Native.Nat.{ℕ, zero, suc, _+_, _-_, _*_, _/_, _%_, _^_, _≤_, _<_, max}
+use mathlib.Core.Path.{_≡_, ap, _∙_}
 use mathlib.Core.Logic.{_⊎_, inl, inr}
 use native.Mathlib.Omega.{arith}
 use native.Mathlib.Decide.{decLt}
 use native.Mathlib.Nat.{mul-le-mul-right}
-use lib.Pow.{pow-mono}
+use lib.Pow.{pow-mono, field, mod-mod-pow}
 
 -- ---- cases
 
@@ -43,6 +43,16 @@ pow-below s d i l h = go (lt-or-le s d)
     go : (s < d) ⊎ (d ≤ s) → s < d
     go (inl a) = a
     go (inr b) = absurd (omega (arith, pow-mono b))
+
+-- the bits below w are those of the remainder
+pub bit-mod : (w v i : ℕ) → i < w → (v % 2 ^ w) / 2 ^ i % 2 ≡ v / 2 ^ i % 2
+bit-mod w v i h =
+    let e : w ≡ suc (w - suc i) + i = omega arith in
+    let f : suc (w - suc i) ≡ (w - suc i) + 1 = omega arith in
+    ap (λ k. (v % 2 ^ k) / 2 ^ i % 2) e
+    ∙ ap (λ x. x % 2) (field v (suc (w - suc i)) i)
+    ∙ ap (λ k. v / 2 ^ i % 2 ^ k % 2) f
+    ∙ mod-mod-pow (v / 2 ^ i) (w - suc i) 1
 
 -- ---- digits
 

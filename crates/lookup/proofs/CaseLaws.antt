@@ -33,12 +33,12 @@ module _ (page : List ℕ) (n : ℕ) where
   unfolding placeAnswer
   placeAnswer-found i h = rw (lt-ltb i n h)
 
-  module _ (key : ℕ) where
-    pub countAnswer-none : n ≡ 0 → refused 9 ≡ countAnswer n page key
+  module _ (fields : ℕ) where
+    pub countAnswer-none : n ≡ 0 → refused 9 ≡ countAnswer n page fields
     unfolding countAnswer
     countAnswer-none z = rw z
 
-    pub countAnswer-some : (n ≡ 0 → ⊥) → placeAnswer page n (keyPlace key page n 0) ≡ countAnswer n page key
+    pub countAnswer-some : (n ≡ 0 → ⊥) → placeAnswer page n (keyPlace fields page n 0) ≡ countAnswer n page fields
     unfolding countAnswer
     countAnswer-some h = rw (lt-ltb 0 n (omega arith))
 

@@ -13,6 +13,7 @@ use Rattle.shape.specs.declared.Shape.{Shape}
 use Rattle.split.specs.Bits.{splitBit}
 use Rattle.record.specs.declared.Content.{Content}
 use Rattle.record.specs.Record.{Record}
+use Rattle.record.specs.Lanes.{fieldsKey}
 use Rattle.record.specs.Packed.{packedKey}
 use Rattle.page.specs.Page.{pageAt}
 use Rattle.page.specs.Fields.{contentAt}
@@ -51,10 +52,10 @@ placeAnswer-ordinary page n i = go (ltb i n)
     go true = inl (contentAt page i, refl)
     go false = inr (inl refl)
 
-countAnswer-ordinary : (n : ℕ) (page : List ℕ) (key : ℕ) → Ordinary (countAnswer n page key)
+countAnswer-ordinary : (n : ℕ) (page : List ℕ) (fields : ℕ) → Ordinary (countAnswer n page fields)
 unfolding countAnswer
-countAnswer-ordinary n page key =
-    let i = keyPlace key page n 0 in
+countAnswer-ordinary n page fields =
+    let i = keyPlace fields page n 0 in
     ordinary-or-nine (ltb 0 n) (placeAnswer page n i) (placeAnswer-ordinary page n i)
 
 leafAnswer-ordinary : (s : Shape) (key : ℕ) (bytes : List ℕ) (leaf : Leaf) → Ordinary (leafAnswer s bytes key leaf)
@@ -62,7 +63,7 @@ unfolding leafAnswer
 leafAnswer-ordinary s key bytes (Empty depth) = inr (inl refl)
 leafAnswer-ordinary s key bytes (Page g depth) =
     let page = pageAt (s .capacity) bytes g in
-    countAnswer-ordinary (ownCount s depth key page) page key
+    countAnswer-ordinary (ownCount s depth key page) page (fieldsKey s key)
 
 wordAnswer-ordinary : (st : State) (bytes : List ℕ) (key word : ℕ) → Ordinary (wordAnswer st bytes key word)
 unfolding wordAnswer

@@ -12,12 +12,13 @@ use Rattle.lists.proofs.FilterLaws.{all-filter}
 use Rattle.shape.specs.Shape.{shapeNumber, widthsOf}
 use Rattle.shape.specs.Key.{keyFits, encodings}
 use Rattle.shape.specs.declared.Shape.{Shape}
+use Rattle.shape.proofs.AttributeLaws.{perAttribute-getD}
 use Rattle.split.specs.Bits.{splitBit}
 use Rattle.region.specs.Strings.{sameBits}
 use Rattle.region.specs.Division.{leafDepth, leafRecords}
 use Rattle.record.specs.Record.{Record, recordBit}
+use Rattle.record.specs.Lanes.{biasKey, fieldsKey}
 use Rattle.record.specs.Packed.{packedKey, unpackedKey, SixteenBits}
-use Rattle.record.proofs.ByteLaws.{perAttribute-getD}
 use Rattle.record.proofs.PackedLaws.{unpackedKey-packedKey}
 use Rattle.page.specs.Page.{countOf, recordsOf, pageAt}
 use Rattle.page.proofs.FieldLaws.{length-recordsFrom}
@@ -62,13 +63,14 @@ module _ (s : Shape) (good : shapeNumber s ≡ 0) (S : List Record) (set : isSet
 
   pub countAnswer-stored : (b : ℕ) (own : Bool) (key page : List ℕ) → own ≡ true → SixteenBits key
       → recordsOf s page ≡ records → nonEmpty records ≡ true → length records ≤ b
-      → countAnswer (fairCount b own page) page (packedKey key) ≡ storedAnswer (stored key (recordsOf s page))
+      → countAnswer (fairCount b own page) page (fieldsKey s (packedKey key)) ≡ storedAnswer (stored key (recordsOf s page))
   countAnswer-stored b own key page o k e h l =
       let n = countOf page in
       let count : n ≡ length records = sym (length-recordsFrom s n 2 page) ∙ ap length e in
       let not-zero : n ≡ 0 → ⊥ = λ z. some records h (sym count ∙ z) in
-      ap (λ m. countAnswer m page (packedKey key)) (sym (fairCount-own b own page n refl not-zero (omega arith) o))
-      ∙ sym (countAnswer-some page n (packedKey key) not-zero)
+      let fields = fieldsKey s (packedKey key) in
+      ap (λ m. countAnswer m page fields) (sym (fairCount-own b own page n refl not-zero (omega arith) o))
+      ∙ sym (countAnswer-some page n fields not-zero)
       ∙ placeAnswer-stored s good key page k n n 0 (omega arith) (ap (all (inShape s)) e ∙ all-inShape)
     where
       some : (rs : List Record) → nonEmpty rs ≡ true → length rs ≡ 0 → ⊥
@@ -153,12 +155,12 @@ module _ (store : Store) (values : List ℕ) (S : List Record)
       depth = keyWord whole key / 2 ^ 16
 
       unpacked : unpackedKey (packedKey key) ≡ key
-      unpacked = unpackedKey-packedKey key sixteen ∙ perAttribute-getD key (length-encodings s values)
+      unpacked = unpackedKey-packedKey key sixteen ∙ perAttribute-getD 0 key (length-encodings s values)
 
       own : ownPage s depth (packedKey key) page (countOf page) ≡ true
       own =
-          ap (λ k. endsBegin (widthsOf s) depth (splitBit (widthsOf s) k) page (countOf page)) unpacked
-          ∙ ap (λ x. endsBegin (widthsOf s) x bits page (countOf page)) (wordOn-depth whole S sound bits)
+          ap (λ k. endsBegin (widthsOf s) (biasKey s) depth (splitBit (widthsOf s) k) page (countOf page)) unpacked
+          ∙ ap (λ x. endsBegin (widthsOf s) (biasKey s) x bits page (countOf page)) (wordOn-depth whole S sound bits)
           ∙ endsBegin-shown s good S (sound .set) bits page (leaf .2) (leaf .3)
 
       -- the page of the key's leaf is as that of the sound store

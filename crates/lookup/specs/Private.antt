@@ -10,6 +10,7 @@ use Rattle.shape.specs.Refusal.{Answer, accepted, refused}
 use Rattle.shape.specs.Shape.{widthsOf, total, indexFits, shapeNumber}
 use Rattle.shape.specs.declared.Shape.{Shape}
 use Rattle.split.specs.Bits.{splitBit}
+use Rattle.record.specs.Lanes.{fieldsKey}
 use Rattle.record.specs.Packed.{packedKey, unpackedKey}
 use Rattle.page.specs.Page.{pageAt}
 use Rattle.page.specs.Fields.{contentAt}
@@ -29,13 +30,14 @@ use Rattle.leaf_word.specs.Hold.{wordHolds, ownCount}
 unfoldable pub placeAnswer : List ℕ → ℕ → ℕ → Answer Reply
 placeAnswer page n i = cond (ltb i n) (accepted (found (contentAt page i) 1)) (refused 5)
 
--- the key's record among the n of a leaf's page; 9 for no records, as a page has that is not the leaf's
+-- the record with the packed fields of a key among the n of a leaf's page; 9 for no records, as a page has that is not
+-- the leaf's
 unfoldable pub countAnswer : ℕ → List ℕ → ℕ → Answer Reply
-countAnswer n page key = cond (ltb 0 n) (placeAnswer page n (keyPlace key page n 0)) (refused 9)
+countAnswer n page fields = cond (ltb 0 n) (placeAnswer page n (keyPlace fields page n 0)) (refused 9)
 
 -- on the page of the leaf of depth x in which a packed key falls
 abbrev pub pageAnswer : Shape → ℕ → ℕ → List ℕ → Answer Reply
-pageAnswer s x key page = countAnswer (ownCount s x key page) page key
+pageAnswer s x key page = countAnswer (ownCount s x key page) page (fieldsKey s key)
 
 -- ---- a leaf, as the word of the key's cell names it
 

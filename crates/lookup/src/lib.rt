@@ -2,7 +2,9 @@
 // "Calls").
 use directory_word::Leaf;
 use directory_word::unpack;
+use key_encoding::bias_key;
 use key_encoding::encode_key;
+use key_encoding::to_fields;
 use leaf_word::key_word;
 use leaf_word::own_count;
 use leaf_word::word_holds;
@@ -11,7 +13,8 @@ use page::page_size;
 use page::page_start;
 use page_matches::find_key;
 use record::pack_key;
-use refusals::key_number;
+use refusals::encodings_fit;
+use refusals::lent_number;
 use refusals::limits_hold;
 use shape::Key;
 use shape::Shape;
@@ -37,11 +40,14 @@ pub fn lookup(state: State, dir: &[u32], pages: &[u8], key: Key) -> Found
     ensures { λ r. ⌜ LookupPromise (store state (now (dir .entry)) (now (pages .entry))) (key .values)
         (foundAnswer r) ⌝ }
 {
-    let number = key_number(state, dir.len(), pages.len(), key);
+    let number = lent_number(state, dir.len(), pages.len());
     if number != 0 {
         return Found::Refused(number);
     }
     let encoded = encode_key(state.shape, key);
+    if !encodings_fit(state.shape, encoded) {
+        return Found::Refused(3);
+    }
     seek_key(state, dir, pages, encoded)
 }
 
@@ -90,16 +96,17 @@ fn seek_at(shape: Shape, pages: &[u8], g: usize, depth: u32, key: u64) -> Found
     let capacity = shape.capacity as usize;
     let start = page_start(capacity, g);
     let end = start + page_size(capacity);
-    seek_in_page(&pages[start..end], n, key)
+    let fields = to_fields(bias_key(shape), key);
+    seek_in_page(&pages[start..end], n, fields)
 }
 
-// The record of a packed key among the n of a page: 5 where it is not there.
-fn seek_in_page(page: &[u8], n: usize, key: u64) -> Found
+// The record with the packed fields of a key among the n of a page: 5 where it is not there.
+fn seek_in_page(page: &[u8], n: usize, fields: u64) -> Found
     requires { ⌜ (n ≤ 16) × (recordOffset n ≤ length (now page)) ⌝ }
     ensures { λ r. ⌜ foundAnswer r
-        ≡ placeAnswer (now (page .entry)) n (keyPlace key (now (page .entry)) n 0) ⌝ }
+        ≡ placeAnswer (now (page .entry)) n (keyPlace fields (now (page .entry)) n 0) ⌝ }
 {
-    let i = find_key(page, n, key);
+    let i = find_key(page, n, fields);
     if i == n {
         return Found::Refused(5);
     }

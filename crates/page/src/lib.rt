@@ -1,5 +1,6 @@
 // One page of the lent bytes: its count and its records (document 01, "Lent memory"). Each function
 // is handed the page's bytes only. Bytes past the records that the count says are free.
+use key_encoding::to_encodings;
 use record::Content;
 use record::RECORD_SIZE;
 use record::numbers::read16;
@@ -14,7 +15,7 @@ ghost use lib.ListN.{length};
 ghost use Rattle.record.specs.Packed.{packedBytes};
 ghost use Rattle.record.specs.Bytes.{recordSize};
 ghost use Rattle.page.specs.Page.{pageSize, countOf};
-ghost use Rattle.page.specs.Fields.{recordOffset, keyAt, contentAt};
+ghost use Rattle.page.specs.Fields.{recordOffset, keyAt, codeAt, contentAt};
 ghost use Rattle.page.specs.Changes.{countedPage, insertedPage, removedPage, appendedPage};
 
 // The bytes of a page that holds so many records.
@@ -49,12 +50,20 @@ pub fn set_count(page: &mut [u8], n: usize)
     write16(page, 0, n as u64);
 }
 
-// The packed key of record i.
+// The packed fields of record i's key.
 pub fn key_at(page: &[u8], i: usize) -> u64
     requires { ⌜ recordOffset i + recordSize ≤ length (now page) ⌝ }
     ensures { λ r. ⌜ r ≡ keyAt (now (page .entry)) i ⌝ }
 {
     read_key(page, 2 + RECORD_SIZE * i)
+}
+
+// The packed encodings of record i's key, where a shape adds a bias to its values.
+pub fn code_at(page: &[u8], i: usize, bias: u64) -> u64
+    requires { ⌜ recordOffset i + recordSize ≤ length (now page) ⌝ }
+    ensures { λ r. ⌜ r ≡ codeAt bias (now (page .entry)) i ⌝ }
+{
+    to_encodings(bias, key_at(page, i))
 }
 
 // The content of record i.

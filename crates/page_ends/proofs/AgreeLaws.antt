@@ -17,7 +17,7 @@ use Rattle.cell.specs.Cell.{Agree}
 use Rattle.region.proofs.StringLaws.{sameBits-comm, sameBits-ext}
 use Rattle.record.specs.Packed.{packedKey, packedValue, unpackedKey}
 use Rattle.record.proofs.PackedLaws.{getD-unpackedKey}
-use Rattle.page.specs.Fields.{keyAt}
+use Rattle.page.specs.Fields.{codeAt}
 use Rattle.page_ends.specs.Ends.{keyBegins, endsBegin, fixedBits, endsAgree}
 use Rattle.page_ends.proofs.MaskLaws.{differing, highBits, AgreeFrom, agree-packed}
 use Rattle.page_ends.proofs.BeginLaws.{freeBits, SameFixed, keyBegins-sameFixed}
@@ -25,11 +25,11 @@ use Rattle.page_ends.proofs.BeginLaws.{freeBits, SameFixed, keyBegins-s
 -- ---- by the string
 
 -- only the first x bits of the string count
-pub endsBegin-agree : (ws : List ℕ) (x : ℕ) (p q : ℕ → Bool) → Agree x p q → (page : List ℕ) (n : ℕ)
-    → endsBegin ws x p page n ≡ endsBegin ws x q page n
+pub endsBegin-agree : (ws : List ℕ) (bias x : ℕ) (p q : ℕ → Bool) → Agree x p q → (page : List ℕ) (n : ℕ)
+    → endsBegin ws bias x p page n ≡ endsBegin ws bias x q page n
 unfolding endsBegin keyBegins
-endsBegin-agree ws x p q a page n =
-    λ i. begins (unpackedKey (keyAt page 0)) i && begins (unpackedKey (keyAt page (n - 1))) i
+endsBegin-agree ws bias x p q a page n =
+    λ i. begins (unpackedKey (codeAt bias page 0)) i && begins (unpackedKey (codeAt bias page (n - 1))) i
   where
     begins : (key : List ℕ) → keyBegins ws x p key ≡ keyBegins ws x q key
     begins key =
@@ -61,10 +61,10 @@ module _ (ws : List ℕ) (four : length ws ≡ 4) (fit : Fit ws) (x : ℕ) (with
 
   -- the leaf of the key's first x split bits: the page's ends begin with it exactly if they agree with the key in the
   -- bits that are fixed there
-  pub endsAgree-endsBegin : (page : List ℕ) (n : ℕ)
-      → endsAgree (fixedBits ws x) key page n ≡ endsBegin ws x (splitBit ws (unpackedKey key)) page n
+  pub endsAgree-endsBegin : (bias : ℕ) (page : List ℕ) (n : ℕ)
+      → endsAgree bias (fixedBits ws x) key page n ≡ endsBegin ws bias x (splitBit ws (unpackedKey key)) page n
   unfolding endsAgree endsBegin fixedBits
-  endsAgree-endsBegin page n =
+  endsAgree-endsBegin bias page n =
       eq-of-iff _ _
       (λ e.
       let m = masked .0 (eqb-true _ 0 e) in
@@ -74,10 +74,10 @@ module _ (ws : List ℕ) (four : length ws ≡ 4) (fit : Fit ws) (x : ℕ) (with
       eq-eqb _ 0 (masked .1 (λ j l. (begins-values first .0 (k .0) j l, begins-values last .0 (k .1) j l))))
     where
       first : ℕ
-      first = keyAt page 0
+      first = codeAt bias page 0
 
       last : ℕ
-      last = keyAt page (n - 1)
+      last = codeAt bias page (n - 1)
 
       masked : (bitAnd (differing first last key) (packedKey (perAttribute (highBits (freeBits ws x)))) ≡ 0)
           ↔ ((j : ℕ) → j < 4 → AgreeFrom (freeBits ws x) first last key j)

@@ -13,6 +13,7 @@ use lib.Pow.{pow-add, pow-pos, shr-lt, shr-shr}
 use borrow.Author.Tests.{lt-ltb}
 use Rattle.lists.proofs.Bools.{and-split, and-both}
 use Rattle.shape.specs.Shape.{Fit, total, indexFits}
+use Rattle.shape.proofs.AttributeLaws.{perAttribute-getD}
 use Rattle.shape.proofs.ShapeLaws.{indexFits-below}
 use Rattle.split.specs.Steps.{steps, stepNumber, attributeDepth}
 use Rattle.split.specs.Bits.{bitOf, splitBit}
@@ -21,7 +22,6 @@ use Rattle.split.proofs.DepthLaws.{step-of, attributeDepth-width, lt-attributeD
 use Rattle.split.proofs.BitLaws.{splitBit-stepNumber}
 use Rattle.region.specs.Strings.{sameBits}
 use Rattle.region.proofs.StringLaws.{bit-of-sameBits, sameBits-below}
-use Rattle.record.proofs.ByteLaws.{perAttribute-getD}
 use Rattle.record.proofs.KeyLaws.{eq-of-bitOf}
 use Rattle.page_ends.specs.Ends.{keyBegins}
 
@@ -57,7 +57,7 @@ indexFits-of-below (w ∷ ws) (i ∷ is) h =
 
 pub length-steps-four : (ws : List ℕ) → length ws ≡ 4 → Fit ws → length (steps ws) ≡ total ws
 length-steps-four ws four fit =
-    let e = perAttribute-getD ws four in
+    let e = perAttribute-getD 0 ws four in
     subst (λ l. length (steps l) ≡ total l) e (length-steps _ _ _ _ (λ j. subst (λ l. getD l j 0 ≤ 16) (sym e) (fit j)))
 
 module _ (ws : List ℕ) (x : ℕ) where

@@ -17,12 +17,11 @@ use Rattle.region.proofs.StringLaws.{sameBits-comm}
 use Rattle.region.proofs.StringLeafLaws.{all-leafRecords, all-sameBits-leafRecords}
 use Rattle.record.specs.Record.{Record, recordBit}
 use Rattle.record.specs.Bytes.{recordOf}
+use Rattle.record.specs.Lanes.{biasKey}
 use Rattle.record.specs.Packed.{unpackedKey}
-use Rattle.record.proofs.ByteLaws.{perAttribute-getD}
-use Rattle.record.proofs.CodecLaws.{packedKey-recordOf}
+use Rattle.record.proofs.FieldLaws.{unpackedKey-within}
 use Rattle.record.proofs.KeyLaws.{key-below-bytes}
-use Rattle.record.proofs.PackedLaws.{unpackedKey-packedKey}
-use Rattle.page.specs.Fields.{recordField, keyAt}
+use Rattle.page.specs.Fields.{recordField, codeAt}
 use Rattle.page.specs.Page.{countOf, recordsOf, pageAt}
 use Rattle.page.proofs.FieldLaws.{length-recordsFrom, getD-recordsFrom}
 use Rattle.page_place.proofs.SortedLaws.{all-getD}
@@ -40,14 +39,12 @@ length-of-nonEmpty (x ∷ xs) e = omega arith
 module _ (s : Shape) (good : shapeNumber s ≡ 0) where
   -- ---- a record of a page whose key is within the shape
 
-  unpackedKey-keyAt : (page : List ℕ) (i : ℕ) → inShape s (recordOf s (recordField page i)) ≡ true
-      → unpackedKey (keyAt page i) ≡ recordOf s (recordField page i) .key
-  unpackedKey-keyAt page i e =
+  unpackedKey-codeAt : (page : List ℕ) (i : ℕ) → inShape s (recordOf s (recordField page i)) ≡ true
+      → unpackedKey (codeAt (biasKey s) page i) ≡ recordOf s (recordField page i) .key
+  unpackedKey-codeAt page i e =
       let r : Record = recordOf s (recordField page i) in
-      let four = length-of-inShape s r e in
-      ap unpackedKey (sym (packedKey-recordOf s (recordField page i)))
-      ∙ unpackedKey-packedKey (r .key) (key-below-bytes s good (r .key) four (fits-of-inShape s r e))
-      ∙ perAttribute-getD (r .key) four
+      unpackedKey-within s good (recordField page i)
+      (key-below-bytes s good (r .key) (length-of-inShape s r e) (fits-of-inShape s r e))
 
   -- ---- a page that shows a leaf of a set
 
@@ -72,7 +69,7 @@ module _ (s : Shape) (good : shapeNumber s ≡ 0) where
 
     module _ (page : List ℕ) (shown : recordsOf s page ≡ rs) where
       -- each of its records
-      pub keyBegins-shown : (i : ℕ) → i < countOf page → keyBegins (widthsOf s) x p (unpackedKey (keyAt page i)) ≡ true
+      pub keyBegins-shown : (i : ℕ) → i < countOf page → keyBegins (widthsOf s) x p (unpackedKey (codeAt (biasKey s) page i)) ≡ true
       unfolding keyBegins
       keyBegins-shown i l =
           let r : Record = recordOf s (recordField page i) in
@@ -81,12 +78,12 @@ module _ (s : Shape) (good : shapeNumber s ≡ 0) where
           (all-getD stands (recordsOf s page) i r (subst (λ l. all stands l ≡ true) (sym shown) all-stand)
           (omega (arith, length-recordsFrom s (countOf page) 2 page))) in
           let parts = and-split (inShape s r) (sameBits p (recordBit s r) x 0) here in
-          rw (unpackedKey-keyAt page i (parts .0))
+          rw (unpackedKey-codeAt page i (parts .0))
           (and-both (indexFits (widthsOf s) (r .key)) (sameBits (recordBit s r) p x 0) (fits-of-inShape s r (parts .0))
           (sameBits-comm (recordBit s r) p x 0 ∙ parts .1))
 
       -- the first and the last
-      pub endsBegin-shown : nonEmpty rs ≡ true → endsBegin (widthsOf s) x p page (countOf page) ≡ true
+      pub endsBegin-shown : nonEmpty rs ≡ true → endsBegin (widthsOf s) (biasKey s) x p page (countOf page) ≡ true
       unfolding endsBegin
       endsBegin-shown e =
           let some : 1 ≤ countOf page =
@@ -100,7 +97,7 @@ pub endsBegin-sound : (store : Store) (S : List Record) → Sound store S → (p
     → wordOn store p % 2 ^ 16 ≡ g + 1
     → let s = store .state .shape in
     let page = pageAt (s .capacity) (store .memory .bytes) g in
-    endsBegin (widthsOf s) (leafDepth p 0 (divisionOf s S)) p page (countOf page) ≡ true
+    endsBegin (widthsOf s) (biasKey s) (leafDepth p 0 (divisionOf s S)) p page (countOf page) ≡ true
 endsBegin-sound store S sound p g e =
     let s = store .state .shape in
     let h = leafRecords-page store S sound p g e in

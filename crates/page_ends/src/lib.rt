@@ -1,7 +1,7 @@
 // Whether a page is its leaf's, by the first and the last of its records (document 01, "Regions of
 // a set"): under a mask of the bits that the leaf fixes both agree with a key of the leaf.
+use page::code_at;
 use page::count;
-use page::key_at;
 use pairs::depth_before;
 use pairs::early_place;
 use pairs::place_of;
@@ -45,9 +45,9 @@ pub fn fixed_bits_before(widths: Widths, g: u64) -> u64
 // How many records a page has, where it can be the page of a leaf that fixes the bits of a mask: 1 to
 // b, the first and the last of them in agreement with a packed key of the leaf in these bits. 0 for
 // another page.
-pub fn fair_count(page: &[u8], capacity: usize, key: u64, mask: u64) -> usize
+pub fn fair_count(page: &[u8], capacity: usize, bias: u64, key: u64, mask: u64) -> usize
     requires { ⌜ (capacity ≤ 16) × (pageSize capacity ≤ length (now page)) ⌝ }
-    ensures { λ r. ⌜ r ≡ fairCount capacity (endsAgree mask key (now (page .entry)) (countOf (now (page .entry))))
+    ensures { λ r. ⌜ r ≡ fairCount capacity (endsAgree bias mask key (now (page .entry)) (countOf (now (page .entry))))
         (now (page .entry)) ⌝ }
 {
     let n = count(page);
@@ -57,17 +57,21 @@ pub fn fair_count(page: &[u8], capacity: usize, key: u64, mask: u64) -> usize
     if capacity < n {
         return 0;
     }
-    if ends_agree(page, n, key, mask) { n } else { 0 }
+    if ends_agree(page, n, bias, key, mask) {
+        n
+    } else {
+        0
+    }
 }
 
 // Whether the first and the last of the n records of a page agree with a packed key in the bits of
 // a mask.
-pub fn ends_agree(page: &[u8], n: usize, key: u64, mask: u64) -> bool
+pub fn ends_agree(page: &[u8], n: usize, bias: u64, key: u64, mask: u64) -> bool
     requires { ⌜ (1 ≤ n) × (n ≤ 16) × (recordOffset n ≤ length (now page)) ⌝ }
-    ensures { λ r. ⌜ r ≡ endsAgree mask key (now (page .entry)) n ⌝ }
+    ensures { λ r. ⌜ r ≡ endsAgree bias mask key (now (page .entry)) n ⌝ }
 {
-    let first = key_at(page, 0) ^ key;
-    let last = key_at(page, n - 1) ^ key;
+    let first = code_at(page, 0, bias) ^ key;
+    let last = code_at(page, n - 1, bias) ^ key;
     (first | last) & mask == 0
 }
 

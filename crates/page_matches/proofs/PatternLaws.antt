@@ -12,19 +12,21 @@ use lib.Dec.{eqb}
 use lib.ListN.{getD}
 use borrow.Author.Tests.{eq-eqb, ne-eqb, eqb-true, eqb-false}
 use Rattle.lists.proofs.Bools.{and-split, and-both, eq-of-iff}
-use Rattle.shape.specs.Key.{encode, encodeField, wantedValue, wantedValues, ifGiven}
+use Rattle.shape.specs.Shape.{shapeNumber}
+use Rattle.shape.specs.Key.{valueFits, encode, encodeField, wantedValue, wantedValues, ifGiven, queryFits}
 use Rattle.shape.specs.declared.Shape.{Shape}
 use Rattle.shape.specs.declared.Query.{Query}
 use Rattle.shape.specs.declared.Wanted.the-variants.{Free}
+use Rattle.shape.proofs.BoundsLaws.{test-of-allBelow}
+use Rattle.shape.proofs.EncodingLaws.{eqb-field}
 use Rattle.record.specs.Record.{matches}
 use Rattle.record.specs.Bytes.{numberOf, field, recordOf}
 use Rattle.record.specs.Packed.{packedKey, SixteenBits}
 use Rattle.record.proofs.PackedLaws.{packedKey-bytes}
-use Rattle.record.proofs.ByteLaws.{AreBytes}
-use Rattle.record.proofs.CodecLaws.{SixteenBits-recordOf}
+use Rattle.record.proofs.ByteLaws.{AreBytes, numberOf-field-lt}
 use Rattle.page_matches.specs.declared.Pattern.{Pattern}
-use Rattle.page_matches.specs.Pattern.{wantedMask, wantedBits, masksOf, bitsOf}
-use Rattle.page_matches.specs.Pattern.{GivenSixteenBits, patternOf, givesNothing, passes}
+use Rattle.page_matches.specs.Pattern.{wantedMask, wantedField, masksOf, fieldsWanted}
+use Rattle.page_matches.specs.Pattern.{patternOf, givesNothing, passes}
 
 -- ---- attributes of a query
 
@@ -40,6 +42,17 @@ getD-wantedValues q (suc (suc (suc (suc j)))) h = absurd (omega arith)
 wantedMask-lt : (w : Option ℕ) → wantedMask w < 2 ^ 16
 wantedMask-lt none = omega arith
 wantedMask-lt (some v) = omega arith
+
+wantedField-lt : (w : Option ℕ) → wantedField w < 2 ^ 16
+wantedField-lt none = omega arith
+wantedField-lt (some v) = omega arith
+
+pub fieldsWanted-lt : (q : List (Option ℕ)) → SixteenBits (fieldsWanted q)
+fieldsWanted-lt q zero = wantedField-lt (getD q 0 none)
+fieldsWanted-lt q (suc zero) = wantedField-lt (getD q 1 none)
+fieldsWanted-lt q (suc (suc zero)) = wantedField-lt (getD q 2 none)
+fieldsWanted-lt q (suc (suc (suc zero))) = wantedField-lt (getD q 3 none)
+fieldsWanted-lt q (suc (suc (suc (suc j)))) = omega arith
 
 pub masksOf-lt : (q : List (Option ℕ)) → SixteenBits (masksOf q)
 masksOf-lt q zero = wantedMask-lt (getD q 0 none)
@@ -72,9 +85,9 @@ givesNothing-or p = eq-of-iff _ _ both none
 
 -- ---- one value under a mask
 
--- what a query says of a value
+-- what a query says of a field
 abbrev meets : Option ℕ → ℕ → Bool
-meets w v = ifGiven (λ x. eqb x v) w
+meets w v = ifGiven (λ x. eqb (x % 2 ^ 16) v) w
 
 and-wantedMask-lt : (v : ℕ) (w : Option ℕ) → v < 2 ^ 16 → bitAnd v (wantedMask w) < 2 ^ 16
 and-wantedMask-lt v none h = rw (and-zero-r v) (omega arith)
@@ -87,9 +100,10 @@ eqb-comm a b = go (eqb b a) refl
     go true e = eq-eqb a b (sym (eqb-true b a e))
     go false e = ne-eqb a b (λ q. eqb-false b a e (sym q))
 
-meets-mask : (v : ℕ) (w : Option ℕ) → v < 2 ^ 16 → eqb (bitAnd v (wantedMask w)) (wantedBits w) ≡ meets w v
+meets-mask : (v : ℕ) (w : Option ℕ) → v < 2 ^ 16 → eqb (bitAnd v (wantedMask w)) (wantedField w) ≡ meets w v
 meets-mask v none h = rw (and-zero-r v)
-meets-mask v (some x) h = ap (λ n. eqb n x) (and-mask v 16 ∙ mod-eq-of-lt h) ∙ eqb-comm v x
+meets-mask v (some x) h =
+    ap (λ n. eqb n (x % 2 ^ 16)) (and-mask v 16 ∙ mod-eq-of-lt h) ∙ eqb-comm v (x % 2 ^ 16)
 
 -- ---- one value below others
 
@@ -118,11 +132,11 @@ eqb-above a b r s h k = go (eqb r s) (eqb a b) refl refl
         ne-eqb (r + 2 ^ 16 * a) (s + 2 ^ 16 * b) (λ e. low (omega arith))
 
 -- one value more, below values that are compared already
-meets-above : (a m b v : ℕ) (w : Option ℕ) (β : Bool) → v < 2 ^ 16 → wantedBits w < 2 ^ 16 → eqb (bitAnd a m) b ≡ β
-    → eqb (bitAnd (v + 2 ^ 16 * a) (wantedMask w + 2 ^ 16 * m)) (wantedBits w + 2 ^ 16 * b) ≡ (meets w v && β)
-meets-above a m b v w β h k e =
-    ap (λ n. eqb n (wantedBits w + 2 ^ 16 * b)) (and-above a m v (wantedMask w) h (wantedMask-lt w))
-    ∙ eqb-above (bitAnd a m) b (bitAnd v (wantedMask w)) (wantedBits w) (and-wantedMask-lt v w h) k
+meets-above : (a m b v : ℕ) (w : Option ℕ) (β : Bool) → v < 2 ^ 16 → eqb (bitAnd a m) b ≡ β
+    → eqb (bitAnd (v + 2 ^ 16 * a) (wantedMask w + 2 ^ 16 * m)) (wantedField w + 2 ^ 16 * b) ≡ (meets w v && β)
+meets-above a m b v w β h e =
+    ap (λ n. eqb n (wantedField w + 2 ^ 16 * b)) (and-above a m v (wantedMask w) h (wantedMask-lt w))
+    ∙ eqb-above (bitAnd a m) b (bitAnd v (wantedMask w)) (wantedField w) (and-wantedMask-lt v w h) (wantedField-lt w)
     ∙ (λ i. meets-mask v w h i && e i)
 
 pub and-turn : (a b c d : Bool) → (a && (b && (c && d))) ≡ (((a && b) && c) && d)
@@ -135,17 +149,37 @@ and-turn false b c d = refl
 
 -- ---- the test of a record
 
+-- a field passes exactly if its encoding is the value's
+meets-encoded : (s : Shape) → shapeNumber s ≡ 0 → (j : ℕ) (w : Option ℕ) (f : ℕ) → ifGiven (valueFits s j) w ≡ true
+    → f < 2 ^ 16 → meets w f ≡ ifGiven (λ v. eqb (encode s j v) (encodeField s j f)) w
+meets-encoded s n j none f fits l = refl
+meets-encoded s n j (some v) f fits l = sym (eqb-field s n j v f fits l)
+
 -- the test under the mask is the query's
-pub passes-matches : (s : Shape) (q : List (Option ℕ)) (bytes : List ℕ) → GivenSixteenBits q → AreBytes bytes
-    → passes (patternOf q) bytes ≡ matches s q (recordOf s bytes)
-unfolding passes patternOf matches packedKey recordOf encodeField encode
-passes-matches s q bytes g b =
-    let v = SixteenBits-recordOf s bytes b in
-    let value : ℕ → ℕ = λ j. numberOf (field bytes (2 * j) 2) in
-    let given : ℕ → Option ℕ = λ j. getD q j none in
-    let test : ℕ → Bool = λ j. meets (given j) (value j) in
-    ap (λ k. eqb (bitAnd k (packedKey (masksOf q))) (packedKey (bitsOf q))) (sym (packedKey-bytes bytes))
-    ∙ meets-above _ _ _ (value 0) (given 0) _ (v 0) (g 0)
-    (meets-above _ _ _ (value 1) (given 1) _ (v 1) (g 1)
-    (meets-above _ _ _ (value 2) (given 2) _ (v 2) (g 2) (meets-mask (value 3) (given 3) (v 3))))
+pub passes-matches : (s : Shape) → shapeNumber s ≡ 0 → (q : List (Option ℕ)) → queryFits s q ≡ true
+    → (bytes : List ℕ) → AreBytes bytes → passes (patternOf q) bytes ≡ matches s q (recordOf s bytes)
+unfolding passes patternOf matches packedKey recordOf queryFits
+passes-matches s n q fits bytes b =
+    ap (λ k. eqb (bitAnd k (packedKey (masksOf q))) (packedKey (fieldsWanted q))) (sym (packedKey-bytes bytes))
+    ∙ meets-above _ _ _ (value 0) (given 0) _ (small 0)
+    (meets-above _ _ _ (value 1) (given 1) _ (small 1)
+    (meets-above _ _ _ (value 2) (given 2) _ (small 2) (meets-mask (value 3) (given 3) (small 3))))
     ∙ and-turn (test 0) (test 1) (test 2) (test 3)
+    ∙ (λ i. ((same 0 (omega arith) i && same 1 (omega arith) i) && same 2 (omega arith) i) && same 3 (omega arith) i)
+  where
+    value : ℕ → ℕ
+    value j = numberOf (field bytes (2 * j) 2)
+
+    given : ℕ → Option ℕ
+    given j = getD q j none
+
+    test : ℕ → Bool
+    test j = meets (given j) (value j)
+
+    small : (j : ℕ) → value j < 2 ^ 16
+    small j = numberOf-field-lt bytes b (2 * j) 2
+
+    same : (j : ℕ) → j < 4 → test j ≡ ifGiven (λ v. eqb (encode s j v) (encodeField s j (value j))) (given j)
+    same j l =
+        meets-encoded s n j (given j) (value j)
+        (test-of-allBelow (λ i. ifGiven (valueFits s i) (getD q i none)) 4 j fits l) (small j)

@@ -2,18 +2,16 @@
 use Prim.Native.Nat.{ℕ, _+_, _*_, _/_, _≤_, _<_}
 use mathlib.Core.Path.{_≡_, refl, sym, ap, _∙_}
 use mathlib.Core.Bool.{Bool, true, false, cond}
-use mathlib.Core.List.{List, []}
+use mathlib.Core.List.{List, _++_}
 use native.Mathlib.Omega.{arith}
 use lib.Dec.{leb}
 use lib.ListN.{length, drop, length-drop}
-use lib.Seq.{paste, length-paste, length-take-le}
+use lib.Seq.{paste, take-all, length-paste, length-take-le}
 use borrow.Author.Tests.{le-leb, lt-leb, leb-true}
-use Rattle.shape.specs.declared.Shape.{Shape}
 use Rattle.record.specs.declared.Content.{Content}
-use Rattle.record.specs.Bytes.{recordSize, recordOf}
+use Rattle.record.specs.Bytes.{recordSize, littleEndian, field}
 use Rattle.record.specs.Packed.{keyIn, contentIn, packedBytes}
-use Rattle.record.proofs.ByteLaws.{AreBytes, AreBytes-field, recordBytes-recordOf}
-use Rattle.record.proofs.CodecLaws.{packedKey-recordOf, recordOf-content, recordBytes-packed, SixteenBits-recordOf}
+use Rattle.record.proofs.ByteLaws.{AreBytes, AreBytes-field, littleEndian-numberOf-field, field-append-field}
 use Rattle.page.specs.Fields.{recordOffset, recordField, keyAt, contentAt}
 use Rattle.page_matches.specs.Output.{emitOne}
 
@@ -22,11 +20,17 @@ use Rattle.page_matches.specs.Output.{emitOne}
 -- a record's bytes, read and written again
 packedBytes-read : (bytes : List ℕ) → AreBytes bytes → length bytes ≡ recordSize
     → packedBytes (keyIn bytes) (contentIn bytes) ≡ bytes
+unfolding packedBytes
 packedBytes-read bytes are e =
-    let s : Shape = record { attributes = 0; widths = []; capacity = 0 } in
-    sym (λ i. packedBytes (packedKey-recordOf s bytes i) (recordOf-content s bytes i))
-    ∙ sym (recordBytes-packed s (recordOf s bytes) (SixteenBits-recordOf s bytes are))
-    ∙ recordBytes-recordOf s bytes are e
+    (λ i. key i ++ content i)
+    ∙ field-append-field bytes 0 8 4
+    ∙ take-all recordSize bytes (omega arith)
+  where
+    key : littleEndian 8 (keyIn bytes) ≡ field bytes 0 8
+    key = littleEndian-numberOf-field bytes are 0 8 (omega arith)
+
+    content : littleEndian 4 (contentIn bytes .payload) ≡ field bytes 8 4
+    content = littleEndian-numberOf-field bytes are 8 4 (omega arith)
 
 -- a record that has no room, and one that has, as it is read and written
 module _ (page out : List ℕ) (i place : ℕ) where

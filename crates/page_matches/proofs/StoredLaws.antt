@@ -2,24 +2,28 @@
 -- none, no record has it. Assumes nothing.
 use Prim.Native.Nat.{ℕ, zero, suc, _+_}
 use mathlib.Core.Path.{_≡_, refl, sym, ap, _∙_}
-use mathlib.Core.Bool.{Bool, true, false, _&&_, cond}
+use mathlib.Core.Bool.{Bool, true, false, cond}
 use mathlib.Core.List.{List, [], _∷_, _++_}
 use native.Mathlib.Omega.{arith}
 use native.Mathlib.Nat.{add-zero, zero-add}
 use lib.Dec.{eqb}
-use lib.ListN.{length, getD}
+use lib.ListN.{length}
 use Rattle.lists.specs.Filter.{filter}
+use Rattle.shape.specs.Shape.{shapeNumber}
 use Rattle.shape.specs.declared.Shape.{Shape}
 use Rattle.record.specs.Record.{sameKey}
 use Rattle.record.specs.Bytes.{recordSize, recordOf}
 use Rattle.record.specs.Packed.{packedKey, SixteenBits, keyIn}
+use Rattle.record.specs.Lanes.{fieldsKey}
 use Rattle.record.proofs.ByteLaws.{AreBytes, AreBytes-field}
-use Rattle.record.proofs.CodecLaws.{SixteenBits-recordOf, packedKey-recordOf}
+use Rattle.record.proofs.CodecLaws.{SixteenBits-recordOf, keyIn-lt}
+use Rattle.record.proofs.FieldLaws.{packedKey-recordOf, eqb-fieldsKey}
+use Rattle.record.proofs.PackedLaws.{packedKey-lt}
+use Rattle.model.proofs.PackedLaws.{sameKey-packed}
 use Rattle.page.specs.Page.{recordsFrom}
 use Rattle.page.specs.Fields.{recordOffset, recordField}
 use Rattle.page.proofs.FieldLaws.{length-recordsFrom}
 use Rattle.page_matches.specs.KeyPlace.{keyPlace}
-use Rattle.page_matches.proofs.PatternLaws.{eqb-comm, eqb-above, and-turn}
 
 -- ---- the first element that passes a test, in any list
 
@@ -41,40 +45,38 @@ module _ {A : Type 0} (test : A → Bool) where
 
 -- ---- the search of a page
 
-module _ (s : Shape) (key : List ℕ) (six : SixteenBits key) where
-  sameKey-keyIn : (bytes : List ℕ) → AreBytes bytes → sameKey key (recordOf s bytes) ≡ eqb (keyIn bytes) (packedKey key)
-  unfolding packedKey
+module _ (s : Shape) (good : shapeNumber s ≡ 0) (key : List ℕ) (six : SixteenBits key) where
+  -- the packed fields of the key
+  abbrev fields : ℕ
+  fields = fieldsKey s (packedKey key)
+
+  -- a record has the key exactly if its bytes have these fields
+  pub sameKey-keyIn : (bytes : List ℕ) → SixteenBits (recordOf s bytes .key)
+      → sameKey key (recordOf s bytes) ≡ eqb (keyIn bytes) fields
   sameKey-keyIn bytes b =
-      let v = recordOf s bytes .key in
-      let small = SixteenBits-recordOf s bytes b in
-      let test : ℕ → Bool = λ j. eqb (getD v j 0) (getD key j 0) in
-      (λ i. (((eqb-comm (getD key 0 0) (getD v 0 0) i) && (eqb-comm (getD key 1 0) (getD v 1 0) i))
-      && (eqb-comm (getD key 2 0) (getD v 2 0) i)) && (eqb-comm (getD key 3 0) (getD v 3 0) i))
-      ∙ sym (and-turn (test 0) (test 1) (test 2) (test 3))
-      ∙ sym
-      (ap (λ k. eqb k (packedKey key)) (sym (packedKey-recordOf s bytes))
-      ∙ eqb-above _ _ (getD v 0 0) (getD key 0 0) (small 0) (six 0)
-      ∙ ap (λ β. test 0 && β)
-      (eqb-above _ _ (getD v 1 0) (getD key 1 0) (small 1) (six 1)
-      ∙ ap (λ β. test 1 && β) (eqb-above _ _ (getD v 2 0) (getD key 2 0) (small 2) (six 2))))
+      sameKey-packed key (recordOf s bytes) six b
+      ∙ ap (λ k. eqb k (packedKey key)) (packedKey-recordOf s good bytes b)
+      ∙ sym (eqb-fieldsKey s good (keyIn bytes) (packedKey key) (keyIn-lt s bytes b) (packedKey-lt key six))
 
   module _ (page : List ℕ) (b : AreBytes page) where
     keyPlace-firstPlace : (k i : ℕ)
-        → keyPlace (packedKey key) page k i ≡ i + firstPlace (sameKey key) (recordsFrom s k (recordOffset i) page)
+        → keyPlace fields page k i ≡ i + firstPlace (sameKey key) (recordsFrom s k (recordOffset i) page)
     unfolding keyPlace
     keyPlace-firstPlace zero i = sym (add-zero i)
     keyPlace-firstPlace (suc k) i =
-        ap (λ β. cond β i (keyPlace (packedKey key) page k (suc i)))
-        (sym (sameKey-keyIn (recordField page i) (AreBytes-field page (recordOffset i) recordSize b)))
+        ap (λ β. cond β i (keyPlace fields page k (suc i)))
+        (sym
+        (sameKey-keyIn (recordField page i)
+        (SixteenBits-recordOf s (recordField page i) (AreBytes-field page (recordOffset i) recordSize b))))
         ∙ go (sameKey key (recordOf s (recordField page i))) (keyPlace-firstPlace k (suc i))
       where
         next : recordOffset (suc i) ≡ recordOffset i + recordSize
         next = omega arith
 
         go : (β : Bool)
-            → keyPlace (packedKey key) page k (suc i)
+            → keyPlace fields page k (suc i)
             ≡ suc i + firstPlace (sameKey key) (recordsFrom s k (recordOffset (suc i)) page)
-            → cond β i (keyPlace (packedKey key) page k (suc i))
+            → cond β i (keyPlace fields page k (suc i))
             ≡ i + cond β 0 (suc (firstPlace (sameKey key) (recordsFrom s k (recordOffset i + recordSize) page)))
         go true ih = sym (add-zero i)
         go false ih =
@@ -84,7 +86,7 @@ module _ (s : Shape) (key : List ℕ) (six : SixteenBits key) where
 
     module _ (n : ℕ) where
       abbrev place : ℕ
-      place = keyPlace (packedKey key) page n 0
+      place = keyPlace fields page n 0
 
       place-first : place ≡ firstPlace (sameKey key) (recordsFrom s n 2 page)
       place-first = keyPlace-firstPlace n 0 ∙ zero-add _

@@ -2,6 +2,7 @@
 // whose key lies between two others, and the record with a key. The four values of a record are
 // compared at once, as its packed key.
 use key_between::lies_between;
+use page::code_at;
 use page::content_at;
 use page::key_at;
 use record::RECORD_SIZE;
@@ -18,7 +19,7 @@ ghost use lib.ListN.{getD, length};
 ghost use Rattle.shape.specs.Key.{wantedValues};
 ghost use Rattle.record.specs.Bytes.{recordSize};
 ghost use Rattle.page.specs.Fields.{recordOffset, recordField, fieldsFrom};
-ghost use Rattle.page_matches.specs.Pattern.{GivenSixteenBits, wantedMask, wantedBits};
+ghost use Rattle.page_matches.specs.Pattern.{wantedMask, wantedField};
 ghost use Rattle.page_matches.specs.Pattern.{patternOf, givesNothing, passes};
 ghost use Rattle.page_matches.specs.Within.{liesIn};
 ghost use Rattle.page_matches.specs.Mask.{matchMask, slotsOf, pickedBy};
@@ -35,9 +36,8 @@ pub struct Pattern {
     pub value: u64,
 }
 
-// The pattern of a query whose given values have 16 bits.
+// The pattern of a query: the low 16 bits of its values, as fields of a page have them.
 pub fn pattern_of(query: Query) -> Pattern
-    requires { ⌜ GivenSixteenBits (wantedValues query) ⌝ }
     ensures { λ r. ⌜ r ≡ patternOf (wantedValues query) ⌝ }
 {
     let m0 = mask_at(query, 0);
@@ -111,14 +111,14 @@ pub fn match_mask(page: &[u8], n: usize, pattern: Pattern) -> u64
 
 // The n records of a page whose packed key lies between two others, value by value: bit i for
 // record i. As many are compared as by match_mask.
-pub fn within_mask(page: &[u8], n: usize, low: u64, high: u64) -> u64
+pub fn within_mask(page: &[u8], n: usize, bias: u64, low: u64, high: u64) -> u64
     requires { ⌜ (n < 64) × (recordOffset n ≤ length (now page)) ⌝ }
-    ensures { λ r. ⌜ r ≡ matchMask (liesIn low high) (now (page .entry)) n 0 ⌝ }
+    ensures { λ r. ⌜ r ≡ matchMask (liesIn bias low high) (now (page .entry)) n 0 ⌝ }
 {
     let between = if page.len() == SIXTEEN_RECORDS {
-        lie_among(page, 16, low, high)
+        lie_among(page, 16, bias, low, high)
     } else {
-        lie_among(page, (page.len() - 2) / RECORD_SIZE, low, high)
+        lie_among(page, (page.len() - 2) / RECORD_SIZE, bias, low, high)
     };
     between & ((1u64 << n) - 1)
 }
@@ -191,15 +191,15 @@ fn match_among(page: &[u8], k: usize, pattern: Pattern) -> u64
 
 // The k records of a page whose packed key lies between two others, bit i for record i; of more
 // than 64, the low 64 bits.
-fn lie_among(page: &[u8], k: usize, low: u64, high: u64) -> u64
+fn lie_among(page: &[u8], k: usize, bias: u64, low: u64, high: u64) -> u64
     requires { ⌜ recordOffset k ≤ length (now page) ⌝ }
-    ensures { λ r. ⌜ r ≡ matchMask (liesIn low high) (now (page .entry)) k 0 % 2 ^ 64 ⌝ }
+    ensures { λ r. ⌜ r ≡ matchMask (liesIn bias low high) (now (page .entry)) k 0 % 2 ^ 64 ⌝ }
 {
     let mut mask: u64 = 0;
     let mut i = k;
     while 0 < i {
         i -= 1;
-        let between = lies_between(low, high, key_at(page, i));
+        let between = lies_between(low, high, code_at(page, i, bias));
         mask = (mask << 1) | (between as u64);
     }
     mask
@@ -236,12 +236,12 @@ fn mask_at(query: Query, j: usize) -> u32
 // What these bits are.
 fn bits_at(query: Query, j: usize) -> u32
     requires { ⌜ j < 4 ⌝ }
-    ensures { λ r. ⌜ r ≡ wantedBits (getD (wantedValues query) j none) ⌝ }
+    ensures { λ r. ⌜ r ≡ wantedField (getD (wantedValues query) j none) ⌝ }
 {
     let attribute = query.attributes[j];
     let wanted = attribute.wanted;
     match wanted {
         Wanted::Free => 0,
-        Wanted::Given(value) => value,
+        Wanted::Given(value) => value & 0xffff,
     }
 }

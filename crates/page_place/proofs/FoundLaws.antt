@@ -6,28 +6,29 @@ use mathlib.Core.Bool.{Bool, true, false, not, cond, Bool·beq}
 use mathlib.Core.List.{List, [], _∷_}
 use native.Mathlib.Omega.{arith}
 use lib.ListN.{getD}
-use Rattle.shape.specs.Shape.{widthsOf, total}
+use Rattle.shape.specs.Shape.{shapeNumber, widthsOf, total}
 use Rattle.shape.specs.declared.Shape.{Shape}
 use Rattle.split.specs.Bits.{splitBit}
 use Rattle.region.specs.Strings.{sameBits}
-use Rattle.region.specs.Sets.{before, sorted, withPrefix, absent, insert, remove}
+use Rattle.region.specs.Sets.{before, sorted, withPrefix, absent, insert}
 use Rattle.region.proofs.StringLaws.{sameBits-comm}
 use Rattle.region.proofs.OrderLaws.{before-swap}
 use Rattle.record.specs.Record.{Record, recordBit}
 use Rattle.record.specs.Bytes.{recordSize, recordOf}
 use Rattle.record.specs.Packed.{unpackedKey}
 use Rattle.record.proofs.ByteLaws.{AreBytes, AreBytes-field}
-use Rattle.record.proofs.CodecLaws.{unpackedKey-keyIn}
+use Rattle.record.specs.Lanes.{biasKey}
+use Rattle.record.proofs.FieldLaws.{unpackedKey-keyIn}
 use Rattle.page.specs.Page.{recordsFrom}
-use Rattle.page.specs.Fields.{recordOffset, recordField, keyAt}
-use Rattle.page.specs.Changes.{insertAt, removeAt}
+use Rattle.page.specs.Fields.{recordOffset, recordField, codeAt}
+use Rattle.page.specs.Changes.{insertAt}
 use Rattle.page.proofs.FieldLaws.{length-recordsFrom, getD-recordsFrom}
 use Rattle.key_order.specs.Order.{compared}
 use Rattle.key_order.specs.declared.Order.the-variants as order
 use Rattle.page_place.specs.Find.{orderTo, Placed}
 use Rattle.page_place.specs.declared.Place.the-variants.{Before, At}
 use Rattle.page_place.proofs.SortedLaws.{Between, insertAt-between, absent-between}
-use Rattle.page_place.proofs.SortedLaws.{removeAt-same, withPrefix-same}
+use Rattle.page_place.proofs.SortedLaws.{withPrefix-same}
 
 -- ---- what the order of two keys says
 
@@ -78,7 +79,7 @@ before-key s zero t x y = refl
 before-key s (suc n) t x y =
     ap (λ β. cond (Bool·beq (recordBit s x t) (recordBit s y t)) β (recordBit s y t)) (before-key s n (suc t) x y)
 
-module _ (s : Shape) (r : Record) (key : ℕ) (e : r .key ≡ unpackedKey key) (page : List ℕ) (b : AreBytes page) (n : ℕ)
+module _ (s : Shape) (good : shapeNumber s ≡ 0) (r : Record) (key : ℕ) (e : r .key ≡ unpackedKey key) (page : List ℕ) (b : AreBytes page) (n : ℕ)
     (o : sorted (recordBit s) (total (widthsOf s)) 0 (recordsFrom s n 2 page) ≡ true) where
   abbrev ws : List ℕ
   ws = widthsOf s
@@ -90,14 +91,14 @@ module _ (s : Shape) (r : Record) (key : ℕ) (e : r .key ≡ unpackedKey key) (
   record-at k l = getD-recordsFrom s n k 2 page r l
 
   -- how r stands to record k
-  order-at : (k : ℕ) → k < n → orderTo ws (unpackedKey key) page k ≡ compared ws (r .key) (getD rs k r .key)
+  order-at : (k : ℕ) → k < n → orderTo ws (biasKey s) (unpackedKey key) page k ≡ compared ws (r .key) (getD rs k r .key)
   order-at k l =
-      let there : getD rs k r .key ≡ unpackedKey (keyAt page k) =
+      let there : getD rs k r .key ≡ unpackedKey (codeAt (biasKey s) page k) =
       ap (λ x. x .key) (record-at k l)
-      ∙ sym (unpackedKey-keyIn s (recordField page k) (AreBytes-field page (recordOffset k) recordSize b)) in
+      ∙ sym (unpackedKey-keyIn s good (recordField page k) (AreBytes-field page (recordOffset k) recordSize b)) in
       λ i. compared ws (sym e i) (sym there i)
 
-  pub placed-between : (i : ℕ) → Placed ws (unpackedKey key) page n (Before i)
+  pub placed-between : (i : ℕ) → Placed ws (biasKey s) (unpackedKey key) page n (Before i)
       → Between (recordBit s) (total ws) 0 r r rs i
   placed-between i p =
       let W = total ws in (
@@ -114,21 +115,21 @@ module _ (s : Shape) (r : Record) (key : ℕ) (e : r .key ≡ unpackedKey key) (
 
   -- ---- the key is not there
 
-  pub insertAt-placed : (i : ℕ) → Placed ws (unpackedKey key) page n (Before i)
+  pub insertAt-placed : (i : ℕ) → Placed ws (biasKey s) (unpackedKey key) page n (Before i)
       → insertAt i r (recordsFrom s n 2 page) ≡ insert (recordBit s) (total ws) 0 r (recordsFrom s n 2 page)
   insertAt-placed i p = insertAt-between (recordBit s) (total ws) 0 r r rs i o (placed-between i p)
 
-  pub absent-placed : (i : ℕ) → Placed ws (unpackedKey key) page n (Before i)
+  pub absent-placed : (i : ℕ) → Placed ws (biasKey s) (unpackedKey key) page n (Before i)
       → absent (recordBit s) (total ws) 0 r (recordsFrom s n 2 page) ≡ true
   absent-placed i p = absent-between (recordBit s) (total ws) 0 r r rs i o (placed-between i p)
 
   -- ---- it is
 
-  same-there : (i : ℕ) → Placed ws (unpackedKey key) page n (At i)
+  same-there : (i : ℕ) → Placed ws (biasKey s) (unpackedKey key) page n (At i)
       → sameBits (recordBit s r) (recordBit s (getD rs i r)) (total ws) 0 ≡ true
   same-there i p = same-of-compared ws (r .key) (getD rs i r .key) (sym (order-at i (p .0)) ∙ p .1)
 
-  pub withPrefix-placed : (i : ℕ) → Placed ws (unpackedKey key) page n (At i)
+  pub withPrefix-placed : (i : ℕ) → Placed ws (biasKey s) (unpackedKey key) page n (At i)
       → withPrefix (recordBit s) (recordBit s r) (total ws) 0 (recordsFrom s n 2 page)
       ≡ recordOf s (recordField page i) ∷ []
   withPrefix-placed i p =

@@ -3,7 +3,7 @@
 use key_order::Order;
 use key_order::compare;
 use key_order::pair_bit;
-use page::key_at;
+use page::code_at;
 use shape::Widths;
 ghost use mathlib.Core.Path.{_≡_};
 ghost use Prim.Native.Nat.{_/_, _%_, _≤_, _<_};
@@ -19,17 +19,18 @@ pub enum Place {
     At(usize),
 }
 
-// Looks a packed key up among the n records of a page. Of a page in another order it tells what the
+// Looks a packed key of encodings up among the n records of a page, where a shape adds a bias to its
+// values. Of a page in another order it tells what the
 // records beside the place say.
-pub fn find(page: &[u8], n: usize, widths: Widths, key: u64) -> Place
+pub fn find(page: &[u8], n: usize, widths: Widths, bias: u64, key: u64) -> Place
     requires { ⌜ (recordOffset n ≤ length (now page)) × Fit (widthList widths) ⌝ }
-    ensures { λ r. ⌜ Placed (widthList widths) (unpackedKey key) (now (page .entry)) n r ⌝ }
+    ensures { λ r. ⌜ Placed (widthList widths) bias (unpackedKey key) (now (page .entry)) n r ⌝ }
 {
     let mut low = 0;
     let mut high = n;
     while low < high {
         let mid = low + (high - low) / 2;
-        let order = compare(widths, key, key_at(page, mid));
+        let order = compare(widths, key, code_at(page, mid, bias));
         match order {
             Order::Same => return Place::At(mid),
             Order::Before => high = mid,
@@ -41,14 +42,14 @@ pub fn find(page: &[u8], n: usize, widths: Widths, key: u64) -> Place
 
 // The place of the first of the n records of a page whose bit at the place g of a split step is 1;
 // n where none has it.
-pub fn first_one(page: &[u8], n: usize, widths: Widths, g: u64) -> usize
+pub fn first_one(page: &[u8], n: usize, widths: Widths, bias: u64, g: u64) -> usize
     requires { ⌜ (recordOffset n ≤ length (now page)) × Fit (widthList widths) ⌝ }
     requires { ⌜ (g < 64) × (g / 4 < getD (widthList widths) (g % 4) 0) ⌝ }
-    ensures { λ r. ⌜ r ≡ firstOne (widthList widths) g (now (page .entry)) n 0 ⌝ }
+    ensures { λ r. ⌜ r ≡ firstOne (widthList widths) bias g (now (page .entry)) n 0 ⌝ }
 {
     let mut i = 0;
     while i < n {
-        if pair_bit(widths, key_at(page, i), g) {
+        if pair_bit(widths, code_at(page, i, bias), g) {
             return i;
         }
         i += 1;

@@ -46,13 +46,13 @@ pub extern "C" fn probe_compare(widths: Widths, x: u64, y: u64) -> u32
     }
 }
 
-// The place of a key among the n records of a page.
+// The place of a key among the n records of a page, of a shape without marks.
 #[no_mangle]
 pub extern "C" fn probe_find(page: &[u8], n: usize, widths: Widths, key: u64) -> PlaceFields
     requires { ⌜ (recordOffset n ≤ length (now page)) × Fit (widthList widths) ⌝ }
-    ensures { λ r. ⌜ Placed (widthList widths) (unpackedKey key) (now (page .entry)) n (placeOf r) ⌝ }
+    ensures { λ r. ⌜ Placed (widthList widths) 0 (unpackedKey key) (now (page .entry)) n (placeOf r) ⌝ }
 {
-    let found = find(page, n, widths, key);
+    let found = find(page, n, widths, 0, key);
     match found {
         Place::Before(place) => PlaceFields { found: 0, place },
         Place::At(place) => PlaceFields { found: 1, place },
@@ -60,12 +60,12 @@ pub extern "C" fn probe_find(page: &[u8], n: usize, widths: Widths, key: u64) ->
 }
 
 // The place of the first of the n records of a page whose bit at the place g of a split step is 1;
-// n where none has it.
+// n where none has it. Of a shape without marks.
 #[no_mangle]
 pub extern "C" fn probe_first_one(page: &[u8], n: usize, widths: Widths, g: u64) -> usize
     requires { ⌜ (recordOffset n ≤ length (now page)) × Fit (widthList widths) ⌝ }
     requires { ⌜ (g < 64) × (g / 4 < getD (widthList widths) (g % 4) 0) ⌝ }
-    ensures { λ r. ⌜ r ≡ firstOne (widthList widths) g (now (page .entry)) n 0 ⌝ }
+    ensures { λ r. ⌜ r ≡ firstOne (widthList widths) 0 g (now (page .entry)) n 0 ⌝ }
 {
-    first_one(page, n, widths, g)
+    first_one(page, n, widths, 0, g)
 }

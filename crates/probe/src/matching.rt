@@ -8,14 +8,13 @@ ghost use mathlib.Core.Path.{_≡_};
 ghost use Prim.Native.Nat.{_+_, _^_, _<_, _≤_};
 ghost use lib.ListN.{length};
 ghost use Rattle.page.specs.Fields.{recordOffset};
-ghost use Rattle.page_matches.specs.Pattern.{GivenSixteenBits, patternOf, passes};
+ghost use Rattle.page_matches.specs.Pattern.{patternOf, passes};
 ghost use Rattle.page_matches.specs.Output.{hits, emit};
 ghost use Rattle.host_results.specs.Wanted.{wantedOf};
 
-// The pattern of a query whose given values have 16 bits.
+// The pattern of a query.
 #[no_mangle]
 pub extern "C" fn probe_pattern_of(wanted: HostQuery) -> Pattern
-    requires { ⌜ GivenSixteenBits (wantedOf (wanted .given) (wanted .values)) ⌝ }
     ensures { λ r. ⌜ r ≡ patternOf (wantedOf (wanted .given) (wanted .values)) ⌝ }
 {
     pattern_of(store_query(wanted))

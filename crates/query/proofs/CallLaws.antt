@@ -1,28 +1,26 @@
 -- Laws of the call query: what each step asks, and the promise from what the steps leave. Assumes nothing.
 use Prim.Native.Nat.{ℕ, _/_, _≤_, min}
-use mathlib.Core.Path.{_≡_, refl, sym, ap, _∙_, subst}
+use mathlib.Core.Path.{_≡_, sym, ap, _∙_, subst}
 use mathlib.Core.Bool.{true, false, true≢false}
-use mathlib.Core.List.{List, [], _∷_, map, flatMap}
-use mathlib.Core.Option.{Option, none, some}
+use mathlib.Core.List.{List, map, flatMap}
+use mathlib.Core.Option.{Option, none}
 use native.Mathlib.Omega.{arith}
 use native.Mathlib.Nat.{le-trans}
-use lib.ListN.{length, take, getD}
+use lib.ListN.{length, take}
 use Rattle.lists.specs.Filter.{filter}
 use Rattle.lists.specs.Members.{All}
 use Rattle.shape.specs.Shape.{shapeNumber}
 use Rattle.shape.specs.Refusal.{accepted, refused}
-use Rattle.shape.specs.Key.{encode, encodeWanted, encodedWanted, queryFits}
-use Rattle.shape.specs.declared.Shape.{Shape}
+use Rattle.shape.specs.Key.{queryFits}
 use Rattle.region.specs.Query.{queryEnters}
 use Rattle.record.specs.Record.{Record, matches}
 use Rattle.record.specs.Bytes.{recordSize, recordOf}
-use Rattle.record.specs.Packed.{SixteenBits}
 use Rattle.record.proofs.ByteLaws.{AreBytes}
 use Rattle.model.specs.Model.{listed}
 use Rattle.model.specs.Sets.{queryBits, readsOf}
 use Rattle.model.proofs.MatchLaws.{matches-agrees}
 use Rattle.page.specs.Page.{pageAt, recordsOf}
-use Rattle.page_matches.specs.Pattern.{wantedBits, bitsOf, GivenSixteenBits, patternOf, passes}
+use Rattle.page_matches.specs.Pattern.{patternOf, passes}
 use Rattle.page_matches.specs.Output.{emit}
 use Rattle.page_matches.proofs.PatternLaws.{passes-matches}
 use Rattle.store.specs.declared.State.{State}
@@ -46,20 +44,8 @@ use Rattle.list_call.specs.Lent.{LimitsLent}
 use Rattle.list_call.proofs.LentLaws.{limitsLent, deepest-few, walkable}
 use Rattle.list_call.proofs.PageLaws.{isPages, pagesIn, pages-listed, all-within, of-counts}
 use Rattle.query_number.specs.Number.{queryNumberBy}
-use Rattle.query_number.proofs.EarlyLaws.{sixteen-of-fits, parts-of-queryNumberBy}
+use Rattle.query_number.proofs.EarlyLaws.{parts-of-queryNumberBy}
 use Rattle.query.proofs.PromiseLaws.{promise-nine, promise-listed}
-
--- an encoding is the value itself
-bitsOf-encodedWanted : (s : Shape) (q : List (Option ℕ)) → bitsOf (encodedWanted s q) ≡ bitsOf q
-unfolding encodedWanted encode
-bitsOf-encodedWanted s q = λ i. same 0 i ∷ same 1 i ∷ same 2 i ∷ same 3 i ∷ []
-  where
-    of-wanted : (j : ℕ) (w : Option ℕ) → wantedBits (encodeWanted s j w) ≡ wantedBits w
-    of-wanted j none = refl
-    of-wanted j (some v) = refl
-
-    same : (j : ℕ) → wantedBits (encodeWanted s j (getD q j none)) ≡ wantedBits (getD q j none)
-    same j = of-wanted j (getD q j none)
 
 module _ (st : State) (words bytes : List ℕ) (q : List (Option ℕ))
     (none : queryNumberBy st (length words) (length bytes) q ≡ 0) where
@@ -71,11 +57,6 @@ module _ (st : State) (words bytes : List ℕ) (q : List (Option ℕ))
 
   fits : queryFits (st .shape) q ≡ true
   fits = parts-of-queryNumberBy st (length words) (length bytes) q none .1
-
-  -- the values themselves have 16 bits, as their encodings
-  pub six-of-none : GivenSixteenBits q
-  six-of-none =
-      subst SixteenBits (bitsOf-encodedWanted (st .shape) q) (sixteen-of-fits (st .shape) shape-of-none q fits)
 
   pub nine-limits : (out : List ℕ) → limitsHold st ≡ false → QueryPromise (store st words bytes) q out (refused 9) out
   nine-limits out e =
@@ -146,7 +127,7 @@ module _ (st : State) (words bytes : List ℕ) (q : List (Option ℕ))
               ap pagesIn (sym e ∙ noted-reads (store st words bytes) q S h list r later o) in (
                 reads,
                 map-listHits (st .shape .capacity) bytes are (passes (patternOf q)) (st .shape) (matches (st .shape) q)
-                    (λ f. passes-matches (st .shape) q f six-of-none) (take n later) within-all
+                    (passes-matches (st .shape) shape-of-none q fits) (take n later) within-all
                     ∙ subst (λ k. _≡_ (gathered k) (filter (matches (st .shape) q) S)) (sym reads)
                     (noted-records (store st words bytes) q S h list r later o (omega (arith, within, reads))
                     (λ x f. matches-agrees (st .shape) shape-of-none q x f fits)),

@@ -254,8 +254,8 @@ module _ (ws : List ℕ) (fit : Fit ws) (x : ℕ) (p : ℕ → Bool) (key : ℕ)
             ∙ c .bits j k hj kd)
 
     -- under the mask of the fixed bits it tells the region's keys
-    pub endsAgree-corner : (page : List ℕ) (n : ℕ)
-        → endsAgree (fixedBits ws x) key page n ≡ endsBegin ws x p page n
-    endsAgree-corner page n =
-        endsAgree-endsBegin ws four fit x within key fits page n
-        ∙ endsBegin-agree ws x (splitBit ws (unpackedKey key)) p agree page n
+    pub endsAgree-corner : (bias : ℕ) (page : List ℕ) (n : ℕ)
+        → endsAgree bias (fixedBits ws x) key page n ≡ endsBegin ws bias x p page n
+    endsAgree-corner bias page n =
+        endsAgree-endsBegin ws four fit x within key fits bias page n
+        ∙ endsBegin-agree ws bias x (splitBit ws (unpackedKey key)) p agree page n

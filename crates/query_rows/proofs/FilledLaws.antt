@@ -111,7 +111,7 @@ module _ (ws : List ℕ) (q : ℕ → QueryBit) (t g x : ℕ) (rows : List ℕ) 
           ∙ length-sets (sets rows (x * 6) (rowList row)) (x * 6 + 11) mask
           ∙ length-sets rows (x * 6) (rowList row)
 
-      pub filled-step : g < 64 → t ≤ 12 → 82 ≤ length rows → (later : List ℕ) (y : ℕ)
+      pub filled-step : g < 64 → t ≤ 12 → 83 ≤ length rows → (later : List ℕ) (y : ℕ)
           → later ≡ stored → y ≡ x + 1 → RowsFilled ws q t (g + 1) y later
       filled-step l short lent later z el ez =
           rw ez

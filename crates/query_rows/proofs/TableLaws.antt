@@ -18,6 +18,7 @@ use Rattle.split.proofs.DepthLaws.{step-of, step-here}
 use Rattle.region.specs.Query.{QueryBit}
 use Rattle.record.proofs.KeyLaws.{length-steps-widthsOf}
 use Rattle.model.specs.Sets.{queryBitOf, queryBits}
+use Rattle.record.specs.Lanes.{biasKey}
 use Rattle.store.specs.declared.State.{State}
 use Rattle.query_rows.specs.Private.{RowsFilled}
 use Rattle.query_rows.specs.Rows.{wantedAt, stepRow, Rows, talliedDepths, limited, Table, mostPages}
@@ -57,18 +58,19 @@ module _ (s : Shape) (good : shapeNumber s ≡ 0) (wanted : List (Option ℕ)) w
       row-with : ℕ → QueryBit → List ℕ
       row-with y q = stepRow (widthsOf s) (λ t. q) y
 
--- and behind them P, b, T and the depths in the tally
+-- and behind them P, b, T, the depths in the tally and the shape's bias
 module _ (st : State) (rows : List ℕ) (deep : st .deepest ≤ 12) where
   -- what is put there
   abbrev more : List ℕ
-  more = st .limits .pages ∷ st .shape .capacity ∷ st .deepest ∷ talliedDepths (st .tally .leaves) ∷ []
+  more = st .limits .pages ∷ st .shape .capacity ∷ st .deepest ∷ talliedDepths (st .tally .leaves)
+      ∷ biasKey (st .shape) ∷ []
 
   -- the rows stay
   limited-row : (i : ℕ) → i < 78 → getD (limited st rows) i 0 ≡ getD rows i 0
   unfolding limited
   limited-row i h = getD-sets-before rows 78 more i h
 
-  pub Table-limited : (q : ℕ → QueryBit) → Rows (widthsOf (st .shape)) q (st .deepest) rows → 82 ≤ length rows
+  pub Table-limited : (q : ℕ → QueryBit) → Rows (widthsOf (st .shape)) q (st .deepest) rows → 83 ≤ length rows
       → Table st q (limited st rows)
   unfolding limited
   Table-limited q r lent =
@@ -81,6 +83,7 @@ module _ (st : State) (rows : List ℕ) (deep : st .deepest ≤ 12) where
         capacity = getD-sets rows 78 more 1 (omega arith) (omega arith);
         depth-of = getD-sets rows 78 more 2 (omega arith) (omega arith);
         depths = getD-sets rows 78 more 3 (omega arith) (omega arith);
+        bias = getD-sets rows 78 more 4 (omega arith) (omega arith);
       }
 
   mostPages-rows : (f x : ℕ) → x + f ≤ 12 → mostPages (limited st rows) f x ≡ mostPages rows f x

@@ -24,7 +24,7 @@ pub record BitAsked (ws : List ℕ) (q : ℕ → QueryBit) (t bit x : ℕ) (rows
   pub fit : Fit ws
   pub deep : t ≤ 12
   pub low : bit < 16
-  pub table-lent : 82 ≤ length rows
+  pub table-lent : 83 ≤ length rows
   pub filled : RowsFilled ws q t (4 * bit) x rows
 
 -- the pair at place g is a step, one of the first 12

@@ -11,6 +11,7 @@ use Rattle.shape.specs.Shape.{inBounds, widthsOf, total}
 use Rattle.shape.specs.declared.Shape.{Shape}
 use Rattle.split.specs.Steps.{step, attributeDepth, bitValue}
 use Rattle.region.specs.Query.{QueryBit, free, given}
+use Rattle.record.specs.Lanes.{biasKey}
 use Rattle.page_ends.specs.Ends.{fixedBits}
 use Rattle.model.specs.Sets.{queryBitOf}
 use Rattle.store.specs.declared.State.{State}
@@ -93,7 +94,7 @@ pub record RowsAsked (s : Shape) (t room : ℕ) : Type 0 where
   pub shape : inBounds s ≡ true
   pub deep : t ≤ 12
   pub bits : t ≤ total (widthsOf s)
-  pub table-lent : 82 ≤ room
+  pub table-lent : 83 ≤ room
 
 -- ---- the numbers behind the rows
 
@@ -111,6 +112,10 @@ deepestIn rows = getD rows 80 0
 abbrev pub talliedIn : List ℕ → ℕ
 talliedIn rows = getD rows 81 0
 
+-- what is added to packed fields
+abbrev pub biasIn : List ℕ → ℕ
+biasIn rows = getD rows 82 0
+
 -- a bit for each number of a list, the first lowest: 1 where it is not 0
 unfoldable pub talliedDepths : List ℕ → ℕ
 talliedDepths [] = 0
@@ -120,10 +125,16 @@ talliedDepths (n ∷ ns) = bitValue (leb 1 n) + 2 * talliedDepths ns
 unfoldable pub hasDepth : ℕ → ℕ → Bool
 hasDepth depths x = eqb (depths / 2 ^ x % 2) 1
 
--- P, b, T and the depths in the tally put there
+-- P, b, T, the depths in the tally and the shape's bias put there
 unfoldable pub limited : State → List ℕ → List ℕ
 limited st rows =
-    sets rows 78 (st .limits .pages ∷ st .shape .capacity ∷ st .deepest ∷ talliedDepths (st .tally .leaves) ∷ [])
+    sets rows 78
+    (st .limits .pages
+    ∷ st .shape .capacity
+    ∷ st .deepest
+    ∷ talliedDepths (st .tally .leaves)
+    ∷ biasKey (st .shape)
+    ∷ [])
 
 -- the table of a state and a query
 pub record Table (st : State) (q : ℕ → QueryBit) (rows : List ℕ) : Type 0 where
@@ -132,6 +143,7 @@ pub record Table (st : State) (q : ℕ → QueryBit) (rows : List ℕ) : Type 0 
   pub capacity : capacityIn rows ≡ st .shape .capacity
   pub depth-of : deepestIn rows ≡ st .deepest
   pub depths : talliedIn rows ≡ talliedDepths (st .tally .leaves)
+  pub bias : biasIn rows ≡ biasKey (st .shape)
 
 -- ---- how many pages
 

@@ -1,5 +1,5 @@
 // The table that a query's walk uses, made once a query: six numbers for each depth up to 12, and
-// behind them four that stay the same. The row of depth x, from 6x on:
+// behind them five that stay the same. The row of depth x, from 6x on:
 //
 //     0             for the address of a cell that step x appended: the multiplier of indices 0, 1
 //     1             that of indices 2, 3
@@ -14,6 +14,8 @@
 //     79  CAPACITY  b
 //     80  DEEPEST   T
 //     81  TALLIED   the depths that have a leaf in the tally
+//     82  BIAS      what is added to packed fields
+use key_encoding::bias_key;
 use page_ends::fixed_bits_before;
 use pairs::depth_before;
 use pairs::width_at;
@@ -32,7 +34,7 @@ ghost use mathlib.Core.Option.{none};
 ghost use lib.Dec.{eqb};
 ghost use lib.ListN.{getD, length};
 ghost use lib.Seq.{sets};
-ghost use Rattle.shape.specs.Shape.{widthList, widthsOf};
+ghost use Rattle.shape.specs.Shape.{shapeNumber, widthList, widthsOf};
 ghost use Rattle.shape.specs.Key.{wantedValues};
 ghost use Rattle.split.specs.Steps.{stepsBelow};
 ghost use Rattle.model.specs.Sets.{queryBitOf};
@@ -43,7 +45,7 @@ ghost use Rattle.query_rows.specs.Private.{RowsFilled, BitAsked, StepAt,
 ghost use Rattle.query_rows.specs.Private.{valueOrZero, freeMark};
 
 // How many numbers the table has.
-pub const TABLE: usize = 82;
+pub const TABLE: usize = 83;
 
 // How many numbers a row has.
 pub const ROW: usize = 6;
@@ -67,6 +69,8 @@ pub const CAPACITY: usize = 79;
 pub const DEEPEST: usize = 80;
 
 pub const TALLIED: usize = 81;
+
+pub const BIAS: usize = 82;
 
 // What the walk needs of a step: the two multipliers for the address of a cell that the step
 // appended, the bit that the step sets in a vector of 16-bit lanes, the query's bit (0, 1, or 2
@@ -126,8 +130,10 @@ fn fill_bit(
     x
 }
 
-// Writes behind the rows what stays the same in a walk: P, b, T, the depths in the tally.
+// Writes behind the rows what stays the same in a walk: P, b, T, the depths in the tally, the shape's
+// bias.
 pub fn fill_limits(state: State, rows: &mut [u64; TABLE])
+    requires { ⌜ shapeNumber (state .shape) ≡ 0 ⌝ }
     ensures { λ _. ⌜ now (rows .exit) ≡ limited state (now (rows .entry)) ⌝ }
 {
     let shape = state.shape;
@@ -136,6 +142,7 @@ pub fn fill_limits(state: State, rows: &mut [u64; TABLE])
     rows[CAPACITY] = shape.capacity as u64;
     rows[DEEPEST] = state.deepest as u64;
     rows[TALLIED] = tallied_depths(state.tally);
+    rows[BIAS] = bias_key(shape);
 }
 
 // How many pages a walk by the rows of the steps below t notes at most: twice as many for each step in

@@ -11,6 +11,7 @@ use Rattle.shape.specs.declared.Shape.{Shape}
 use Rattle.region.specs.Strings.{withBit, emptyString}
 use Rattle.region.specs.Query.{QueryBit, queryEnters}
 use Rattle.page.specs.Page.{countOf, pageAt}
+use Rattle.record.specs.Lanes.{biasKey}
 use Rattle.page_ends.specs.Ends.{endsBegin}
 use Rattle.store.specs.declared.State.{State}
 use Rattle.store.specs.declared.Tally.{Tally}
@@ -46,7 +47,7 @@ after s u = cond (s .sound) (record { pages = s .pages ++ u .pages; sound = u .s
 unfoldable pub fairPage : Shape → List ℕ → ℕ → (ℕ → Bool) → ℕ → Bool
 fairPage s bytes x p g =
     let page = pageAt (s .capacity) bytes g in
-    within 1 (s .capacity) (countOf page) && endsBegin (widthsOf s) x p page (countOf page)
+    within 1 (s .capacity) (countOf page) && endsBegin (widthsOf s) (biasKey s) x p page (countOf page)
 
 -- "the tally of leaves (empty ones too)" has one at depth x
 unfoldable pub tallied : Tally → ℕ → Bool

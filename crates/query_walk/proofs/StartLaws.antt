@@ -16,12 +16,13 @@ use Rattle.cell.proofs.CellLaws.{cell-zero}
 use Rattle.region.specs.Strings.{withBit, emptyString}
 use Rattle.region.specs.Query.{QueryBit, free, given, bitAgrees, agrees, queryEnters}
 use Rattle.region.proofs.QueryLaws.{queryEnters-side}
+use Rattle.record.specs.Lanes.{biasKey}
 use Rattle.page.specs.Page.{countOf, pageAt}
 use Rattle.store.specs.declared.State.{State}
 use Rattle.shape.proofs.ShapeLaws.{shapeNumber-true, capacity-bounds}
 use Rattle.query_rows.specs.Corners.{Corner}
 use Rattle.query_rows.specs.Rows.{wantedNumber, valueBit, stepRow, bitIn, wantedBitIn, valueIn, fixedIn, Rows}
-use Rattle.query_rows.specs.Rows.{capacityIn, deepestIn, talliedIn, hasDepth}
+use Rattle.query_rows.specs.Rows.{capacityIn, biasIn, deepestIn, talliedIn, hasDepth}
 use Rattle.query_rows.specs.Rows.{Table, mostPages}
 use Rattle.query_rows.specs.Vectors.{packed, rowAddress}
 use Rattle.query_rows.proofs.CornerLaws.{Corner-lower, Corner-upper, Corner-zero, endsAgree-corner}
@@ -175,16 +176,18 @@ module _ (st : State) (rows words bytes : List ℕ) (room : ℕ)
   module _ (q : ℕ → QueryBit) (table : Table st q rows) where
     -- a leaf's page, by its corner
     fair-alike : (x : ℕ) (p : ℕ → Bool) (k : ℕ) → x ≤ st .deepest → Corner ws x p k → (g : ℕ)
-        → fairBy (capacityIn rows) (fixedIn rows x) k (pageAt (capacityIn rows) bytes g)
+        → fairBy (capacityIn rows) (biasIn rows) (fixedIn rows x) k (pageAt (capacityIn rows) bytes g)
         ≡ fairPage (st .shape) bytes x p g
     unfolding fairPage fairBy widthsOf
     fair-alike x p k l c g =
         let b = st .shape .capacity in
         let page = pageAt b bytes g in
-        ap (λ n. fairBy n (fixedIn rows x) k (pageAt n bytes g)) (table .capacity)
-        ∙ ap (λ m. fairBy b m k page) (table .rows-of .fixed x l)
+        ap (λ n. fairBy n (biasIn rows) (fixedIn rows x) k (pageAt n bytes g)) (table .capacity)
+        ∙ ap (λ h. fairBy b h (fixedIn rows x) k page) (table .bias)
+        ∙ ap (λ m. fairBy b (biasKey (st .shape)) m k page) (table .rows-of .fixed x l)
         ∙ ap (λ β. within 1 b (countOf page) && β)
-        (endsAgree-corner ws (fits .0) x p k c refl (le-trans l (h .depth-bits)) page (countOf page))
+        (endsAgree-corner ws (fits .0) x p k c refl (le-trans l (h .depth-bits)) (biasKey (st .shape))
+        page (countOf page))
 
     -- and its word
     pub leaf-alike : (x : ℕ) (p : ℕ → Bool) (k w : ℕ) → x ≤ st .deepest → Corner ws x p k

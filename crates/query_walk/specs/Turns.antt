@@ -13,20 +13,20 @@ use Rattle.page_ends.specs.Ends.{endsAgree}
 use lib.Seq.{sets}
 use Rattle.query_rows.specs.Corners.{Corner}
 use Rattle.query_rows.specs.Rows.{fixedIn, Rows}
-use Rattle.query_rows.specs.Rows.{pagesIn, capacityIn, deepestIn, talliedIn, hasDepth, mostPages}
+use Rattle.query_rows.specs.Rows.{pagesIn, capacityIn, deepestIn, talliedIn, biasIn, hasDepth, mostPages}
 use Rattle.query_rows.specs.Vectors.{packed}
 use Rattle.query_seen.specs.Seen.{Seen, noted}
 
 -- ---- a leaf
 
 -- a page of a leaf by one of its keys, packed, and the mask of the bits that it fixes
-unfoldable pub fairBy : ℕ → ℕ → ℕ → List ℕ → Bool
-fairBy b mask key page = within 1 b (countOf page) && endsAgree mask key page (countOf page)
+unfoldable pub fairBy : ℕ → ℕ → ℕ → ℕ → List ℕ → Bool
+fairBy b bias mask key page = within 1 b (countOf page) && endsAgree bias mask key page (countOf page)
 
 -- page g can be that of the leaf of depth x with this corner
 abbrev pub pageFair : List ℕ → List ℕ → ℕ → ℕ → ℕ → Bool
 pageFair rows bytes x key g =
-    fairBy (capacityIn rows) (fixedIn rows x) key (pageAt (capacityIn rows) bytes g)
+    fairBy (capacityIn rows) (biasIn rows) (fixedIn rows x) key (pageAt (capacityIn rows) bytes g)
 
 -- the word of a leaf of depth x, by one of its keys
 abbrev pub leafBy : List ℕ → List ℕ → ℕ → ℕ → ℕ → Seen

@@ -5,6 +5,7 @@ use directory_word::field_of;
 use page::page_size;
 use page::page_start;
 use page_ends::fair_count;
+use query_rows::BIAS;
 use query_rows::BIT;
 use query_rows::CAPACITY;
 use query_rows::DEEPEST;
@@ -179,9 +180,10 @@ fn page_fair(rows: &[u64; TABLE], pages: &[u8], page: usize, corner: u64, x: usi
 {
     let b = rows[CAPACITY] as usize;
     let fixed = rows[x * ROW + FIXED];
+    let bias = rows[BIAS];
     let start = page_start(b, page);
     let end = start + page_size(b);
-    if fair_count(&pages[start..end], b, corner, fixed) == 0 {
+    if fair_count(&pages[start..end], b, bias, corner, fixed) == 0 {
         return false;
     }
     true

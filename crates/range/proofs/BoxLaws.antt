@@ -15,6 +15,7 @@ use Rattle.shape.specs.Range.{Interval, rangeFits}
 use Rattle.shape.specs.declared.Shape.{Shape}
 use Rattle.shape.proofs.AttributeLaws.{getD-perAttribute}
 use Rattle.shape.proofs.BoundsLaws.{allBelow-ext}
+use Rattle.record.specs.Lanes.{biasKey}
 use Rattle.record.specs.Bytes.{recordOf}
 use Rattle.record.specs.Packed.{SixteenBits}
 use Rattle.record.proofs.ByteLaws.{AreBytes}
@@ -78,11 +79,11 @@ module _ (s : Shape) (n : shapeNumber s ≡ 0) (r : List (Option Interval)) (fit
 
   -- the test of a record's bytes is that of the record
   pub liesIn-inBox : (bytes : List ℕ) → AreBytes bytes
-      → liesIn (lowKey s r) (highKey s r) bytes ≡ inBox box (recordOf s bytes .key)
+      → liesIn (biasKey s) (lowKey s r) (highKey s r) bytes ≡ inBox box (recordOf s bytes .key)
   unfolding lowKey highKey inBox
   liesIn-inBox bytes b =
       let key : List ℕ = recordOf s bytes .key in
-      liesIn-keyWithin s (valuesOr 0 lows) (valuesOr 65535 highs) low-bits high-bits bytes b
+      liesIn-keyWithin s n (valuesOr 0 lows) (valuesOr 65535 highs) low-bits high-bits bytes b
       ∙ allBelow-ext 4
       (λ j. within (getD (valuesOr 0 lows) j 0) (getD (valuesOr 65535 highs) j 0) (getD key j 0))
       (λ j. ifGiven (inInterval (getD key j 0)) (getD box j none))

@@ -13,6 +13,7 @@ use Rattle.shape.specs.Range.{Interval, rangeFits}
 use Rattle.shape.specs.declared.Shape.{Shape}
 use Rattle.region.specs.Strings.{emptyString}
 use Rattle.region.specs.Query.{QueryBit}
+use Rattle.record.specs.Lanes.{biasKey}
 use Rattle.record.specs.Record.{Record}
 use Rattle.record.specs.Bytes.{recordSize, recordOf}
 use Rattle.record.proofs.ByteLaws.{AreBytes}
@@ -118,7 +119,7 @@ module _ (st : State) (words bytes : List ℕ) (r : List (Option Interval))
 
         module _ (are : AreBytes bytes) (out : List ℕ) where
           abbrev fs : List (List ℕ)
-          fs = listHits (liesIn (lowKey s r) (highKey s r)) (s .capacity) bytes (take n later)
+          fs = listHits (liesIn (biasKey s) (lowKey s r) (highKey s r)) (s .capacity) bytes (take n later)
 
           abbrev wanted : Record → Bool
           wanted x = inBox box (x .key)
@@ -127,11 +128,11 @@ module _ (st : State) (words bytes : List ℕ) (r : List (Option Interval))
               → (n ≡ rangeReadsOf s r S) × (map (recordOf s) fs ≡ inside (fixedOf st) S r)
           as-model S h = (
             reads-as-model st words bytes limits-lent (boxEnters s box) list noted later put long n e within are
-                (liesIn (lowKey s r) (highKey s r)) wanted (liesIn-inBox s shape-of-none r fits) (meeting s box) S
+                (liesIn (biasKey s) (lowKey s r) (highKey s r)) wanted (liesIn-inBox s shape-of-none r fits) (meeting s box) S
                 (λ p x rs m k. m) h begins
                 ∙ sym (rangeReadsOf-walk s shape-of-none r fits S),
             records-as-model st words bytes limits-lent (boxEnters s box) list noted later put long n e within are
-                (liesIn (lowKey s r) (highKey s r)) wanted (liesIn-inBox s shape-of-none r fits) (meeting s box) S
+                (liesIn (biasKey s) (lowKey s r) (highKey s r)) wanted (liesIn-inBox s shape-of-none r fits) (meeting s box) S
                 (λ p x rs m k. m) h begins
                 (λ x p q d. boxMeets-same s box p q x d)
                 (λ a f m x l. boxMeets-record s shape-of-none box a f m x),
@@ -145,5 +146,5 @@ module _ (st : State) (words bytes : List ℕ) (r : List (Option Interval))
               written total out′ t w d
               (promise-listed st words bytes r out none fs
               (IsField-fields st words bytes limits-lent (boxEnters s box) list noted later put long n e within are
-              (liesIn (lowKey s r) (highKey s r)))
+              (liesIn (biasKey s) (lowKey s r) (highKey s r)))
               n as-model)

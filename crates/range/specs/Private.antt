@@ -19,5 +19,5 @@ pub record Tested (st : State) (r : List (Option Interval)) (rows : List ℕ) (w
   pub can : limitsHold st ≡ true
   pub query : ℕ → QueryBit
   pub table : Rows (widthsOf (st .shape)) query (st .deepest) rows
-  pub rows-lent : 82 ≤ length rows
+  pub rows-lent : 83 ≤ length rows
   pub room-left : 2 ^ st .deepest ≤ room

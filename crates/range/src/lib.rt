@@ -1,4 +1,5 @@
 // The call range: the records inside a box of values (document 02, request 1).
+use key_encoding::bias_key;
 use numbers::smaller_length;
 use query_rows::TABLE;
 use query_rows::fill_limits;
@@ -82,7 +83,16 @@ fn read_pages(
         return Listed::Refused(9);
     };
     let shape = state.shape;
-    let total = put_within(pages, shape.capacity as usize, low, high, list, n, out);
+    let total = put_within(
+        pages,
+        shape.capacity as usize,
+        bias_key(shape),
+        low,
+        high,
+        list,
+        n,
+        out,
+    );
     Listed::Records(Counts {
         written: smaller_length(total, out.len() / RECORD_SIZE) as u64,
         total: total as u64,

@@ -19,7 +19,7 @@ use Rattle.region.specs.Strings.{listBit, emptyString}
 use Rattle.range_box.specs.Box.{Box, inInterval, inBox, number, boxMeets, HoldsKey}
 
 abbrev twoTwo : Shape
-twoTwo = record { attributes = 2; widths = 2 ∷ 2 ∷ 0 ∷ 0 ∷ []; capacity = 2 }
+twoTwo = record { attributes = 2; widths = 2 ∷ 2 ∷ 0 ∷ 0 ∷ []; capacity = 2; signs = 0 }
 
 -- attribute 1 from 1 to 2
 abbrev oneToTwo : Box

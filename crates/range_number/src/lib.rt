@@ -17,6 +17,7 @@ ghost use mathlib.Core.Path.{_≡_};
 ghost use Prim.Native.Nat.{_<_};
 ghost use mathlib.Core.Option.{none};
 ghost use lib.ListN.{getD};
+ghost use Rattle.shape.specs.Shape.{shapeNumber};
 ghost use Rattle.shape.specs.Key.{wantedValue, wantedValues, encodedWanted};
 ghost use Rattle.shape.specs.Range.{rangeIntervals};
 ghost use Rattle.record.specs.Packed.{packedKey};
@@ -50,7 +51,8 @@ pub fn range_number(state: State, words: usize, bytes: usize, range: Range) -> u
 
 // The encodings of the low ends as a packed key; 0 where an attribute is free.
 pub fn low_key(shape: Shape, range: Range) -> u64
-    requires { ⌜ GivenSixteenBits (encodedWanted shape (lowEnds (rangeIntervals range))) ⌝ }
+    requires { ⌜ (shapeNumber shape ≡ 0)
+        × GivenSixteenBits (encodedWanted shape (lowEnds (rangeIntervals range))) ⌝ }
     ensures { λ r. ⌜ r ≡ lowKey shape (rangeIntervals range) ⌝ }
 {
     key_or(encode_query(shape, low_ends(range)), 0)
@@ -58,7 +60,8 @@ pub fn low_key(shape: Shape, range: Range) -> u64
 
 // The encodings of the high ends as a packed key; 2^16 - 1 where an attribute is free.
 pub fn high_key(shape: Shape, range: Range) -> u64
-    requires { ⌜ GivenSixteenBits (encodedWanted shape (highEnds (rangeIntervals range))) ⌝ }
+    requires { ⌜ (shapeNumber shape ≡ 0)
+        × GivenSixteenBits (encodedWanted shape (highEnds (rangeIntervals range))) ⌝ }
     ensures { λ r. ⌜ r ≡ highKey shape (rangeIntervals range) ⌝ }
 {
     key_or(encode_query(shape, high_ends(range)), 0xffff)

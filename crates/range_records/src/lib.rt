@@ -19,6 +19,7 @@ ghost use Rattle.query_records.specs.Records.{PageWithin, ListOf, PutAsked, pag
 pub fn put_within(
     pages: &[u8],
     capacity: usize,
+    bias: u64,
     low: u64,
     high: u64,
     list: &[u32],
@@ -26,16 +27,25 @@ pub fn put_within(
     out: &mut [u8],
 ) -> usize
     requires { ⌜ ListOf (PageWithin capacity (now pages)) capacity n (now list) ⌝ }
-    ensures { λ r. ⌜ (r ≡ length (listHits (liesIn low high) capacity (now (pages .entry))
+    ensures { λ r. ⌜ (r ≡ length (listHits (liesIn bias low high) capacity (now (pages .entry))
         (take n (now (list .entry))))) × (r ≤ 65536) ⌝ }
     ensures { λ _. ⌜ now (out .exit)
         ≡ emit (now (out .entry)) 0
-        (listHits (liesIn low high) capacity (now (pages .entry)) (take n (now (list .entry)))) ⌝ }
+        (listHits (liesIn bias low high) capacity (now (pages .entry)) (take n (now (list .entry)))) ⌝ }
 {
     let mut total = 0;
     let mut i = 0;
     while i < n {
-        total = put_within_page(pages, capacity, list[i] as usize, low, high, out, total);
+        total = put_within_page(
+            pages,
+            capacity,
+            list[i] as usize,
+            bias,
+            low,
+            high,
+            out,
+            total,
+        );
         i += 1;
     }
     total
@@ -47,20 +57,21 @@ fn put_within_page(
     pages: &[u8],
     capacity: usize,
     g: usize,
+    bias: u64,
     low: u64,
     high: u64,
     out: &mut [u8],
     total: usize,
 ) -> usize
     requires { ⌜ PutAsked (PageWithin capacity (now pages)) capacity g total ⌝ }
-    ensures { λ r. ⌜ r ≡ total + length (pageHits (liesIn low high) (pageAt capacity (now (pages .entry)) g)) ⌝ }
+    ensures { λ r. ⌜ r ≡ total + length (pageHits (liesIn bias low high) (pageAt capacity (now (pages .entry)) g)) ⌝ }
     ensures { λ _. ⌜ now (out .exit)
-        ≡ emit (now (out .entry)) total (pageHits (liesIn low high) (pageAt capacity (now (pages .entry)) g)) ⌝ }
+        ≡ emit (now (out .entry)) total (pageHits (liesIn bias low high) (pageAt capacity (now (pages .entry)) g)) ⌝ }
 {
     let start = page_start(capacity, g);
     let end = start + page_size(capacity);
     let n = count(&pages[start..end]);
-    let mask = within_mask(&pages[start..end], n, low, high);
+    let mask = within_mask(&pages[start..end], n, bias, low, high);
     if mask == (1u64 << n) - 1 {
         return put_all(&pages[start..end], n, out, total);
     }

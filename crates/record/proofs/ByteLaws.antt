@@ -6,8 +6,9 @@ use native.Mathlib.Omega.{arith}
 use native.Mathlib.Nat.{one-le-pow, pow-zero, pow-succ'}
 use lib.ListN.{length, getD, take, drop, length-append, length-drop}
 use lib.Seq.{length-take-le, take-all, take-add, drop-drop, getD-drop}
-use Rattle.shape.specs.Key.{perAttribute, decode, encodeField}
+use Rattle.shape.specs.Key.{decode, encodeField}
 use Rattle.shape.specs.declared.Shape.{Shape}
+use Rattle.shape.proofs.AttributeLaws.{perAttribute-getD}
 use Rattle.shape.proofs.EncodingLaws.{encodeField-decode, decode-encodeField, encodeField-lt}
 use Rattle.record.specs.Record.{Record}
 use Rattle.record.specs.Bytes.{recordSize, littleEndian, numberOf, field, recordBytes, recordOf, recordsBytes}
@@ -89,15 +90,6 @@ pub record FitsBytes (r : Record) : Type 0 where
   pub below : (j : ℕ) → getD (r .key) j 0 < 2 ^ 16
   pub payload-below : r .content .payload < 2 ^ 32
 
--- the four numbers of a key
-pub perAttribute-getD : (key : List ℕ) → length key ≡ 4 → perAttribute (λ j. getD key j 0) ≡ key
-perAttribute-getD (a ∷ b ∷ c ∷ d ∷ []) e = refl
-perAttribute-getD [] e = absurd (omega arith)
-perAttribute-getD (a ∷ []) e = absurd (omega arith)
-perAttribute-getD (a ∷ b ∷ []) e = absurd (omega arith)
-perAttribute-getD (a ∷ b ∷ c ∷ []) e = absurd (omega arith)
-perAttribute-getD (a ∷ b ∷ c ∷ d ∷ f ∷ key) e = absurd (omega arith)
-
 -- a field's 16 bits, written and read again
 pub numberOf-littleEndian-two : (x : ℕ) → numberOf (littleEndian 2 x) ≡ x % 2 ^ 16
 numberOf-littleEndian-two x = omega arith
@@ -132,7 +124,7 @@ module _ (s : Shape) where
             ∷ [];
         content = record { payload = numberOf-littleEndian 4 (r .content .payload) (f .payload-below) i };
       })
-      ∙ ap (λ key. record { key = key; content = r .content }) (perAttribute-getD (r .key) (f .numbers))
+      ∙ ap (λ key. record { key = key; content = r .content }) (perAttribute-getD 0 (r .key) (f .numbers))
 
   pub recordBytes-recordOf : (bytes : List ℕ) → AreBytes bytes → length bytes ≡ recordSize
       → recordBytes s (recordOf s bytes) ≡ bytes

@@ -1,19 +1,19 @@
 -- Laws of records and their packed keys: which bytes a packed key and a content make, read by offset and read again.
 -- Assumes nothing.
-use Prim.Native.Nat.{ℕ, suc, _+_, _*_, _/_, _%_, _^_, _≤_, _<_}
-use mathlib.Core.Path.{_≡_, refl, sym, ap, _∙_}
+use Prim.Native.Nat.{ℕ, zero, suc, _+_, _*_, _/_, _%_, _^_, _≤_, _<_}
+use mathlib.Core.Path.{_≡_, refl, sym, ap, _∙_, subst}
 use mathlib.Core.List.{List, [], _∷_, _++_}
 use native.Mathlib.Omega.{arith}
 use lib.ListN.{length, getD}
 use lib.Seq.{paste}
 use Rattle.moves.proofs.PasteLaws.{paste-paste}
-use Rattle.shape.specs.Key.{encode, decode, encodeField}
+use Rattle.shape.specs.Key.{perAttribute, encodeField, encodedFields}
 use Rattle.shape.specs.declared.Shape.{Shape}
+use Rattle.shape.proofs.EncodingLaws.{lt-of-encodeField}
 use Rattle.record.specs.declared.Content.{Content}
-use Rattle.record.specs.Record.{Record}
-use Rattle.record.specs.Bytes.{recordSize, littleEndian, numberOf, field, recordBytes, recordOf}
-use Rattle.record.specs.Packed.{packedKey, SixteenBits, unpackedKey, keyIn, contentIn, packedBytes}
-use Rattle.record.proofs.PackedLaws.{field-field, packedKey-bytes, unpackedKey-packedKey}
+use Rattle.record.specs.Bytes.{recordSize, littleEndian, numberOf, field, recordOf}
+use Rattle.record.specs.Packed.{SixteenBits, unpackedKey, keyIn, contentIn, packedBytes}
+use Rattle.record.proofs.PackedLaws.{field-field, packedKey-lt, packedKey-bytes, unpackedKey-packedKey}
 use Rattle.record.proofs.ByteLaws.{AreBytes, numberOf-littleEndian-two, fitsBytes-recordOf}
 
 -- ---- reading and writing by offset
@@ -55,44 +55,43 @@ littleEndian-above n v x h =
     ∙ (λ i. low i ∷ mid i ∷ littleEndian n (high i)))
 
 module _ (s : Shape) where
-  pub recordBytes-packed : (r : Record) → SixteenBits (r .key)
-      → recordBytes s r ≡ packedBytes (packedKey (r .key)) (r .content)
-  unfolding recordBytes decode packedBytes packedKey
-  recordBytes-packed r b =
-      let v0 = getD (r .key) 0 0 in
-      let v1 = getD (r .key) 1 0 in
-      let v2 = getD (r .key) 2 0 in
-      let v3 = getD (r .key) 3 0 in
-      let none : v3 + 2 ^ 16 * 0 ≡ v3 = omega arith in
-      let keys : littleEndian 2 v0 ++ (littleEndian 2 v1 ++ (littleEndian 2 v2 ++ littleEndian 2 v3))
-      ≡ littleEndian 8 (packedKey (r .key)) =
-      ap (λ l. littleEndian 2 v0 ++ (littleEndian 2 v1 ++ l)) (littleEndian-above 2 v2 v3 (b 2))
-      ∙ ap (λ l. littleEndian 2 v0 ++ l) (littleEndian-above 4 v1 (v2 + 2 ^ 16 * v3) (b 1))
-      ∙ littleEndian-above 6 v0 (v1 + 2 ^ 16 * (v2 + 2 ^ 16 * v3)) (b 0) in
-      ap (λ l. l ++ littleEndian 4 (r .content .payload)) keys
-
   pub recordOf-content : (bytes : List ℕ) → recordOf s bytes .content ≡ contentIn bytes
   unfolding recordOf
   recordOf-content bytes = refl
 
-  pub packedKey-recordOf : (bytes : List ℕ) → packedKey (recordOf s bytes .key) ≡ keyIn bytes
-  unfolding recordOf encodeField encode
-  packedKey-recordOf bytes = packedKey-bytes bytes
-
   pub SixteenBits-recordOf : (bytes : List ℕ) → AreBytes bytes → SixteenBits (recordOf s bytes .key)
   SixteenBits-recordOf bytes b = fitsBytes-recordOf s bytes b .below
 
-  pub unpackedKey-keyIn : (bytes : List ℕ) → AreBytes bytes → unpackedKey (keyIn bytes) ≡ recordOf s bytes .key
+  -- ---- fields whose encodings have 16 bits
+
+  abbrev fieldsIn : List ℕ → List ℕ
+  fieldsIn bytes = perAttribute (λ j. numberOf (field bytes (2 * j) 2))
+
+  fieldsIn-lt : (bytes : List ℕ) → SixteenBits (recordOf s bytes .key) → SixteenBits (fieldsIn bytes)
   unfolding recordOf
-  unpackedKey-keyIn bytes b =
-      ap unpackedKey (sym (packedKey-recordOf bytes))
-      ∙ unpackedKey-packedKey (recordOf s bytes .key) (SixteenBits-recordOf bytes b)
+  fieldsIn-lt bytes b zero = lt-of-encodeField s 0 _ (b 0)
+  fieldsIn-lt bytes b (suc zero) = lt-of-encodeField s 1 _ (b 1)
+  fieldsIn-lt bytes b (suc (suc zero)) = lt-of-encodeField s 2 _ (b 2)
+  fieldsIn-lt bytes b (suc (suc (suc zero))) = lt-of-encodeField s 3 _ (b 3)
+  fieldsIn-lt bytes b (suc (suc (suc (suc j)))) = omega arith
+
+  pub keyIn-lt : (bytes : List ℕ) → SixteenBits (recordOf s bytes .key) → keyIn bytes < 2 ^ 64
+  keyIn-lt bytes b =
+      subst (λ k. k < 2 ^ 64) (packedKey-bytes bytes) (packedKey-lt (fieldsIn bytes) (fieldsIn-lt bytes b))
+
+  -- a record's key, as encodings of its fields
+  pub key-recordOf : (bytes : List ℕ) → SixteenBits (recordOf s bytes .key)
+      → recordOf s bytes .key ≡ encodedFields s (unpackedKey (keyIn bytes))
+  unfolding recordOf encodedFields
+  key-recordOf bytes b =
+      ap (λ v. perAttribute (λ j. encodeField s j (getD v j 0)))
+      (sym (unpackedKey-packedKey (fieldsIn bytes) (fieldsIn-lt bytes b)) ∙ ap unpackedKey (packedKey-bytes bytes))
 
   -- ---- the record that was written, read again
 
   pub recordOf-packedBytes : (key : ℕ) (content : Content) → key < 2 ^ 64 → content .payload < 2 ^ 32
-      → recordOf s (packedBytes key content) ≡ record { key = unpackedKey key; content = content }
-  unfolding recordOf encodeField encode packedBytes unpackedKey
+      → recordOf s (packedBytes key content) ≡ record { key = encodedFields s (unpackedKey key); content = content }
+  unfolding recordOf encodedFields packedBytes unpackedKey
   recordOf-packedBytes key content h l =
       let one : key / 256 / 256 ≡ key / 2 ^ 16 = omega arith in
       let two : key / 256 / 256 / 256 / 256 ≡ key / 2 ^ 32 = omega arith in
@@ -102,4 +101,8 @@ module _ (s : Shape) where
       let v2 = ap (λ x. numberOf (littleEndian 2 x)) two ∙ numberOf-littleEndian-two (key / 2 ^ 32) in
       let v3 = ap (λ x. numberOf (littleEndian 2 x)) three ∙ numberOf-littleEndian-two (key / 2 ^ 48) in
       let p = numberOf-littleEndian-four (content .payload) l in
-      λ i. record { key = v0 i ∷ v1 i ∷ v2 i ∷ v3 i ∷ []; content = record { payload = p i } }
+      λ i. record {
+        key =
+            encodeField s 0 (v0 i) ∷ encodeField s 1 (v1 i) ∷ encodeField s 2 (v2 i) ∷ encodeField s 3 (v3 i) ∷ [];
+        content = record { payload = p i };
+      }

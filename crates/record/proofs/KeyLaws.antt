@@ -15,6 +15,7 @@ use Rattle.lists.proofs.Bools.{eq-of-iff}
 use Rattle.lists.proofs.Numbers.{lt-or-le}
 use Rattle.shape.specs.Shape.{Fit, widthsOf, total, allBelow, indexFits, shapeNumber}
 use Rattle.shape.specs.declared.Shape.{Shape}
+use Rattle.shape.proofs.AttributeLaws.{perAttribute-getD}
 use Rattle.shape.proofs.BoundsLaws.{allBelow-suc, test-of-allBelow}
 use Rattle.shape.proofs.ShapeLaws.{widthsOf-fit, length-widthsOf, indexFits-below}
 use Rattle.split.specs.Steps.{steps, stepNumber}
@@ -25,7 +26,6 @@ use Rattle.split.proofs.BitLaws.{splitBit-stepNumber}
 use Rattle.region.specs.Strings.{sameBits}
 use Rattle.region.proofs.StringLaws.{bit-of-sameBits, sameBits-below}
 use Rattle.record.specs.Record.{Record, recordBit, sameKey}
-use Rattle.record.proofs.ByteLaws.{perAttribute-getD}
 
 -- ---- a number by its bits
 
@@ -127,9 +127,9 @@ pub eq-of-sameKey : (key : List ℕ) (r : Record) → length key ≡ 4 → lengt
     → sameKey key r ≡ true → key ≡ r .key
 eq-of-sameKey key r k h e =
     let same = numbers-of-sameKey key r e in
-    sym (perAttribute-getD key k)
+    sym (perAttribute-getD 0 key k)
     ∙ (λ i. same 0 (omega arith) i ∷ same 1 (omega arith) i ∷ same 2 (omega arith) i ∷ same 3 (omega arith) i ∷ [])
-    ∙ perAttribute-getD (r .key) h
+    ∙ perAttribute-getD 0 (r .key) h
 
 -- two keys within the widths are the same exactly if all their split bits are
 pub sameKey-sameBits : (s : Shape) → shapeNumber s ≡ 0 → (key : List ℕ) (r : Record)

@@ -1,5 +1,6 @@
 -- Numbers and records as bytes (document 01, "Lent memory"): "little-endian .. records .., each four 16-bit values
--- (unused ones 0) and a 32-bit payload".
+-- (unused ones 0) and a 32-bit payload". A value of a marked attribute is "in 16-bit two's complement" (document 02,
+-- request 4): of an encoding's value the low 16 bits are written.
 --
 --     offset   size   meaning
 --     0        2      value of attribute 0

@@ -1,3 +1,4 @@
 pub mod Bytes
+pub mod Lanes
 pub mod Packed
 pub mod Record

@@ -1,5 +1,5 @@
--- Keys as the code hands them on: the four values in one number of 64 bits, a packed key. In a record's bytes it is
--- the number of the first eight. Assumes nothing.
+-- Keys as the code hands them on: four values in one number of 64 bits, a packed key. The values are the encodings of a
+-- key, or the fields of a record's bytes, where it is the number of the first eight. Assumes nothing.
 use Prim.Native.Nat.{ℕ, _+_, _*_, _/_, _%_, _^_, _<_}
 use mathlib.Core.List.{List, _++_}
 use lib.ListN.{getD}
@@ -12,7 +12,7 @@ unfoldable pub packedKey : List ℕ → ℕ
 packedKey values =
     getD values 0 0 + 2 ^ 16 * (getD values 1 0 + 2 ^ 16 * (getD values 2 0 + 2 ^ 16 * getD values 3 0))
 
--- values of 16 bits, as all are that fit a shape
+-- values of 16 bits, as fields are, and the encodings of values that fit a shape
 abbrev pub SixteenBits : List ℕ → Type 0
 SixteenBits values = (j : ℕ) → getD values j 0 < 2 ^ 16
 

@@ -1,5 +1,6 @@
 // Records: their key, what they hold besides it, and their bytes (document 01, "Lent memory"). The
-// code hands a key on as one number, whose 16-bit parts are the values: a packed key.
+// code hands a key on as one number, whose 16-bit parts are its encodings, or a record's fields: a
+// packed key.
 pub mod numbers;
 
 use numbers::read32;

@@ -13,8 +13,7 @@ use borrow.Author.Tests.{lt-ltb, ltb-true, eq-eqb, eqb-true}
 use Rattle.lists.proofs.Bools.{and-split, and-both, eq-of-iff}
 use Rattle.shape.specs.Shape.{widthOf, widthsOf, indexFits}
 use Rattle.shape.specs.declared.Shape.{Shape}
-use Rattle.shape.proofs.AttributeLaws.{indexFits-four}
-use Rattle.record.proofs.ByteLaws.{perAttribute-getD}
+use Rattle.shape.proofs.AttributeLaws.{indexFits-four, perAttribute-getD}
 
 -- a value of w bits has none past them
 ltb-shifted : (v w : ℕ) → ltb v (2 ^ w) ≡ eqb (v / 2 ^ w) 0
@@ -64,7 +63,7 @@ module _ (s : Shape) (key : List ℕ) (four : length key ≡ 4) where
       ∙ ap (λ v. ((eqb (past v 0) 0 && eqb (past v 1) 0) && eqb (past v 2) 0) && eqb (past v 3) 0) same
       ∙ (λ i. ((fits 0 i && fits 1 i) && fits 2 i) && fits 3 i)
       ∙ sym (indexFits-four (widthOf s) (λ j. getD key j 0))
-      ∙ ap (indexFits (widthsOf s)) (perAttribute-getD key four)
+      ∙ ap (indexFits (widthsOf s)) (perAttribute-getD 0 key four)
     where
       test : ℕ → Bool
       test j = ltb (getD key j 0) (2 ^ widthOf s j)

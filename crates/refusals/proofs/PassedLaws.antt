@@ -10,9 +10,9 @@ use borrow.Author.Tests.{not-false}
 use Rattle.shape.specs.Shape.{widthsOf, indexFits}
 use Rattle.shape.specs.Key.{perAttribute, encode, decode, keyFits, encodings}
 use Rattle.shape.specs.declared.Shape.{Shape}
+use Rattle.shape.proofs.AttributeLaws.{perAttribute-getD}
 use Rattle.shape.proofs.EncodingLaws.{encode-decode}
 use Rattle.record.specs.Packed.{packedKey, unpackedKey, SixteenBits}
-use Rattle.record.proofs.ByteLaws.{perAttribute-getD}
 use Rattle.record.proofs.KeyLaws.{key-below-bytes}
 use Rattle.record.proofs.PackedLaws.{unpackedKey-packedKey}
 use Rattle.model.specs.Model.{keyConditions}
@@ -45,7 +45,7 @@ module _ (store : Store) (encoded : List ℕ) (p : Passed store encoded) where
   SixteenBits-passed = key-below-bytes (store .state .shape) (p .shape) encoded (p .four) (p .fits)
 
   pub unpackedKey-passed : unpackedKey (packedKey encoded) ≡ encoded
-  unpackedKey-passed = unpackedKey-packedKey encoded SixteenBits-passed ∙ perAttribute-getD encoded (p .four)
+  unpackedKey-passed = unpackedKey-packedKey encoded SixteenBits-passed ∙ perAttribute-getD 0 encoded (p .four)
 
   pub indexFits-passed : indexFits (widthsOf (store .state .shape)) (unpackedKey (packedKey encoded)) ≡ true
   indexFits-passed = ap (indexFits (widthsOf (store .state .shape))) unpackedKey-passed ∙ p .fits
@@ -58,7 +58,7 @@ module _ (store : Store) (encoded : List ℕ) (p : Passed store encoded) where
   encodings-decoded : encodings (store .state .shape) decoded ≡ encoded
   unfolding encodings
   encodings-decoded =
-      (λ i. at 0 i ∷ at 1 i ∷ at 2 i ∷ at 3 i ∷ []) ∙ perAttribute-getD encoded (p .four)
+      (λ i. at 0 i ∷ at 1 i ∷ at 2 i ∷ at 3 i ∷ []) ∙ perAttribute-getD 0 encoded (p .four)
     where
       s : Shape
       s = store .state .shape

@@ -1,6 +1,5 @@
 // What a call on a store finds without a look into words and pages (document 01, "Refused calls"): 1,
-// then 2, then 3 of a key; and limits that no sound store has, which is 9.
-use key_encoding::encode_key;
+// then 2; 3 by a key's encodings; and limits that no sound store has, which is 9.
 use page::page_start;
 use shape::Key;
 use shape::Shape;
@@ -11,7 +10,7 @@ use store::State;
 ghost use mathlib.Core.Path.{_≡_};
 ghost use Rattle.shape.specs.Shape.{shapeNumber, widthsOf, indexFits};
 ghost use Rattle.refusals.specs.Limits.{limitsHold};
-ghost use Rattle.refusals.specs.Lengths.{lacksMemory, lentNumberBy, keyNumberBy};
+ghost use Rattle.refusals.specs.Lengths.{lacksMemory, lentNumberBy};
 
 // 1 for a shape outside its bounds, then 2 for fewer than 2^L words or P pages lent; 0 for neither.
 pub fn lent_number(state: State, words: usize, bytes: usize) -> u32
@@ -26,19 +25,6 @@ pub fn lent_number(state: State, words: usize, bytes: usize) -> u32
     } else {
         0
     }
-}
-
-// The same, then 3 for a value of 2^w_j or more or an unused value other than 0.
-pub fn key_number(state: State, words: usize, bytes: usize, key: Key) -> u32
-    ensures { λ r. ⌜ r ≡ keyNumberBy state words bytes (key .values) ⌝ }
-{
-    let number = lent_number(state, words, bytes);
-    if number != 0 {
-        return number;
-    }
-    let shape = state.shape;
-    let encoded = encode_key(shape, key);
-    if encodings_fit(shape, encoded) { 0 } else { 3 }
 }
 
 // Whether P is 1 to 4,096, L at most 12 and at most W, and T at most L.
@@ -62,8 +48,9 @@ pub fn limits_hold(state: State) -> bool
     state.deepest <= limits.depth
 }
 
-// Whether each encoding of a key fits its attribute: none has a bit past its width.
-fn encodings_fit(shape: Shape, encoded: Key) -> bool
+// Whether each encoding of a key fits its attribute, so that 3 is not due: none has a bit past its
+// width.
+pub fn encodings_fit(shape: Shape, encoded: Key) -> bool
     requires { ⌜ shapeNumber shape ≡ 0 ⌝ }
     ensures { λ r. ⌜ r ≡ indexFits (widthsOf shape) (encoded .values) ⌝ }
 {

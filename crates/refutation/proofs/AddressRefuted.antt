@@ -22,7 +22,7 @@ unfolding
     highestBit createdBy latestStep formula addressFrom address sides addressNumber addressAnswer
 addresses = record { at-0-0 = refl; at-1-0 = refl; at-0-1 = refl }
 
-same-value : {a b : ℕ} → accepted a ≡ accepted b → a ≡ b
+pub same-value : {a b : ℕ} → accepted a ≡ accepted b → a ≡ b
 same-value e = cc
 
 -- "an address map that is constant" (review, 5): the same answer for two index vectors

@@ -27,7 +27,7 @@ use Rattle.refutation.proofs.OneLeafSound.{noRecord-sound}
 -- ---- unsound stores
 
 -- one leaf, where T is 0
-one-leaf : (D : Division Record) → 0 ≡ greatestDepth D → (rs : List Record) × (D ≡ leaf rs)
+pub one-leaf : (D : Division Record) → 0 ≡ greatestDepth D → (rs : List Record) × (D ≡ leaf rs)
 one-leaf (leaf rs) e = (rs, refl)
 one-leaf (divided l u) e = absurd (omega arith)
 
@@ -63,7 +63,7 @@ pageNotFree-unsound S h =
 pub same-verdict : {β γ : Bool} → accepted β ≡ accepted γ → β ≡ γ
 same-verdict e = cc
 
-yes-to-unsound : (store : Store) → lentNumber store ≡ 0 → ((S : List Record) → Sound store S → ⊥)
+pub yes-to-unsound : (store : Store) → lentNumber store ≡ 0 → ((S : List Record) → Sound store S → ⊥)
     → CheckPromise store (accepted true) → ⊥
 yes-to-unsound store e unsound p =
     ⊎-elim (λ yes. unsound (yes .1 .0) (yes .1 .1)) (λ other. false≢true (sym (same-verdict (other .0)))) (p .verdict e)

@@ -7,7 +7,7 @@ use mathlib.Core.List.{List, [], _∷_, _++_}
 use lib.ListN.{length, getD, replicate}
 use Rattle.shape.specs.Refusal.{accepted, refused, firstNumber}
 use Rattle.shape.specs.Shape.{inBounds, shapeConditions, widthsOf}
-use Rattle.shape.specs.Key.{valueFits, encode, keyFits, encodings, namesUnused, queryFits}
+use Rattle.shape.specs.Key.{marked, valueFits, encode, keyFits, encodings, namesUnused, queryFits}
 use Rattle.split.specs.Steps.{stepsBelow, steps, step, stepNumber, stepsOf, attributeDepth}
 use Rattle.split.specs.Bits.{splitBit}
 use Rattle.address.specs.Address.{highestBit, createdBy, latestStep, formula, addressFrom, address}
@@ -56,7 +56,7 @@ pub record Fitting : Type 0 where
   pub fourth-full : keyNumber (threeRecords 2) (key 2 1) ≡ 0
 
 pub fitting : Fitting
-unfolding firstNumber inBounds shapeConditions keyFits recordBytes lentConditions keyNumber valueFits
+unfolding firstNumber inBounds shapeConditions keyFits recordBytes lentConditions keyNumber valueFits encode marked
 fitting =
     record {
       first = refl;
@@ -93,7 +93,9 @@ pub record Inserts (content : Content) : Type 0 where
   pub fourth-refused : outcomeOn (threeRecords 2) setOfThree (insertCall (key 2 1) content) .answer ≡ refused 7
 
 pub inserts : (content : Content) → (content .payload ≡ 0 → ⊥) → Inserts content
-unfolding firstNumber widthsOf keyFits encodings stepsBelow steps step splitBit addNumber divisionOf valueFits encode
+unfolding
+    firstNumber widthsOf keyFits encodings stepsBelow steps step splitBit addNumber divisionOf valueFits encode
+    marked
 inserts content some =
     record {
       first-answer = answer noRecord [] (key 0 0);
@@ -132,7 +134,7 @@ pub deletes : Deletes
 unfolding
     firstNumber inBounds shapeConditions widthsOf keyFits encodings namesUnused queryFits valueFits encode
     stepsBelow steps step stepNumber stepsOf attributeDepth splitBit matches recordBytes
-    numberFor replyTo setAfter outputOf outputAfter outcome next divisionOf queryBits readsOf
+    numberFor replyTo setAfter outputOf outputAfter outcome next divisionOf queryBits readsOf marked
 deletes =
     record {
       only-answer = refl;
@@ -174,6 +176,7 @@ unfolding
     firstNumber inBounds shapeConditions widthsOf keyFits encodings namesUnused queryFits valueFits encode
     stepsBelow steps step stepNumber stepsOf attributeDepth splitBit matches recordBytes
     numberFor replyTo setAfter outputOf outputAfter outcome next divisionOf queryBits readsOf givenDepths readsBound
+    marked
 reads out =
     record {
       found-answer = refl;

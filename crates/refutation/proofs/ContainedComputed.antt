@@ -5,7 +5,7 @@ use mathlib.Core.Bool.{Bool, true, false}
 use mathlib.Core.List.{List, [], _∷_}
 use lib.ListN.{getD}
 use Rattle.shape.specs.Shape.{widthsOf}
-use Rattle.shape.specs.Key.{encode, encodings}
+use Rattle.shape.specs.Key.{marked, encode, encodings}
 use Rattle.split.specs.Steps.{stepsBelow, steps, step, stepNumber, stepsOf, attributeDepth}
 use Rattle.split.specs.Bits.{splitBit}
 use Rattle.address.specs.Address.{highestBit, createdBy, latestStep, formula, addressFrom, address}
@@ -56,7 +56,7 @@ pub record Computed (words : List ℕ) : Type 0 where
 pub computed : (words : List ℕ) → Computed words
 unfolding
     widthsOf encodings stepsBelow steps step stepNumber stepsOf attributeDepth splitBit encode
-    highestBit createdBy latestStep formula addressFrom address sides sumBits cell cellAddress recordBytes
+    highestBit createdBy latestStep formula addressFrom address sides sumBits cell cellAddress recordBytes marked
 computed words =
     record {
       own = refl;

@@ -4,7 +4,7 @@ use mathlib.Core.Path.{_≡_, refl, sym, _∙_}
 use mathlib.Core.Bool.{Bool, true, false}
 use mathlib.Core.List.{[], _∷_}
 use native.Mathlib.Omega.{arith}
-use Rattle.shape.specs.Key.{encode, decode, encodeField}
+use Rattle.shape.specs.Key.{marked, bias, encode, decode, encodeField}
 use Rattle.shape.specs.Shape.{widthsOf}
 use Rattle.split.specs.Steps.{stepsBelow, steps, step, stepNumber, stepsOf, attributeDepth}
 use Rattle.split.specs.Bits.{splitBit}
@@ -127,7 +127,7 @@ shows-four : Shows twoTwo 3 3 (fourRecords .memory) (divisionOf twoTwo setOfFour
 unfolding
     widthsOf stepsBelow steps step stepNumber stepsOf attributeDepth splitBit
     highestBit createdBy latestStep formula addressFrom address sides sumBits cell cellAddress
-    recordBytes recordOf divisionOf encode decode encodeField
+    recordBytes recordOf divisionOf encode decode encodeField marked bias
 shows-four =
     record {
       word = λ p. word (p 0) (p 1) (p 2);

@@ -7,7 +7,7 @@ use native.Mathlib.Omega.{arith}
 use lib.ListN.{length, getD}
 use Rattle.shape.specs.Refusal.{Answer, accepted, refused, firstNumber}
 use Rattle.shape.specs.Shape.{widthsOf}
-use Rattle.shape.specs.Key.{valueFits, encode, keyFits, encodings, namesUnused, queryFits}
+use Rattle.shape.specs.Key.{marked, valueFits, encode, keyFits, encodings, namesUnused, queryFits}
 use Rattle.split.specs.Steps.{stepsBelow, steps, step, stepNumber, stepsOf, attributeDepth}
 use Rattle.split.specs.Bits.{splitBit}
 use Rattle.record.specs.declared.Content.{Content}
@@ -50,7 +50,7 @@ unfolding
     firstNumber widthsOf keyFits encodings namesUnused queryFits valueFits encode
     stepsBelow steps step stepNumber stepsOf attributeDepth splitBit matches
     logarithm pageLimitOf depthLimitOf freshShape fixedBy
-    addNumber numberFor replyTo outcome run divisionOf queryBits readsOf
+    addNumber numberFor replyTo outcome run divisionOf queryBits readsOf marked
 after-first content some out =
     record { found-first = second (lookupCall (key 0 0)); listed-first = second (queryCall allFree out) }
   where
@@ -70,7 +70,7 @@ unfolding
     firstNumber widthsOf keyFits encodings namesUnused queryFits valueFits encode
     stepsBelow steps step stepNumber stepsOf attributeDepth splitBit matches
     logarithm pageLimitOf depthLimitOf freshShape fixedBy
-    numberFor replyTo setAfter outcome next run divisionOf queryBits readsOf
+    numberFor replyTo setAfter outcome next run divisionOf queryBits readsOf marked
 after-four out = record { found-third = refl; listed-four = refl }
 
 -- ---- runs that there are not

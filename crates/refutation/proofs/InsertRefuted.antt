@@ -9,7 +9,7 @@ use native.Mathlib.Omega.{arith}
 use lib.ListN.{length, getD}
 use lib.Seq.{getD-drop}
 use Rattle.lists.proofs.Numbers.{eq-or-ne}
-use Rattle.shape.specs.Key.{encode, decode, encodeField}
+use Rattle.shape.specs.Key.{marked, bias, encode, decode, encodeField}
 use Rattle.shape.specs.Refusal.{Answer, refused}
 use Rattle.region.specs.Strings.{emptyString, listBit}
 use Rattle.record.specs.declared.Content.{Content}
@@ -194,7 +194,7 @@ module _ (content : Content) (answer : Answer Reply) (after : Store) where
   -- the record that it had is lost, or the new one is not there
   pub drops-other : InsertPromise oneRecord (key 0 1) content answer after
       → recordsOf twoTwo (pageAt 2 (after .memory .bytes) 0) ≡ record { key = key 0 1; content = content } ∷ [] → ⊥
-  unfolding recordBytes recordOf encode decode encodeField
+  unfolding recordBytes recordOf encode decode encodeField marked bias
   drops-other p e = ⊎-elim as-before beside (eq-or-ne (content .payload) 0)
     where
       as-before : content .payload ≡ 0 → ⊥

@@ -18,3 +18,4 @@ pub mod QueryRefuted
 pub mod RangeRefuted
 pub mod TableStoreLaws
 pub mod TwoLeavesSound
+pub mod SignedRefuted

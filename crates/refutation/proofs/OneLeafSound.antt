@@ -6,7 +6,7 @@ use mathlib.Core.Bool.{true}
 use mathlib.Core.List.{List, [], _∷_, _++_}
 use native.Mathlib.Omega.{arith}
 use lib.ListN.{length, getD, replicate}
-use Rattle.shape.specs.Key.{encode, decode, encodeField}
+use Rattle.shape.specs.Key.{marked, bias, encode, decode, encodeField}
 use Rattle.shape.specs.Shape.{inBounds, widthsOf}
 use Rattle.split.specs.Steps.{stepsBelow, steps, step, stepNumber, stepsOf, attributeDepth}
 use Rattle.split.specs.Bits.{splitBit}
@@ -102,14 +102,20 @@ module _ (r : Record) (rs : List Record) where
       free (suc (suc (suc g))) l unused = absurd (omega arith)
 
 pub oneRecord-sound : Sound oneRecord setOfOne
-unfolding widthsOf stepsBelow steps step splitBit recordBytes recordOf isSet divisionOf encode decode encodeField
+unfolding
+    widthsOf stepsBelow steps step splitBit recordBytes recordOf isSet divisionOf encode decode encodeField
+    marked bias
 oneRecord-sound = oneLeaf-sound _ [] (omega arith) refl refl refl refl refl
 
 pub twoRecords-sound : Sound twoRecords setOfTwo
-unfolding widthsOf stepsBelow steps step splitBit recordBytes recordOf isSet divisionOf encode decode encodeField
+unfolding
+    widthsOf stepsBelow steps step splitBit recordBytes recordOf isSet divisionOf encode decode encodeField
+    marked bias
 twoRecords-sound = oneLeaf-sound _ (recordAt 3 1 12 ∷ []) (omega arith) refl refl refl refl refl
 
 -- "Stores that already hold such payloads stay sound"
 pub zeroStored-sound : Sound zeroStored setOfZero
-unfolding widthsOf stepsBelow steps step splitBit recordBytes recordOf isSet divisionOf encode decode encodeField
+unfolding
+    widthsOf stepsBelow steps step splitBit recordBytes recordOf isSet divisionOf encode decode encodeField
+    marked bias
 zeroStored-sound = oneLeaf-sound _ [] (omega arith) refl refl refl refl refl

@@ -10,7 +10,7 @@ use lib.ListN.{length, getD}
 use Rattle.lists.specs.Members.{Member}
 use Rattle.shape.specs.Refusal.{Answer, accepted, refused, firstNumber}
 use Rattle.shape.specs.Shape.{inBounds, shapeConditions, widthsOf}
-use Rattle.shape.specs.Key.{valueFits, encode, keyFits, encodings, namesUnused, queryFits}
+use Rattle.shape.specs.Key.{marked, valueFits, encode, keyFits, encodings, namesUnused, queryFits}
 use Rattle.shape.specs.Range.{rangeFits, rangeRises}
 use Rattle.shape.specs.declared.Shape.{Shape}
 use Rattle.split.specs.Steps.{stepsBelow, steps, step, stepNumber, stepsOf, attributeDepth}
@@ -86,14 +86,14 @@ module _ (after : Store) where
 
   -- 9, since the store is not sound
   pub nine-for-eleven : InsertPromise wordPastPages (key 0 0) noPayload (refused 9) after → ⊥
-  unfolding firstNumber inBounds shapeConditions keyFits recordBytes lentConditions keyNumber valueFits
+  unfolding firstNumber inBounds shapeConditions keyFits recordBytes lentConditions keyNumber valueFits encode marked
   nine-for-eleven p =
       let same : _≡_ {A = ℕ} 9 11 = refused-number (answer-of-zero noPayload p refl refl) in
       omega (arith, same)
 
   -- "after 3": 11 for a value out of bounds
   pub eleven-before-three : InsertPromise noRecord (key 4 0) noPayload (refused 11) after → ⊥
-  unfolding firstNumber inBounds shapeConditions keyFits lentConditions keyNumber valueFits
+  unfolding firstNumber inBounds shapeConditions keyFits lentConditions keyNumber valueFits encode marked
   eleven-before-three p =
       let same : _≡_ {A = ℕ} 11 3 = refused-number (answer-of-early noPayload p 2 refl) in
       omega (arith, same)
@@ -116,7 +116,7 @@ eleven-when-added store after values content fits p =
 pub not-added : (n : ℕ) (after : Store) → AddPromise noRecord (key 0 0) noPayload (refused n) after → ⊥
 unfolding
     firstNumber widthsOf keyFits encodings stepsBelow steps step stepNumber stepsOf attributeDepth splitBit valueFits
-    addNumber divisionOf
+    addNumber divisionOf encode marked
 not-added n after p = refused-not-accepted changed n (p .answered-as [] noRecord-sound)
 
 -- ---- "Stores that already hold such payloads stay sound and are listed as before."
@@ -134,7 +134,7 @@ model-answers : (out : List ℕ) → ModelAnswers out
 unfolding
     firstNumber widthsOf keyFits encodings namesUnused queryFits rangeFits rangeRises valueFits encode
     stepsBelow steps step stepNumber stepsOf attributeDepth matches
-    boxOf inBox number boxMeets numberFor replyTo outcome divisionOf queryBits readsOf rangeReadsOf
+    boxOf inBox number boxMeets numberFor replyTo outcome divisionOf queryBits readsOf rangeReadsOf marked
 model-answers out =
     record { found-zero = refl; listed-zero = refl; inside-zero = refl; deleted-zero = refl }
 

@@ -11,7 +11,7 @@ use lib.ListN.{length, drop, getD, replicate}
 use lib.Seq.{getD-drop}
 use Rattle.shape.specs.Refusal.{Answer, accepted, refused, firstNumber}
 use Rattle.shape.specs.Shape.{inBounds, shapeConditions, widthsOf}
-use Rattle.shape.specs.Key.{encode, namesUnused}
+use Rattle.shape.specs.Key.{marked, encode, namesUnused}
 use Rattle.split.specs.Steps.{stepsBelow, steps, step}
 use Rattle.record.specs.Record.{Record}
 use Rattle.record.specs.Bytes.{recordSize, recordBytes}
@@ -141,7 +141,7 @@ three-before-eight out out′ p =
 -- attribute 0 given as 0 reads page 0 alone: any other page 1 leaves the store sound where it reads
 sound-but-for-page : (page : List ℕ) → length page ≡ pageSize 2
     → SoundWhereRead (otherPage page) (queryBits twoTwo (givenFirst 0)) setOfThree
-unfolding widthsOf encode stepsBelow steps step queryBits recordBytes
+unfolding widthsOf encode stepsBelow steps step queryBits recordBytes marked
 sound-but-for-page page e = (threeRecords 2 .memory .bytes, threeRecords-sound-2, omega arith, same)
   where
     zero-bit : (β rest : Bool) → (Bool·beq false β && rest) ≡ true → β ≡ false

@@ -11,7 +11,7 @@ use lib.ListN.{length, getD}
 use Rattle.lists.specs.Filter.{filter, nonEmpty}
 use Rattle.shape.specs.Refusal.{Answer, accepted, refused, firstNumber}
 use Rattle.shape.specs.Shape.{inBounds, shapeConditions, widthsOf, allBelow}
-use Rattle.shape.specs.Key.{valueFits, encode, ifGiven, namesUnused}
+use Rattle.shape.specs.Key.{marked, valueFits, encode, ifGiven, namesUnused}
 use Rattle.shape.specs.Range.{Interval, rangeFits, rangeRises}
 use Rattle.shape.specs.declared.Shape.{Shape}
 use Rattle.split.specs.Steps.{stepsBelow, steps, step, stepNumber, stepsOf, attributeDepth}
@@ -67,7 +67,7 @@ ranges : (out : List ℕ) → Ranges out
 unfolding
     firstNumber namesUnused rangeFits rangeRises widthsOf
     stepsBelow steps step stepNumber stepsOf attributeDepth splitBit recordBytes valueFits encode
-    boxOf inBox number boxMeets numberFor replyTo outcome divisionOf rangeReadsOf
+    boxOf inBox number boxMeets numberFor replyTo outcome divisionOf rangeReadsOf marked
 ranges out =
     record {
       edge-listed = refl;
@@ -115,7 +115,9 @@ module _ (out out′ : List ℕ) (written total n : ℕ) where
 -- out of bounds; on a store that is not sound
 pub ten-before-three : (out out′ : List ℕ)
     → RangePromise wordPastPages (interval 3 1 ∷ interval 0 4 ∷ none ∷ none ∷ []) out (refused 10) out′ → ⊥
-unfolding firstNumber inBounds shapeConditions namesUnused rangeFits recordBytes lentConditions rangeNumber valueFits
+unfolding
+    firstNumber inBounds shapeConditions namesUnused rangeFits recordBytes lentConditions rangeNumber valueFits
+    encode marked
 ten-before-three out out′ p =
     let same : _≡_ {A = ℕ} 10 3 = refused-number (p .early-refused 2 refl) in
     omega (arith, same)
@@ -124,7 +126,7 @@ ten-before-three out out′ p =
 pub nine-for-ten : (out out′ : List ℕ) → RangePromise wordPastPages (firstWithin 3 1) out (refused 9) out′ → ⊥
 unfolding
     firstNumber inBounds shapeConditions namesUnused rangeFits rangeRises recordBytes lentConditions rangeNumber
-    valueFits encode
+    valueFits encode marked
 nine-for-ten out out′ p =
     let same : _≡_ {A = ℕ} 9 10 = refused-number (p .early-refused 9 refl) in
     omega (arith, same)
@@ -142,7 +144,7 @@ clears-when-refused n p =
 sound-but-for-page : (page : List ℕ) → length page ≡ pageSize 2
     → SoundWhere (otherPage page) (meeting twoTwo (boxOf twoTwo (firstWithin 0 1))) setOfThree
 unfolding
-    widthsOf stepsBelow steps step stepNumber stepsOf attributeDepth recordBytes boxOf number boxMeets encode
+    widthsOf stepsBelow steps step stepNumber stepsOf attributeDepth recordBytes boxOf number boxMeets encode marked
 sound-but-for-page page e = (threeRecords 2 .memory .bytes, threeRecords-sound-2, omega arith, same)
   where
     depth-one : (β : Bool) → suc (cond β 0 0) ≡ 1

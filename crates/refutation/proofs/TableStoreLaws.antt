@@ -3,7 +3,7 @@ use mathlib.Core.Path.{_≡_, refl}
 use mathlib.Core.List.{[]}
 use Rattle.shape.specs.Refusal.{firstNumber}
 use Rattle.shape.specs.Shape.{widthsOf}
-use Rattle.shape.specs.Key.{valueFits, encode, keyFits, encodings}
+use Rattle.shape.specs.Key.{marked, valueFits, encode, keyFits, encodings}
 use Rattle.split.specs.Steps.{stepsBelow, steps, step, stepNumber, stepsOf, attributeDepth}
 use Rattle.split.specs.Bits.{splitBit}
 use Rattle.address.specs.Address.{highestBit, createdBy, latestStep, formula, addressFrom, address}
@@ -20,7 +20,7 @@ use Rattle.refutation.proofs.FourLeavesSound.{fourRecords-sound}
 lastSet-four : lastSet fixedAmply [] fourInserts ≡ setOfFour
 unfolding
     firstNumber widthsOf keyFits encodings stepsBelow steps step splitBit valueFits encode
-    logarithm pageLimitOf depthLimitOf freshShape fixedBy numberFor setAfter next divisionOf
+    logarithm pageLimitOf depthLimitOf freshShape fixedBy numberFor setAfter next divisionOf marked
 lastSet-four = refl
 
 directoryWords-four : fourRecords .memory .words ≡ directoryWords (divisionAfter fourInserts)
@@ -28,7 +28,7 @@ unfolding
     firstNumber widthsOf keyFits encodings stepsBelow steps step stepNumber stepsOf attributeDepth splitBit
     valueFits encode
     highestBit createdBy latestStep formula addressFrom address sides sumBits cell cellAddress
-    logarithm pageLimitOf depthLimitOf freshShape fixedBy numberFor setAfter next divisionOf
+    logarithm pageLimitOf depthLimitOf freshShape fixedBy numberFor setAfter next divisionOf marked
 directoryWords-four = refl
 
 pub table-store : TableStore

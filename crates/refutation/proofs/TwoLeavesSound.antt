@@ -5,7 +5,7 @@ use mathlib.Core.Path.{_≡_, refl, sym, ap, _∙_}
 use mathlib.Core.Bool.{Bool, true, false, cond}
 use mathlib.Core.List.{[], _∷_}
 use native.Mathlib.Omega.{arith}
-use Rattle.shape.specs.Key.{encode, decode, encodeField}
+use Rattle.shape.specs.Key.{marked, bias, encode, decode, encodeField}
 use Rattle.shape.specs.Shape.{widthsOf}
 use Rattle.split.specs.Steps.{stepsBelow, steps, step, stepNumber, stepsOf, attributeDepth}
 use Rattle.split.specs.Bits.{splitBit}
@@ -54,7 +54,7 @@ shows-three : (P : ℕ) → 2 ≤ P → ((g : ℕ) → 2 ≤ g → g < P → cou
 unfolding
     widthsOf stepsBelow steps step stepNumber stepsOf attributeDepth splitBit
     highestBit createdBy latestStep formula addressFrom address sides sumBits cell cellAddress
-    recordBytes recordOf divisionOf encode decode encodeField
+    recordBytes recordOf divisionOf encode decode encodeField marked bias
 shows-three P enough others =
     record {
       word = λ p. word (p 0);

@@ -1,10 +1,11 @@
 -- Small stores with widths 2, 2 and b = 2, as the proof table has them. L is 3; P is 3 where no other number is told.
 -- Assumes nothing.
-use Prim.Native.Nat.{ℕ, _-_, _*_}
+use Prim.Native.Nat.{ℕ, _-_, _*_, _^_}
 use mathlib.Core.List.{List, [], _∷_, _++_}
 use mathlib.Core.Option.{Option, none, some}
 use lib.ListN.{length, replicate}
 use Rattle.shape.specs.Range.{Interval}
+use Rattle.shape.specs.declared.Shape.{Shape}
 use Rattle.region.specs.Division.{Division}
 use Rattle.record.specs.Record.{Record}
 use Rattle.record.specs.Bytes.{recordSize, littleEndian, recordsBytes}
@@ -23,9 +24,12 @@ use Rattle.table.specs.Table.{twoTwo, key}
 abbrev pub recordAt : ℕ → ℕ → ℕ → Record
 recordAt x y payload = record { key = key x y; content = record { payload = payload } }
 
--- the bytes of a page with some records, 0 past them
+-- the bytes of a page with some records of a shape, 0 past them
+abbrev pub pageOf : Shape → List Record → List ℕ
+pageOf s rs = littleEndian 2 (length rs) ++ (recordsBytes s rs ++ replicate (recordSize * (2 - length rs)) 0)
+
 abbrev pub pageWith : List Record → List ℕ
-pageWith rs = littleEndian 2 (length rs) ++ (recordsBytes twoTwo rs ++ replicate (recordSize * (2 - length rs)) 0)
+pageWith rs = pageOf twoTwo rs
 
 -- a state: P, T and the tally at depths 0 to 3
 abbrev pub stateWith : ℕ → ℕ → List ℕ → State
@@ -108,6 +112,35 @@ fourRecords =
 abbrev pub setOfFour : List Record
 setOfFour = recordAt 0 0 10 ∷ recordAt 2 0 11 ∷ recordAt 2 1 13 ∷ recordAt 3 1 12 ∷ []
 
+-- ---- marked stores
+
+-- with these marks: 1 marks attribute 0, whose values are then from -2 to 1, and 4 would mark an attribute past d
+abbrev pub twoTwoMarked : ℕ → Shape
+twoTwoMarked signs = record { attributes = 2; widths = 2 ∷ 2 ∷ 0 ∷ 0 ∷ []; capacity = 2; signs = signs }
+
+-- a state with other marks
+abbrev pub marking : ℕ → State → State
+marking signs st =
+    record { shape = twoTwoMarked signs; limits = st .limits; deepest = st .deepest; tally = st .tally }
+
+-- the store of four records where attribute 0 is marked: (-2,0), (0,0), (0,1), (1,1) have the same encodings
+abbrev pub fourMarked : Store
+fourMarked =
+    record {
+      state = marking 1 (fourRecords .state);
+      memory = record {
+        words = fourRecords .memory .words;
+        bytes =
+            pageOf (twoTwoMarked 1) setOfOne
+            ++ (pageOf (twoTwoMarked 1) (recordAt 2 0 11 ∷ recordAt 2 1 13 ∷ [])
+            ++ pageOf (twoTwoMarked 1) (recordAt 3 1 12 ∷ []));
+      };
+    }
+
+-- the number of 32 bits that stands for -n
+abbrev pub minus : ℕ → ℕ
+minus n = 2 ^ 32 - n
+
 -- ---- spoiled stores
 
 -- three records, with another page 1
@@ -124,6 +157,19 @@ wordPastPages =
     record {
       state = stateWith 3 0 (1 ∷ 0 ∷ 0 ∷ 0 ∷ []);
       memory = record { words = wordOf (Page 3 0) ∷ replicate 7 0; bytes = pageWith setOfOne ++ replicate 52 0 };
+    }
+
+-- "word with page number P", with marks
+abbrev pub wordPastMarked : ℕ → Store
+wordPastMarked signs =
+    record { state = marking signs (wordPastPages .state); memory = wordPastPages .memory }
+
+-- one leaf, whose page has -2 of the marked attribute 0 as its two bits alone, without the sign
+abbrev pub signLeftOut : Store
+signLeftOut =
+    record {
+      state = marking 1 (oneRecord .state);
+      memory = oneLeaf (recordAt 2 0 10 ∷ []) .memory;
     }
 
 -- a record in a page that no leaf has

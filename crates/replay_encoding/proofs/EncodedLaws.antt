@@ -9,8 +9,8 @@ use lib.ListN.{length, drop, getD, length-append}
 use lib.Seq.{getD-append-add, append-snoc, take-append-seam, drop-at}
 use Rattle.lists.specs.Members.{All}
 use Rattle.lists.proofs.MemberLaws.{All-append}
-use Rattle.shape.specs.Key.{perAttribute}
 use Rattle.shape.specs.Range.{Interval, intervalIf, intervalsOf}
+use Rattle.shape.proofs.AttributeLaws.{perAttribute-getD}
 use Rattle.model.specs.Model.{Call, insertCall, deleteCall, lookupCall, queryCall, rangeCall, outputBefore}
 use Rattle.replay_encoding.specs.declared.Request.{Request}
 use Rattle.replay_encoding.specs.Encoding.{callSize, requestAt, valueIf, wantedIn}
@@ -20,14 +20,6 @@ use Rattle.replay_encoding.specs.Encoded.{givenValue, givenMark, givenLo
 use Rattle.replay_encoding.specs.Encoded.{keyRequest, requestOf, requestWords, encoded, outputsBefore, EveryList}
 
 -- ---- one call
-
-perAttribute-getD : {A : Type 0} (d : A) (l : List A) → length l ≡ 4 → perAttribute (λ j. getD l j d) ≡ l
-perAttribute-getD d [] e = absurd (omega arith)
-perAttribute-getD d (v ∷ []) e = absurd (omega arith)
-perAttribute-getD d (v ∷ w ∷ []) e = absurd (omega arith)
-perAttribute-getD d (v ∷ w ∷ x ∷ []) e = absurd (omega arith)
-perAttribute-getD d (v ∷ w ∷ x ∷ y ∷ []) e = refl
-perAttribute-getD d (v ∷ w ∷ x ∷ y ∷ z ∷ l) e = absurd (omega arith)
 
 valueIf-givenMark : (o : Option ℕ) → valueIf (givenMark o) (givenValue o) ≡ o
 valueIf-givenMark none = refl

@@ -2,10 +2,11 @@
 use Prim.Native.Nat.{ℕ, zero, suc, _^_, _<_}
 use mathlib.Core.Path.{_≡_, refl}
 use mathlib.Core.Bool.{Bool, true, false, _&&_}
+use mathlib.Core.List.{List, [], _∷_}
 use mathlib.Core.Option.{some}
 use native.Mathlib.Omega.{arith}
 use lib.Dec.{ltb}
-use lib.ListN.{getD}
+use lib.ListN.{length, getD}
 use Rattle.shape.specs.Shape.{widthOf, widthsOf, allBelow, indexFits}
 use Rattle.shape.specs.Key.{perAttribute}
 use Rattle.shape.specs.Range.{intervalIf}
@@ -17,6 +18,15 @@ getD-perAttribute f d (suc zero) l = refl
 getD-perAttribute f d (suc (suc zero)) l = refl
 getD-perAttribute f d (suc (suc (suc zero))) l = refl
 getD-perAttribute f d (suc (suc (suc (suc j)))) l = absurd (omega arith)
+
+-- of a list of four
+pub perAttribute-getD : {A : Type 0} (d : A) (l : List A) → length l ≡ 4 → perAttribute (λ j. getD l j d) ≡ l
+perAttribute-getD d [] e = absurd (omega arith)
+perAttribute-getD d (v ∷ []) e = absurd (omega arith)
+perAttribute-getD d (v ∷ w ∷ []) e = absurd (omega arith)
+perAttribute-getD d (v ∷ w ∷ x ∷ []) e = absurd (omega arith)
+perAttribute-getD d (v ∷ w ∷ x ∷ y ∷ []) e = refl
+perAttribute-getD d (v ∷ w ∷ x ∷ y ∷ z ∷ l) e = absurd (omega arith)
 
 pub getD-widthsOf : (s : Shape) (j : ℕ) → j < 4 → getD (widthsOf s) j 0 ≡ widthOf s j
 unfolding widthsOf

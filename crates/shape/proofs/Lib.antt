@@ -1,5 +1,9 @@
 pub mod AttributeLaws
 pub mod BoundsLaws
+pub mod ComplementLaws
 pub mod EncodingLaws
+pub mod Example
+pub mod IntegerLaws
 pub mod RefusalLaws
 pub mod ShapeLaws
+pub mod UnmarkedLaws

@@ -56,7 +56,7 @@ module _ (s : Shape) where
   unfolding widthsOf
   length-widthsOf = refl
 
-  widthOf-le : inBounds s ≡ true → (j : ℕ) → widthOf s j ≤ 16
+  pub widthOf-le : inBounds s ≡ true → (j : ℕ) → widthOf s j ≤ 16
   widthOf-le b j = go (ltb j (s .attributes)) refl
     where
       go : (t : Bool) → ltb j (s .attributes) ≡ t → cond t (getD (s .widths) j 0) 0 ≤ 16

@@ -3,13 +3,14 @@ ghost use mathlib.Core.Path.{_≡_};
 ghost use Prim.Native.Nat.{_<_, _≤_};
 ghost use Rattle.shape.specs.Shape.{within, inBounds, shapeNumber, widthOf, widthsOf, widthList, Fit, total};
 
-// The attribute count d, a width in bits for each attribute, and the page capacity b in records.
-// Widths past d are ignored.
+// The attribute count d, a width in bits for each attribute, the page capacity b in records, and the
+// marks of signed attributes, bit j for attribute j. Widths and marks past d are ignored.
 #[repr(C)]
 pub struct Shape {
     pub attributes: u32,
     pub widths: [u32; 4],
     pub capacity: u32,
+    pub signs: u32,
 }
 
 // The widths that count: those of a shape, 0 past d.
@@ -21,7 +22,8 @@ pub struct Widths {
     pub w3: u64,
 }
 
-// A key: a value for each attribute, 0 for an unused one.
+// A key: a value for each attribute, 0 for an unused one. A value below 0, of a signed attribute, is a
+// number of 32 bits in two's complement.
 #[repr(C)]
 pub struct Key {
     pub values: [u32; 4],

@@ -7,8 +7,8 @@ use mathlib.Core.List.{List, [], _∷_, _++_, append-assoc, append-nil}
 use mathlib.Core.Logic.{_⊎_, inl, inr}
 use native.Mathlib.Omega.{arith}
 use lib.Dec.{ltb, eqb}
-use lib.ListN.{getD, take, length, length-append}
-use lib.Seq.{take-append-seam, getD-append-seam}
+use lib.ListN.{getD, take, length, length-append, List·getD-append}
+use lib.Seq.{take-append-seam, getD-append-seam, getD-append-add}
 use borrow.Author.Tests.{lt-ltb, le-ltb, eq-eqb, ne-eqb}
 use Rattle.lists.proofs.Numbers.{lt-or-le, eq-or-ne}
 use Rattle.shape.specs.Shape.{Fit, total}
@@ -223,3 +223,36 @@ stepNumber-onto ws t (suc g) h =
         let n : length (stepsBelow ws g) ≡ t = omega (arith, length-stepsBelow-step ws g d) in
         (g / 4, g % 4, omega arith, d, ap (λ x. length (stepsBelow ws x)) e ∙ n, omega arith)
     go (inr l) (inr d) ih = absurd (omega (arith, length-stepsBelow-skip ws g d))
+
+-- ---- attributes
+
+-- "j from 0 to d−1", and d is at most 4
+attribute-of : (g : ℕ) (b : Bool) (n : ℕ) → getD (cond b (pair g ∷ []) []) n (pair 0) .attribute < 4
+attribute-of g true zero = omega arith
+attribute-of g true (suc n) = omega arith
+attribute-of g false n = omega arith
+
+attribute-below : (ws : List ℕ) (g t : ℕ) → getD (stepsBelow ws g) t (pair 0) .attribute < 4
+unfolding stepsBelow
+attribute-below ws zero t = omega arith
+attribute-below ws (suc g) t = go (lt-or-le t (length (stepsBelow ws g))) (attribute-below ws g t)
+  where
+    here : Bool
+    here = ltb (g / 4) (getD ws (g % 4) 0)
+
+    go : (t < length (stepsBelow ws g)) ⊎ (length (stepsBelow ws g) ≤ t)
+        → getD (stepsBelow ws g) t (pair 0) .attribute < 4
+        → getD (stepsBelow ws g ++ cond here (pair g ∷ []) []) t (pair 0) .attribute < 4
+    go (inl l) before =
+        subst (λ x. x .attribute < 4)
+        (sym (List·getD-append (stepsBelow ws g) (cond here (pair g ∷ []) []) (pair 0) t l)) before
+    go (inr l) before =
+        let n = t - length (stepsBelow ws g) in
+        let e : length (stepsBelow ws g) + n ≡ t = omega arith in
+        subst (λ x. x .attribute < 4)
+        (sym (getD-append-add (stepsBelow ws g) (cond here (pair g ∷ []) []) n (pair 0))
+        ∙ ap (λ k. getD (stepsBelow ws g ++ cond here (pair g ∷ []) []) k (pair 0)) e) (attribute-of g here n)
+
+pub step-attribute-lt : (ws : List ℕ) (t : ℕ) → step ws t .attribute < 4
+unfolding step steps
+step-attribute-lt ws t = attribute-below ws 64 t

@@ -40,9 +40,14 @@ module _ (line : Line) where
   unfoldable pub itemsOf : ℕ → List (Option ℕ)
   itemsOf d = perAttribute (λ j. cond (ltb j d) (itemAt j) none)
 
-  -- "d, widths, b"
+  -- "d, widths, b"; "`stock` marks none"
   unfoldable pub shapeIn : Shape
-  shapeIn = record { attributes = numberAt 0; widths = valuesFrom (numberAt 0) 1; capacity = numberAt (numberAt 0 + 1) }
+  shapeIn = record {
+    attributes = numberAt 0;
+    widths = valuesFrom (numberAt 0) 1;
+    capacity = numberAt (numberAt 0 + 1);
+    signs = 0;
+  }
 
   -- "payload", behind d values
   unfoldable pub contentIn : ℕ → Content

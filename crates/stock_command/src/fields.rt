@@ -27,7 +27,7 @@ pub fn number_at(line: Line, j: usize) -> u32
     if code < ANY { code as u32 } else { 0 }
 }
 
-// The shape of a line `shape`, whose first field is d.
+// The shape of a line `shape`, whose first field is d. No attribute is marked.
 pub fn shape_of(line: Line) -> Shape
     ensures { λ r. ⌜ r ≡ shapeIn line ⌝ }
 {
@@ -39,6 +39,7 @@ pub fn shape_of(line: Line) -> Shape
         attributes,
         widths,
         capacity,
+        signs: 0,
     }
 }
 

@@ -44,6 +44,7 @@ pub fn start() -> Progress
         attributes: 0,
         widths,
         capacity: 0,
+        signs: 0,
     };
     let limits = Limits { pages: 0, depth: 0 };
     let leaves = [0u32; 13];

@@ -3,7 +3,7 @@ use mathlib.Core.Path.{refl}
 use mathlib.Core.List.{flatten}
 use Rattle.shape.specs.Refusal.{firstNumber}
 use Rattle.shape.specs.Shape.{inBounds, shapeConditions, widthsOf}
-use Rattle.shape.specs.Key.{valueFits, encode, decode, keyFits, encodings, namesUnused, queryFits}
+use Rattle.shape.specs.Key.{marked, valueFits, encode, decode, keyFits, encodings, namesUnused, queryFits}
 use Rattle.split.specs.Steps.{stepsBelow, steps, step, stepNumber, stepsOf, attributeDepth}
 use Rattle.split.specs.Bits.{splitBit}
 use Rattle.address.specs.Address.{highestBit, createdBy, latestStep, formula, addressFrom, address}
@@ -19,7 +19,7 @@ use Rattle.table.specs.Table.{TableHolds}
 
 pub table-holds : TableHolds
 unfolding
-    firstNumber inBounds shapeConditions widthsOf valueFits encode decode keyFits encodings namesUnused queryFits
+    firstNumber inBounds shapeConditions widthsOf marked valueFits encode decode keyFits encodings namesUnused queryFits
     stepsBelow steps step stepNumber stepsOf attributeDepth splitBit
     highestBit createdBy latestStep formula addressFrom address addressNumber addressAnswer indexNumber indexAnswer
     layers box sides appended doublingArray sumBits cell cellAddress matches recordBytes flatten

@@ -55,11 +55,11 @@ countsIn (refused n) = []
 
 -- "Widths 2, 2, b = 2"
 abbrev pub twoTwo : Shape
-twoTwo = record { attributes = 2; widths = 2 ∷ 2 ∷ 0 ∷ 0 ∷ []; capacity = 2 }
+twoTwo = record { attributes = 2; widths = 2 ∷ 2 ∷ 0 ∷ 0 ∷ []; capacity = 2; signs = 0 }
 
 -- "Widths 1, 3, 2"
 abbrev pub oneThreeTwo : Shape
-oneThreeTwo = record { attributes = 3; widths = 1 ∷ 3 ∷ 2 ∷ 0 ∷ []; capacity = 2 }
+oneThreeTwo = record { attributes = 3; widths = 1 ∷ 3 ∷ 2 ∷ 0 ∷ []; capacity = 2; signs = 0 }
 
 abbrev pub key : ℕ → ℕ → List ℕ
 key x y = x ∷ y ∷ 0 ∷ 0 ∷ []

@@ -7,14 +7,15 @@ use borrow.Author.Tests.{not-true, not-false}
 use Rattle.shape.specs.Shape.{widthList}
 use Rattle.record.specs.Packed.{unpackedKey}
 use Rattle.page.specs.Fields.{recordOffset}
-use Rattle.check_page.specs.PageTest.{valuesAt}
-use Rattle.check_page.proofs.ByteLaws.{unpackedKey-keyAt}
+use Rattle.check_page.specs.PageTest.{encodingsAt}
+use Rattle.check_page.proofs.ByteLaws.{unpackedKey-keyAt-zero}
 use Rattle.check_page.proofs.AscendLaws.{Risen, risen-first, risen-next, risen-stop, risen-end}
 use Rattle.check_page.proofs.ascends.Statement.{statement}
 use Rattle.check_page.proofs.ascends.Tie as tie
 
 abbrev Inv-loop : tie.InvT-loop
-Inv-loop widths page n last₀ bits₀ k₀ last bits k = (1 ≤ k) × (k ≤ n) × Risen (widthList widths) page n last bits k
+Inv-loop widths page n last₀ bits₀ k₀ last bits k =
+    (1 ≤ k) × (k ≤ n) × Risen (widthList widths) 0 page n last bits k
 
 abbrev μ-loop : tie.MeasureT-loop
 μ-loop widths page n last₀ bits₀ k₀ last bits k = n - k
@@ -22,12 +23,13 @@ abbrev μ-loop : tie.MeasureT-loop
 -- the key of record k
 key : (c : tie.After-key-at2 Inv-loop μ-loop) → let loop = c .before .before .loop in
     unpackedKey (c .key-at2 .result)
-    ≡ valuesAt (c .before .before .before .before .before .args .page .now) (recordOffset (loop .k))
+    ≡ encodingsAt 0 (c .before .before .before .before .before .args .page .now) (recordOffset (loop .k))
 key c =
     let start = c .before .before .before .before in
     let bytes = start .shared-slice-known .given in
     ap unpackedKey (c .key-at2 .ensures)
-    ∙ unpackedKey-keyAt (start .before .args .page .now) (c .before .before .loop .k) (λ i. omega (arith, bytes i))
+    ∙ unpackedKey-keyAt-zero (start .before .args .page .now) (λ i. omega (arith, bytes i))
+    (c .before .before .loop .k)
 
 key-at-requires : tie.Need-key-at-requires Inv-loop μ-loop
 key-at-requires c κs = omega (arith, c .before .pre .0, c .before .pre .1)
@@ -38,9 +40,9 @@ loop-holds c =
     let bytes = c .before .shared-slice-known .given in (
       omega arith,
       omega (arith, start .pre .0),
-      risen-first _ _ _ (start .pre .0) _
+      risen-first _ _ _ _ (start .pre .0) _
           (ap unpackedKey (c .key-at .ensures)
-          ∙ unpackedKey-keyAt (start .args .page .now) 0 (λ i. omega (arith, bytes i))),
+          ∙ unpackedKey-keyAt-zero (start .args .page .now) (λ i. omega (arith, bytes i)) 0),
     )
 
 key-at-requires-2 : tie.Need-key-at-requires-2 Inv-loop μ-loop
@@ -53,7 +55,7 @@ returns : tie.Need-returns Inv-loop μ-loop
 returns c =
     let turn = c .before .before in
     let w = turn .before .before .before .before .before .args .widths in
-    risen-stop (w .w0) (w .w1) (w .w2) (w .w3) _ _ _ _ _ (turn .before .before .loop .inv .2)
+    risen-stop (w .w0) (w .w1) (w .w2) (w .w3) _ _ _ _ _ _ (turn .before .before .loop .inv .2)
     (turn .before .loop-test .taken) _ (key turn) (sym (c .before .stands-before .ensures) ∙ not-true _ (c .if1 .taken))
 
 add-k : tie.Need-add-k Inv-loop μ-loop
@@ -68,7 +70,7 @@ loop-again c =
     let w = turn .before .before .before .before .before .args .widths in (
       omega arith,
       omega (arith, turn .before .loop-test .taken),
-      risen-next (w .w0) (w .w1) (w .w2) (w .w3) _ _ _ _ _ (turn .before .before .loop .inv .2)
+      risen-next (w .w0) (w .w1) (w .w2) (w .w3) _ _ _ _ _ _ (turn .before .before .loop .inv .2)
           (turn .before .loop-test .taken) _ (key turn)
           (sym (c .before .stands-before .ensures) ∙ not-false _ (c .if1 .left)),
     )
@@ -78,7 +80,7 @@ key-fits-requires c κs = c .before .before .before .before .pre .2
 
 returns-2 : tie.Need-returns-2 Inv-loop μ-loop
 returns-2 c =
-    c .key-fits .ensures ∙ risen-end _ _ _ _ _ _ (c .before .before .loop .inv .2) (c .before .loop-test .left)
+    c .key-fits .ensures ∙ risen-end _ _ _ _ _ _ _ (c .before .before .loop .inv .2) (c .before .loop-test .left)
 
 pub ascends-spec : {M : Type 1} → statement M
 ascends-spec =

@@ -5,6 +5,7 @@ use native.Mathlib.Omega.{arith}
 use borrow.Author.Needs.{needs}
 use lib.ListN.{length}
 use Rattle.shape.specs.Shape.{widthList}
+use Rattle.record.specs.Lanes.{biasKey}
 use Rattle.page.specs.Page.{pageSize}
 use Rattle.check_seen.specs.Seen.{pageSeen}
 use Rattle.page.proofs.PartLaws.{midOf-page}
@@ -57,6 +58,9 @@ mul-start c = rw (c .page-size .ensures) (record { fits = omega (arith, within (
 add-end : tie.Need-add-end
 add-end c = rw (c .page-size .ensures) (record { fits = omega (arith, within (c .before)) })
 
+bias-key-requires : tie.Need-bias-key-requires
+bias-key-requires c κs = c .before .before .before .before .before .pre .shape
+
 sub-page-seen : tie.Need-sub-page-seen
 sub-page-seen c = search needs
 
@@ -64,26 +68,27 @@ part-page-seen-start : tie.Need-part-page-seen-start
 part-page-seen-start c = search needs
 
 part-page-seen-end : tie.Need-part-page-seen-end
-part-page-seen-end c = rw (c .page-size .ensures) (within (c .before))
+part-page-seen-end c = rw (c .before .page-size .ensures) (within (c .before .before))
 
 page-seen-requires : tie.Need-page-seen-requires
 page-seen-requires c κs =
-    let s = c .before .before .before .before .before .before in
+    let size = c .before .before in
+    let s = size .before .before .before .before .before in
     let a = s .args in
-    rw (c .before .page-size .ensures)
-    (pageLent-part (a .state) _ (a .region) (a .pages .now) (a .field - 1) (s .pre) (c .before .before .if2 .left))
+    rw (size .page-size .ensures)
+    (pageLent-part (a .state) _ (a .region) (a .pages .now) (a .field - 1) (s .pre) (size .before .if2 .left))
 
 returns-3 : tie.Need-returns-3
 returns-3 c =
-    let s = c .before .before .before .before .before .before .before in
+    let size = c .before .before .before in
+    let s = size .before .before .before .before .before in
     let a = s .args in
     let b = a .state .shape .capacity in
     λ words p n.
     page-told (a .state) (widthList (a .widths)) words (a .pages .now) (a .region) p n (a .field)
-    (c .before .before .before .before .before .if1 .left)
-    (c .before .before .before .if2 .left) (s .pre .bits) _
-    (rw (c .before .before .page-size .ensures) at (c .page-seen .ensures)
-    ∙ ap (pageSeen (widthList (a .widths)) b (a .region .depth) (a .region .string))
+    (size .before .before .before .if1 .left) (s .pre .shape) (size .before .if2 .left) (s .pre .bits) _
+    (rw (size .page-size .ensures, c .before .before .bias-key .ensures) at (c .page-seen .ensures)
+    ∙ ap (pageSeen (widthList (a .widths)) b (a .region .depth) (a .region .string) (biasKey (a .state .shape)))
     (midOf-page b (a .field - 1) ((a .field - 1) * pageSize b) (pageSize b) (a .pages .now) refl refl))
 
 pub leaf-page-spec : {M : Type 1} → statement M
@@ -99,6 +104,7 @@ leaf-page-spec =
     cast-start
     mul-start
     add-end
+    bias-key-requires
     sub-page-seen
     part-page-seen-start
     part-page-seen-end

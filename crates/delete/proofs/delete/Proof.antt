@@ -9,8 +9,8 @@ use Rattle.store.specs.Answers.{changedAnswer}
 use Rattle.store.specs.Promises.{keyNumber}
 use Rattle.store.specs.Store.{Store, store}
 use Rattle.refusals.specs.Passed.{Passed, OfValues}
-use Rattle.refusals.proofs.LentLaws.{keyNumber-by}
 use Rattle.refusals.proofs.LimitsLaws.{limits-parts}
+use Rattle.refusals.proofs.NumberLaws.{shape-lent, number-lent, number-out, number-none}
 use Rattle.refusals.proofs.PassedLaws.{passed}
 use Rattle.delete_plan.specs.Plan.{KeepPlanned, JoinPlanned, DeletePlanned}
 use Rattle.delete_plan.proofs.MetLaws.{directoryLent}
@@ -26,20 +26,12 @@ use Rattle.delete.proofs.delete.Tie as tie
 thirteen : (c : tie.Start) → length (c .args .state .tally .leaves) ≡ 13
 thirteen c = sym (length-map (c .args .state .tally .leaves) (λ v. v)) ∙ c .good .0 .1 .1 .1 .1 .1 .0 .1 .1 .0 .1 .0 .1
 
--- what is computed is the number of the early refusals
-number : (c : tie.After-key-number)
-    → let a = c .before .before .before .args in
-    c .key-number .result ≡ keyNumber (store (a .state) (a .dir .now) (a .pages .now)) (a .key .values)
-number c =
-    let a = c .before .before .before .args in
-    c .key-number .ensures ∙ sym (keyNumber-by (a .state) (a .dir .now) (a .pages .now) (a .key .values))
-
 abbrev given : tie.Start → Store
 given s = store (s .args .state) (s .args .dir .now) (s .args .pages .now)
 
 -- where the key was encoded, and its encodings
 abbrev encoding : tie.After-plan-delete → tie.After-encode-key
-encoding p = p .before .before .before .before
+encoding p = p .before .before .before .before .before .before
 
 abbrev encoded : tie.After-plan-delete → List ℕ
 encoded p = encoding p .encode-key .result .values
@@ -49,15 +41,20 @@ abbrev start : tie.After-plan-delete → tie.Start
 start p = encoding p .before .before .before .before .before
 
 -- the early refusals let the key pass
-early : (c : tie.Else1)
-    → let s = c .before .before .before .before in keyNumber (given s) (s .args .key .values) ≡ 0
-early c = sym (number (c .before)) ∙ c .if1 .left
+early : (c : tie.Else2)
+    → let s = c .before .before .before .before .before .before .before in keyNumber (given s) (s .args .key .values) ≡ 0
+early c =
+    let e = c .before .before in
+    let n = e .before .before in
+    let a = n .before .before .before .args in
+    number-none (a .state) (a .dir .now) (a .pages .now) _ (n .lent-number .ensures) (a .key .values)
+    (e .before .if1 .left) _ (e .encode-key .ensures) _ (c .before .encodings-fit .ensures) (not-false _ (c .if2 .left))
 
 -- what holds of all values with these encodings holds of the call's
 called : (p : tie.After-plan-delete) (X : List ℕ → Type 0) → OfValues (given (start p)) (encoded p) X
     → X (start p .args .key .values)
 called p X told =
-    told (start p .args .key .values) (early (encoding p .before)) (sym (encoding p .encode-key .ensures))
+    told (start p .args .key .values) (early (p .before .before .before .before)) (sym (encoding p .encode-key .ensures))
 
 -- the plan of a leaf that stays
 kept : (c : tie.After-plan2)
@@ -75,22 +72,47 @@ joined c =
     let p = c .before .before in
     subst (DeletePlanned (given (start p)) (encoded p)) (c .plan3 .given .1) (p .plan-delete .ensures)
 
-key-number-requires : tie.Need-key-number-requires
-key-number-requires c κs = search needs
+lent-number-requires : tie.Need-lent-number-requires
+lent-number-requires c κs = search needs
 
 returns : tie.Need-returns
 unfolding changedAnswer
 returns c =
-    let s = c .before .before .before .before in
-    promise-early (given s) (s .args .key .values) (c .before .key-number .result) (number (c .before)) (c .if1 .taken)
+    let n = c .before in
+    let s = n .before .before .before in
+    let a = s .args in
+    promise-early (given s) (a .key .values) (n .lent-number .result)
+    (number-lent (a .state) (a .dir .now) (a .pages .now) _ (n .lent-number .ensures) (a .key .values) (c .if1 .taken))
+    (c .if1 .taken)
 
 encode-key-requires : tie.Need-encode-key-requires
-encode-key-requires c κs = search needs
+encode-key-requires c κs =
+    let n = c .before in
+    let a = n .before .before .before .args in
+    shape-lent (a .state) (a .dir .now) (a .pages .now) _ (n .lent-number .ensures) (c .if1 .left)
+
+encodings-fit-requires : tie.Need-encodings-fit-requires
+encodings-fit-requires c κs =
+    let n = c .before .before in
+    let a = n .before .before .before .args in
+    shape-lent (a .state) (a .dir .now) (a .pages .now) _ (n .lent-number .ensures) (c .before .if1 .left)
+
+returns-2 : tie.Need-returns-2
+unfolding changedAnswer
+returns-2 c =
+    let e = c .before .before in
+    let n = e .before .before in
+    let s = n .before .before .before in
+    let a = s .args in
+    promise-early (given s) (a .key .values) 3
+    (number-out (a .state) (a .dir .now) (a .pages .now) _ (n .lent-number .ensures) (a .key .values)
+    (e .before .if1 .left) _ (e .encode-key .ensures) _ (c .before .encodings-fit .ensures) (not-true _ (c .if2 .taken)))
+    (λ z. omega (arith, z))
 
 plan-delete-requires : tie.Need-plan-delete-requires
 plan-delete-requires c κs =
-    let e = c .before .before .before in
-    subst (Passed _) (sym (e .encode-key .ensures)) (passed _ _ (early (e .before)))
+    let fitting = c .before .before .before in
+    subst (Passed _) (sym (fitting .before .before .encode-key .ensures)) (passed _ _ (early fitting))
 
 enum-known-plan : tie.Need-enum-known-plan
 enum-known-plan c = search needs
@@ -116,13 +138,13 @@ same-length c = search needs
 same-length-2 : tie.Need-same-length-2
 same-length-2 c = search needs
 
-returns-2 : tie.Need-returns-2
+returns-3 : tie.Need-returns-3
 unfolding changedAnswer
-returns-2 c =
+returns-3 c =
     let p = c .before .before .before .before .before .before in
     called p _
     (promise-not-whole (given (start p)) (encoded p) _ (kept (c .before .before .before .before)) _
-    (c .before .removal-keeps .ensures) (not-true _ (c .if2 .taken)))
+    (c .before .removal-keeps .ensures) (not-true _ (c .if3 .taken)))
 
 keep-leaf-requires : tie.Need-keep-leaf-requires
 keep-leaf-requires c κs =
@@ -159,13 +181,13 @@ same-length-3 c = search needs
 same-length-4 : tie.Need-same-length-4
 same-length-4 c = search needs
 
-returns-3 : tie.Need-returns-3
+returns-4 : tie.Need-returns-4
 unfolding changedAnswer
-returns-3 c =
+returns-4 c =
     let p = c .before .before .before .before .before .before in
     called p _
     (promise-not-whole (given (start p)) (encoded p) _ (joined (c .before .before .before .before)) _
-    (c .before .join-keeps .ensures) (not-true _ (c .if3 .taken)))
+    (c .before .join-keeps .ensures) (not-true _ (c .if4 .taken)))
 
 join-leaves-requires : tie.Need-join-leaves-requires
 join-leaves-requires c κs =
@@ -185,9 +207,9 @@ same-length-5 c = search needs
 same-length-6 : tie.Need-same-length-6
 same-length-6 c = search needs
 
-returns-4 : tie.Need-returns-4
+returns-5 : tie.Need-returns-5
 unfolding changedAnswer
-returns-4 c =
+returns-5 c =
     let p = c .before .before .before in
     called p _
     (subst (DeletePlanned (given (start p)) (encoded p)) (c .before .plan .given .1) (p .plan-delete .ensures))
@@ -198,9 +220,9 @@ same-length-7 c = search needs
 same-length-8 : tie.Need-same-length-8
 same-length-8 c = search needs
 
-returns-5 : tie.Need-returns-5
+returns-6 : tie.Need-returns-6
 unfolding changedAnswer
-returns-5 c =
+returns-6 c =
     let p = c .before .before .before .before .before .before .before .before .before .before .before .before
     .before in
     let k = kept (c .before .before .before .before .before .before .before .before .before .before .before) in
@@ -209,7 +231,7 @@ returns-5 c =
     called p _
     (promise-kept (given (start p)) (encoded p) _ (k .found) _ _ (done .ensures .words-are)
     (done .ensures .bytes-are) (k .alone)
-    (test .before .removal-keeps .ensures .yes (not-false _ (test .if2 .left))))
+    (test .before .removal-keeps .ensures .yes (not-false _ (test .if3 .left))))
 
 same-length-9 : tie.Need-same-length-9
 same-length-9 c = search needs
@@ -217,9 +239,9 @@ same-length-9 c = search needs
 same-length-10 : tie.Need-same-length-10
 same-length-10 c = search needs
 
-returns-6 : tie.Need-returns-6
+returns-7 : tie.Need-returns-7
 unfolding changedAnswer
-returns-6 c =
+returns-7 c =
     let p = c .before .before .before .before .before .before .before .before .before .before .before .before
     .before in
     let k = joined (c .before .before .before .before .before .before .before .before .before .before .before) in
@@ -228,35 +250,37 @@ returns-6 c =
     called p _
     (promise-joined (given (start p)) (encoded p) _ (k .found) _ k (done .result) _ _
     (done .ensures .words-are) (done .ensures .bytes-are) (thirteen (start p))
-    (test .before .join-keeps .ensures .yes (not-false _ (test .if3 .left))))
+    (test .before .join-keeps .ensures .yes (not-false _ (test .if4 .left))))
 
 pub delete-spec : {M : Type 1} → statement M
 delete-spec =
     tie.close
     (tie.spec
-    key-number-requires
+    lent-number-requires
     returns
     encode-key-requires
+    encodings-fit-requires
+    returns-2
     plan-delete-requires
     enum-known-plan
     enum-known-plan-2
     removal-keeps-requires
     same-length
     same-length-2
-    returns-2
+    returns-3
     keep-leaf-requires
     enum-known-plan-3
     join-keeps-requires
     same-length-3
     same-length-4
-    returns-3
+    returns-4
     join-leaves-requires
     same-length-5
     same-length-6
-    returns-4
+    returns-5
     same-length-7
     same-length-8
-    returns-5
+    returns-6
     same-length-9
     same-length-10
-    returns-6)
+    returns-7)

@@ -34,9 +34,9 @@ returns : tie.Need-returns
 returns c =
     let size = c .before .before in
     let a = size .before .before .before .args in
-    leafCount (a .capacity) (a .mask) (a .key) (pageAt (a .capacity) (a .pages .now) (a .g)) (c .fair-count .result)
+    leafCount (a .capacity) (a .bias) (a .mask) (a .key) (pageAt (a .capacity) (a .pages .now) (a .g)) (c .fair-count .result)
     (c .fair-count .ensures
-    ∙ ap (λ page. fairCount (a .capacity) (endsAgree (a .mask) (a .key) page (countOf page)) page)
+    ∙ ap (λ page. fairCount (a .capacity) (endsAgree (a .bias) (a .mask) (a .key) page (countOf page)) page)
     (midOf-page (a .capacity) (a .g) _ _ (a .pages .now) (size .before .page-start .ensures)
     (size .page-size .ensures)))
 

@@ -32,7 +32,7 @@ returns c =
     let size = c .before .before in
     let a = size .before .before .before .args in
     c .find-key .ensures
-    ∙ ap (λ page. keyPlace (a .key) page (a .n) 0)
+    ∙ ap (λ page. keyPlace (a .fields) page (a .n) 0)
     (midOf-page (a .capacity) (a .g) _ _ (a .pages .now) (size .before .page-start .ensures) (size .page-size .ensures))
 
 pub place-on-spec : {M : Type 1} → statement M

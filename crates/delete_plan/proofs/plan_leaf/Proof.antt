@@ -1,7 +1,9 @@
 -- `delete_plan::plan_leaf` meets its contract: each way that it ends is a law of the key's leaf. Assumes nothing.
+use Prim.Native.Nat.{ℕ}
 use mathlib.Core.Path.{_≡_, sym, ap, _∙_, subst}
 use native.Mathlib.Omega.{arith}
 use Rattle.shape.specs.Shape.{widthList, widthsOf}
+use Rattle.record.specs.Lanes.{biasKey}
 use Rattle.record.specs.Packed.{packedKey}
 use Rattle.page.specs.Page.{pageAt}
 use Rattle.page_ends.specs.Ends.{fixedBits}
@@ -22,7 +24,7 @@ given s = store (s .args .state) (s .args .dir .now) (s .args .pages .now)
 
 -- where the call began, from the search
 abbrev start : tie.After-seek → tie.Start
-start k = k .before .before .before .before .before .before .before .before
+start k = k .before .before .before .before .before .before .before .before .before
 
 -- the mask is that of the leaf's depth
 mask-is : (c : tie.After-fixed-bits)
@@ -35,14 +37,16 @@ mask-is c =
 -- what was sought is the key, packed
 sought : (k : tie.After-seek)
     → let a = start k .args in
-    Sought (a .state .shape .capacity) (packedKey (a .encoded .values)) (k .before .before .before .fixed-bits .result)
+    Sought (a .state .shape .capacity) (biasKey (a .state .shape)) (packedKey (a .encoded .values)) (k .before .before .before .before .fixed-bits .result)
     (pageAt (a .state .shape .capacity) (a .pages .now) (a .page)) (a .page) (a .depth) (k .seek .result)
 sought k =
     let a = start k .args in
-    subst
-    (λ key. Sought (a .state .shape .capacity) key (k .before .before .before .fixed-bits .result)
-    (pageAt (a .state .shape .capacity) (a .pages .now) (a .page)) (a .page) (a .depth) (k .seek .result))
-    (k .before .before .pack-key .ensures) (k .seek .ensures)
+    let there : ℕ → ℕ → Type 0 =
+    λ bias key. Sought (a .state .shape .capacity) bias key (k .before .before .before .before .fixed-bits .result)
+    (pageAt (a .state .shape .capacity) (a .pages .now) (a .page)) (a .page) (a .depth) (k .seek .result) in
+    subst (λ bias. there bias (packedKey (a .encoded .values))) (k .before .before .before .bias-key .ensures)
+    (subst (there (k .before .before .before .bias-key .result)) (k .before .before .pack-key .ensures)
+    (k .seek .ensures))
 
 -- the record that was found
 found : (k : tie.After-seek) → (k .seek .result .count ≡ 0 → ⊥)
@@ -51,7 +55,7 @@ found : (k : tie.After-seek) → (k .seek .result .count ≡ 0 → ⊥)
 found k some other =
     let s = start k in
     recordFound (given s) (s .args .encoded .values) (s .args .page) (s .args .depth) (s .pre) _
-    (mask-is (k .before .before .before)) (k .seek .result) (sought k) some other
+    (mask-is (k .before .before .before .before)) (k .seek .result) (sought k) some other
 
 widths-of-requires : tie.Need-widths-of-requires
 widths-of-requires c κs = search needs
@@ -64,15 +68,18 @@ fixed-bits-requires c κs =
     fixed-bits-asks (a .state .shape) (lent .shape) (a .depth) (omega (arith, s .pre .deep, lent .deep))
     (widthList (c .widths-of .result)) (c .widths-of .ensures)
 
+bias-key-requires : tie.Need-bias-key-requires
+bias-key-requires c κs = c .before .before .before .before .before .pre .passed .shape
+
 pack-key-requires : tie.Need-pack-key-requires
-pack-key-requires c κs = SixteenBits-passed _ _ (c .before .before .before .before .before .pre .passed)
+pack-key-requires c κs = SixteenBits-passed _ _ (c .before .before .before .before .before .before .pre .passed)
 
 cast-seek : tie.Need-cast-seek
 cast-seek c = search needs
 
 seek-requires : tie.Need-seek-requires
 seek-requires c κs =
-    let s = c .before .before .before .before .before .before .before in
+    let s = c .before .before .before .before .before .before .before .before in
     let a = s .args in
     pageLent (given s) (a .encoded .values) (a .page) (a .depth) (s .pre) (a .page) (s .pre .own-within)
 
@@ -82,7 +89,7 @@ returns c =
     let s = start k in
     let a = s .args in
     refused-page (given s) (a .encoded .values) (a .page) (a .depth) (s .pre) _ (k .seek .result .count)
-    (mask-is (k .before .before .before)) (sought k .counted) (c .if1 .taken)
+    (mask-is (k .before .before .before .before)) (sought k .counted) (c .if1 .taken)
 
 returns-2 : tie.Need-returns-2
 returns-2 c =
@@ -93,7 +100,7 @@ returns-2 c =
     let fair = fair-of-count (a .state .shape .capacity) _ _ (r .count) (sought k .counted)
     (c .before .before .if1 .left) in
     refused-absent (given s) (a .encoded .values) (a .page) (a .depth) (s .pre)
-    (λ i. k .before .before .before .before .before .before .shared-slice-known2 .given i .fits)
+    (λ i. k .before .before .before .before .before .before .before .shared-slice-known2 .given i .fits)
     (r .count) (fair .counted) (r .place) (sought k .placed) (c .if2 .taken)
 
 returns-3 : tie.Need-returns-3
@@ -113,7 +120,7 @@ plan-sibling-requires c κs =
     record {
       found = found k (c .before .before .before .if1 .left) (c .before .if2 .left);
       divided = omega (arith, sought k .depth-is, c .if3 .left);
-      fixed = mask-is (k .before .before .before)
+      fixed = mask-is (k .before .before .before .before)
           ∙ ap (fixedBits (widthsOf (s .args .state .shape))) (sym (sought k .depth-is));
     }
 
@@ -126,6 +133,7 @@ plan-leaf-spec =
     (tie.spec
     widths-of-requires
     fixed-bits-requires
+    bias-key-requires
     pack-key-requires
     cast-seek
     seek-requires

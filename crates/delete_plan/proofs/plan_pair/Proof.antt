@@ -1,11 +1,12 @@
 -- `delete_plan::plan_pair` meets its contract: each way that it ends is a law of a leaf and its sibling. Assumes
 -- nothing.
 use mathlib.Core.Path.{_≡_, sym, ap, _∙_, subst}
-use native.Mathlib.Omega.{arith}
 use borrow.Author.Tests.{not-true, not-false}
+use Rattle.record.specs.Lanes.{biasKey}
 use Rattle.record.specs.Packed.{unpackedKey}
 use Rattle.page.specs.Page.{countOf, pageAt}
 use Rattle.page_ends.specs.Ends.{endsAgree}
+use Rattle.page_ends.specs.Fair.{fairCount}
 use Rattle.page_ends.proofs.FairLaws.{Fair, fair-of-count}
 use Rattle.store.specs.Store.{Store, store}
 use Rattle.refusals.proofs.PassedLaws.{SixteenBits-passed, unpackedKey-passed}
@@ -21,24 +22,42 @@ given s = store (s .args .state) (s .args .dir .now) (s .args .pages .now)
 
 -- where the call began, from the count
 abbrev start : tie.After-count-on → tie.Start
-start k = k .before .before .before .before .before
+start k = k .before .before .before .before .before .before
+
+-- its count, by the shape's bias
+counted : (k : tie.After-count-on)
+    → let a = start k .args in
+    let page = pageAt (a .state .shape .capacity) (a .pages .now) (a .other) in
+    k .count-on .result
+    ≡ fairCount (a .state .shape .capacity)
+    (endsAgree (biasKey (a .state .shape)) (a .mask) (a .beside) page (countOf page)) page
+counted k =
+    let a = start k .args in
+    let page = pageAt (a .state .shape .capacity) (a .pages .now) (a .other) in
+    k .count-on .ensures .is
+    ∙ ap (λ h. fairCount (a .state .shape .capacity) (endsAgree h (a .mask) (a .beside) page (countOf page)) page)
+    (k .before .bias-key .ensures)
 
 -- the sibling's page
 fair : (c : tie.Else1)
     → let k = c .before in
     let a = start k .args in
     let page = pageAt (a .state .shape .capacity) (a .pages .now) (a .other) in
-    Fair (a .state .shape .capacity) (endsAgree (a .mask) (a .beside) page (countOf page)) page (k .count-on .result)
+    Fair (a .state .shape .capacity) (endsAgree (biasKey (a .state .shape)) (a .mask) (a .beside) page (countOf page))
+    page (k .count-on .result)
 fair c =
     let a = start (c .before) .args in
-    fair-of-count (a .state .shape .capacity) _ _ _ (c .before .count-on .ensures .is) (c .if1 .left)
+    fair-of-count (a .state .shape .capacity) _ _ _ (counted (c .before)) (c .if1 .left)
 
 cast-capacity : tie.Need-cast-capacity
 cast-capacity c = search needs
 
+bias-key-requires : tie.Need-bias-key-requires
+bias-key-requires c κs = c .before .before .before .before .pre .leaf .found .leaf .passed .shape
+
 count-on-requires : tie.Need-count-on-requires
 count-on-requires c κs =
-    let s = c .before .before .before .before in
+    let s = c .before .before .before .before .before in
     let a = s .args in
     pageLent (given s) (a .encoded .values) (a .found .page) (a .found .depth) (s .pre .leaf .found .leaf) (a .other)
     (s .pre .other-within)
@@ -49,7 +68,7 @@ returns c =
     let s = start k in
     let a = s .args in
     refused-other (given s) (a .encoded .values) (a .found) (a .mask) (a .other) (a .beside) (s .pre)
-    (k .count-on .result) (k .count-on .ensures .is) (c .if1 .taken)
+    (k .count-on .result) (counted k) (c .if1 .taken)
 
 add-if2 : tie.Need-add-if2
 add-if2 c = search needs
@@ -116,6 +135,7 @@ plan-pair-spec =
     tie.close
     (tie.spec
     cast-capacity
+    bias-key-requires
     count-on-requires
     returns
     add-if2

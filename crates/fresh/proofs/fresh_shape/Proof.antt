@@ -2,7 +2,8 @@
 use native.Mathlib.Omega.{arith}
 use borrow.Author.Needs.{needs}
 use Rattle.shape.specs.Shape.{Fit, widthList}
-use Rattle.shape.proofs.ShapeLaws.{widths-fit}
+use Rattle.shape.proofs.BoundsLaws.{attributes-le}
+use Rattle.shape.proofs.ShapeLaws.{inBounds-of, widths-fit}
 use Rattle.model.specs.Limits.{freshShape}
 use Rattle.fresh.proofs.fresh_shape.Statement.{statement}
 use Rattle.fresh.proofs.fresh_shape.Tie as tie
@@ -25,9 +26,22 @@ cast-t6 c = record { fits = omega (arith, fit (c .before .before .before) 2) }
 cast-t7 : tie.Need-cast-t7
 cast-t7 c = record { fits = omega (arith, fit (c .before .before .before .before) 3) }
 
+marks-below-requires : tie.Need-marks-below-requires
+marks-below-requires c κs =
+    let start = c .before .before .before .before .before in
+    omega (arith, attributes-le (start .args .shape) (inBounds-of (start .args .shape) (start .pre)))
+
 returns : tie.Need-returns
 unfolding freshShape
-returns c = rw (← c .before .before .before .before .widths-of .ensures)
+returns c =
+    let all-widths = c .before .before .before .before .before in
+    let shape = all-widths .before .args .shape in
+    λ i. record {
+      attributes = shape .attributes;
+      widths = all-widths .widths-of .ensures i;
+      capacity = shape .capacity;
+      signs = c .marks-below .ensures i;
+    }
 
 pub fresh-shape-spec : {M : Type 1} → statement M
-fresh-shape-spec = tie.close (tie.spec widths-of-requires cast-t4 cast-t5 cast-t6 cast-t7 returns)
+fresh-shape-spec = tie.close (tie.spec widths-of-requires cast-t4 cast-t5 cast-t6 cast-t7 marks-below-requires returns)

@@ -26,50 +26,53 @@ shared-slice-read-t14-2 c = search needs
 shared-slice-read-t12-2 : tie.Need-shared-slice-read-t12-2
 shared-slice-read-t12-2 c = search needs
 
-shared-slice-read-t14-3 : tie.Need-shared-slice-read-t14-3
-shared-slice-read-t14-3 c = search needs
-
-shared-slice-read-t8-3 : tie.Need-shared-slice-read-t8-3
-shared-slice-read-t8-3 c = search needs
-
-shared-slice-read-t14-4 : tie.Need-shared-slice-read-t14-4
-shared-slice-read-t14-4 c = search needs
+shared-slice-read-t10-2 : tie.Need-shared-slice-read-t10-2
+shared-slice-read-t10-2 c = search needs
 
 shared-slice-read-t12-3 : tie.Need-shared-slice-read-t12-3
 shared-slice-read-t12-3 c = search needs
 
-shared-slice-read-t10-2 : tie.Need-shared-slice-read-t10-2
-shared-slice-read-t10-2 c = search needs
+shared-slice-read-t14-3 : tie.Need-shared-slice-read-t14-3
+shared-slice-read-t14-3 c = search needs
 
-shared-slice-read-t24 : tie.Need-shared-slice-read-t24
-shared-slice-read-t24 c = search needs
+shared-slice-read-t12-4 : tie.Need-shared-slice-read-t12-4
+shared-slice-read-t12-4 c = search needs
 
-shared-slice-read-t26 : tie.Need-shared-slice-read-t26
-shared-slice-read-t26 c = search needs
+shared-slice-read-t10-3 : tie.Need-shared-slice-read-t10-3
+shared-slice-read-t10-3 c = search needs
 
-shared-slice-read-t28 : tie.Need-shared-slice-read-t28
-shared-slice-read-t28 c = search needs
+shared-slice-read-t8-3 : tie.Need-shared-slice-read-t8-3
+shared-slice-read-t8-3 c = search needs
 
-shared-slice-read-t30 : tie.Need-shared-slice-read-t30
-shared-slice-read-t30 c = search needs
+shared-slice-read-t25 : tie.Need-shared-slice-read-t25
+shared-slice-read-t25 c = search needs
 
-shared-slice-read-t32 : tie.Need-shared-slice-read-t32
-shared-slice-read-t32 c = search needs
+shared-slice-read-t27 : tie.Need-shared-slice-read-t27
+shared-slice-read-t27 c = search needs
 
-shared-slice-read-t34 : tie.Need-shared-slice-read-t34
-shared-slice-read-t34 c = search needs
+shared-slice-read-t29 : tie.Need-shared-slice-read-t29
+shared-slice-read-t29 c = search needs
 
-shared-slice-read-t36 : tie.Need-shared-slice-read-t36
-shared-slice-read-t36 c = search needs
+shared-slice-read-t31 : tie.Need-shared-slice-read-t31
+shared-slice-read-t31 c = search needs
 
-shared-slice-read-t38 : tie.Need-shared-slice-read-t38
-shared-slice-read-t38 c = search needs
+shared-slice-read-t33 : tie.Need-shared-slice-read-t33
+shared-slice-read-t33 c = search needs
 
-shared-slice-read-t40 : tie.Need-shared-slice-read-t40
-shared-slice-read-t40 c = search needs
+shared-slice-read-t35 : tie.Need-shared-slice-read-t35
+shared-slice-read-t35 c = search needs
 
-shared-slice-read-t8-4 : tie.Need-shared-slice-read-t8-4
-shared-slice-read-t8-4 c = search needs
+shared-slice-read-t37 : tie.Need-shared-slice-read-t37
+shared-slice-read-t37 c = search needs
+
+shared-slice-read-t39 : tie.Need-shared-slice-read-t39
+shared-slice-read-t39 c = search needs
+
+shared-slice-read-t41 : tie.Need-shared-slice-read-t41
+shared-slice-read-t41 c = search needs
+
+shared-slice-read-t14-4 : tie.Need-shared-slice-read-t14-4
+shared-slice-read-t14-4 c = search needs
 
 returns : tie.Need-returns
 unfolding shownState
@@ -86,19 +89,20 @@ shown-state-spec =
     shared-slice-read-t8-2
     shared-slice-read-t14-2
     shared-slice-read-t12-2
-    shared-slice-read-t14-3
-    shared-slice-read-t8-3
-    shared-slice-read-t14-4
-    shared-slice-read-t12-3
     shared-slice-read-t10-2
-    shared-slice-read-t24
-    shared-slice-read-t26
-    shared-slice-read-t28
-    shared-slice-read-t30
-    shared-slice-read-t32
-    shared-slice-read-t34
-    shared-slice-read-t36
-    shared-slice-read-t38
-    shared-slice-read-t40
-    shared-slice-read-t8-4
+    shared-slice-read-t12-3
+    shared-slice-read-t14-3
+    shared-slice-read-t12-4
+    shared-slice-read-t10-3
+    shared-slice-read-t8-3
+    shared-slice-read-t25
+    shared-slice-read-t27
+    shared-slice-read-t29
+    shared-slice-read-t31
+    shared-slice-read-t33
+    shared-slice-read-t35
+    shared-slice-read-t37
+    shared-slice-read-t39
+    shared-slice-read-t41
+    shared-slice-read-t14-4
     returns)

@@ -1,10 +1,12 @@
 -- `insert::add` meets its contract: a refusal is what find and allocate tell, and each plan that is carried out keeps
 -- the promise. Assumes nothing.
 use Prim.Native.Nat.{ℕ, _^_, _<_}
-use mathlib.Core.Path.{_≡_, refl, sym, ap, subst}
+use mathlib.Core.Path.{_≡_, refl, sym, ap, _∙_, subst}
 use mathlib.Core.List.{List}
 use native.Mathlib.Omega.{arith}
 use borrow.Author.Needs.{needs}
+use Rattle.record.specs.Lanes.{laneDifference, fieldsKey}
+use Rattle.record.specs.Packed.{packedKey}
 use Rattle.store.specs.Answers.{changedAnswer}
 use Rattle.store.specs.Store.{Store, store}
 use Rattle.refusals.specs.Passed.{Passed, OfValues}
@@ -52,7 +54,7 @@ small : (s : tie.Start) → s .args .content .payload < 2 ^ 32
 small s = s .good .1 .1 .1 .1 .0 .1 .1 .0 .1
 
 encode-key-requires : tie.Need-encode-key-requires
-encode-key-requires c κs = search needs
+encode-key-requires c κs = passed _ _ (c .before .before .pre) .shape
 
 find-requires : tie.Need-find-requires
 find-requires c κs = through (c .before .before .before)
@@ -62,6 +64,23 @@ allocate-requires c κs = c .before .before .find .ensures
 
 pack-key-requires : tie.Need-pack-key-requires
 pack-key-requires c κs = SixteenBits-passed _ _ (through (encoding c))
+
+bias-key-requires : tie.Need-bias-key-requires
+bias-key-requires c κs = through (encoding (c .before)) .shape
+
+to-fields-requires : tie.Need-to-fields-requires
+to-fields-requires c κs = search needs
+
+-- where a page was allocated, and the packed fields that are written
+abbrev allocated : tie.After-to-fields → tie.After-allocate
+allocated f = f .before .before .before
+
+written : (f : tie.After-to-fields)
+    → f .to-fields .result
+    ≡ fieldsKey (start (allocated f) .args .state .shape) (packedKey (encoded (allocated f)))
+written f =
+    f .to-fields .ensures
+    ∙ (λ i. laneDifference (f .before .before .pack-key .ensures i) (f .before .bias-key .ensures i))
 
 cast-b : tie.Need-cast-b
 cast-b c = search needs
@@ -78,7 +97,7 @@ same-length-2 c = search needs
 returns : tie.Need-returns
 unfolding changedAnswer
 returns c =
-    let p = c .before .before .before .before .before in
+    let p = allocated (c .before .before .before .before) in
     called p _ (planned p _ (c .before .plan .given .1)) (start p .args .content)
 
 -- ---- the page is not full
@@ -92,7 +111,7 @@ cast-insert-record c = search needs
 insert-record-requires : tie.Need-insert-record-requires
 insert-record-requires c κs =
     let plan = c .before .before in
-    let p = plan .before .before .before .before in
+    let p = allocated (plan .before .before .before) in
     let s = start p in
     lent-taken (given s) (encoded p) (s .args .content) (small s) _ refl _ _ _
     (planned p _ (plan .plan2 .given .1))
@@ -108,11 +127,11 @@ unfolding changedAnswer
 returns-2 c =
     let inserted = c .before .before in
     let plan = inserted .before .before .before in
-    let k = plan .before .before .before in
-    let p = k .before in
+    let f = plan .before .before .before in
+    let p = allocated f in
     let s = start p in
     called p _
-    (by-taken (given s) (encoded p) (s .args .content) (small s) _ (k .pack-key .ensures) _ _ _
+    (by-taken (given s) (encoded p) (s .args .content) (small s) _ (written f) _ _ _
     (planned p _ (plan .plan2 .given .1)) _ (inserted .insert-record .ensures))
 
 -- ---- the page was null
@@ -126,7 +145,7 @@ cast-insert-record-2 c = search needs
 insert-record-requires-2 : tie.Need-insert-record-requires-2
 insert-record-requires-2 c κs =
     let plan = c .before .before in
-    let p = plan .before .before .before .before in
+    let p = allocated (plan .before .before .before) in
     let s = start p in
     let told = planned p _ (plan .plan3 .given .1) in
     lent-got (given s) (encoded p) (s .args .content) (small s) _ refl _ _ (told .0) (told .1)
@@ -134,7 +153,7 @@ insert-record-requires-2 c κs =
 set-word-requires : tie.Need-set-word-requires
 set-word-requires c κs =
     let plan = c .before .before .before .before .before .before in
-    let p = plan .before .before .before .before in
+    let p = allocated (plan .before .before .before) in
     let s = start p in
     let told = planned p _ (plan .plan3 .given .1) in
     word-asked (given s) (encoded p) (s .args .content) (small s) _ refl _ _ (told .0) (told .1)
@@ -151,12 +170,12 @@ returns-3 c =
     let set = c .before .before in
     let inserted = set .before .before .before .before in
     let plan = inserted .before .before .before in
-    let k = plan .before .before .before in
-    let p = k .before in
+    let f = plan .before .before .before in
+    let p = allocated f in
     let s = start p in
     let told = planned p _ (plan .plan3 .given .1) in
     called p _
-    (by-got (given s) (encoded p) (s .args .content) (small s) _ (k .pack-key .ensures) _ _ (told .0)
+    (by-got (given s) (encoded p) (s .args .content) (small s) _ (written f) _ _ (told .0)
     (told .1) _ (set .set-word .ensures) _ (inserted .insert-record2 .ensures))
 
 -- ---- the page is full
@@ -167,7 +186,7 @@ enum-known-plan-4 c = search needs
 double-requires : tie.Need-double-requires
 double-requires c κs =
     let plan = c .before .before in
-    let p = plan .before .before .before .before in
+    let p = allocated (plan .before .before .before) in
     let s = start p in
     let told = planned p _ (plan .plan4 .given .1) in
     doubling-asked (given s) (encoded p) (s .args .content) (small s) _ refl _ _ _ (told .0) (told .1)
@@ -176,7 +195,7 @@ set-words-requires : tie.Need-set-words-requires
 set-words-requires c κs =
     let doubled = c .before .before .before in
     let plan = doubled .before .before .before in
-    let p = plan .before .before .before .before in
+    let p = allocated (plan .before .before .before) in
     let s = start p in
     let told = planned p _ (plan .plan4 .given .1) in
     leaves-asked (given s) (encoded p) (s .args .content) (small s) _ refl _ _ _ (told .0) (told .1) _ _
@@ -186,7 +205,7 @@ count-leaves-requires : tie.Need-count-leaves-requires
 count-leaves-requires c κs =
     let doubled = c .before .before .before .before .before .before in
     let plan = doubled .before .before .before in
-    let p = plan .before .before .before .before in
+    let p = allocated (plan .before .before .before) in
     let s = start p in
     let told = planned p _ (plan .plan4 .given .1) in
     tally-asked (given s) (encoded p) (s .args .content) (small s) _ refl _ _ _ (told .0) (told .1) _
@@ -198,14 +217,14 @@ cast-divide-pages c = search needs
 cast-divide-pages-2 : tie.Need-cast-divide-pages-2
 cast-divide-pages-2 c =
     let plan = c .before .before .before .before .before .before .before .before .before .before .before .before in
-    let told = planned (plan .before .before .before .before) _ (plan .plan4 .given .1) .0 in
+    let told = planned (allocated (plan .before .before .before)) _ (plan .plan4 .given .1) .0 in
     omega (arith, told .free-within, told .found .asked .pages-lent .few)
 
 divide-pages-requires : tie.Need-divide-pages-requires
 divide-pages-requires c κs =
     let counted = c .before .before in
     let plan = counted .before .before .before .before .before .before .before .before .before .before in
-    let p = plan .before .before .before .before in
+    let p = allocated (plan .before .before .before) in
     let s = start p in
     let told = planned p _ (plan .plan4 .given .1) in (
       pages-lent (given s) (encoded p) (s .args .content) (small s) _ refl _ _ _ (told .0) (told .1),
@@ -226,12 +245,12 @@ returns-4 c =
     let set = counted .before .before .before in
     let doubled = set .before .before .before .before in
     let plan = doubled .before .before .before in
-    let k = plan .before .before .before in
-    let p = k .before in
+    let f = plan .before .before .before in
+    let p = allocated f in
     let s = start p in
     let told = planned p _ (plan .plan4 .given .1) in
     called p _
-    (by-divided (given s) (encoded p) (s .args .content) (small s) _ (k .pack-key .ensures) _ _ _ (told .0)
+    (by-divided (given s) (encoded p) (s .args .content) (small s) _ (written f) _ _ _ (told .0)
     (told .1) _ _ (doubled .double .ensures) _ (set .set-words .ensures) _ (counted .count-leaves .ensures) _
     (pages .divide-pages .ensures))
 
@@ -243,6 +262,8 @@ add-spec =
     find-requires
     allocate-requires
     pack-key-requires
+    bias-key-requires
+    to-fields-requires
     cast-b
     enum-known-plan
     same-length

@@ -24,7 +24,7 @@ returns c =
     let last = c .before .last-key in
     subst
     (λ k. FirstPair (widthList (a .widths)) (unpackedKey k) (unpackedKey
-    (lastKey (a .page .now) (a .n) (a .key) (a .i)))
+    (lastKey (a .bias) (a .page .now) (a .n) (a .key) (a .i)))
     (c .first-pair .result))
     (first .ensures)
     (subst (λ k. FirstPair (widthList (a .widths)) (unpackedKey (first .result)) (unpackedKey k)

@@ -30,7 +30,7 @@ returns : tie.Need-returns
 returns c =
     let p = c .before .before in
     let a = p .before .before .before .args in
-    damaged-high (widthList (a .widths)) (a .page .now) (a .n) (a .key) (a .i) (a .pair) _
+    damaged-high (widthList (a .widths)) (a .bias) (a .page .now) (a .n) (a .key) (a .i) (a .pair) _
     (p .before .first-one .ensures)
     (bit p ∙ c .before .if1 .taken) (c .if2 .taken)
 
@@ -38,7 +38,7 @@ returns-2 : tie.Need-returns-2
 returns-2 c =
     let p = c .before .before .before in
     let a = p .before .before .before .args in
-    damaged-none (widthList (a .widths)) (a .page .now) (a .n) (a .key) (a .i) (a .pair) _
+    damaged-none (widthList (a .widths)) (a .bias) (a .page .now) (a .n) (a .key) (a .i) (a .pair) _
     (p .before .first-one .ensures)
     (bit p ∙ c .before .before .if1 .taken) (c .if3 .taken)
 
@@ -47,14 +47,14 @@ returns-3 c =
     let p = c .before .before .before in
     let s = p .before .before .before in
     let a = s .args in
-    own-high (widthList (a .widths)) (a .page .now) (a .n) (a .key) (a .i) (a .pair) _ (p .before .first-one .ensures)
+    own-high (widthList (a .widths)) (a .bias) (a .page .now) (a .n) (a .key) (a .i) (a .pair) _ (p .before .first-one .ensures)
     (bit p ∙ c .before .before .if1 .taken) (omega (arith, c .before .if2 .left)) (c .if3 .left) (s .pre .0 .0)
 
 returns-4 : tie.Need-returns-4
 returns-4 c =
     let p = c .before .before in
     let a = p .before .before .before .args in
-    damaged-low (widthList (a .widths)) (a .page .now) (a .n) (a .key) (a .i) (a .pair) _
+    damaged-low (widthList (a .widths)) (a .bias) (a .page .now) (a .n) (a .key) (a .i) (a .pair) _
     (p .before .first-one .ensures)
     (bit p ∙ c .before .if1 .left) (c .if4 .taken)
 
@@ -62,7 +62,7 @@ returns-5 : tie.Need-returns-5
 returns-5 c =
     let p = c .before .before .before in
     let a = p .before .before .before .args in
-    damaged-all (widthList (a .widths)) (a .page .now) (a .n) (a .key) (a .i) (a .pair) _
+    damaged-all (widthList (a .widths)) (a .bias) (a .page .now) (a .n) (a .key) (a .i) (a .pair) _
     (p .before .first-one .ensures)
     (bit p ∙ c .before .before .if1 .left) (c .if5 .taken)
 
@@ -70,13 +70,13 @@ returns-6 : tie.Need-returns-6
 returns-6 c =
     let p = c .before .before .before in
     let a = p .before .before .before .args in
-    own-low (widthList (a .widths)) (a .page .now) (a .n) (a .key) (a .i) (a .pair) _ (p .before .first-one .ensures)
+    own-low (widthList (a .widths)) (a .bias) (a .page .now) (a .n) (a .key) (a .i) (a .pair) _ (p .before .first-one .ensures)
     (bit p ∙ c .before .before .if1 .left) (omega (arith, c .before .if4 .left))
     (omega (
       arith,
       c .if5 .left,
       p .before .first-one .ensures,
-      firstOne-le (widthList (a .widths)) (a .pair) (a .page .now) (a .n) 0,
+      firstOne-le (widthList (a .widths)) (a .bias) (a .pair) (a .page .now) (a .n) 0,
     ))
 
 pub half-of-spec : {M : Type 1} → statement M

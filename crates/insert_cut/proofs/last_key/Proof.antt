@@ -4,11 +4,11 @@ use borrow.Author.Tests.{eq-eqb, ne-eqb}
 use Rattle.insert_cut.proofs.last_key.Statement.{statement}
 use Rattle.insert_cut.proofs.last_key.Tie as tie
 
-sub-key-at : tie.Need-sub-key-at
-sub-key-at c = search needs
+sub-code-at : tie.Need-sub-code-at
+sub-code-at c = search needs
 
-key-at-requires : tie.Need-key-at-requires
-key-at-requires c κs = search needs
+code-at-requires : tie.Need-code-at-requires
+code-at-requires c κs = search needs
 
 returns : tie.Need-returns
 returns c = let a = c .before .before .args in rw (eq-eqb (a .i) (a .n) (c .if1 .taken))
@@ -16,7 +16,7 @@ returns c = let a = c .before .before .args in rw (eq-eqb (a .i) (a .n) (c .if1 
 returns-2 : tie.Need-returns-2
 returns-2 c =
     let a = c .before .before .before .args in
-    rw (ne-eqb (a .i) (a .n) (c .before .if1 .left)) (c .key-at .ensures)
+    rw (ne-eqb (a .i) (a .n) (c .before .if1 .left)) (c .code-at .ensures)
 
 pub last-key-spec : {M : Type 1} → statement M
-last-key-spec = tie.close (tie.spec sub-key-at key-at-requires returns returns-2)
+last-key-spec = tie.close (tie.spec sub-code-at code-at-requires returns returns-2)

@@ -12,6 +12,7 @@ use borrow.Author.Tests.{not-true, not-false}
 use borrow.Rule.Slice.PartMut.{midOf}
 use Rattle.shape.specs.Shape.{widthsOf}
 use Rattle.shape.proofs.ShapeLaws.{widths-fit}
+use Rattle.record.specs.Lanes.{biasKey}
 use Rattle.record.specs.Packed.{unpackedKey}
 use Rattle.page.specs.Page.{pageAt}
 use Rattle.page.proofs.PartLaws.{midOf-page, length-pageAt}
@@ -24,34 +25,37 @@ use Rattle.insert_find.proofs.find_place.Tie as tie
 
 -- what is found is the key's place on the page
 place : (c : tie.After-find)
-    → let f = c .before .before .before .before .before .before .before .before .before in
+    → let f = c .before .before .before .before .before .before .before .before .before .before in
     let a = f .before .before .before .before .args in
-    Placed (widthsOf (a .state .shape)) (unpackedKey (a .key))
+    Placed (widthsOf (a .state .shape)) (biasKey (a .state .shape)) (unpackedKey (a .key))
     (pageAt (a .state .shape .capacity) (a .pages .now) (a .page))
     (f .count-at .result) (c .find .result)
 place c =
-    let size = c .before .before .before in
+    let bias = c .before in
+    let widths = bias .before in
+    let size = widths .before .before in
     let f = size .before .before .before .before .before .before in
     let a = f .before .before .before .before .args in
     let n = f .count-at .result in
     let start = size .before .page-start .result in
-    subst (λ page. Placed (widthsOf (a .state .shape)) (unpackedKey (a .key)) page n (c .find .result))
+    let part = midOf start (start + size .page-size .result - start) (a .pages .now) in
+    subst (λ page. Placed (widthsOf (a .state .shape)) (biasKey (a .state .shape)) (unpackedKey (a .key)) page n (c .find .result))
     (midOf-page (a .state .shape .capacity) (a .page) _ _ (a .pages .now) (size .before .page-start .ensures)
     (size .page-size .ensures))
-    (subst
-    (λ ws. Placed ws (unpackedKey (a .key)) (midOf start (start + size .page-size .result - start) (a .pages .now)) n
-    (c .find .result))
-    (c .before .widths-of .ensures) (c .find .ensures))
+    (subst (λ h. Placed (widthsOf (a .state .shape)) h (unpackedKey (a .key)) part n (c .find .result))
+    (bias .bias-key .ensures)
+    (subst (λ ws. Placed ws (bias .bias-key .result) (unpackedKey (a .key)) part n (c .find .result))
+    (widths .widths-of .ensures) (c .find .ensures)))
 
 -- the page is the leaf's
 own : (c : tie.After-find)
-    → let f = c .before .before .before .before .before .before .before .before .before in
+    → let f = c .before .before .before .before .before .before .before .before .before .before in
     let a = f .before .before .before .before .args in
     ownPage (a .state .shape) (a .depth) (a .key) (pageAt (a .state .shape .capacity) (a .pages .now) (a .page))
     (f .count-at .result)
     ≡ true
 own c =
-    let held = c .before .before .before .before .before in
+    let held = c .before .before .before .before .before .before in
     let holds = held .before .page-holds in
     sym (holds .ensures) ∙ not-false (holds .result) (held .if3 .left)
 
@@ -118,9 +122,13 @@ part-find-end c = search needs
 widths-of-requires : tie.Need-widths-of-requires
 widths-of-requires c κs = search needs
 
+bias-key-requires : tie.Need-bias-key-requires
+bias-key-requires c κs =
+    c .before .before .before .before .before .before .before .before .before .before .before .before .pre .0 .shape
+
 find-requires : tie.Need-find-requires
 find-requires c κs =
-    let size = c .before .before in
+    let size = c .before .before .before in
     let held = size .before .before in
     let s = held .before .before .before .before .before .before .before .before in
     let st = s .args .state in
@@ -129,7 +137,7 @@ find-requires c κs =
     (size .before .page-start .ensures) (size .page-size .ensures) in
     let whole = ap length part
     ∙ length-pageAt (st .shape .capacity) (s .args .page) (s .args .pages .now) (s .pre .1 .whole) in
-    (omega (arith, whole), widths-fit (st .shape) _ (s .pre .0 .shape) (c .widths-of .ensures))
+    (omega (arith, whole), widths-fit (st .shape) _ (s .pre .0 .shape) (c .before .widths-of .ensures))
 
 enum-known-place : tie.Need-enum-known-place
 enum-known-place c = search needs
@@ -140,7 +148,7 @@ enum-told c = search needs
 returns-4 : tie.Need-returns-4
 returns-4 c words encoded m =
     let d = c .before .before in
-    let few = d .before .before .before .before .before .before .before in
+    let few = d .before .before .before .before .before .before .before .before in
     let f = few .before .before in
     let s = f .before .before .before .before in
     let a = s .args in
@@ -149,7 +157,7 @@ returns-4 c words encoded m =
     (f .count-at .ensures .0)
     (omega (arith, few .if2 .left)) (own d) (λ i. omega (arith, known i)) _
     (subst
-    (Placed (widthsOf (a .state .shape)) (unpackedKey (a .key))
+    (Placed (widthsOf (a .state .shape)) (biasKey (a .state .shape)) (unpackedKey (a .key))
     (pageAt (a .state .shape .capacity) (a .pages .now) (a .page)) (f .count-at .result))
     (c .enum-told .given .1) (place d))
 
@@ -157,7 +165,7 @@ returns-5 : tie.Need-returns-5
 returns-5 c words encoded m =
     let found = c .before .before .place in
     let d = c .before .before .before .before in
-    let few = d .before .before .before .before .before .before .before in
+    let few = d .before .before .before .before .before .before .before .before in
     let f = few .before .before in
     let a = f .before .before .before .before .args in
     let known = f .before .before .before .shared-slice-known .given in
@@ -165,13 +173,14 @@ returns-5 c words encoded m =
     (f .count-at .ensures .0) (omega (arith, few .if2 .left)) (own d)
     (λ i. omega (arith, known i)) _
     (subst
-    (Placed (widthsOf (a .state .shape)) (unpackedKey (a .key))
+    (Placed (widthsOf (a .state .shape)) (biasKey (a .state .shape)) (unpackedKey (a .key))
     (pageAt (a .state .shape .capacity) (a .pages .now) (a .page)) (f .count-at .result))
     (found .given .1) (place d)) (c .if4 .taken)
 
 find-split-requires : tie.Need-find-split-requires
 find-split-requires c κs =
-    let f = c .before .before .before .before .before .before .before .before .before .before .before .before .before in
+    let f =
+    c .before .before .before .before .before .before .before .before .before .before .before .before .before .before in
     let s = f .before .before .before .before in
     (s .pre .0, s .pre .1)
 
@@ -179,7 +188,7 @@ returns-6 : tie.Need-returns-6
 returns-6 c words encoded m =
     let found = c .before .before .before .place in
     let d = c .before .before .before .before .before in
-    let few = d .before .before .before .before .before .before .before in
+    let few = d .before .before .before .before .before .before .before .before in
     let f = few .before .before in
     let a = f .before .before .before .before .args in
     let known = f .before .before .before .shared-slice-known .given in
@@ -188,7 +197,7 @@ returns-6 c words encoded m =
     (f .count-at .ensures .0)
     (omega (arith, few .if2 .left)) (own d) (λ i. omega (arith, known i)) _
     (subst
-    (Placed (widthsOf (a .state .shape)) (unpackedKey (a .key))
+    (Placed (widthsOf (a .state .shape)) (biasKey (a .state .shape)) (unpackedKey (a .key))
     (pageAt (a .state .shape .capacity) (a .pages .now) (a .page)) (f .count-at .result))
     (found .given .1) (place d))
     (omega (arith, c .before .if4 .left)))
@@ -210,6 +219,7 @@ find-place-spec =
     part-find-start
     part-find-end
     widths-of-requires
+    bias-key-requires
     find-requires
     enum-known-place
     enum-told

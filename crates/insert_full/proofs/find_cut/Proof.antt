@@ -52,9 +52,12 @@ part-half-of-end c = search needs
 widths-of-requires : tie.Need-widths-of-requires
 widths-of-requires c κs = search needs
 
+bias-key-requires : tie.Need-bias-key-requires
+bias-key-requires c κs = c .before .before .before .before .before .before .before .before .pre .0 .0 .shape
+
 half-of-requires : tie.Need-half-of-requires
 half-of-requires c κs =
-    let size = c .before .before in
+    let size = c .before .before .before in
     let s = size .before .before .before .before .before .before in
     let st = s .args .state in
     let page = s .pre .0 .1 in
@@ -62,8 +65,8 @@ half-of-requires c κs =
     let b = capacity-bounds (st .shape) (s .pre .0 .0 .shape) in
     let whole = ap length (part size)
     ∙ length-pageAt (st .shape .capacity) (s .args .split .page) (s .args .pages .now) (page .whole) in (
-      (b .0, b .1, omega (arith, whole), widths-fit (st .shape) _ (s .pre .0 .0 .shape) (c .widths-of .ensures)),
-      (s .pre .1 .0, subst (λ ws. pair / 4 < getD ws (pair % 4) 0) (sym (c .widths-of .ensures)) (s .pre .1 .1)),
+      (b .0, b .1, omega (arith, whole), widths-fit (st .shape) _ (s .pre .0 .0 .shape) (c .before .widths-of .ensures)),
+      (s .pre .1 .0, subst (λ ws. pair / 4 < getD ws (pair % 4) 0) (sym (c .before .widths-of .ensures)) (s .pre .1 .1)),
     )
 
 enum-known-half : tie.Need-enum-known-half
@@ -75,19 +78,19 @@ enum-told c = search needs
 returns : tie.Need-returns
 returns c words encoded m =
     let h = c .before .before in
-    let size = h .before .before .before in
+    let size = h .before .before .before .before in
     let a = size .before .before .before .before .before .before .args in
-    nine-half (store (a .state) words (a .pages .now)) encoded (a .key) (a .split) m _ _ (h .before .widths-of .ensures)
-    (part size)
+    nine-half (store (a .state) words (a .pages .now)) encoded (a .key) (a .split) m _ _ _ (h .before .before .widths-of .ensures)
+    (part size) (h .before .bias-key .ensures)
     (h .half-of .result) (h .half-of .ensures) (c .enum-told .given .1)
 
 returns-2 : tie.Need-returns-2
 returns-2 c words encoded m =
     let h = c .before .before .before in
-    let size = h .before .before .before in
+    let size = h .before .before .before .before in
     let a = size .before .before .before .before .before .before .args in
-    full-found (store (a .state) words (a .pages .now)) encoded (a .key) (a .split) m _ _
-    (h .before .widths-of .ensures) (part size) (h .half-of .result) (h .half-of .ensures) _ (c .before .half .given .1)
+    full-found (store (a .state) words (a .pages .now)) encoded (a .key) (a .split) m _ _ _
+    (h .before .before .widths-of .ensures) (part size) (h .before .bias-key .ensures) (h .half-of .result) (h .half-of .ensures) _ (c .before .half .given .1)
 
 pub find-cut-spec : {M : Type 1} → statement M
 find-cut-spec =
@@ -102,6 +105,7 @@ find-cut-spec =
     part-half-of-start
     part-half-of-end
     widths-of-requires
+    bias-key-requires
     half-of-requires
     enum-known-half
     enum-told

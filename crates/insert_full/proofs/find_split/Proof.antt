@@ -23,35 +23,35 @@ use Rattle.insert_full.proofs.find_split.Tie as tie
 -- widths that fit
 fit : (c : tie.After-widths-of) → Fit (widthList (c .widths-of .result))
 fit c =
-    let s = c .before .before .before .before .before in
+    let s = c .before .before .before .before .before .before in
     widths-fit (s .args .state .shape) _ (s .pre .0 .shape) (c .widths-of .ensures)
 
 -- the part is the leaf's page
 part : (c : tie.After-page-size)
-    → let a = c .before .before .before .before .before .before .before .args in
+    → let a = c .before .before .before .before .before .before .before .before .args in
     let start = c .before .page-start .result in
     midOf start (start + c .page-size .result - start) (a .pages .now)
     ≡ pageAt (a .state .shape .capacity) (a .pages .now) (a .page)
 part c =
-    let a = c .before .before .before .before .before .before .before .args in
+    let a = c .before .before .before .before .before .before .before .before .args in
     midOf-page (a .state .shape .capacity) (a .page) _ _ (a .pages .now) (c .before .page-start .ensures)
     (c .page-size .ensures)
 
 -- what is computed is where the first and the last key differ, at the step with its number
 met : (c : tie.After-ends-pair)
     → let w = c .before .before .before .before in
-    let a = w .before .before .before .before .before .args in
+    let a = w .before .before .before .before .before .before .args in
     (words encoded : List ℕ)
     → FullMet (store (a .state) words (a .pages .now)) encoded (a .key) (a .page) (a .depth) (a .i)
     → EndsMet (store (a .state) words (a .pages .now)) encoded (a .page) (a .depth) (a .i) (c .ends-pair .result)
     (length (stepsBelow (widthList (w .widths-of .result)) (c .ends-pair .result)))
 met c words encoded m =
     let w = c .before .before .before .before in
-    let a = w .before .before .before .before .before .args in
+    let a = w .before .before .before .before .before .before .args in
     ends-met (store (a .state) words (a .pages .now)) encoded (a .key) (a .page) (a .depth) (a .i)
     (c .ends-pair .result) _
-    m (widthList (w .widths-of .result)) _ (w .widths-of .ensures)
-    (part (c .before .before)) (c .ends-pair .ensures) refl
+    m (widthList (w .widths-of .result)) _ _ (w .widths-of .ensures)
+    (part (c .before .before)) (w .before .bias-key .ensures) (c .ends-pair .ensures) refl
 
 below : (c : tie.Else1) → c .before .ends-pair .result < 64
 below c = omega (arith, c .before .ends-pair .ensures .most, c .if1 .left)
@@ -59,20 +59,23 @@ below c = omega (arith, c .before .ends-pair .ensures .most, c .if1 .left)
 -- the same, with the number as it is computed
 met-step : (c : tie.After-steps-before)
     → let e = c .before .before in
-    let a = e .before .before .before .before .before .before .before .before .before .args in
+    let a = e .before .before .before .before .before .before .before .before .before .before .args in
     (words encoded : List ℕ)
     → FullMet (store (a .state) words (a .pages .now)) encoded (a .key) (a .page) (a .depth) (a .i)
     → EndsMet (store (a .state) words (a .pages .now)) encoded (a .page) (a .depth) (a .i) (e .ends-pair .result)
     (c .steps-before .result)
 met-step c words encoded m =
     let e = c .before .before in
-    let a = e .before .before .before .before .before .before .before .before .before .args in
+    let a = e .before .before .before .before .before .before .before .before .before .before .args in
     subst
     (EndsMet (store (a .state) words (a .pages .now)) encoded (a .page) (a .depth) (a .i) (e .ends-pair .result))
     (c .steps-before .ensures .before) (met e words encoded m)
 
 cast-capacity : tie.Need-cast-capacity
 cast-capacity c = search needs
+
+bias-key-requires : tie.Need-bias-key-requires
+bias-key-requires c κs = c .before .before .before .before .pre .0 .shape
 
 widths-of-requires : tie.Need-widths-of-requires
 widths-of-requires c κs = search needs
@@ -99,7 +102,7 @@ ends-pair-requires : tie.Need-ends-pair-requires
 ends-pair-requires c κs =
     let size = c .before in
     let w = size .before .before in
-    let s = w .before .before .before .before .before in
+    let s = w .before .before .before .before .before .before in
     let st = s .args .state in
     let b = capacity-bounds (st .shape) (s .pre .0 .shape) in
     let whole = ap length (part size)
@@ -108,7 +111,7 @@ ends-pair-requires c κs =
 
 returns : tie.Need-returns
 returns c words encoded m =
-    let a = c .before .before .before .before .before .before .before .before .before .before .args in
+    let a = c .before .before .before .before .before .before .before .before .before .before .before .args in
     nine-ends (store (a .state) words (a .pages .now)) encoded (m .asked) _ _ _ _ _ (met (c .before) words encoded m)
     (c .if1 .taken)
 
@@ -121,14 +124,14 @@ cast-if2 c = search needs
 returns-2 : tie.Need-returns-2
 returns-2 c words encoded m =
     let t = c .before .before in
-    let a = t .before .before .before .before .before .before .before .before .before .before .before .args in
+    let a = t .before .before .before .before .before .before .before .before .before .before .before .before .args in
     six-alike (store (a .state) words (a .pages .now)) encoded (m .asked) _ _ _ _ _ (met-step t words encoded m)
     (below (t .before)) (c .if2 .taken)
 
 returns-3 : tie.Need-returns-3
 returns-3 c words encoded m =
     let t = c .before .before .before in
-    let a = t .before .before .before .before .before .before .before .before .before .before .before .args in
+    let a = t .before .before .before .before .before .before .before .before .before .before .before .before .args in
     nine-below (store (a .state) words (a .pages .now)) encoded (m .asked) _ _ _ _ _ (met-step t words encoded m)
     (below (t .before)) (c .if3 .taken)
 
@@ -138,7 +141,7 @@ tally-holds-requires c κs = search needs
 returns-4 : tie.Need-returns-4
 returns-4 c words encoded m =
     let e = c .before .before .before .before .before .before in
-    let a = e .before .before .before .before .before .before .before .before .before .before .args in
+    let a = e .before .before .before .before .before .before .before .before .before .before .before .args in
     let tally = c .before .tally-holds in
     nine-tally (store (a .state) words (a .pages .now)) encoded
     (sym (tally .ensures) ∙ not-true (tally .result) (c .if4 .taken))
@@ -147,7 +150,7 @@ find-cut-requires : tie.Need-find-cut-requires
 find-cut-requires c κs =
     let e = c .before .before .before .before .before .before in
     let w = e .before .before .before .before .before in
-    let s = w .before .before .before .before .before in
+    let s = w .before .before .before .before .before .before in
     let pair = e .before .ends-pair .result in
     let live = e .before .ends-pair .ensures .step-there (below e) in (
       (s .pre .0, s .pre .1),
@@ -177,6 +180,7 @@ find-split-spec =
     tie.close
     (tie.spec
     cast-capacity
+    bias-key-requires
     widths-of-requires
     page-start-requires
     page-size-requires

@@ -1,25 +1,48 @@
--- `key_encoding::encode_query` meets its contract: an encoding is the value itself. Assumes nothing.
-use Prim.Native.Nat.{ℕ}
-use mathlib.Core.Path.{_≡_, refl}
+-- `key_encoding::encode_query` meets its contract: without marks a value is its encoding; else attribute by attribute.
+-- Assumes nothing.
+use mathlib.Core.Path.{refl, sym}
 use mathlib.Core.List.{[], _∷_}
-use mathlib.Core.Option.{Option, none, some}
-use lib.ListN.{getD}
-use Rattle.shape.specs.Key.{encode, encodeWanted, wantedValues, encodedWanted}
-use Rattle.shape.specs.declared.Shape.{Shape}
+use Rattle.shape.specs.Key.{wantedValues, encodedWanted}
+use Rattle.shape.proofs.UnmarkedLaws.{encodedWanted-none}
+use borrow.Author.Needs.{needs}
 use Rattle.key_encoding.proofs.encode_query.Statement.{statement}
 use Rattle.key_encoding.proofs.encode_query.Tie as tie
 
-same : (s : Shape) (j : ℕ) (w : Option ℕ) → w ≡ encodeWanted s j w
-unfolding encode
-same s j none = refl
-same s j (some v) = refl
-
 returns : tie.Need-returns
-unfolding wantedValues encodedWanted
+unfolding wantedValues
 returns c =
-    let s = c .args .shape in
-    let w : ℕ → Option ℕ = λ j. getD (wantedValues (c .args .query)) j none in
-    λ i. same s 0 (w 0) i ∷ same s 1 (w 1) i ∷ same s 2 (w 2) i ∷ same s 3 (w 3) i ∷ []
+    let start = c .before .before in
+    sym (encodedWanted-none (start .args .shape) (c .if1 .taken) (wantedValues (start .args .query)) refl)
+
+encode-wanted-requires : tie.Need-encode-wanted-requires
+encode-wanted-requires c κs = search needs
+
+encode-wanted-requires-2 : tie.Need-encode-wanted-requires-2
+encode-wanted-requires-2 c κs = search needs
+
+encode-wanted-requires-3 : tie.Need-encode-wanted-requires-3
+encode-wanted-requires-3 c κs = search needs
+
+encode-wanted-requires-4 : tie.Need-encode-wanted-requires-4
+encode-wanted-requires-4 c κs = search needs
+
+returns-2 : tie.Need-returns-2
+unfolding wantedValues encodedWanted
+returns-2 c =
+    let two = c .before .before in
+    let e0 = two .before .encode-wanted .ensures in
+    let e1 = two .encode-wanted2 .ensures in
+    let e2 = c .before .encode-wanted3 .ensures in
+    let e3 = c .encode-wanted4 .ensures in
+    λ i. e0 i ∷ e1 i ∷ e2 i ∷ e3 i ∷ []
 
 pub encode-query-spec : {M : Type 1} → statement M
-encode-query-spec = tie.close (tie.spec returns)
+encode-query-spec =
+    tie.close
+    (tie.spec
+    returns
+    encode-wanted-requires
+    encode-wanted-requires-2
+    encode-wanted-requires-3
+    encode-wanted-requires-4
+    returns-2)

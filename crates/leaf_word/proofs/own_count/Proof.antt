@@ -1,6 +1,7 @@
 -- `leaf_word::own_count` meets its contract: what is lent is the page, and the mask is that of the leaf's fixed bits.
 -- Assumes nothing.
 use mathlib.Core.Path.{ap, _∙_}
+use Rattle.record.specs.Lanes.{biasKey}
 use Rattle.page.specs.Page.{countOf, pageAt}
 use Rattle.page.proofs.PartLaws.{midOf-page}
 use Rattle.page_ends.specs.Ends.{endsAgree}
@@ -17,6 +18,9 @@ fixed-bits-requires : tie.Need-fixed-bits-requires
 fixed-bits-requires c κs =
     let s = c .before .before in
     fixed-bits-asks (s .args .shape) (s .pre .shape) (s .args .depth) (s .pre .deep) _ (c .widths-of .ensures)
+
+bias-key-requires : tie.Need-bias-key-requires
+bias-key-requires c κs = search needs
 
 cast-capacity : tie.Need-cast-capacity
 cast-capacity c = search needs
@@ -45,16 +49,20 @@ fair-count-requires c κs = search needs
 returns : tie.Need-returns
 returns c =
     let size = c .before .before in
-    let mask = size .before .before .before in
+    let bias = size .before .before .before in
+    let mask = bias .before in
     let s = mask .before .before .before in
     let a = s .args in
     let b = a .shape .capacity in
     let page = pageAt b (a .pages .now) (a .g) in
     c .fair-count .ensures
-    ∙ ap (λ part. fairCount b (endsAgree (mask .fixed-bits .result) (a .key) part (countOf part)) part)
+    ∙ ap (λ part. fairCount b (endsAgree (bias .bias-key .result) (mask .fixed-bits .result) (a .key) part (countOf part)) part)
     (midOf-page b (a .g) _ _ (a .pages .now) (size .before .page-start .ensures) (size .page-size .ensures))
+    ∙ ap (λ h. fairCount b (endsAgree h (mask .fixed-bits .result) (a .key) page (countOf page)) page)
+    (bias .bias-key .ensures)
     ∙ ap (λ own. fairCount b own page)
-    (endsAgree-mask (a .shape) (s .pre .shape) (a .depth) (s .pre .deep) _ (mask .before .widths-of .ensures) _
+    (endsAgree-mask (a .shape) (s .pre .shape) (a .depth) (s .pre .deep) _ (mask .before .widths-of .ensures)
+    (biasKey (a .shape)) _
     (mask .fixed-bits .ensures) (a .key) (s .pre .fits) page (countOf page))
 
 pub own-count-spec : {M : Type 1} → statement M
@@ -63,6 +71,7 @@ own-count-spec =
     (tie.spec
     widths-of-requires
     fixed-bits-requires
+    bias-key-requires
     cast-capacity
     page-start-requires
     page-size-requires

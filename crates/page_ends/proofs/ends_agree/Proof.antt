@@ -5,18 +5,18 @@ use borrow.Author.Needs.{needs}
 use Rattle.page_ends.proofs.ends_agree.Statement.{statement}
 use Rattle.page_ends.proofs.ends_agree.Tie as tie
 
-key-at-requires : tie.Need-key-at-requires
-key-at-requires c κs = search needs
+code-at-requires : tie.Need-code-at-requires
+code-at-requires c κs = search needs
 
-sub-key-at : tie.Need-sub-key-at
-sub-key-at c = search needs
+sub-code-at : tie.Need-sub-code-at
+sub-code-at c = search needs
 
-key-at-requires-2 : tie.Need-key-at-requires-2
-key-at-requires-2 c κs = search needs
+code-at-requires-2 : tie.Need-code-at-requires-2
+code-at-requires-2 c κs = search needs
 
 returns : tie.Need-returns
 unfolding endsAgree
-returns c = rw (c .before .key-at .ensures, c .key-at2 .ensures) refl
+returns c = rw (c .before .code-at .ensures, c .code-at2 .ensures) refl
 
 pub ends-agree-spec : {M : Type 1} → statement M
-ends-agree-spec = tie.close (tie.spec key-at-requires sub-key-at key-at-requires-2 returns)
+ends-agree-spec = tie.close (tie.spec code-at-requires sub-code-at code-at-requires-2 returns)

@@ -11,11 +11,11 @@ use Rattle.page_ends.proofs.fair_count.Tie as tie
 -- what the test of the first and the last record is told, of the page's own count
 own : (c : tie.After-ends-agree)
     → let a = c .before .before .before .before .before .args in
-    c .ends-agree .result ≡ endsAgree (a .mask) (a .key) (a .page .now) (countOf (a .page .now))
+    c .ends-agree .result ≡ endsAgree (a .bias) (a .mask) (a .key) (a .page .now) (countOf (a .page .now))
 own c =
     let a = c .before .before .before .before .before .args in
     c .ends-agree .ensures
-    ∙ ap (endsAgree (a .mask) (a .key) (a .page .now)) (c .before .before .before .count .ensures .0)
+    ∙ ap (endsAgree (a .bias) (a .mask) (a .key) (a .page .now)) (c .before .before .before .count .ensures .0)
 
 count-requires : tie.Need-count-requires
 count-requires c κs = search needs

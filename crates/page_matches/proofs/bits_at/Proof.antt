@@ -1,7 +1,8 @@
 -- `page_matches::bits_at` meets its contract, variant by variant. Assumes nothing.
 use mathlib.Core.Path.{sym, ap, _∙_}
+use lib.Bits.{and-mask}
 use Rattle.shape.specs.Key.{wantedValue}
-use Rattle.page_matches.specs.Pattern.{wantedBits}
+use Rattle.page_matches.specs.Pattern.{wantedField}
 use Rattle.page_matches.proofs.PatternLaws.{getD-wantedValues}
 use borrow.Author.Needs.{needs}
 use Rattle.page_matches.proofs.bits_at.Statement.{statement}
@@ -23,15 +24,16 @@ returns : tie.Need-returns
 returns c =
     let s = c .before .before .before in
     sym
-    (ap wantedBits (getD-wantedValues (s .args .t1) (s .args .j) (s .pre))
-    ∙ ap (λ w. wantedBits (wantedValue w)) (c .enum-told .given .1))
+    (ap wantedField (getD-wantedValues (s .args .t1) (s .args .j) (s .pre))
+    ∙ ap (λ w. wantedField (wantedValue w)) (c .enum-told .given .1))
 
 returns-2 : tie.Need-returns-2
 returns-2 c =
     let s = c .before .before .before .before in
-    sym
-    (ap wantedBits (getD-wantedValues (s .args .t1) (s .args .j) (s .pre))
-    ∙ ap (λ w. wantedBits (wantedValue w)) (c .before .wanted .given .1))
+    and-mask (c .before .wanted .given .0 .0) 16
+    ∙ sym
+    (ap wantedField (getD-wantedValues (s .args .t1) (s .args .j) (s .pre))
+    ∙ ap (λ w. wantedField (wantedValue w)) (c .before .wanted .given .1))
 
 pub bits-at-spec : {M : Type 1} → statement M
 bits-at-spec =

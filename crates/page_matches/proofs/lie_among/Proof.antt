@@ -11,23 +11,23 @@ use Rattle.page_matches.proofs.lie_among.Statement.{statement}
 use Rattle.page_matches.proofs.lie_among.Tie as tie
 
 abbrev Inv-loop : tie.InvT-loop
-Inv-loop page k low high mask₀ i₀ mask i = (i ≤ k) × (mask ≡ matchMask (liesIn low high) page (k - i) i % 2 ^ 64)
+Inv-loop page k bias low high mask₀ i₀ mask i = (i ≤ k) × (mask ≡ matchMask (liesIn bias low high) page (k - i) i % 2 ^ 64)
 
 abbrev μ-loop : tie.MeasureT-loop
-μ-loop page k low high mask₀ i₀ mask i = i
+μ-loop page k bias low high mask₀ i₀ mask i = i
 
 loop-holds : tie.Need-loop-holds Inv-loop μ-loop
 unfolding matchMask
 loop-holds c =
     let a = c .before .args in
     let none : a .k - a .k ≡ 0 = omega arith in
-    (omega arith, sym (ap (λ m. matchMask (liesIn (a .low) (a .high)) (a .page .now) m (a .k) % 2 ^ 64) none))
+    (omega arith, sym (ap (λ m. matchMask (liesIn (a .bias) (a .low) (a .high)) (a .page .now) m (a .k) % 2 ^ 64) none))
 
 sub-i : tie.Need-sub-i Inv-loop μ-loop
 sub-i c = omega arith
 
-key-at-requires : tie.Need-key-at-requires Inv-loop μ-loop
-key-at-requires c κs = omega arith
+code-at-requires : tie.Need-code-at-requires Inv-loop μ-loop
+code-at-requires c κs = omega arith
 
 lies-between-requires : tie.Need-lies-between-requires Inv-loop μ-loop
 lies-between-requires c κs = tt
@@ -43,12 +43,13 @@ unfolding liesIn
 loop-again c =
     let loop = c .before .before .before .loop in
     let a = c .before .before .before .before .before .args in
+    let bias = a .bias in
     let low = a .low in
     let high = a .high in (
       omega arith,
-      matchMask-below (liesIn low high) (a .page .now) (a .k) (loop .i) (loop .mask) _
+      matchMask-below (liesIn bias low high) (a .page .now) (a .k) (loop .i) (loop .mask) _
           (c .before .before .loop-test .taken) (loop .inv .0) (loop .inv .1)
-          (c .lies-between .ensures ∙ ap (liesBetween low high) (c .before .key-at .ensures)),
+          (c .lies-between .ensures ∙ ap (liesBetween low high) (c .before .code-at .ensures)),
     )
 
 returns : tie.Need-returns Inv-loop μ-loop
@@ -58,8 +59,8 @@ returns c =
     let end : loop .i ≡ 0 = omega arith in
     let all : a .k - 0 ≡ a .k = omega arith in
     loop .inv .1
-    ∙ (λ j. matchMask (liesIn (a .low) (a .high)) (a .page .now) (a .k - end j) (end j) % 2 ^ 64)
-    ∙ ap (λ k. matchMask (liesIn (a .low) (a .high)) (a .page .now) k 0 % 2 ^ 64) all
+    ∙ (λ j. matchMask (liesIn (a .bias) (a .low) (a .high)) (a .page .now) (a .k - end j) (end j) % 2 ^ 64)
+    ∙ ap (λ k. matchMask (liesIn (a .bias) (a .low) (a .high)) (a .page .now) k 0 % 2 ^ 64) all
 
 pub lie-among-spec : {M : Type 1} → statement M
 lie-among-spec =
@@ -69,7 +70,7 @@ lie-among-spec =
     μ-loop
     loop-holds
     sub-i
-    key-at-requires
+    code-at-requires
     lies-between-requires
     cast-mask
     loop-less

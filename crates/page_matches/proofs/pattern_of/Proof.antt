@@ -4,7 +4,7 @@ use mathlib.Core.List.{[], _∷_}
 use Rattle.shape.specs.Key.{wantedValues}
 use Rattle.record.specs.Packed.{packedKey, SixteenBits}
 use Rattle.page_matches.specs.Pattern.{patternOf}
-use Rattle.page_matches.proofs.PatternLaws.{masksOf-lt}
+use Rattle.page_matches.proofs.PatternLaws.{masksOf-lt, fieldsWanted-lt}
 use borrow.Author.Needs.{needs}
 use Rattle.page_matches.proofs.pattern_of.Statement.{statement}
 use Rattle.page_matches.proofs.pattern_of.Tie as tie
@@ -50,8 +50,8 @@ pack-key-requires-2 c κs =
     let d1 = b .before .before .bits-at2 .ensures in
     let d2 = b .before .bits-at3 .ensures in
     let d3 = b .bits-at4 .ensures in
-    let start = b .before .before .before .before .before .before .before .before in
-    subst SixteenBits (sym (λ i. d0 i ∷ d1 i ∷ d2 i ∷ d3 i ∷ [])) (start .pre)
+    let q = wantedValues (b .before .before .before .before .before .before .before .before .args .query) in
+    subst SixteenBits (sym (λ i. d0 i ∷ d1 i ∷ d2 i ∷ d3 i ∷ [])) (fieldsWanted-lt q)
 
 returns : tie.Need-returns
 unfolding patternOf

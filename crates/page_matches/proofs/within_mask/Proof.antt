@@ -32,7 +32,7 @@ returns c =
     let s = c .before .before .before in
     let a = s .args in
     let page = a .page .now in
-    let test = liesIn (a .low) (a .high) in
+    let test = liesIn (a .bias) (a .low) (a .high) in
     let slots = (length page - 2) / recordSize in
     ⊎-elim
     (λ w. matchMask-cut test page (a .n) 16 _ (s .pre .0) (omega (arith, w .0 .taken)) (w .2 ∙ w .1 .ensures))

@@ -12,13 +12,13 @@ use Rattle.page_place.proofs.find.Statement.{statement}
 use Rattle.page_place.proofs.find.Tie as tie
 
 abbrev Inv-loop : tie.InvT-loop
-Inv-loop page n widths key low₀ high₀ low high =
+Inv-loop page n widths bias key low₀ high₀ low high =
     (low ≤ high) × (high ≤ n)
-    × ((k : ℕ) → suc k ≡ low → orderTo (widthList widths) (unpackedKey key) page k ≡ After)
-    × (high < n → orderTo (widthList widths) (unpackedKey key) page high ≡ Before)
+    × ((k : ℕ) → suc k ≡ low → orderTo (widthList widths) bias (unpackedKey key) page k ≡ After)
+    × (high < n → orderTo (widthList widths) bias (unpackedKey key) page high ≡ Before)
 
 abbrev μ-loop : tie.MeasureT-loop
-μ-loop page n widths key low₀ high₀ low high = high - low
+μ-loop page n widths bias key low₀ high₀ low high = high - low
 
 loop-holds : tie.Need-loop-holds Inv-loop μ-loop
 loop-holds c = (omega arith, omega arith, (λ k e. absurd (omega arith)), (λ l. absurd (omega arith)))
@@ -29,8 +29,8 @@ sub-mid c = omega arith
 add-mid : tie.Need-add-mid Inv-loop μ-loop
 add-mid c = omega arith
 
-key-at-requires : tie.Need-key-at-requires Inv-loop μ-loop
-key-at-requires c κs = omega arith
+code-at-requires : tie.Need-code-at-requires Inv-loop μ-loop
+code-at-requires c κs = omega arith
 
 compare-requires : tie.Need-compare-requires Inv-loop μ-loop
 compare-requires c κs = c .before .before .before .before .pre .1
@@ -43,7 +43,7 @@ returns c =
     let call = c .before .before in
     let a = call .before .before .before .before .before .args in
     let read =
-    ap (λ k. compared (widthList (a .widths)) (unpackedKey (a .key)) (unpackedKey k)) (call .before .key-at .ensures) in
+    ap (λ k. compared (widthList (a .widths)) (unpackedKey (a .key)) (unpackedKey k)) (call .before .code-at .ensures) in
     (omega arith, sym read ∙ sym (call .compare .ensures) ∙ c .enum-told .given .1)
 
 enum-told-2 : tie.Need-enum-told-2 Inv-loop μ-loop
@@ -58,7 +58,7 @@ loop-again c =
     let loop = call .before .before .before .loop in
     let a = call .before .before .before .before .before .args in
     let read =
-    ap (λ k. compared (widthList (a .widths)) (unpackedKey (a .key)) (unpackedKey k)) (call .before .key-at .ensures) in
+    ap (λ k. compared (widthList (a .widths)) (unpackedKey (a .key)) (unpackedKey k)) (call .before .code-at .ensures) in
     (omega arith, omega arith, loop .inv .2, (λ l. sym read ∙ sym (call .compare .ensures) ∙ c .enum-told2 .given .1))
 
 enum-told-3 : tie.Need-enum-told-3 Inv-loop μ-loop
@@ -78,11 +78,11 @@ loop-again-2 c =
     let mid = loop .low + (loop .high - loop .low) / 2 in
     let ws = widthList (a .widths) in
     let key = unpackedKey (a .key) in
-    let read = ap (λ k. compared ws key (unpackedKey k)) (call .before .key-at .ensures) in
-    let after : orderTo ws key (a .page .now) mid ≡ After =
+    let read = ap (λ k. compared ws key (unpackedKey k)) (call .before .code-at .ensures) in
+    let after : orderTo ws (a .bias) key (a .page .now) mid ≡ After =
     sym read ∙ sym (call .compare .ensures) ∙ c .enum-told3 .given .1 in
-    let behind : (k : ℕ) → suc k ≡ mid + 1 → orderTo ws key (a .page .now) k ≡ After =
-    λ k e. subst (λ i. orderTo ws key (a .page .now) i ≡ After) (let same : mid ≡ k = omega arith in same) after in
+    let behind : (k : ℕ) → suc k ≡ mid + 1 → orderTo ws (a .bias) key (a .page .now) k ≡ After =
+    λ k e. subst (λ i. orderTo ws (a .bias) key (a .page .now) i ≡ After) (let same : mid ≡ k = omega arith in same) after in
     (omega arith, omega arith, behind, loop .inv .3)
 
 returns-2 : tie.Need-returns-2 Inv-loop μ-loop
@@ -93,7 +93,7 @@ returns-2 c =
     let met : loop .high ≡ loop .low = omega arith in (
       omega arith,
       loop .inv .2,
-      subst (λ i. i < a .n → orderTo ws (unpackedKey (a .key)) (a .page .now) i ≡ Before) met (loop .inv .3),
+      subst (λ i. i < a .n → orderTo ws (a .bias) (unpackedKey (a .key)) (a .page .now) i ≡ Before) met (loop .inv .3),
     )
 
 pub find-spec : {M : Type 1} → statement M
@@ -105,7 +105,7 @@ find-spec =
     loop-holds
     sub-mid
     add-mid
-    key-at-requires
+    code-at-requires
     compare-requires
     enum-told
     returns

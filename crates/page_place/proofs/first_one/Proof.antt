@@ -10,19 +10,19 @@ use Rattle.page_place.proofs.first_one.Statement.{statement}
 use Rattle.page_place.proofs.first_one.Tie as tie
 
 abbrev Inv-loop : tie.InvT-loop
-Inv-loop page n widths g i₀ i =
-    (i ≤ n) × (firstOne (widthList widths) g page n 0 ≡ firstOne (widthList widths) g page (n - i) i)
+Inv-loop page n widths bias g i₀ i =
+    (i ≤ n) × (firstOne (widthList widths) bias g page n 0 ≡ firstOne (widthList widths) bias g page (n - i) i)
 
 abbrev μ-loop : tie.MeasureT-loop
-μ-loop page n widths g i₀ i = n - i
+μ-loop page n widths bias g i₀ i = n - i
 
 loop-holds : tie.Need-loop-holds Inv-loop μ-loop
 loop-holds c =
     let all : c .before .args .n - 0 ≡ c .before .args .n = omega arith in
     (omega arith, rw all)
 
-key-at-requires : tie.Need-key-at-requires Inv-loop μ-loop
-key-at-requires c κs = omega arith
+code-at-requires : tie.Need-code-at-requires Inv-loop μ-loop
+code-at-requires c κs = omega arith
 
 pair-bit-requires : tie.Need-pair-bit-requires Inv-loop μ-loop
 pair-bit-requires c κs =
@@ -36,8 +36,8 @@ returns c =
     let a = read .before .before .before .before .args in
     sym
     (loop .inv .1
-    ∙ firstOne-here (widthList (a .widths)) (a .g) (a .page .now) (a .n) (loop .i) (read .before .loop-test .taken)
-    (read .key-at .result) (read .key-at .ensures) (c .before .pair-bit .result) (c .before .pair-bit .ensures)
+    ∙ firstOne-here (widthList (a .widths)) (a .bias) (a .g) (a .page .now) (a .n) (loop .i) (read .before .loop-test .taken)
+    (read .code-at .result) (read .code-at .ensures) (c .before .pair-bit .result) (c .before .pair-bit .ensures)
     (c .if1 .taken))
 
 add-i : tie.Need-add-i Inv-loop μ-loop
@@ -53,9 +53,9 @@ loop-again c =
     let a = read .before .before .before .before .args in (
       omega arith,
       loop .inv .1
-          ∙ firstOne-next (widthList (a .widths)) (a .g) (a .page .now) (a .n) (loop .i)
+          ∙ firstOne-next (widthList (a .widths)) (a .bias) (a .g) (a .page .now) (a .n) (loop .i)
           (read .before .loop-test .taken)
-          (read .key-at .result) (read .key-at .ensures) (c .before .pair-bit .result) (c .before .pair-bit .ensures)
+          (read .code-at .result) (read .code-at .ensures) (c .before .pair-bit .result) (c .before .pair-bit .ensures)
           (c .if1 .left),
     )
 
@@ -63,7 +63,7 @@ returns-2 : tie.Need-returns-2 Inv-loop μ-loop
 returns-2 c =
     let loop = c .before .loop in
     let a = c .before .before .before .args in
-    sym (loop .inv .1 ∙ firstOne-end (widthList (a .widths)) (a .g) (a .page .now) (a .n) (loop .i) (omega arith))
+    sym (loop .inv .1 ∙ firstOne-end (widthList (a .widths)) (a .bias) (a .g) (a .page .now) (a .n) (loop .i) (omega arith))
 
 pub first-one-spec : {M : Type 1} → statement M
 first-one-spec =
@@ -72,7 +72,7 @@ first-one-spec =
     Inv-loop
     μ-loop
     loop-holds
-    key-at-requires
+    code-at-requires
     pair-bit-requires
     returns
     add-i

@@ -109,7 +109,7 @@ loop-again c =
     let next : 4 * a .bit + l .z + 1 ≡ 4 * a .bit + (l .z + 1) = omega arith in
     let here = l .inv .2 in
     let live-here = live (a .bit) (l .z) z ws in
-    let lent : 82 ≤ length (l .rows) = omega (arith, s .pre .table-lent, l .inv .1) in (
+    let lent : 83 ≤ length (l .rows) = omega (arith, s .pre .table-lent, l .inv .1) in (
       omega (arith, z),
       ⊎-elim
           (λ w. length-stored _ _ _ _ _ _ here (w .0 .taken) (s .pre .fit) (live-here _ (w .1 .ensures) (w .2 .taken)) _

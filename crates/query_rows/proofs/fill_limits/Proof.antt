@@ -1,4 +1,4 @@
--- `query_rows::fill_limits` meets its contract: four stores in a row. Assumes nothing.
+-- `query_rows::fill_limits` meets its contract: five stores in a row. Assumes nothing.
 use Rattle.query_rows.specs.Rows.{limited}
 use borrow.Author.Needs.{needs}
 use Rattle.query_rows.proofs.fill_limits.Statement.{statement}
@@ -28,9 +28,15 @@ tallied-depths-requires c κs = search needs
 element-write-rows-4 : tie.Need-element-write-rows-4
 element-write-rows-4 c = search needs
 
+bias-key-requires : tie.Need-bias-key-requires
+bias-key-requires c κs = search needs
+
+element-write-rows-5 : tie.Need-element-write-rows-5
+element-write-rows-5 c = search needs
+
 returns : tie.Need-returns
 unfolding limited
-returns c = rw (c .tallied-depths .ensures)
+returns c = rw (c .before .tallied-depths .ensures, c .bias-key .ensures)
 
 pub fill-limits-spec : {M : Type 1} → statement M
 fill-limits-spec =
@@ -44,4 +50,6 @@ fill-limits-spec =
     element-write-rows-3
     tallied-depths-requires
     element-write-rows-4
+    bias-key-requires
+    element-write-rows-5
     returns)

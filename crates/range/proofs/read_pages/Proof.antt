@@ -13,7 +13,7 @@ use Rattle.query_rows.proofs.TableLaws.{Table-limited}
 use Rattle.query_records.specs.Records.{listHits}
 use Rattle.range_number.specs.Ends.{lowKey, highKey}
 use Rattle.range_walk.specs.Meeting.{Meeting}
-use Rattle.range.proofs.CallLaws.{low-of-none, high-of-none, limits-lent, walkable-rows, nine-damaged}
+use Rattle.range.proofs.CallLaws.{shape-of-none, low-of-none, high-of-none, limits-lent, walkable-rows, nine-damaged}
 use Rattle.range.proofs.CallLaws.{pages-within, promise-of-pages}
 use borrow.Author.Needs.{needs}
 use Rattle.range.proofs.read_pages.Statement.{statement}
@@ -22,17 +22,24 @@ use Rattle.range.proofs.read_pages.Tie as tie
 low-key-requires : tie.Need-low-key-requires
 low-key-requires c κs =
     let s = c .before .before .before .before in
-    let a = s .args in
-    low-of-none (a .state) (a .dir .now) (a .pages .now) (rangeIntervals (a .range)) (s .pre .none)
+    let a = s .args in (
+      shape-of-none (a .state) (a .dir .now) (a .pages .now) (rangeIntervals (a .range)) (s .pre .none),
+      low-of-none (a .state) (a .dir .now) (a .pages .now) (rangeIntervals (a .range)) (s .pre .none),
+    )
 
 high-key-requires : tie.Need-high-key-requires
 high-key-requires c κs =
     let s = c .before .before .before .before .before in
-    let a = s .args in
-    high-of-none (a .state) (a .dir .now) (a .pages .now) (rangeIntervals (a .range)) (s .pre .none)
+    let a = s .args in (
+      shape-of-none (a .state) (a .dir .now) (a .pages .now) (rangeIntervals (a .range)) (s .pre .none),
+      high-of-none (a .state) (a .dir .now) (a .pages .now) (rangeIntervals (a .range)) (s .pre .none),
+    )
 
 fill-limits-requires : tie.Need-fill-limits-requires
-fill-limits-requires c κs = search needs
+fill-limits-requires c κs =
+    let s = c .before .before .before .before .before .before .before in
+    let a = s .args in
+    shape-of-none (a .state) (a .dir .now) (a .pages .now) (rangeIntervals (a .range)) (s .pre .none)
 
 -- the table, once the limits are put behind the rows
 tabled : (c : tie.After-fill-limits)
@@ -99,9 +106,17 @@ returns c =
 cast-put-within : tie.Need-cast-put-within
 cast-put-within c = search needs
 
+bias-key-requires : tie.Need-bias-key-requires
+bias-key-requires c κs =
+    let noted-at = c .before .before .before in
+    let walk = noted-at .before .before .before .before in
+    let s = walk .before .before .before .before .before .before .before .before .before .before .before in
+    let a = s .args in
+    shape-of-none (a .state) (a .dir .now) (a .pages .now) (rangeIntervals (a .range)) (s .pre .none)
+
 put-within-requires : tie.Need-put-within-requires
 put-within-requires c κs =
-    let noted-at = c .before .before .before .before .before in
+    let noted-at = c .before .before .before .before .before .before in
     let walk = noted-at .before .before .before .before in
     let s = walk .before .before .before .before .before .before .before .before .before .before .before in
     let a = s .args in
@@ -123,7 +138,8 @@ unfolding listedAnswer
 returns-2 c =
     let put-at = c .before .before .before in
     let put = put-at .put-within in
-    let noted-at = put-at .before .before .before .before .before .before in
+    let bias = put-at .before .before .before in
+    let noted-at = bias .before .before .before .before in
     let found = noted-at .noted .given in
     let walk = noted-at .before .before .before .before in
     let high = walk .before .before .before .before .before in
@@ -136,12 +152,12 @@ returns-2 c =
     (a .list .now) _ _ (met walk) (walk .note-met .kept .1 .1 .1 .1 .1 .1 .0) (s .pre .room-left) _ (found .1)
     (λ i. omega (arith, known i)) (a .out .now) _ _ _
     (put .ensures .0 .0
-    ∙ (λ i. length (listHits (liesIn (low .low-key .ensures i) (high .high-key .ensures i)) (a .state .shape .capacity)
+    ∙ (λ i. length (listHits (liesIn (bias .bias-key .ensures i) (low .low-key .ensures i) (high .high-key .ensures i)) (a .state .shape .capacity)
     (a .pages .now) noted)))
-    (c .smaller-length .ensures ∙ ap (λ k. min (put .result) (k / recordSize)) (put .kept .1 .1 .1 .1 .1 .1 .0))
+    (c .smaller-length .ensures ∙ ap (λ k. min (put .result) (k / recordSize)) (put .kept .1 .1 .1 .1 .1 .1 .1 .0))
     (put .ensures .1
     ∙ (λ i. emit (a .out .now) 0
-    (listHits (liesIn (low .low-key .ensures i) (high .high-key .ensures i)) (a .state .shape .capacity)
+    (listHits (liesIn (bias .bias-key .ensures i) (low .low-key .ensures i) (high .high-key .ensures i)) (a .state .shape .capacity)
     (a .pages .now) noted)))
 
 pub read-pages-spec : {M : Type 1} → statement M
@@ -157,6 +173,7 @@ read-pages-spec =
     same-length
     returns
     cast-put-within
+    bias-key-requires
     put-within-requires
     smaller-length-requires
     same-length-2

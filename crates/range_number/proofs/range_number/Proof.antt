@@ -98,10 +98,10 @@ sixteen-high c =
     sixteen-of-fits (a .state .shape) (shaped low) (highEnds (rangeIntervals (a .range))) (high-fits c)
 
 low-key-requires : tie.Need-low-key-requires
-low-key-requires c κs = sixteen-low c
+low-key-requires c κs = (shaped (c .before .before .before), sixteen-low c)
 
 high-key-requires : tie.Need-high-key-requires
-high-key-requires c κs = sixteen-high (c .before)
+high-key-requires c κs = (shaped (c .before .before .before .before), sixteen-high (c .before))
 
 lies-between-requires : tie.Need-lies-between-requires
 lies-between-requires c κs = search needs

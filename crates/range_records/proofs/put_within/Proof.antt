@@ -14,20 +14,20 @@ use Rattle.range_records.proofs.put_within.Statement.{statement}
 use Rattle.range_records.proofs.put_within.Tie as tie
 
 -- the records of page g that lie between
-abbrev between : ℕ → ℕ → ℕ → List ℕ → ℕ → List (List ℕ)
-between low high capacity pages g = pageHits (liesIn low high) (pageAt capacity pages g)
+abbrev between : ℕ → ℕ → ℕ → ℕ → List ℕ → ℕ → List (List ℕ)
+between bias low high capacity pages g = pageHits (liesIn bias low high) (pageAt capacity pages g)
 
 abbrev Inv-loop : tie.InvT-loop
-Inv-loop pages capacity low high list n out₀ total₀ i₀ out total i =
-    (i ≤ n) × EmittedTo (between low high capacity pages) list out₀ i out total
+Inv-loop pages capacity bias low high list n out₀ total₀ i₀ out total i =
+    (i ≤ n) × EmittedTo (between bias low high capacity pages) list out₀ i out total
 
 abbrev μ-loop : tie.MeasureT-loop
-μ-loop pages capacity low high list n out₀ total₀ i₀ out total i = n - i
+μ-loop pages capacity bias low high list n out₀ total₀ i₀ out total i = n - i
 
 loop-holds : tie.Need-loop-holds Inv-loop μ-loop
 loop-holds c =
     let a = c .before .before .before .args in
-    let f = between (a .low) (a .high) (a .capacity) (a .pages .now) in
+    let f = between (a .bias) (a .low) (a .high) (a .capacity) (a .pages .now) in
     (omega arith, emittedTo-none f (a .list .now) (a .out .now))
 
 mul-put-within-page : tie.Need-mul-put-within-page Inv-loop μ-loop
@@ -68,13 +68,13 @@ loop-again c =
     let lt = c .before .before .before .before .before .loop-test .taken in
     let s = c .before .before .before .before .before .before .before .before .before .before in
     let a = s .args in
-    let f = between (a .low) (a .high) (a .capacity) (a .pages .now) in
+    let f = between (a .bias) (a .low) (a .high) (a .capacity) (a .pages .now) in
     let page = s .pre .each (loop .i) lt in
-    let few = length-pageHits-le (a .capacity) (a .pages .now) (liesIn (a .low) (a .high)) _ (s .pre .capacity) page
-    in (
+    let few = length-pageHits-le (a .capacity) (a .pages .now) (liesIn (a .bias) (a .low) (a .high)) _
+    (s .pre .capacity) page in (
       omega (arith, lt),
       emittedTo-next f (a .list .now) (a .out .now) (loop .i) (loop .total) (loop .out) (loop .inv .1)
-          (omega (arith, s .pre .within, lt)) few _ (put .ensures .0) _ (put .ensures .1) (put .kept .1 .1 .1 .1 .1 .0),
+          (omega (arith, s .pre .within, lt)) few _ (put .ensures .0) _ (put .ensures .1) (put .kept .1 .1 .1 .1 .1 .1 .0),
     )
 
 same-length : tie.Need-same-length Inv-loop μ-loop
@@ -86,7 +86,7 @@ returns c =
     let s = c .before .before .before .before .before in
     let a = s .args in
     let loop = c .before .loop in
-    let f = between (a .low) (a .high) (a .capacity) (a .pages .now) in
+    let f = between (a .bias) (a .low) (a .high) (a .capacity) (a .pages .now) in
     emitted-as f (take (a .n) (a .list .now)) (a .out .now) _ _ _
     (emittedTo-all f (a .list .now) (a .out .now) (a .n) (loop .i) (loop .total) (loop .out) (loop .inv .0)
     (c .loop-test .left) (s .pre .few) (loop .inv .1))

@@ -87,22 +87,22 @@ sub-if1 c = one-le-bit _ (few (c .before .before))
 -- the mask is that of the page
 masked : (c : tie.After-within-mask)
     → let a = c .before .before .before .before .before .before .before .before .args in
-    c .within-mask .result ≡ pageMask (liesIn (a .low) (a .high)) (pageAt (a .capacity) (a .pages .now) (a .g))
+    c .within-mask .result ≡ pageMask (liesIn (a .bias) (a .low) (a .high)) (pageAt (a .capacity) (a .pages .now) (a .g))
 masked c =
     let sized = c .before .before .before .before in
     let a = sized .before .before .before .before .args in
     c .within-mask .ensures
-    ∙ (λ i. matchMask (liesIn (a .low) (a .high)) (part sized i) (counted (c .before .before) i) 0)
+    ∙ (λ i. matchMask (liesIn (a .bias) (a .low) (a .high)) (part sized i) (counted (c .before .before) i) 0)
 
 -- it picks the records that lie between
 picks : (c : tie.After-within-mask)
     → let a = c .before .before .before .before .before .before .before .before .args in
     let page = pageAt (a .capacity) (a .pages .now) (a .g) in
-    pickedBy (c .within-mask .result) page ≡ pageHits (liesIn (a .low) (a .high)) page
+    pickedBy (c .within-mask .result) page ≡ pageHits (liesIn (a .bias) (a .low) (a .high)) page
 picks c =
     let s = c .before .before .before .before .before .before .before .before in
     let a = s .args in
-    pickedBy-mask (a .capacity) (a .pages .now) (liesIn (a .low) (a .high)) (a .g) _ (s .pre .page) (masked c)
+    pickedBy-mask (a .capacity) (a .pages .now) (liesIn (a .bias) (a .low) (a .high)) (a .g) _ (s .pre .page) (masked c)
 
 -- ---- all of them
 
@@ -111,7 +111,7 @@ all-between : (c : tie.Then1)
     → let sized = c .before .before .before .before .before in
     let a = sized .before .before .before .before .args in
     let page = pageAt (a .capacity) (a .pages .now) (a .g) in
-    fieldsFrom (c .before .before .before .count .result) 2 page ≡ pageHits (liesIn (a .low) (a .high)) page
+    fieldsFrom (c .before .before .before .count .result) 2 page ≡ pageHits (liesIn (a .bias) (a .low) (a .high)) page
 all-between c =
     let mask = c .before in
     let at-count = mask .before .before in
@@ -119,11 +119,11 @@ all-between c =
     let a = s .args in
     let page = pageAt (a .capacity) (a .pages .now) (a .g) in
     let lent = records-lent (a .capacity) (a .pages .now) (a .g) (s .pre .page) in
-    let full : pageMask (liesIn (a .low) (a .high)) page ≡ 2 ^ countOf page - 1 =
+    let full : pageMask (liesIn (a .bias) (a .low) (a .high)) page ≡ 2 ^ countOf page - 1 =
     sym (masked mask) ∙ c .if1 .taken ∙ ap (λ x. x - 1) (one-shifted _ (few at-count))
     ∙ ap (λ n. 2 ^ n - 1) (counted at-count) in
     ap (λ n. fieldsFrom n 2 page) (counted at-count)
-    ∙ sym (hits-full (liesIn (a .low) (a .high)) page (countOf page) lent full)
+    ∙ sym (hits-full (liesIn (a .bias) (a .low) (a .high)) page (countOf page) lent full)
 
 sub-put-all : tie.Need-sub-put-all
 sub-put-all c = search needs
@@ -176,7 +176,7 @@ put-picked-requires c κs =
     let sized = mask .before .before .before .before in
     let s = sized .before .before .before .before in
     let a = s .args in
-    let test = liesIn (a .low) (a .high) in
+    let test = liesIn (a .bias) (a .low) (a .high) in
     let below = mask-lt-slots (a .capacity) (a .pages .now) test (a .g) _ (s .pre .page) (masked mask) in
     let few = length-pageHits-le (a .capacity) (a .pages .now) test (a .g) (s .pre .capacity) (s .pre .page) in
     rw (part sized) (below, omega (arith, ap length (picks mask), few, s .pre .before))

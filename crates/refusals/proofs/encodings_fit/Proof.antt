@@ -3,7 +3,8 @@
 use mathlib.Core.Path.{_≡_, sym, _∙_}
 use native.Mathlib.Omega.{arith}
 use lib.ListN.{length, length-map}
-use borrow.Author.Needs.{needs}
+use mir.Syntax.{w32, w64}
+use borrow.Author.Needs.{needs, elem-fits-field}
 use Rattle.shape.specs.Shape.{Fit, widthList}
 use Rattle.shape.proofs.ShapeLaws.{widths-fit}
 use Rattle.refusals.proofs.FitLaws.{indexFits-past}
@@ -53,7 +54,9 @@ array-read-high-2 : tie.Need-array-read-high-2
 array-read-high-2 c = search needs
 
 cast-high-2 : tie.Need-cast-high-2
-cast-high-2 c = search needs
+cast-high-2 c =
+    let s = c .before .before .before .before .before in
+    elem-fits-field w32 w64 (s .args .encoded .values) _ 3 (s .good .1 .0 .1 .1 .0 .1 .1) tt
 
 shr-high-2 : tie.Need-shr-high-2
 shr-high-2 c = omega (arith, fit (c .before .before .before .before) 3)

@@ -19,13 +19,13 @@ enum-known-found-2 c = search needs
 returns : tie.Need-returns
 returns c =
     let s = c .before .before .before .before .before .args in
-    subst (Placed (widthList (s .widths)) (unpackedKey (s .key)) (s .page .now) (s .n)) (c .before .found .given .1)
+    subst (Placed (widthList (s .widths)) 0 (unpackedKey (s .key)) (s .page .now) (s .n)) (c .before .found .given .1)
     (c .before .before .before .find .ensures)
 
 returns-2 : tie.Need-returns-2
 returns-2 c =
     let s = c .before .before .before .before .before .args in
-    subst (Placed (widthList (s .widths)) (unpackedKey (s .key)) (s .page .now) (s .n)) (c .before .found2 .given .1)
+    subst (Placed (widthList (s .widths)) 0 (unpackedKey (s .key)) (s .page .now) (s .n)) (c .before .found2 .given .1)
     (c .before .before .before .find .ensures)
 
 pub probe-find-spec : {M : Type 1} → statement M

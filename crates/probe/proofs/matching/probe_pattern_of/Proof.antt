@@ -1,7 +1,7 @@
 -- `probe::matching::probe_pattern_of` meets its contract: the pattern of the query that the numbers say. Assumes
 -- nothing.
-use mathlib.Core.Path.{sym, ap, subst, _∙_}
-use Rattle.page_matches.specs.Pattern.{GivenSixteenBits, patternOf}
+use mathlib.Core.Path.{ap, _∙_}
+use Rattle.page_matches.specs.Pattern.{patternOf}
 use borrow.Author.Needs.{needs}
 use Rattle.probe.proofs.matching.probe_pattern_of.Statement.{statement}
 use Rattle.probe.proofs.matching.probe_pattern_of.Tie as tie
@@ -10,7 +10,7 @@ store-query-requires : tie.Need-store-query-requires
 store-query-requires c κs = search needs
 
 pattern-of-requires : tie.Need-pattern-of-requires
-pattern-of-requires c κs = subst GivenSixteenBits (sym (c .store-query .ensures)) (c .before .pre)
+pattern-of-requires c κs = search needs
 
 returns : tie.Need-returns
 returns c = c .pattern-of .ensures ∙ ap patternOf (c .before .store-query .ensures)
