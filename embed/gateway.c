@@ -11,8 +11,8 @@
 #define WORDS 256
 #define PAGES 24
 
-/* codes are below 2^7, slots below 2^5, releases below 2^9 */
-static const MdehShape shape = {3, {7, 5, 9, 0}, CAPACITY};
+/* codes are below 2^7, slots below 2^5, releases below 2^9; none is signed */
+static const MdehShape shape = {3, {7, 5, 9, 0}, CAPACITY, 0};
 
 /* The lent memory, kept as long as the store is used. */
 static uint32_t state[MDEH_STATE_WORDS];
@@ -20,7 +20,8 @@ static uint32_t directory[WORDS];
 static uint8_t pages[PAGES * MDEH_PAGE_BYTES(CAPACITY)];
 
 static const struct {
-    uint32_t code, slot, release, count;
+    int32_t code, slot, release;
+    uint32_t count;
 } seen[] = {
     {10, 1, 412, 1},  {10, 2, 412, 1},  {10, 5, 431, 1},  {10, 9, 431, 2},  {10, 17, 479, 1}, {12, 5, 431, 3},
     {20, 1, 412, 96}, {20, 2, 412, 88}, {20, 5, 431, 41}, {20, 9, 431, 40}, {20, 17, 479, 7}, {30, 2, 405, 6},
@@ -58,8 +59,8 @@ static int show(const char *asked, MdehQueryResult found, const uint8_t *out) {
         return refused(asked, found.number);
     printf("%s: %" PRIu64 " records, %" PRIu64 " pages read\n", asked, found.total, found.reads);
     for (i = 0; i < found.written; i++) {
-        MdehRecord record = mdeh_record(out, i);
-        printf("slot %" PRIu32 ", release %" PRIu32 ", count %" PRIu32 "\n", record.values[1], record.values[2],
+        MdehRecord record = mdeh_record(shape, out, i);
+        printf("slot %" PRId32 ", release %" PRId32 ", count %" PRIu32 "\n", record.values[1], record.values[2],
                record.payload);
     }
     if (found.written < found.total)

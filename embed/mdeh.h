@@ -12,12 +12,12 @@
  *   - uint32_t slices are aligned as uint32_t, byte slices in any way.
  *   - A slice of length 0 may have any pointer, NULL too.
  *
- * STORE. Three slices make up a store: its state (22 words), its directory (words) and its pages (bytes). mdeh_fresh
- * writes the state and fixes two limits from the lengths, P pages and the depth L:
+ * STORE. Three slices make up a store: its state (MDEH_STATE_WORDS words), its directory (words) and its pages (bytes).
+ * mdeh_fresh writes the state and fixes two limits from the lengths, P pages and the depth L:
  *   P is the smaller of 4,096 and the whole pages lent, a page having MDEH_PAGE_BYTES(capacity) bytes;
  *   L is the smallest of 12, the sum of the widths, and the base-2 logarithm of the directory's length, rounded down.
  * Later calls need at least 2^L words and P pages, and may be lent more. Directory words past the first 2^L, bytes past
- * the P pages and state words past the first 22 are never changed. The host changes none of a store itself.
+ * the P pages and words past those of the state are never changed. The host changes none of a store itself.
  *
  * NUMBERS. Every call returns a number, alone or first in a struct: 0 for an accepted call, otherwise the reason for
  * its refusal (enum below). A refused call has changed nothing, and the values beside its number are 0. Where several
@@ -41,10 +41,21 @@
  * others are; to be inserted into another store, such a record needs another payload. The payload of a refused lookup
  * is 0 too: its number tells the two apart.
  *
- * KEEPING. A store is its 22 state words, its directory and its pages, as they are; it has no pointers, and may be
- * copied, moved and written to a file. Words of the directory from 2^T on need not be kept (T is state word 8). To open
- * it again, read the three into slices that are as long as before or longer and ask mdeh_check: number 0 and sound 1.
- * It does not tell a changed payload or an older copy; add a sum of your own where the medium may alter bytes.
+ * SIGNED. A shape may mark attributes as signed: bit j of `signs`, MDEH_SIGNED(j), marks attribute j. Marks past the
+ * attribute count are ignored, and mdeh_fresh clears them. {2, {6, 10}, 16, MDEH_SIGNED(1)} has a drive's number from 0
+ * to 63 and its position offset from -512 to 511.
+ *   values     of a marked attribute of width w run from -2^(w-1) to 2^(w-1) - 1, of any other from 0 to 2^w - 1. Those
+ *              outside are refused with 3, so every value below 0 of an attribute that is not marked.
+ *   encodings  are the value plus 2^(w-1) where marked, otherwise the value. Split order, leaves, queries and ranges go
+ *              by them, so that -1 stands straight before 0, and an interval may begin below 0 and end above it.
+ *   fields     in pages and outputs hold the value in 16-bit two's complement; mdeh_record reads it back.
+ * Indices and addresses are not values: they have no sign, whatever the marks.
+ *
+ * KEEPING. A store is its state, its directory and its pages, as they are; it has no pointers, and may be copied, moved
+ * and written to a file. Words of the directory from 2^T on need not be kept (T is state word 8). To open it again,
+ * read the three into slices that are as long as before or longer and ask mdeh_check: number 0 and sound 1. It does not
+ * tell a changed payload or an older copy; add a sum of your own where the medium may alter bytes. A state that an
+ * earlier version kept has no marks and one word less: a word of 0 behind it makes it a state.
  *
  * THREADS. There is no hidden state. Calls on different stores may run at once; on one store, lookups, checks, queries
  * and ranges with outputs of their own may, while mdeh_fresh, mdeh_insert and mdeh_delete need it alone. A call takes
@@ -52,18 +63,21 @@
  *
  * LAYOUTS. Bit 0 is the least significant; numbers of several bytes are little-endian.
  *   state      word 0 attribute count d; 1-4 widths (mdeh_fresh writes 0 past d; those past d are ignored); 5 page
- *              capacity b; 6 P; 7 L; 8 directory depth T; 9-21 how many leaves there are at depths 0 to 12. A leaf is
- *              a part of the key space with at most b records.
+ *              capacity b; 6 P; 7 L; 8 directory depth T; 9-21 how many leaves there are at depths 0 to 12; 22 (the
+ *              last) marks of signed attributes, bit j for attribute j, past d as widths are. A leaf is a part of the
+ *              key space with at most b records.
  *   directory  the first 2^T words are in use, each for one cell: bits 0-15 the page number plus one, or 0 for a leaf
  *              without records, bits 16-19 the leaf's depth, the others 0. A leaf of depth x has 2^(T-x) cells, all
  *              with one word. mdeh_address gives a cell's place from its index vector. That of a key's cell has for
- *              each attribute the highest bits of its value, as many as the first T split bits have of it, in
+ *              each attribute the highest bits of its encoding, as many as the first T split bits have of it, in
  *              reverse: the highest bit counts 1, the next 2, and so on.
  *   page       bytes 0-1 the record count, 0 for a free page; then the records, in split order.
- *   record     bytes 0-7 four values of 16 bits, unused ones 0; bytes 8-11 the payload.
- *   order      the split bits of a key are the highest bit of each value in turn, then the next of each; a used-up
- *              attribute is passed over. Two bits each of values 2 and 1 give 1, 0, 0, 1. Split order compares keys at
- *              their first differing split bit, 0 before 1.
+ *   record     bytes 0-7 four values of 16 bits, in two's complement where marked, unused ones 0; bytes 8-11 the
+ *              payload. Past the width, a field's bits are as the highest within it where marked, and 0 elsewhere: a
+ *              page with a field of another form is unsound.
+ *   order      the split bits of a key are the highest bit of each encoding in turn, then the next of each; a used-up
+ *              attribute is passed over. Two bits each of encodings 2 and 1 give 1, 0, 0, 1. Split order compares keys
+ *              at their first differing split bit, 0 before 1.
  */
 #ifndef MDEH_H
 #define MDEH_H
@@ -76,7 +90,7 @@ extern "C" {
 #endif
 
 /* The words of a state. */
-#define MDEH_STATE_WORDS 22
+#define MDEH_STATE_WORDS 23
 
 /* The bytes of a record in an output or a page. */
 #define MDEH_RECORD_BYTES 12
@@ -91,12 +105,12 @@ extern "C" {
 /* What a number says. */
 enum {
     MDEH_ACCEPTED = 0,          /* the call did what it was asked */
-    MDEH_REFUSED_SHAPE = 1,     /* shape outside its bounds, also that of a state; all but fresh: fewer than 22 state
-                                   words, which show no shape */
-    MDEH_REFUSED_MEMORY = 2,    /* fresh: fewer than 22 state words, no directory word, no whole page; later: fewer than
-                                   2^L words or P pages */
-    MDEH_REFUSED_VALUE = 3,     /* value, end of an interval or index of 2^width or more, address past the last, unused
-                                   value not 0 */
+    MDEH_REFUSED_SHAPE = 1,     /* shape outside its bounds, also that of a state; all but fresh: fewer words than a
+                                   state has, which show no shape */
+    MDEH_REFUSED_MEMORY = 2,    /* fresh: fewer words than a state has, no directory word, no whole page; later: fewer
+                                   than 2^L words or P pages */
+    MDEH_REFUSED_VALUE = 3,     /* value or end of an interval outside its attribute's bounds, index of 2^width or more,
+                                   address past the last, unused value not 0 */
     MDEH_REFUSED_STORED = 4,    /* insert: the key is stored already */
     MDEH_REFUSED_ABSENT = 5,    /* lookup, delete: the key is not stored */
     MDEH_REFUSED_DEPTH = 6,     /* insert: `capacity` stored keys agree with this one in their first L split bits */
@@ -107,30 +121,36 @@ enum {
     MDEH_REFUSED_PAYLOAD = 11   /* insert: the payload is 0, which hosts read as "no log line" */
 };
 
-/* What records look like. In bounds: 1 to 4 attributes, widths of 1 to 16 bits, a capacity of 1 to 16 records. */
+/* What records look like. In bounds: 1 to 4 attributes, widths of 1 to 16 bits, a capacity of 1 to 16 records. A shape
+   {3, {7, 5, 9}, 16} marks no attribute. */
 typedef struct {
     uint32_t attributes;
     uint32_t widths[4]; /* those past `attributes` are ignored */
     uint32_t capacity;
+    uint32_t signs; /* bit j marks attribute j as signed (SIGNED); those past `attributes` are ignored */
 } MdehShape;
 
-/* A value for each attribute, below 2^width; 0 for an unused one. */
+/* The mark of attribute j, from 0 to 3, in a shape's signs. */
+#define MDEH_SIGNED(j) (UINT32_C(1) << (j))
+
+/* A value for each attribute, 0 for an unused one: below 2^width and not below 0; where it is marked, below 2^(width-1)
+   and not below -2^(width-1). */
 typedef struct {
-    uint32_t values[4];
+    int32_t values[4];
 } MdehKey;
 
 /* A partial-match query: attribute j is to have values[j] where given[j] is not 0, and is free where it is 0. */
 typedef struct {
     uint32_t given[4];
-    uint32_t values[4]; /* ignored where free */
+    int32_t values[4]; /* ignored where free */
 } MdehQuery;
 
 /* A range: attribute j is to have a value from low[j] to high[j], both included, where given[j] is not 0, and is free
    where it is 0. Equal ends give a single value. */
 typedef struct {
     uint32_t given[4];
-    uint32_t low[4];  /* ignored where free */
-    uint32_t high[4]; /* ignored where free */
+    int32_t low[4];  /* ignored where free */
+    int32_t high[4]; /* ignored where free */
 } MdehRange;
 
 /* An index for each attribute: a cell of the directory; 0 for an unused attribute. */
@@ -166,7 +186,7 @@ typedef struct {
     MdehIndex index;
 } MdehIndexResult;
 
-/* Makes a store without records, whatever the slices held: writes the first 22 state words, directory word 0 and the
+/* Makes a store without records, whatever the slices held: writes the words of the state, directory word 0 and the
    count of each of the P pages. Refused with 1, 2. */
 uint32_t mdeh_fresh(MdehShape shape, uint32_t *state, size_t state_words, uint32_t *directory, size_t words,
                     uint8_t *pages, size_t bytes);
@@ -200,26 +220,43 @@ MdehQueryResult mdeh_range(const uint32_t *state, size_t state_words, const uint
 MdehCheckResult mdeh_check(const uint32_t *state, size_t state_words, const uint32_t *directory, size_t words,
                            const uint8_t *pages, size_t bytes);
 
-/* The directory address of an index vector, below 2 to the sum of the widths; the same at every size of the directory.
-   Refused with 1, 3. */
+/* The directory address of an index vector, below 2 to the sum of the widths; the same at every size of the directory
+   and whatever the marks. Refused with 1, 3. */
 MdehAddressResult mdeh_address(MdehShape shape, MdehIndex index);
 
 /* The index vector at a directory address. Refused with 1, 3. */
 MdehIndexResult mdeh_index(MdehShape shape, uint64_t address);
 
-/* A record as it lies in an output or a page. */
+/* The shape in the words of a state. */
+static inline MdehShape mdeh_shape(const uint32_t *state) {
+    MdehShape shape;
+    int j;
+    shape.attributes = state[0];
+    for (j = 0; j < 4; j++)
+        shape.widths[j] = state[1 + j];
+    shape.capacity = state[5];
+    shape.signs = state[MDEH_STATE_WORDS - 1];
+    return shape;
+}
+
+/* A record of an output or a page. */
 typedef struct {
-    uint32_t values[4];
+    int32_t values[4];
     uint32_t payload;
 } MdehRecord;
 
-/* Record i of those that begin at `records`: an output, or a page past its two first bytes. */
-static inline MdehRecord mdeh_record(const uint8_t *records, size_t i) {
+/* Record i of those that begin at `records`: an output, or a page past its two first bytes. A field of 16 bits is from
+   -32768 to 32767 where the shape marks its attribute, otherwise from 0 to 65535. */
+static inline MdehRecord mdeh_record(MdehShape shape, const uint8_t *records, size_t i) {
     const uint8_t *p = records + MDEH_RECORD_BYTES * i;
     MdehRecord record;
-    int j;
-    for (j = 0; j < 4; j++)
-        record.values[j] = p[2 * j] | (uint32_t)p[2 * j + 1] << 8;
+    uint32_t j;
+    for (j = 0; j < 4; j++) {
+        int32_t value = p[2 * j] + 256 * (int32_t)p[2 * j + 1];
+        if (value >= 32768 && j < shape.attributes && (shape.signs & MDEH_SIGNED(j)) != 0)
+            value -= 65536;
+        record.values[j] = value;
+    }
     record.payload = p[8] | (uint32_t)p[9] << 8 | (uint32_t)p[10] << 16 | (uint32_t)p[11] << 24;
     return record;
 }
@@ -230,7 +267,7 @@ static inline const char *mdeh_reason(uint32_t number) {
     case MDEH_ACCEPTED: return "accepted";
     case MDEH_REFUSED_SHAPE: return "the shape is outside its bounds";
     case MDEH_REFUSED_MEMORY: return "too few words or page bytes are lent";
-    case MDEH_REFUSED_VALUE: return "a value, index or address is too large, or an unused value is not 0";
+    case MDEH_REFUSED_VALUE: return "a value, index or address is outside its bounds, or an unused value is not 0";
     case MDEH_REFUSED_STORED: return "the key is stored already";
     case MDEH_REFUSED_ABSENT: return "the key is not stored";
     case MDEH_REFUSED_DEPTH: return "the directory cannot grow deep enough to tell the keys apart";

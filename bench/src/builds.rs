@@ -82,7 +82,8 @@ impl Build {
     /// The build with functions at these addresses, in the order of `NAMES`, and the range.
     ///
     /// # Safety
-    /// They have the types that the store's header gives them, and no `requires`.
+    /// They have the types that the store's header gives them, and no `requires`. A build whose shape and state have no
+    /// marks of signed attributes, which come last in both, is called alike: it leaves them alone.
     unsafe fn at(
         name: &'static str,
         [fresh, insert, delete, lookup, query, check]: [Address; 6],
@@ -114,7 +115,7 @@ impl Build {
 
     /// 1 for an accepted insert, 0 for a refused one.
     #[inline]
-    pub fn insert(&self, Lent { state, dir, pages }: &mut Lent, values: [u32; 4], payload: u32) -> u64 {
+    pub fn insert(&self, Lent { state, dir, pages }: &mut Lent, values: [i32; 4], payload: u32) -> u64 {
         let (state, words, key) = (state.as_mut_ptr(), state.len(), Key { values });
         let (dir, size) = (dir.as_mut_ptr(), dir.len());
         // SAFETY: see `fresh`.
@@ -125,7 +126,7 @@ impl Build {
 
     /// 1 for an accepted delete, 0 for a refused one.
     #[inline]
-    pub fn delete(&self, Lent { state, dir, pages }: &mut Lent, values: [u32; 4]) -> u64 {
+    pub fn delete(&self, Lent { state, dir, pages }: &mut Lent, values: [i32; 4]) -> u64 {
         let (state, words, key) = (state.as_mut_ptr(), state.len(), Key { values });
         let (dir, size) = (dir.as_mut_ptr(), dir.len());
         // SAFETY: see `fresh`.
@@ -135,7 +136,7 @@ impl Build {
 
     /// The payload of a key's record, or the number of the refusal.
     #[inline]
-    pub fn lookup(&self, Lent { state, dir, pages }: &Lent, values: [u32; 4]) -> Result<u32, u32> {
+    pub fn lookup(&self, Lent { state, dir, pages }: &Lent, values: [i32; 4]) -> Result<u32, u32> {
         let (state, words, key) = (state.as_ptr(), state.len(), Key { values });
         // SAFETY: see `fresh`.
         let found =
@@ -151,7 +152,7 @@ impl Build {
     pub fn query(
         &self,
         Lent { state, dir, pages }: &Lent,
-        query: [Option<u32>; 4],
+        query: [Option<i32>; 4],
         out: &mut [u8],
     ) -> QueryResult {
         let (state, words, query) = (state.as_ptr(), state.len(), HostQuery::new(query));

@@ -25,12 +25,12 @@ pub fn of_records(records: &[Record]) -> Option<&'static Database> {
 }
 
 /// A key's values.
-pub fn key(key: [u32; 4]) -> [i64; ATTRIBUTES] {
+pub fn key(key: [i32; 4]) -> [i64; ATTRIBUTES] {
     [key[0].into(), key[1].into(), key[2].into()]
 }
 
 /// A key's values and a payload.
-pub fn numbers(key: [u32; 4], payload: u32) -> [i64; ATTRIBUTES + 1] {
+pub fn numbers(key: [i32; 4], payload: u32) -> [i64; ATTRIBUTES + 1] {
     [key[0].into(), key[1].into(), key[2].into(), payload.into()]
 }
 
@@ -56,13 +56,13 @@ fn select_where(database: &Database, conditions: Vec<String>) -> Statement {
 }
 
 /// Writes the matching records, in the order of an index, into the output while whole ones fit; how many match.
-pub fn query(select: &Statement, query: [Option<u32>; 4], out: &mut [u8]) -> u64 {
+pub fn query(select: &Statement, query: [Option<i32>; 4], out: &mut [u8]) -> u64 {
     list(select, query.into_iter().flatten().map(i64::from), out)
 }
 
 /// The same of the records inside a range, which asks this of the attributes.
 pub fn range(select: &Statement, parts: [Part; ATTRIBUTES], range: Intervals, out: &mut [u8]) -> u64 {
-    let ends = |(part, ends): (Part, Option<(u32, u32)>)| {
+    let ends = |(part, ends): (Part, Option<(i32, i32)>)| {
         let (low, high) = ends.unwrap_or_default();
         [(part != Part::Free).then_some(low), matches!(part, Part::Of64(_)).then_some(high)]
     };

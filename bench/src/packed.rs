@@ -5,7 +5,7 @@ pub const ATTRIBUTES: usize = 3;
 pub type Record = [u8; 12];
 
 /// The key's values.
-pub fn key(record: &Record) -> [u32; 4] {
+pub fn key(record: &Record) -> [i32; 4] {
     [0, 1, 2, 3].map(|j| u16::from_le_bytes([record[2 * j], record[2 * j + 1]]).into())
 }
 
@@ -18,13 +18,13 @@ pub fn packed(record: &Record) -> u64 {
     u64::from_le_bytes(record[..8].try_into().expect("eight bytes"))
 }
 
-/// Values as a record packs them.
-pub fn pack(values: [u32; 4]) -> u64 {
-    (0..4).fold(0, |packed, j| packed | u64::from(values[j]) << (16 * j))
+/// Values, none of which is below 0, as a record packs them.
+pub fn pack(values: [i32; 4]) -> u64 {
+    (0..4).fold(0, |packed, j| packed | u64::from(values[j] as u32) << (16 * j))
 }
 
 /// An interval of each attribute's values, both ends included, or none.
-pub type Intervals = [Option<(u32, u32)>; 4];
+pub type Intervals = [Option<(i32, i32)>; 4];
 
 /// Intervals of packed values: their low and their high ends, of attributes 0 and 2 and of 1 and 3, each in 32 bits.
 #[derive(Clone, Copy)]

@@ -35,7 +35,7 @@ impl Widths {
 /// The address of an index vector, or the number of the refusal.
 #[inline(never)]
 pub fn address(shape: Shape, index: [u64; 4]) -> Result<u64, u32> {
-    let Shape { attributes, widths, capacity } = shape;
+    let Shape { attributes, widths, capacity, .. } = shape;
     if !(1..=4).contains(&attributes) || !(1..=16).contains(&capacity) {
         return Err(1);
     }

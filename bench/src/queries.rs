@@ -19,7 +19,7 @@ const FEW: usize = 16;
 /// How many sets of attributes a query can give. Attribute j is in set n if bit j of n is 1.
 const SUBSETS: usize = 1 << ATTRIBUTES;
 
-type Query = [Option<u32>; 4];
+type Query = [Option<i32>; 4];
 
 /// Queries that give the values of stored keys, in random order, for each set of attributes.
 pub fn rows(table: &mut Table, random: &mut Random, forms: Forms) {

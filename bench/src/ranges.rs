@@ -84,7 +84,7 @@ fn intervals(random: &mut Random, forms: Forms, parts: [Part; ATTRIBUTES], key: 
             Part::Of64(part) => (below * part / 64).max(1),
         };
         let low = value.saturating_sub(random.below(length)).min(below - length);
-        Some((low as u32, (low + length - 1) as u32))
+        Some((low as i32, (low + length - 1) as i32))
     };
     [interval(0), interval(1), interval(2), None]
 }

@@ -28,7 +28,7 @@ const CAPACITY: u32 = 16;
 /// The bytes of a page.
 pub const PAGE: usize = 2 + 12 * CAPACITY as usize;
 
-pub type Key = [u32; 4];
+pub type Key = [i32; 4];
 
 /// What is inserted: a key and a payload.
 pub type Input = (Key, u32);
@@ -55,7 +55,7 @@ impl Sample {
 
     /// A random key.
     pub fn key(&self, random: &mut Random) -> Key {
-        let [a0, a1, a2] = self.below.map(|below| random.below(below) as u32);
+        let [a0, a1, a2] = self.below.map(|below| random.below(below) as i32);
         [a0, a1, a2, 0]
     }
 

@@ -33,7 +33,7 @@ impl Columns {
     /// Writes the matching records into the output while whole ones fit; how many match. Of the attributes that are
     /// given, the array of the one with the most values is scanned, and the others are compared where it matches.
     #[inline(never)]
-    pub fn query(&self, query: [Option<u32>; 4], out: &mut [u8]) -> u64 {
+    pub fn query(&self, query: [Option<i32>; 4], out: &mut [u8]) -> u64 {
         let out = out.as_chunks_mut().0;
         let wanted = |j: usize| query[j].map(|value| (&self.attributes[j], value as u16));
         let given: [Option<(&Column, u16)>; ATTRIBUTES] = [0, 1, 2].map(wanted);
@@ -119,7 +119,7 @@ impl Column {
 
 /// Writes the matching records, of packed ones, into the output while whole ones fit; how many match.
 #[inline(never)]
-pub fn packed_query(records: &[Record], query: [Option<u32>; 4], out: &mut [u8]) -> u64 {
+pub fn packed_query(records: &[Record], query: [Option<i32>; 4], out: &mut [u8]) -> u64 {
     let pattern = pack(query.map(|wanted| wanted.unwrap_or(0)));
     let mask = pack(query.map(|wanted| if wanted.is_some() { 0xffff } else { 0 }));
     packed_copy(records, |record| packed(record) & mask == pattern, out)

@@ -1,5 +1,5 @@
 //! The store in plain safe Rust, as a programmer writes it who needs no proof: the layout and the ideas of the proved
-//! one, tables of the shape made once, and trust in its own memory. It never answers 9.
+//! one, tables of the shape made once, and trust in its own memory. It never answers 9, and has no signed attributes.
 mod change;
 mod check;
 mod map;
@@ -30,8 +30,9 @@ pub struct Store {
 }
 
 impl Store {
-    /// A store without records in so many words and bytes. The shape is within its bounds.
+    /// A store without records in so many words and bytes. The shape is within its bounds and marks no attribute.
     pub fn new(shape: Shape, words: usize, bytes: usize) -> Store {
+        assert_eq!(shape.signs, 0, "no attribute is signed");
         let used = &shape.widths[..shape.attributes as usize];
         let total = used.iter().sum::<u32>() as usize;
         let size = Page::size(shape.capacity as usize);
@@ -53,18 +54,18 @@ impl Store {
 
     /// The payload of a key's record. Refused with 3 or 5.
     #[inline(never)]
-    pub fn lookup(&self, key: [u32; 4]) -> Result<u32, u32> {
+    pub fn lookup(&self, key: [i32; 4]) -> Result<u32, u32> {
         let packed = self.map.pack(key).ok_or(3u32)?;
         let word = self.dir[self.map.address(self.map.cell(key, self.depth))];
         let page = self.page(page_of(word).ok_or(5u32)?);
         page.find(packed).map(|i| page.payload(i)).ok_or(5)
     }
 
-    /// The state's 22 words, the directory and the pages.
+    /// The words of the state, the directory and the pages.
     pub fn image(&self) -> (Vec<u32>, Vec<u32>, Vec<u8>) {
-        let Shape { attributes, widths, capacity } = self.shape;
+        let Shape { attributes, widths, capacity, signs } = self.shape;
         let limits = [self.page_limit as u32, self.depth_limit as u32, self.depth as u32];
-        let state = [&[attributes][..], &widths, &[capacity], &limits, &self.tally].concat();
+        let state = [&[attributes][..], &widths, &[capacity], &limits, &self.tally, &[signs]].concat();
         (state, self.dir.clone(), self.pages.clone())
     }
 

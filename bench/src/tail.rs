@@ -126,7 +126,7 @@ fn targets(forms: Forms) -> Vec<Named> {
 /// Records that fill one page, and one more that differs from all of them in split bit 11 first; the first 12 split
 /// steps take four bits of each attribute.
 fn deep(sample: Sample) -> (Vec<Input>, Input) {
-    let stored: Vec<Input> = (0..sample.shape().capacity).map(|value| ([value, 0, 0, 0], 1)).collect();
+    let stored: Vec<Input> = (0..sample.shape().capacity).map(|value| ([value as i32, 0, 0, 0], 1)).collect();
     let last = ([0, 0, 1 << (sample.widths[2] - 4), 0], 1);
     let mut store = sample.plain();
     let mut depth = |&(key, payload): &Input| {

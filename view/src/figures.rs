@@ -1,9 +1,13 @@
 //! Figures of a picture in words, for the text and for the SVG.
 use crate::picture::{Leaf, Picture};
 
-/// The attributes' widths and the pages' capacity.
+/// The attributes' widths, which of them are signed, and the pages' capacity.
 pub fn shape(picture: &Picture) -> String {
-    let widths: Vec<String> = picture.widths().iter().map(u32::to_string).collect();
+    let width = |(j, width): (usize, &u32)| match picture.shape.is_signed(j) {
+        true => format!("{width} (signed)"),
+        false => width.to_string(),
+    };
+    let widths: Vec<String> = picture.widths().iter().enumerate().map(width).collect();
     let attributes = counted(picture.attributes(), "attribute", "attributes");
     let capacity = counted(picture.capacity(), "record", "records");
     format!("{attributes} of width {}, pages of {capacity}", widths.join(", "))

@@ -6,25 +6,30 @@ use mdeh::Shape;
 pub enum Command {
     Shape(Shape),
     /// A key and its payload.
-    Put([u32; 4], u32),
-    Cut([u32; 4]),
+    Put([i32; 4], u32),
+    Cut([i32; 4]),
     /// A value for each attribute, or none for a free one.
-    List([Option<u32>; 4]),
+    List([Option<i32>; 4]),
 }
 
-/// The command of a line without its newline, to a store with so many attributes. None for a bad line.
-pub fn command(line: &[u8], attributes: usize) -> Option<Command> {
+/// The command of a line without its newline, to a store with so many attributes. Values may have a minus sign where
+/// `minus` says so; `stock` takes none. None for a bad line.
+pub fn command(line: &[u8], attributes: usize, minus: bool) -> Option<Command> {
     let mut fields = line.split(|&byte| byte == b' ');
     let word = fields.next()?;
-    let items: Vec<Option<u32>> = fields.map(item).collect::<Option<_>>()?;
+    let fields: Vec<&[u8]> = fields.collect();
+    let value = |field: &[u8]| value(field, minus);
     match word {
-        b"shape" => shape(&numbers(&items)?),
-        b"put" if items.len() == attributes + 1 => {
-            let numbers = numbers(&items)?;
-            Some(Command::Put(four(&numbers[..attributes], 0), numbers[attributes]))
+        b"shape" => shape(&all(&fields, number)?),
+        b"put" if fields.len() == attributes + 1 => {
+            let (payload, values) = fields.split_last()?;
+            Some(Command::Put(four(&all(values, value)?, 0), number(payload)?))
         }
-        b"cut" if items.len() == attributes => Some(Command::Cut(four(&numbers(&items)?, 0))),
-        b"list" if items.len() == attributes => Some(Command::List(four(&items, None))),
+        b"cut" if fields.len() == attributes => Some(Command::Cut(four(&all(&fields, value)?, 0))),
+        b"list" if fields.len() == attributes => {
+            let wanted = |field: &[u8]| if field == b"*" { Some(None) } else { value(field).map(Some) };
+            Some(Command::List(four(&all(&fields, wanted)?, None)))
+        }
         _ => None,
     }
 }
@@ -42,19 +47,27 @@ fn shape(numbers: &[u32]) -> Option<Command> {
     }
 }
 
-/// A decimal number below 2^32, or none for `*`; no item for a field of another form.
-fn item(field: &[u8]) -> Option<Option<u32>> {
-    match field {
-        b"*" => Some(None),
-        _ if !field.iter().all(u8::is_ascii_digit) => None,
-        // digits alone: an empty field and a number of 2^32 or more do not parse
-        _ => std::str::from_utf8(field).ok()?.parse().ok().map(Some),
+/// A decimal number below 2^32.
+fn number(field: &[u8]) -> Option<u32> {
+    if !field.iter().all(u8::is_ascii_digit) {
+        return None;
+    }
+    // digits alone: an empty field and a number of 2^32 or more do not parse
+    std::str::from_utf8(field).ok()?.parse().ok()
+}
+
+/// A value: such a number, behind a minus sign if there may be one. The greatest and the least `i32` are no value of
+/// any attribute and stand for the numbers past them.
+fn value(field: &[u8], minus: bool) -> Option<i32> {
+    match field.strip_prefix(b"-") {
+        Some(size) if minus => number(size).map(|size| i32::try_from(-i64::from(size)).unwrap_or(i32::MIN)),
+        _ => number(field).map(|size| i32::try_from(size).unwrap_or(i32::MAX)),
     }
 }
 
-/// The items as numbers, if none is `*`.
-fn numbers(items: &[Option<u32>]) -> Option<Vec<u32>> {
-    items.iter().copied().collect()
+/// What each field says, if all are of this form.
+fn all<T>(fields: &[&[u8]], form: impl Fn(&[u8]) -> Option<T>) -> Option<Vec<T>> {
+    fields.iter().map(|field| form(field)).collect()
 }
 
 /// One thing for each of the four attributes.

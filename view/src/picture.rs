@@ -173,5 +173,5 @@ fn leaf(store: &Store, word: u32, value: usize, depth: usize) -> Leaf {
 fn records(store: &Store, page: usize) -> Vec<Record> {
     let bytes = &store.pages()[page * store.shape().page_bytes()..];
     let count = u16::from_le_bytes([bytes[0], bytes[1]]);
-    Records::new(&bytes[2..], count.into()).collect()
+    Records::new(store.shape(), &bytes[2..], count.into()).collect()
 }

@@ -1,6 +1,6 @@
 //! What lines do to a store in memory that is lent as `stock` lends it.
 use crate::lines::{command, Command};
-use mdeh::{Refusal, Store, STATE_WORDS};
+use mdeh::{Refusal, Shape, Store, STATE_WORDS};
 
 /// "It lends 4,096 words, 32,768 page bytes".
 const WORDS: usize = 4096;
@@ -13,9 +13,11 @@ pub enum Fault {
     Refused(Refusal),
 }
 
-/// The store of the last accepted `shape`, if there was one.
+/// The store of the last accepted `shape`, if there was one. By default no attribute is signed, as in `stock`.
 #[derive(Default)]
 pub struct Session {
+    /// the marks of signed attributes in every shape, bit j for attribute j
+    signs: u32,
     lent: Option<Lent>,
 }
 
@@ -27,11 +29,17 @@ struct Lent {
 }
 
 impl Session {
+    /// A session whose shapes have these marks of signed attributes. If there is one, values may have a minus sign.
+    pub fn signed(signs: u32) -> Session {
+        Session { signs, lent: None }
+    }
+
     /// Does what a line without its newline says. Changes nothing where it returns a fault.
     pub fn take(&mut self, line: &[u8]) -> Result<(), Fault> {
         let attributes = self.lent.as_ref().map_or(0, |lent| lent.state[0] as usize);
-        match command(line, attributes).ok_or(Fault::Bad)? {
+        match command(line, attributes, self.signs != 0).ok_or(Fault::Bad)? {
             Command::Shape(shape) => {
+                let shape = Shape { signs: self.signs, ..shape };
                 let (mut directory, mut pages) = (vec![0; WORDS], vec![0; BYTES]);
                 let store = Store::fresh(shape, &mut directory, &mut pages).map_err(Fault::Refused)?;
                 self.lent = Some(Lent { state: *store.state(), directory, pages });

@@ -54,16 +54,18 @@ fn random_stores() {
 }
 
 /// The picture of a run of random puts and cuts has the plain model's leaves, and cells where the doubling array has
-/// them.
-fn compare(random: &mut Random, widths: &[u32], capacity: u32, calls: usize) {
-    let mut session = Session::default();
+/// them, with these marks of signed attributes.
+fn compare(random: &mut Random, signs: u32, widths: &[u32], capacity: u32, calls: usize) {
+    let mut session = Session::signed(signs);
     session.take(shape_line(widths, capacity).as_bytes()).expect("the shape is within its bounds");
     let shape = session.store().expect("there is a store").shape();
     let mut model = Model::fresh(shape, 4096, 32768).expect("the same Fresh");
     for payload in 1..=calls as u32 {
         let mut key = [0; 4];
-        widths.iter().zip(&mut key).for_each(|(&width, value)| *value = random.short(width) as u32);
-        let values: Vec<String> = key[..widths.len()].iter().map(u32::to_string).collect();
+        for (j, &width) in widths.iter().enumerate() {
+            key[j] = shape.values(j).start() + random.short(width) as i32;
+        }
+        let values: Vec<String> = key[..widths.len()].iter().map(i32::to_string).collect();
         let (line, expected) = match random.below(3) {
             0 => (format!("cut {}", values.join(" ")), model.delete(key)),
             _ => (format!("put {} {payload}", values.join(" ")), model.insert(key, payload)),
@@ -94,6 +96,8 @@ fn beside_the_plain_model() {
     for (widths, capacity) in
         [(&[7][..], 2), (&[2, 2], 2), (&[6, 3], 1), (&[5, 1, 4], 3), (&[3, 16, 2, 4], 16)]
     {
-        compare(&mut random, widths, capacity, 150);
+        for signs in [0, 0b0001, 0b1010, 0b1111] {
+            compare(&mut random, signs, widths, capacity, 150);
+        }
     }
 }

@@ -29,8 +29,8 @@ line 1: bad line
 line 4: no 4 (the key is stored already)
 line 5: no 1 (the shape is outside its bounds)
 line 6: no 5 (the key is not stored)
-line 7: no 3 (a value, index or address is too large, or an unused value is not 0)
-line 9: no 3 (a value, index or address is too large, or an unused value is not 0)
+line 7: no 3 (a value, index or address is outside its bounds, or an unused value is not 0)
+line 9: no 3 (a value, index or address is outside its bounds, or an unused value is not 0)
 line 10: no 11 (the payload is 0)
 line 11: bad line
 line 12: bad line
@@ -44,9 +44,48 @@ fn arguments() {
     assert!(text.starts_with("<svg ") && text.ends_with("</svg>\n") && told.is_empty());
     assert_eq!(status, Some(0));
     let (help, told, status) = run(&["--help"], "");
-    assert!(help.starts_with("view [--svg] < LINES\n") && told.is_empty());
+    assert!(help.starts_with("view [--svg] [--signed ATTRIBUTES] < LINES\n") && told.is_empty());
     assert_eq!(status, Some(0));
-    assert_eq!(run(&["--png"], "shape 2 2 2 2\n"), (String::new(), help, Some(2)));
+    let refused: [&[&str]; 12] = [
+        &["--png"],
+        &["--svg", "--svg"],
+        &["--svg", "--help"],
+        &["--signed"],
+        &["--signed", ""],
+        &["--signed", "4"],
+        &["--signed", "00"],
+        &["--signed", "0,"],
+        &["--signed", "0 2"],
+        &["--signed", "--svg"],
+        &["--signed", "0", "--signed", "1"],
+        &["0"],
+    ];
+    for arguments in refused {
+        assert_eq!(
+            run(arguments, "shape 2 2 2 2\n"),
+            (String::new(), help.clone(), Some(2)),
+            "{arguments:?}"
+        );
+    }
+}
+
+#[test]
+fn signed_attributes() {
+    let input = "shape 3 10 2 1 1\nput -512 3 -1 1\nput -1 -1 0 2\nput -1 1 0 -2\n";
+    let told =
+        "line 3: no 3 (a value, index or address is outside its bounds, or an unused value is not 0)\n\
+        line 4: bad line\n";
+    for arguments in [&["--signed", "0,2"][..], &["--signed", "2,0,3,2"]] {
+        let (text, found, status) = run(arguments, input);
+        let shape = "shape      3 attributes of width 10 (signed), 2, 1 (signed), pages of 1 record\n";
+        assert!(text.starts_with(shape), "{text}");
+        assert_eq!((found.as_str(), status), (told, Some(0)));
+    }
+    for arguments in [["--svg", "--signed", "0,2"], ["--signed", "0,2", "--svg"]] {
+        let (text, found, status) = run(&arguments, input);
+        assert!(text.starts_with("<svg ") && text.contains("width 10 (signed), 2, 1 (signed), pages"));
+        assert_eq!((found.as_str(), status), (told, Some(0)));
+    }
 }
 
 #[test]

@@ -1,7 +1,7 @@
 //! The SVG.
 mod common;
 
-use common::{picture, random_picture, STORES};
+use common::{picture, random_picture, signed_picture, STORES};
 use mdeh_tests::random::Random;
 use mdeh_view::picture::Picture;
 use mdeh_view::svg::draw;
@@ -75,6 +75,25 @@ fn random_stores() {
     for store in STORES {
         compare(&random_picture(&mut random, store));
     }
+}
+
+/// The axes end with the least and the greatest values, and each key has its place between them.
+#[test]
+fn signed_axes() {
+    let lines = "shape 2 10 4 2\nput -512 0 1\nput 511 15 2\nput 0 8 3\nput -1 8 4";
+    let picture = signed_picture(0b01, lines);
+    compare(&picture);
+    let svg = draw(&picture);
+    for text in ["width 10 (signed), 4,", ">-512</text>", ">511</text>", ">0</text>", ">15</text>"] {
+        assert!(svg.contains(text), "{text}");
+    }
+    // the same keys by their encodings
+    let plain = draw(&common::picture("shape 2 10 4 2\nput 0 0 1\nput 1023 15 2\nput 512 8 3\nput 511 8 4"));
+    let elements = |svg: &str| -> Vec<String> {
+        svg.lines().filter(|line| !line.starts_with("<text ")).map(str::to_owned).collect()
+    };
+    assert_eq!(elements(&svg), elements(&plain));
+    compare(&signed_picture(0b10, "shape 2 1 1 1\nput 0 -1 1\nput 1 0 2"));
 }
 
 #[test]

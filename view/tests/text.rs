@@ -1,7 +1,7 @@
 //! The text.
 mod common;
 
-use common::{picture, random_picture, STORES};
+use common::{picture, random_picture, signed_picture, STORES};
 use mdeh_tests::random::Random;
 use mdeh_view::text::draw;
 
@@ -60,6 +60,40 @@ Depth 0: 1 leaf, 1 cell
   without a page  -
 ";
     assert_eq!(draw(&picture("shape 1 16 1")), expected);
+}
+
+/// Split bits are those of encodings: -512 has 0000000000, -1 has 0111111111 and 0 has 1000000000.
+#[test]
+fn signed_attributes() {
+    let lines = "shape 2 10 2 1\nput -512 0 1\nput -1 3 2\nput 0 3 3";
+    let expected = "\
+shape      2 attributes of width 10 (signed), 2, pages of 1 record
+directory  T 2 of 12, 4 cells, 3 leaves
+pages      3 of 2340 in use, 100 % filled, 3 records
+
+depth                      0    1    2
+leaves                     0    1    2
+halved by attribute.bit  0.0  1.0
+
+Cells by address
+address  split bits  index  leaf  page
+      0  00          (0,0)  00    page 0
+      1  10          (1,0)  1     page 2
+      2  01          (0,1)  01    page 1
+      3  11          (1,1)  1     page 2
+
+Leaves by depth, in split order: string, page, its records
+Depth 1: 1 leaf, 2 cells
+  1  page 2  # 1
+Depth 2: 2 leaves, 1 cell each
+  00  page 0  # 1    01  page 1  # 1
+";
+    assert_eq!(draw(&signed_picture(0b0001, lines)), expected);
+    let shape = |signs| draw(&signed_picture(signs, "shape 2 10 2 1")).lines().next().map(str::to_owned);
+    let shown = |text: &str| Some(format!("shape      2 attributes of width {text}, pages of 1 record"));
+    assert_eq!(shape(0b1100), shown("10, 2"));
+    assert_eq!(shape(0b0110), shown("10, 2 (signed)"));
+    assert_eq!(shape(0b0011), shown("10 (signed), 2 (signed)"));
 }
 
 #[test]

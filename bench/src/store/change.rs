@@ -6,7 +6,7 @@ use crate::plain::{double, fill};
 impl Store {
     /// Adds a record. Refused with 3, 11, 4, 6 or 7.
     #[inline(never)]
-    pub fn insert(&mut self, key: [u32; 4], payload: u32) -> Result<(), u32> {
+    pub fn insert(&mut self, key: [i32; 4], payload: u32) -> Result<(), u32> {
         let packed = self.map.pack(key).ok_or(3u32)?;
         if payload == 0 {
             return Err(11);
@@ -35,7 +35,7 @@ impl Store {
     }
 
     /// Divides the leaf of a key, of depth x and with page g, that has one record too many.
-    fn divide(&mut self, key: [u32; 4], x: usize, g: usize, all: &[[u8; 12]]) -> Result<(), u32> {
+    fn divide(&mut self, key: [i32; 4], x: usize, g: usize, all: &[[u8; 12]]) -> Result<(), u32> {
         let (least, greatest) = (key_of(&all[0]), key_of(&all[all.len() - 1]));
         let bit = self.map.first_difference(least, greatest).expect("no key stands twice");
         if bit >= self.depth_limit {
@@ -64,7 +64,7 @@ impl Store {
 
     /// Takes a key's record out. Refused with 3 or 5.
     #[inline(never)]
-    pub fn delete(&mut self, key: [u32; 4]) -> Result<(), u32> {
+    pub fn delete(&mut self, key: [i32; 4]) -> Result<(), u32> {
         let packed = self.map.pack(key).ok_or(3u32)?;
         let word = self.dir[self.map.address(self.map.cell(key, self.depth))];
         let g = page_of(word).ok_or(5u32)?;
@@ -83,7 +83,7 @@ impl Store {
 
     /// Joins the leaf of a key, of depth x and with page g, with its sibling while both fit one page. The depth of the
     /// leaf that stands, and its page.
-    fn join(&mut self, key: [u32; 4], mut x: usize, g: usize) -> (usize, Option<usize>) {
+    fn join(&mut self, key: [i32; 4], mut x: usize, g: usize) -> (usize, Option<usize>) {
         let mut page = Some(g);
         if self.page(g).count() == 0 {
             self.first_free = self.first_free.min(g);
@@ -125,18 +125,19 @@ impl Store {
     }
 
     /// Sets the words of the region of a key's first x split bits.
-    fn set_region(&mut self, key: [u32; 4], x: usize, word: u32) {
+    fn set_region(&mut self, key: [i32; 4], x: usize, word: u32) {
+        let key = key.map(|value| value as u32);
         fill(&self.widths, key, x, self.depth, word, &mut self.dir).expect("the directory fits");
     }
 
     /// The key with another bit at a split step.
-    fn flipped(&self, mut key: [u32; 4], step: usize) -> [u32; 4] {
+    fn flipped(&self, mut key: [i32; 4], step: usize) -> [i32; 4] {
         let step = &self.map.steps[step];
         key[step.attribute] ^= 1 << (step.place % 16);
         key
     }
 
-    fn split_bit(&self, key: [u32; 4], step: usize) -> bool {
+    fn split_bit(&self, key: [i32; 4], step: usize) -> bool {
         let step = &self.map.steps[step];
         key[step.attribute] >> (step.place % 16) & 1 == 1
     }

@@ -40,11 +40,11 @@ impl Map {
         map
     }
 
-    /// A key's four values in one word, if they are within their bounds.
+    /// A key's four values in one word, if they are within their bounds; one below 0 is past every width.
     #[inline]
-    pub fn pack(&self, key: [u32; 4]) -> Option<u64> {
-        let fits = (0..4).all(|j| key[j] >> self.widths[j] == 0);
-        fits.then(|| (0..4).fold(0, |packed, j| packed | u64::from(key[j]) << (16 * j)))
+    pub fn pack(&self, key: [i32; 4]) -> Option<u64> {
+        let fits = (0..4).all(|j| key[j] as u32 >> self.widths[j] == 0);
+        fits.then(|| (0..4).fold(0, |packed, j| packed | u64::from(key[j] as u32) << (16 * j)))
     }
 
     /// The bits of a packed key that may be set.
@@ -54,10 +54,10 @@ impl Map {
 
     /// The index vector of a key's first t split bits.
     #[inline]
-    pub fn cell(&self, key: [u32; 4], t: usize) -> [u32; 4] {
+    pub fn cell(&self, key: [i32; 4], t: usize) -> [u32; 4] {
         let depths = self.depths[t];
         [0, 1, 2, 3].map(|j| {
-            let reversed = (key[j] << (32 - self.widths[j]).min(31)).reverse_bits();
+            let reversed = ((key[j] as u32) << (32 - self.widths[j]).min(31)).reverse_bits();
             reversed & ((1 << depths[j]) - 1)
         })
     }

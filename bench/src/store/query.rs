@@ -4,7 +4,7 @@ use super::{depth_of, page_of, Store};
 
 /// What a walk wants and what it has found.
 struct Walk<'a> {
-    query: [Option<u32>; 4],
+    query: [Option<i32>; 4],
     mask: u64,
     pattern: u64,
     out: &'a mut [[u8; 12]],
@@ -15,7 +15,7 @@ struct Walk<'a> {
 impl Store {
     /// Writes the matching records into the output while whole ones fit; written, total and reads. Refused with 8 or 3.
     #[inline(never)]
-    pub fn query(&self, query: [Option<u32>; 4], out: &mut [u8]) -> Result<(usize, usize, usize), u32> {
+    pub fn query(&self, query: [Option<i32>; 4], out: &mut [u8]) -> Result<(usize, usize, usize), u32> {
         if query[self.shape.attributes as usize..].iter().any(Option::is_some) {
             return Err(8);
         }

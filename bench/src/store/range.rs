@@ -5,7 +5,7 @@ use crate::packed::{Intervals, Lanes};
 
 /// What a walk wants, the whole of a free attribute's values too, and what it has found.
 struct Walk<'a> {
-    ends: [(u32, u32); 4],
+    ends: [(i32, i32); 4],
     lanes: Lanes,
     out: &'a mut [[u8; 12]],
     total: usize,
@@ -38,7 +38,7 @@ impl Store {
 
     /// Walks the region of depth x with this index vector and these least values, which meets the range, and whose
     /// first cell holds the word.
-    fn walk_met(&self, walk: &mut Walk, x: usize, index: [u32; 4], least: [u32; 4], word: u32) {
+    fn walk_met(&self, walk: &mut Walk, x: usize, index: [u32; 4], least: [i32; 4], word: u32) {
         if depth_of(word) == x {
             if let Some(g) = page_of(word) {
                 self.select_inside(walk, g);

@@ -1,6 +1,7 @@
 //! The plain store, call by call, against the list scanned in full and the judge of soundness.
 use super::Store;
 use mdeh_tests::compare::Comparisons;
+use mdeh_tests::host::Shape;
 use mdeh_tests::plain::image::Image;
 use mdeh_tests::plain::judge::judge;
 use mdeh_tests::plain::model::Model;
@@ -14,7 +15,7 @@ fn random_calls_are_answered_as_the_list_answers_them() {
     let mut count = Comparisons::default();
     let mut random = Random::new(0x6d64_6568_2d30_3039);
     for _ in 0..400 {
-        let shape = random_shape(&mut random, 20, 5);
+        let shape = Shape { signs: 0, ..random_shape(&mut random, 20, 5) };
         let (words, bytes) = (1 + random.below(300), (1 + random.below(30)) * page_size(shape));
         let mut store = Store::new(shape, words, bytes);
         let mut model = Model::fresh(shape, words, bytes).expect("the shape is within its bounds");

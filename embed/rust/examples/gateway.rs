@@ -2,11 +2,11 @@
 //! Fills a store, checks it, asks for code 30, then for its releases from 400 to 479, and prints the slots and releases.
 use mdeh::{Listing, Query, Range, Refusal, Shape, Store, RECORD_BYTES};
 
-/// Codes are below 2^7, slots below 2^5, releases below 2^9; a page holds four records.
+/// Codes are below 2^7, slots below 2^5, releases below 2^9, none is signed; a page holds four records.
 const SHAPE: Shape = Shape::new(&[7, 5, 9], 4);
 
 /// Code, slot and release, and how often they came.
-const SEEN: [([u32; 3], u32); 22] = [
+const SEEN: [([i32; 3], u32); 22] = [
     ([10, 1, 412], 1),
     ([10, 2, 412], 1),
     ([10, 5, 431], 1),

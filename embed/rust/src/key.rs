@@ -1,6 +1,7 @@
 //! Keys and index vectors: one number for each attribute.
 
-/// A key: a value for each attribute, 0 for an unused one. Made from an array of one to four values.
+/// A key: a value for each attribute, 0 for an unused one. Made from an array of one to four values, which may be below
+/// 0 where the shape marks the attribute as signed.
 ///
 /// ```
 /// use mdeh::Key;
@@ -11,10 +12,11 @@
 #[derive(Clone, Copy, Debug, PartialEq, Eq, Hash)]
 pub struct Key {
     /// the values, attribute 0 first
-    pub values: [u32; 4],
+    pub values: [i32; 4],
 }
 
-/// An index vector of the directory, 0 for an unused attribute. Made from an array of one to four indices.
+/// An index vector of the directory, 0 for an unused attribute. Made from an array of one to four indices, which have
+/// no sign, whatever the shape marks.
 #[repr(C)]
 #[derive(Clone, Copy, Debug, PartialEq, Eq, Hash)]
 pub struct Index {
@@ -28,30 +30,30 @@ pub struct Index {
     pub i3: u64,
 }
 
-impl From<[u32; 1]> for Key {
+impl From<[i32; 1]> for Key {
     #[inline]
-    fn from([a]: [u32; 1]) -> Key {
+    fn from([a]: [i32; 1]) -> Key {
         Key { values: [a, 0, 0, 0] }
     }
 }
 
-impl From<[u32; 2]> for Key {
+impl From<[i32; 2]> for Key {
     #[inline]
-    fn from([a, b]: [u32; 2]) -> Key {
+    fn from([a, b]: [i32; 2]) -> Key {
         Key { values: [a, b, 0, 0] }
     }
 }
 
-impl From<[u32; 3]> for Key {
+impl From<[i32; 3]> for Key {
     #[inline]
-    fn from([a, b, c]: [u32; 3]) -> Key {
+    fn from([a, b, c]: [i32; 3]) -> Key {
         Key { values: [a, b, c, 0] }
     }
 }
 
-impl From<[u32; 4]> for Key {
+impl From<[i32; 4]> for Key {
     #[inline]
-    fn from(values: [u32; 4]) -> Key {
+    fn from(values: [i32; 4]) -> Key {
         Key { values }
     }
 }

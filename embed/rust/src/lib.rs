@@ -32,9 +32,48 @@
 //!
 //! A store of page capacity b has use for up to 4,096 directory words and 4,096 pages of 2 + 12b bytes
 //! ([`Shape::page_bytes`]). Fewer limit how far it can grow, more are left alone. Both slices are borrowed as long as
-//! the [`Store`] lives, which itself holds the 22 words of the state. To keep a store, keep all three
+//! the [`Store`] lives, which itself holds the [`STATE_WORDS`] words of the state. To keep a store, keep all three
 //! ([`Store::state`], [`Store::directory`], [`Store::pages`]); [`Store::reopen`] takes them up again.
 //! The layouts are in `embed/mdeh.h`.
+//!
+//! # Signed attributes
+//!
+//! A [`Shape`] may mark attributes as signed. A marked attribute of width w has the values from -2^(w-1) to 2^(w-1) - 1,
+//! any other those from 0 to 2^w - 1 ([`Shape::values`]); a number outside is refused with [`Refusal::Value`], never cut
+//! off. The encoding of a value is the value plus 2^(w-1) where it is marked, otherwise the value. Split order, leaves,
+//! queries and ranges go by encodings, so that -1 stands straight before 0. Pages and outputs hold the value itself, in
+//! 16-bit two's complement. Indices and addresses have no sign.
+//!
+//! ```
+//! use mdeh::{Range, Refusal, Shape, Store};
+//!
+//! const SHAPE: Shape = Shape::new(&[6, 10], 4).signed(1); // a drive's number, its position offset
+//! let mut directory = [0u32; 16];
+//! let mut pages = [0u8; 8 * SHAPE.page_bytes()];
+//! let mut store = Store::fresh(SHAPE, &mut directory, &mut pages)?;
+//! assert_eq!(store.shape().values(1), -512..=511);
+//!
+//! for (offset, payload) in [(511, 1), (0, 2), (-1, 3), (-512, 4)] {
+//!     store.insert([5, offset], payload)?;
+//! }
+//! assert_eq!(store.insert([5, 512], 5), Err(Refusal::Value));
+//! assert_eq!(store.insert([5, -513], 5), Err(Refusal::Value));
+//! assert_eq!(store.insert([-1, 0], 5), Err(Refusal::Value)); // a drive's number has no sign
+//! assert_eq!(store.lookup([5, -512])?.payload, 4);
+//!
+//! let mut out = [0; 4 * mdeh::RECORD_BYTES];
+//! let listing = store.query([Some(5)], &mut out)?;
+//! let offsets: Vec<i32> = listing.records().map(|record| record.values[1]).collect();
+//! assert_eq!(offsets, [-512, -1, 0, 511]); // in split order, each as it was inserted
+//!
+//! let about_0 = store.range(Range::all().within(1, -8..8), &mut out)?;
+//! assert_eq!(about_0.records().map(|record| record.payload).collect::<Vec<_>>(), [3, 2]);
+//! store.delete([5, -512])?;
+//! assert_eq!(store.query([None, Some(-512)], &mut out)?.total, 0);
+//! # assert_eq!(store.query([None, Some(-513)], &mut out).unwrap_err(), Refusal::Value);
+//! # assert_eq!(store.check(), Ok(true));
+//! # Ok::<(), Refusal>(())
+//! ```
 //!
 //! # Payloads
 //!
@@ -117,8 +156,8 @@ pub use store::{Found, Listing, Store, STATE_WORDS};
 
 /// The address of an index vector in the directory of a shape.
 ///
-/// The directory grows by doubling and moves no word: an index vector has one address at every size. Refused with
-/// [`Refusal::Shape`], or with [`Refusal::Value`] for an index past its width.
+/// The directory grows by doubling and moves no word: an index vector has one address at every size, whichever
+/// attributes are signed. Refused with [`Refusal::Shape`], or with [`Refusal::Value`] for an index past its width.
 ///
 /// ```
 /// use mdeh::{address, Refusal, Shape};
@@ -126,6 +165,7 @@ pub use store::{Found, Listing, Store, STATE_WORDS};
 /// let shape = Shape::new(&[1, 3, 2], 1);
 /// assert_eq!(address(shape, [1, 2, 1]), Ok(11));
 /// assert_eq!(address(shape, [0, 7, 3]), Ok(59));
+/// assert_eq!(address(shape.signed(1), [0, 7, 3]), Ok(59));
 /// assert_eq!(address(shape, [2, 0, 0]), Err(Refusal::Value));
 /// ```
 #[inline]

@@ -28,10 +28,10 @@ impl Query {
     /// The query that also wants this value of this attribute, counted from 0.
     ///
     /// A query that names an attribute which the store's shape does not have is refused with
-    /// [`Refusal::Attribute`](crate::Refusal::Attribute), a value past the attribute's width with
+    /// [`Refusal::Attribute`](crate::Refusal::Attribute), a number that is no value of the attribute with
     /// [`Refusal::Value`](crate::Refusal::Value).
     #[inline]
-    pub const fn given(mut self, attribute: usize, value: u32) -> Query {
+    pub const fn given(mut self, attribute: usize, value: i32) -> Query {
         if attribute < 4 {
             self.raw.given[attribute] = 1;
             self.raw.values[attribute] = value;
@@ -42,30 +42,30 @@ impl Query {
     }
 }
 
-impl From<[Option<u32>; 1]> for Query {
+impl From<[Option<i32>; 1]> for Query {
     #[inline]
-    fn from([a]: [Option<u32>; 1]) -> Query {
+    fn from([a]: [Option<i32>; 1]) -> Query {
         Query::from([a, None, None, None])
     }
 }
 
-impl From<[Option<u32>; 2]> for Query {
+impl From<[Option<i32>; 2]> for Query {
     #[inline]
-    fn from([a, b]: [Option<u32>; 2]) -> Query {
+    fn from([a, b]: [Option<i32>; 2]) -> Query {
         Query::from([a, b, None, None])
     }
 }
 
-impl From<[Option<u32>; 3]> for Query {
+impl From<[Option<i32>; 3]> for Query {
     #[inline]
-    fn from([a, b, c]: [Option<u32>; 3]) -> Query {
+    fn from([a, b, c]: [Option<i32>; 3]) -> Query {
         Query::from([a, b, c, None])
     }
 }
 
-impl From<[Option<u32>; 4]> for Query {
+impl From<[Option<i32>; 4]> for Query {
     #[inline]
-    fn from(wanted: [Option<u32>; 4]) -> Query {
+    fn from(wanted: [Option<i32>; 4]) -> Query {
         Query { raw: HostQuery::new(wanted), beyond: false }
     }
 }

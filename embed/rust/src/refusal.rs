@@ -15,7 +15,7 @@ use core::fmt::{self, Display, Formatter};
 /// let refusal = store.insert([3, 16], 8).unwrap_err();
 /// assert_eq!(refusal, Refusal::Value);
 /// assert_eq!(refusal.number(), 3);
-/// assert_eq!(refusal.to_string(), "a value, index or address is too large, or an unused value is not 0");
+/// assert_eq!(refusal.to_string(), "a value, index or address is outside its bounds, or an unused value is not 0");
 /// # Ok::<(), Refusal>(())
 /// ```
 #[repr(u32)]
@@ -25,7 +25,8 @@ pub enum Refusal {
     Shape = 1,
     /// Fresh: no directory word or no whole page. Later: fewer words or pages than the store has use for.
     Memory = 2,
-    /// A value or an index past its attribute's width, an address past the last, or an unused value other than 0.
+    /// A number that is no value of its attribute ([`Shape::values`](crate::Shape::values)), an index past its
+    /// attribute's width, an address past the last, or an unused value other than 0.
     Value = 3,
     /// Insert: the key is stored already.
     Stored = 4,
@@ -77,7 +78,7 @@ impl Display for Refusal {
         f.write_str(match self {
             Refusal::Shape => "the shape is outside its bounds",
             Refusal::Memory => "too few words or page bytes are lent",
-            Refusal::Value => "a value, index or address is too large, or an unused value is not 0",
+            Refusal::Value => "a value, index or address is outside its bounds, or an unused value is not 0",
             Refusal::Stored => "the key is stored already",
             Refusal::Absent => "the key is not stored",
             Refusal::Depth => "the directory cannot grow deep enough to tell the keys apart",

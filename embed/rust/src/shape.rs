@@ -1,7 +1,8 @@
 //! What the records of a store look like.
 use crate::record::RECORD_BYTES;
+use core::ops::RangeInclusive;
 
-/// The attribute count, a width in bits for each attribute, and the page capacity.
+/// The attribute count, a width in bits for each attribute, the page capacity, and the marks of signed attributes.
 ///
 /// In bounds are one to four attributes, widths of 1 to 16 and a capacity of 1 to 16 records. Any other values can be
 /// written down too: a call that is given them is refused with [`Refusal::Shape`](crate::Refusal::Shape).
@@ -25,11 +26,13 @@ pub struct Shape {
     pub widths: [u32; 4],
     /// how many records a page holds, b
     pub capacity: u32,
+    /// bit j marks attribute j as signed; those past d are ignored
+    pub signs: u32,
 }
 
 impl Shape {
-    /// The shape with these widths, one for each attribute, and this page capacity. More than four widths give a shape
-    /// outside the bounds.
+    /// The shape with these widths, one for each attribute, and this page capacity, no attribute marked as signed. More
+    /// than four widths give a shape outside the bounds.
     #[inline]
     pub const fn new(widths: &[u32], capacity: u32) -> Shape {
         let mut four = [0; 4];
@@ -41,7 +44,55 @@ impl Shape {
         if attributes < widths.len() {
             attributes += 1;
         }
-        Shape { attributes: attributes as u32, widths: four, capacity }
+        Shape { attributes: attributes as u32, widths: four, capacity, signs: 0 }
+    }
+
+    /// The shape that also marks this attribute, counted from 0, as signed. One that the shape does not have is marked
+    /// to no effect, one that no shape can have is ignored.
+    ///
+    /// ```
+    /// use mdeh::Shape;
+    ///
+    /// const DRIVES: Shape = Shape::new(&[6, 10], 16).signed(1); // a drive's number, its position offset
+    /// assert!(!DRIVES.is_signed(0) && DRIVES.is_signed(1));
+    /// assert_eq!(DRIVES.signs, 0b10);
+    /// assert!(!DRIVES.signed(2).is_signed(2));
+    /// assert_eq!(DRIVES.signed(4), DRIVES);
+    /// ```
+    #[inline]
+    pub const fn signed(mut self, attribute: usize) -> Shape {
+        if attribute < 4 {
+            self.signs |= 1 << attribute;
+        }
+        self
+    }
+
+    /// Whether the shape has this attribute, and marks it as signed.
+    #[inline]
+    pub const fn is_signed(&self, attribute: usize) -> bool {
+        attribute < 4 && (attribute as u32) < self.attributes && self.signs >> attribute & 1 == 1
+    }
+
+    /// The values of an attribute of width w: 0 to 2^w - 1, or -2^(w-1) to 2^(w-1) - 1 where it is marked; 0 for one
+    /// that the shape does not have. Some values of a shape outside its bounds, which every call refuses.
+    ///
+    /// ```
+    /// use mdeh::Shape;
+    ///
+    /// let shape = Shape::new(&[6, 10], 16).signed(1);
+    /// assert_eq!([0, 1, 2].map(|attribute| shape.values(attribute)), [0..=63, -512..=511, 0..=0]);
+    /// ```
+    #[inline]
+    pub const fn values(&self, attribute: usize) -> RangeInclusive<i32> {
+        if attribute >= 4 || attribute as u32 >= self.attributes {
+            return 0..=0;
+        }
+        let count = match self.widths[attribute] {
+            width @ 0..=16 => 1 << width,
+            _ => 1 << 16,
+        };
+        let least = if self.is_signed(attribute) { -(count / 2) } else { 0 };
+        least..=least + count - 1
     }
 
     /// The bytes of one page: 2 for its count, and its records.

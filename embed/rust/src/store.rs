@@ -39,6 +39,7 @@ pub struct Listing<'o> {
     pub total: u64,
     /// how many pages were read
     pub reads: u64,
+    shape: Shape,
     out: &'o [u8],
 }
 
@@ -56,7 +57,8 @@ impl<'m> Store<'m> {
     /// Takes up a store that was kept: its state, and its directory and pages, which may be longer now.
     ///
     /// Nothing is tested and nothing is trusted: every call stays within the memory and ends, whatever it holds. Ask
-    /// [`Store::check`] whether it is a sound store.
+    /// [`Store::check`] whether it is a sound store. A state that an earlier version kept has no marks of signed
+    /// attributes and one word less: a word of 0 behind it makes it a state.
     ///
     /// ```
     /// use mdeh::{Shape, Store};
@@ -154,7 +156,8 @@ impl<'m> Store<'m> {
             // after the reasons that check has too
             return Err(self.check().err().unwrap_or(Refusal::Attribute));
         }
-        Listing::of(raw::query_result(&self.state, self.directory, self.pages, query.raw, out), out)
+        let result = raw::query_result(&self.state, self.directory, self.pages, query.raw, out);
+        Listing::of(result, self.shape(), out)
     }
 
     /// Writes the records that lie in a range into `out`, in split order, while whole ones fit.
@@ -186,8 +189,9 @@ impl<'m> Store<'m> {
             // after the reasons that check has too
             return Err(self.check().err().unwrap_or(Refusal::Attribute));
         }
-        let range = range.closed(self.shape());
-        Listing::of(raw::range_result(&self.state, self.directory, self.pages, range, out), out)
+        let shape = self.shape();
+        let result = raw::range_result(&self.state, self.directory, self.pages, range.closed(shape), out);
+        Listing::of(result, shape, out)
     }
 
     /// Whether the memory holds a sound store: state, words and pages show one set of records, from which every call is
@@ -199,7 +203,8 @@ impl<'m> Store<'m> {
         raw::check(&self.state, self.directory, self.pages).map_err(Refusal::of)
     }
 
-    /// The words of the state: d, the four widths, b, P, L, T, and how many leaves there are at depths 0 to 12.
+    /// The words of the state: d, the four widths, b, P, L, T, how many leaves there are at depths 0 to 12, and the
+    /// marks of signed attributes.
     #[inline]
     pub fn state(&self) -> &[u32; STATE_WORDS] {
         &self.state
@@ -220,8 +225,8 @@ impl<'m> Store<'m> {
     /// The shape that the state has.
     #[inline]
     pub fn shape(&self) -> Shape {
-        let [attributes, a, b, c, d, capacity, ..] = self.state;
-        Shape { attributes, widths: [a, b, c, d], capacity }
+        let [attributes, a, b, c, d, capacity, .., signs] = self.state;
+        Shape { attributes, widths: [a, b, c, d], capacity, signs }
     }
 }
 
@@ -237,11 +242,13 @@ impl Debug for Store<'_> {
 }
 
 impl<'o> Listing<'o> {
-    /// What the library returned of an output.
+    /// What the library returned of an output of a store of this shape.
     #[inline]
-    fn of(result: QueryResult, out: &'o [u8]) -> Result<Listing<'o>, Refusal> {
+    fn of(result: QueryResult, shape: Shape, out: &'o [u8]) -> Result<Listing<'o>, Refusal> {
         match result {
-            QueryResult { number: 0, written, total, reads } => Ok(Listing { written, total, reads, out }),
+            QueryResult { number: 0, written, total, reads } => {
+                Ok(Listing { written, total, reads, shape, out })
+            }
             QueryResult { number, .. } => Err(Refusal::of(number)),
         }
     }
@@ -249,7 +256,7 @@ impl<'o> Listing<'o> {
     /// The records that were written, in split order.
     #[inline]
     pub fn records(&self) -> Records<'o> {
-        Records::new(self.out, self.written as usize)
+        Records::new(self.shape, self.out, self.written as usize)
     }
 }
 

@@ -44,23 +44,29 @@ fn records(canvas: &mut Canvas, picture: &Picture, area: Area) {
     canvas.close();
 }
 
-/// The middle of a key's place.
+/// The middle of a key's place: its values by their distances from the least ones, which are the encodings.
 fn point(picture: &Picture, area: Area, record: &Record) -> (f64, f64) {
     let widths = picture.widths();
-    let part = |j: usize| (f64::from(record.values[j]) + 0.5) / f64::from(1u32 << widths[j]);
+    let encoding = |j: usize| record.values[j] - picture.shape.values(j).start();
+    let part = |j: usize| (f64::from(encoding(j)) + 0.5) / f64::from(1u32 << widths[j]);
     (area.x + part(0) * area.width, area.y + (1.0 - part(1)) * area.height)
 }
 
 /// The attributes and their least and greatest values.
 fn axes(canvas: &mut Canvas, picture: &Picture, area: Area) {
-    let greatest = |j: usize| ((1u32 << picture.widths()[j]) - 1).to_string();
+    let ends = |j: usize| {
+        let values = picture.shape.values(j);
+        (values.start().to_string(), values.end().to_string())
+    };
     let (right, bottom) = (area.x + area.width, area.y + area.height);
-    canvas.text(area.x, bottom + 16.0, "", "0");
+    let (least, greatest) = ends(0);
+    canvas.text(area.x, bottom + 16.0, "", &least);
     canvas.text(area.x + area.width / 2.0, bottom + 16.0, "middle", "attribute 0");
-    canvas.text(right, bottom + 16.0, "end", &greatest(0));
-    canvas.text(area.x - 6.0, bottom, "end", "0");
+    canvas.text(right, bottom + 16.0, "end", &greatest);
+    let (least, greatest) = ends(1);
+    canvas.text(area.x - 6.0, bottom, "end", &least);
     canvas.text(area.x - 6.0, area.y + area.height / 2.0, "end", "attribute 1");
-    canvas.text(area.x - 6.0, area.y + 12.0, "end", &greatest(1));
+    canvas.text(area.x - 6.0, area.y + 12.0, "end", &greatest);
 }
 
 #[cfg(test)]
@@ -71,10 +77,18 @@ mod tests {
     /// The leaves tile the area, and each has its records in its tile.
     #[test]
     fn records_lie_in_their_leaves() {
-        let mut session = Session::default();
+        (0..4).for_each(compare);
+    }
+
+    /// The same, with these marks.
+    fn compare(signs: u32) {
+        let mut session = Session::signed(signs);
         let mut take = |line: String| session.take(line.as_bytes()).expect("an accepted line");
         take("shape 2 4 7 2".to_owned());
-        (0..60).for_each(|i: u32| take(format!("put {} {} {}", i * i % 16, 2 * i + i % 2, i + 1)));
+        let least = [if signs & 1 == 0 { 0 } else { -8 }, if signs & 2 == 0 { 0 } else { -64 }];
+        for i in 0..60 {
+            take(format!("put {} {} {}", i * i % 16 + least[0], 2 * i + i % 2 + least[1], i + 1));
+        }
         let picture = Picture::of(&session.store().expect("a store"));
         let area = Area::new(3.0, 5.0, 64.0, 256.0);
         let mut covered = 0.0;

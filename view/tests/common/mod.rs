@@ -9,7 +9,12 @@ pub const STORES: [(&[u32], u32, usize); 5] =
 
 /// What the store shows that lines leave, each of which is accepted.
 pub fn picture(lines: &str) -> Picture {
-    let mut session = Session::default();
+    signed_picture(0, lines)
+}
+
+/// The same, with these marks of signed attributes.
+pub fn signed_picture(signs: u32, lines: &str) -> Picture {
+    let mut session = Session::signed(signs);
     for line in lines.lines() {
         assert_eq!(session.take(line.as_bytes()), Ok(()), "{line}");
     }

@@ -29,7 +29,7 @@ pub fn insert(
     state: &mut [u32],
     dir: &mut [u32],
     pages: &mut [u8],
-    key: [u32; 4],
+    key: [i32; 4],
     payload: u32,
 ) -> Result<(), u32> {
     // SAFETY: each pointer and length are of one slice, the slices do not overlap, and the function has no
@@ -51,7 +51,7 @@ pub fn insert(
 
 /// Removes the record of a key, or returns the number of the refusal.
 #[inline]
-pub fn delete(state: &mut [u32], dir: &mut [u32], pages: &mut [u8], key: [u32; 4]) -> Result<(), u32> {
+pub fn delete(state: &mut [u32], dir: &mut [u32], pages: &mut [u8], key: [i32; 4]) -> Result<(), u32> {
     // SAFETY: each pointer and length are of one slice, the slices do not overlap, and the function has no
     // `requires`.
     let number = unsafe {

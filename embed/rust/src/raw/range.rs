@@ -9,9 +9,9 @@ pub struct HostRange {
     /// whether each attribute is given
     pub given: [u32; 4],
     /// the least value wanted of each; ignored where it is free
-    pub low: [u32; 4],
+    pub low: [i32; 4],
     /// the greatest; ignored where it is free
-    pub high: [u32; 4],
+    pub high: [i32; 4],
 }
 
 extern "C" {
@@ -31,7 +31,7 @@ extern "C" {
 impl HostRange {
     /// The range of these intervals, each with its low and its high end; the ends of a free attribute are 0.
     #[inline]
-    pub fn new(range: [Option<(u32, u32)>; 4]) -> HostRange {
+    pub fn new(range: [Option<(i32, i32)>; 4]) -> HostRange {
         HostRange {
             given: range.map(|interval| u32::from(interval.is_some())),
             low: range.map(|interval| interval.map_or(0, |(low, _)| low)),
@@ -73,7 +73,7 @@ pub fn range(
     state: &[u32],
     dir: &[u32],
     pages: &[u8],
-    range: [Option<(u32, u32)>; 4],
+    range: [Option<(i32, i32)>; 4],
     out: &mut [u8],
 ) -> Result<Counts, u32> {
     match range_result(state, dir, pages, HostRange::new(range), out) {

@@ -3,8 +3,9 @@
 use super::changes::done;
 use super::{Key, Shape};
 
-/// The words of a state: d, the four widths, b, P, L, T and the tally of depths 0 to 12.
-pub const STATE_WORDS: usize = 22;
+/// The words of a state: d, the four widths, b, P, L, T, the tally of depths 0 to 12, and the marks of signed
+/// attributes.
+pub const STATE_WORDS: usize = 23;
 
 /// A query: attribute j is given the value `values[j]` where `given[j]` is not 0, and free otherwise.
 #[repr(C)]
@@ -13,7 +14,7 @@ pub struct HostQuery {
     /// whether each attribute is given
     pub given: [u32; 4],
     /// the value wanted of each; ignored where it is free
-    pub values: [u32; 4],
+    pub values: [i32; 4],
 }
 
 /// Number 0, the payload and the pages read, or the number of the refusal and zeros.
@@ -107,7 +108,7 @@ extern "C" {
 impl HostQuery {
     /// The query that wants these values; the value of a free attribute is 0.
     #[inline]
-    pub fn new(query: [Option<u32>; 4]) -> HostQuery {
+    pub fn new(query: [Option<i32>; 4]) -> HostQuery {
         let given = query.map(|wanted| u32::from(wanted.is_some()));
         HostQuery { given, values: query.map(|wanted| wanted.unwrap_or(0)) }
     }
@@ -134,7 +135,7 @@ pub fn fresh(shape: Shape, state: &mut [u32], dir: &mut [u32], pages: &mut [u8])
 
 /// The payload of a key's record and the pages read, as the library returns them.
 #[inline]
-pub fn lookup_result(state: &[u32], dir: &[u32], pages: &[u8], key: [u32; 4]) -> LookupResult {
+pub fn lookup_result(state: &[u32], dir: &[u32], pages: &[u8], key: [i32; 4]) -> LookupResult {
     // SAFETY: each pointer and length are of one slice, and the function has no `requires`.
     unsafe {
         mdeh_lookup(
@@ -184,7 +185,7 @@ pub fn check_result(state: &[u32], dir: &[u32], pages: &[u8]) -> CheckResult {
 
 /// The payload of a key's record and the pages read, or the number of the refusal.
 #[inline]
-pub fn lookup(state: &[u32], dir: &[u32], pages: &[u8], key: [u32; 4]) -> Result<(u32, u32), u32> {
+pub fn lookup(state: &[u32], dir: &[u32], pages: &[u8], key: [i32; 4]) -> Result<(u32, u32), u32> {
     match lookup_result(state, dir, pages, key) {
         LookupResult { number: 0, payload, reads } => Ok((payload, reads)),
         LookupResult { number, .. } => Err(number),
@@ -198,7 +199,7 @@ pub fn query(
     state: &[u32],
     dir: &[u32],
     pages: &[u8],
-    query: [Option<u32>; 4],
+    query: [Option<i32>; 4],
     out: &mut [u8],
 ) -> Result<Counts, u32> {
     match query_result(state, dir, pages, HostQuery::new(query), out) {
