@@ -8,7 +8,8 @@
 
 /* The layout of what crosses, as the library has it. */
 #define LAID(name, condition) typedef char name[(condition) ? 1 : -1]
-LAID(shape_laid, sizeof(MdehShape) == 24 && offsetof(MdehShape, widths) == 4 && offsetof(MdehShape, capacity) == 20);
+LAID(shape_laid, sizeof(MdehShape) == 28 && offsetof(MdehShape, widths) == 4 && offsetof(MdehShape, capacity) == 20);
+LAID(marks_laid, offsetof(MdehShape, signs) == 24);
 LAID(key_laid, sizeof(MdehKey) == 16 && sizeof(MdehIndex) == 32);
 LAID(query_laid, sizeof(MdehQuery) == 32 && offsetof(MdehQuery, values) == 16);
 LAID(range_laid, sizeof(MdehRange) == 48 && offsetof(MdehRange, low) == 16 && offsetof(MdehRange, high) == 32);
@@ -19,7 +20,7 @@ LAID(check_laid, sizeof(MdehCheckResult) == 8 && offsetof(MdehCheckResult, sound
 LAID(address_laid, sizeof(MdehAddressResult) == 16 && offsetof(MdehAddressResult, address) == 8);
 LAID(index_laid, sizeof(MdehIndexResult) == 40 && offsetof(MdehIndexResult, index) == 8);
 
-static const MdehShape small = {2, {2, 2, 0, 0}, 2};
+static const MdehShape small = {2, {2, 2, 0, 0}, 2, 0};
 static const MdehKey key = {{2, 1, 0, 0}};
 static const MdehKey keys[4] = {{{0, 0, 0, 0}}, {{2, 0, 0, 0}}, {{3, 1, 0, 0}}, {{2, 1, 0, 0}}};
 static const MdehQuery all = {{0, 0, 0, 0}, {0, 0, 0, 0}};
@@ -167,7 +168,7 @@ static void compare_zeros(MdehQueryResult found, const uint8_t *out) {
     size_t i;
     HOLDS(found.number == MDEH_ACCEPTED && found.written == 4 && found.total == 4 && found.reads == 3);
     for (i = 0; i < 4; i++)
-        HOLDS(mdeh_record(out, i).payload == listed[i]);
+        HOLDS(mdeh_record(small, out, i).payload == listed[i]);
 }
 
 void stored_zero(void) {
@@ -238,7 +239,7 @@ static void compare_shape(MdehShape shape) {
 void addresses(void) {
     uint32_t n;
     for (n = 0; n < 4 * 256; n++) {
-        MdehShape shape = {1 + n / 256, {1 + n % 4, 1 + n / 4 % 4, 1 + n / 16 % 4, 1 + n / 64 % 4}, 16};
+        MdehShape shape = {1 + n / 256, {1 + n % 4, 1 + n / 4 % 4, 1 + n / 16 % 4, 1 + n / 64 % 4}, 16, n * 0x9e3779b9};
         if (model_bits(&shape) <= 10)
             compare_shape(shape);
     }

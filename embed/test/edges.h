@@ -14,7 +14,7 @@ void payloads(void);
 /* A stored payload of 0, as a store of an earlier version may hold it: checked, looked up, listed, deleted. */
 void stored_zero(void);
 
-/* The address map of all small shapes beside the doubling array. */
+/* The address map of all small shapes, with any marks, beside the doubling array. */
 void addresses(void);
 
 #endif

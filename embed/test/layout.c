@@ -1,5 +1,7 @@
 #include "layout.h"
 
+#include "model.h"
+
 #include <string.h>
 
 /* The index vector of a key's cell in a directory of depth t. */
@@ -9,7 +11,8 @@ static MdehIndex cell_of(const MdehShape *shape, MdehKey key, uint32_t t) {
     for (place = 0; t > 0; place++) {
         uint32_t k = place / 4, j = place % 4;
         if (j < shape->attributes && k < shape->widths[j]) {
-            index.indices[j] |= (uint64_t)(key.values[j] >> (shape->widths[j] - 1 - k) & 1) << k;
+            uint32_t encoding = model_encoding(shape, j, key.values[j]);
+            index.indices[j] |= (uint64_t)(encoding >> (shape->widths[j] - 1 - k) & 1) << k;
             t--;
         }
     }
@@ -17,14 +20,14 @@ static MdehIndex cell_of(const MdehShape *shape, MdehKey key, uint32_t t) {
 }
 
 size_t layout_record(const uint32_t *state, const uint32_t *directory, const uint8_t *pages, MdehKey key) {
-    MdehShape shape = {state[0], {state[1], state[2], state[3], state[4]}, state[5]};
+    MdehShape shape = mdeh_shape(state);
     uint32_t word = directory[mdeh_address(shape, cell_of(&shape, key, state[8])).address];
     size_t page, i;
     if ((word & 0xffff) == 0)
         return 0;
     page = ((word & 0xffff) - 1) * MDEH_PAGE_BYTES(shape.capacity);
     for (i = 0; i < (size_t)(pages[page] | pages[page + 1] << 8); i++) {
-        MdehRecord record = mdeh_record(pages + page + 2, i);
+        MdehRecord record = mdeh_record(shape, pages + page + 2, i);
         if (memcmp(record.values, key.values, sizeof key.values) == 0)
             return page + 2 + MDEH_RECORD_BYTES * i;
     }

@@ -15,6 +15,34 @@ uint32_t model_bits(const MdehShape *shape) {
     return bits;
 }
 
+/* Whether attribute j is one of the shape's, and marked as signed. */
+static int is_marked(const MdehShape *shape, uint32_t j) {
+    return j < shape->attributes && shape->signs >> j & 1;
+}
+
+int32_t model_least(const MdehShape *shape, uint32_t j) {
+    return is_marked(shape, j) ? -((int32_t)1 << (shape->widths[j] - 1)) : 0;
+}
+
+int32_t model_greatest(const MdehShape *shape, uint32_t j) {
+    if (j >= shape->attributes)
+        return 0;
+    return model_least(shape, j) + ((int32_t)1 << shape->widths[j]) - 1;
+}
+
+uint32_t model_encoding(const MdehShape *shape, uint32_t j, int32_t value) {
+    return (uint32_t)value - (uint32_t)model_least(shape, j);
+}
+
+int32_t model_value(const MdehShape *shape, uint32_t j, uint32_t encoding) {
+    return (int32_t)encoding + model_least(shape, j);
+}
+
+/* Whether a number is a value of attribute j. */
+static int is_value(const MdehShape *shape, uint32_t j, int32_t number) {
+    return model_least(shape, j) <= number && number <= model_greatest(shape, j);
+}
+
 /* Whether a shape is within its bounds. */
 static int in_bounds(const MdehShape *shape) {
     uint32_t j;
@@ -26,35 +54,46 @@ static int in_bounds(const MdehShape *shape) {
     return 1;
 }
 
-/* The split bits of four values, the first one highest: bit k of each attribute in turn, the most significant first. */
-static uint64_t code_of(const MdehShape *shape, const uint32_t *values) {
+/* The split bits of four encodings, the first one highest: bit k of each attribute in turn, the most significant
+   first. */
+static uint64_t code_of(const MdehShape *shape, const uint32_t *encodings) {
     uint32_t place, t = 0;
     uint64_t code = 0;
     for (place = 0; place < 64; place++) {
         uint32_t k = place / 4, j = place % 4;
         if (j < shape->attributes && k < shape->widths[j])
-            code |= (uint64_t)(values[j] >> (shape->widths[j] - 1 - k) & 1) << (63 - t++);
+            code |= (uint64_t)(encodings[j] >> (shape->widths[j] - 1 - k) & 1) << (63 - t++);
     }
     return code;
 }
 
-/* The values whose split bits these are. */
+/* The split bits of a key. */
+static uint64_t key_code(const MdehShape *shape, MdehKey key) {
+    uint32_t encodings[4], j;
+    for (j = 0; j < 4; j++)
+        encodings[j] = model_encoding(shape, j, key.values[j]);
+    return code_of(shape, encodings);
+}
+
+/* The key whose split bits these are. */
 static MdehKey key_of(const MdehShape *shape, uint64_t code) {
-    MdehKey key = {{0, 0, 0, 0}};
-    uint32_t place, t = 0;
+    MdehKey key;
+    uint32_t encodings[4] = {0, 0, 0, 0}, place, t = 0;
     for (place = 0; place < 64; place++) {
         uint32_t k = place / 4, j = place % 4;
         if (j < shape->attributes && k < shape->widths[j])
-            key.values[j] = key.values[j] << 1 | (uint32_t)(code >> (63 - t++) & 1);
+            encodings[j] = encodings[j] << 1 | (uint32_t)(code >> (63 - t++) & 1);
     }
+    for (place = 0; place < 4; place++)
+        key.values[place] = model_value(shape, place, encodings[place]);
     return key;
 }
 
-/* Whether some value is 2^w_j or more, or that of an unused attribute not 0. */
-static int too_large(const MdehShape *shape, const uint32_t *values) {
+/* Whether some number is no value of its attribute, or that of an unused attribute not 0. */
+static int out_of_bounds(const MdehShape *shape, MdehKey key) {
     uint32_t j;
     for (j = 0; j < 4; j++)
-        if (values[j] >> (j < shape->attributes ? shape->widths[j] : 0))
+        if (!is_value(shape, j, key.values[j]))
             return 1;
     return 0;
 }
@@ -96,13 +135,16 @@ static size_t leaves(const Model *model, Leaf *found) {
 
 uint32_t model_fresh(Model *model, MdehShape shape, size_t words, size_t bytes) {
     size_t pages;
-    uint32_t bits;
+    uint32_t bits, j, signs = 0;
     if (!in_bounds(&shape))
         return MDEH_REFUSED_SHAPE;
     pages = bytes / MDEH_PAGE_BYTES(shape.capacity);
     if (words == 0 || pages == 0)
         return MDEH_REFUSED_MEMORY;
     bits = model_bits(&shape);
+    for (j = 0; j < 4; j++)
+        signs |= (uint32_t)is_marked(&shape, j) << j;
+    shape.signs = signs;
     model->shape = shape;
     model->count = 0;
     model->page_limit = pages < 4096 ? (uint32_t)pages : 4096;
@@ -137,9 +179,9 @@ static void drop(Model *model, uint64_t code) {
 }
 
 uint32_t model_insert(Model *model, MdehKey key, uint32_t payload) {
-    uint64_t code = code_of(&model->shape, key.values);
+    uint64_t code = key_code(&model->shape, key);
     Leaf found[MOST_RECORDS];
-    if (too_large(&model->shape, key.values))
+    if (out_of_bounds(&model->shape, key))
         return MDEH_REFUSED_VALUE;
     if (payload == 0)
         return MDEH_REFUSED_PAYLOAD;
@@ -155,8 +197,8 @@ uint32_t model_insert(Model *model, MdehKey key, uint32_t payload) {
 }
 
 uint32_t model_delete(Model *model, MdehKey key) {
-    uint64_t code = code_of(&model->shape, key.values);
-    if (too_large(&model->shape, key.values))
+    uint64_t code = key_code(&model->shape, key);
+    if (out_of_bounds(&model->shape, key))
         return MDEH_REFUSED_VALUE;
     if (!is_stored(model, code))
         return MDEH_REFUSED_ABSENT;
@@ -166,8 +208,8 @@ uint32_t model_delete(Model *model, MdehKey key) {
 
 MdehLookupResult model_lookup(const Model *model, MdehKey key) {
     MdehLookupResult result = {0, 0, 0};
-    uint64_t code = code_of(&model->shape, key.values);
-    if (too_large(&model->shape, key.values)) {
+    uint64_t code = key_code(&model->shape, key);
+    if (out_of_bounds(&model->shape, key)) {
         result.number = MDEH_REFUSED_VALUE;
     } else if (!is_stored(model, code)) {
         result.number = MDEH_REFUSED_ABSENT;
@@ -184,7 +226,7 @@ static uint32_t query_number(const MdehShape *shape, const MdehQuery *query) {
     for (j = 0; j < 4; j++) {
         if (query->given[j] && j >= shape->attributes)
             return MDEH_REFUSED_ATTRIBUTE;
-        if (query->given[j] && query->values[j] >> shape->widths[j])
+        if (query->given[j] && !is_value(shape, j, query->values[j]))
             number = MDEH_REFUSED_VALUE;
     }
     return number;
@@ -203,10 +245,11 @@ static int agrees(const Leaf *leaf, uint64_t given, uint64_t wanted) {
     return leaf->depth == 0 || ((leaf->code ^ wanted) & given) >> (64 - leaf->depth) == 0;
 }
 
+/* The bytes of a record, its values in two's complement. */
 static void put(uint8_t *place, const MdehRecord *record) {
     uint32_t j;
     for (j = 0; j < 12; j++)
-        place[j] = (uint8_t)(j < 8 ? record->values[j / 2] >> j % 2 * 8 : record->payload >> (j - 8) * 8);
+        place[j] = (uint8_t)(j < 8 ? (uint32_t)record->values[j / 2] >> j % 2 * 8 : record->payload >> (j - 8) * 8);
 }
 
 /* Counts a record, and puts it into the output if it fits there. */
@@ -228,7 +271,7 @@ MdehQueryResult model_query(const Model *model, MdehQuery query, uint8_t *out, s
             list(&result, &model->records[i].record, out, out_bytes);
     for (j = 0; j < 4; j++) {
         given[j] = query.given[j] ? UINT32_MAX : 0;
-        wanted[j] = query.given[j] ? query.values[j] : 0;
+        wanted[j] = query.given[j] ? model_encoding(&model->shape, j, query.values[j]) : 0;
     }
     for (i = 0; i < count; i++)
         result.reads += agrees(found + i, code_of(&model->shape, given), code_of(&model->shape, wanted));
@@ -237,20 +280,21 @@ MdehQueryResult model_query(const Model *model, MdehQuery query, uint8_t *out, s
 
 /* The number of a range: 8 whatever the ends, then 3 for any end, then 10; the ends of a free attribute are ignored. */
 static uint32_t range_number(const MdehShape *shape, const MdehRange *range) {
-    uint32_t j, large = 0, falls = 0;
+    uint32_t j;
+    int outside = 0, falls = 0;
     for (j = 0; j < 4; j++) {
         if (!range->given[j])
             continue;
         if (j >= shape->attributes)
             return MDEH_REFUSED_ATTRIBUTE;
-        large |= (range->low[j] | range->high[j]) >> shape->widths[j];
+        outside |= !is_value(shape, j, range->low[j]) || !is_value(shape, j, range->high[j]);
         falls |= range->low[j] > range->high[j];
     }
-    return large ? MDEH_REFUSED_VALUE : falls ? MDEH_REFUSED_INTERVAL : MDEH_ACCEPTED;
+    return outside ? MDEH_REFUSED_VALUE : falls ? MDEH_REFUSED_INTERVAL : MDEH_ACCEPTED;
 }
 
 /* Whether the box from the values `low` to the values `high` has a point of the range. */
-static int meets(const MdehRange *range, const uint32_t *low, const uint32_t *high) {
+static int meets(const MdehRange *range, const int32_t *low, const int32_t *high) {
     uint32_t j;
     for (j = 0; j < 4; j++)
         if (range->given[j] && (high[j] < range->low[j] || low[j] > range->high[j]))

@@ -23,7 +23,15 @@ typedef struct {
 /* The sum of the widths in use. */
 uint32_t model_bits(const MdehShape *shape);
 
-/* The number of Fresh; where it is 0, the model has no records. */
+/* The least and the greatest value of attribute j, 0 for an unused one. */
+int32_t model_least(const MdehShape *shape, uint32_t j);
+int32_t model_greatest(const MdehShape *shape, uint32_t j);
+
+/* The encoding of a value of attribute j, and the value that has an encoding. */
+uint32_t model_encoding(const MdehShape *shape, uint32_t j, int32_t value);
+int32_t model_value(const MdehShape *shape, uint32_t j, uint32_t encoding);
+
+/* The number of Fresh; where it is 0, the model has no records, and its shape no marks but those of attributes. */
 uint32_t model_fresh(Model *model, MdehShape shape, size_t words, size_t bytes);
 
 uint32_t model_insert(Model *model, MdehKey key, uint32_t payload);

@@ -7,6 +7,7 @@
 #include "layout.h"
 #include "lent.h"
 #include "model.h"
+#include "signs.h"
 
 #include <stdio.h>
 #include <stdlib.h>
@@ -42,7 +43,7 @@ static void take_store_back(Run *run) {
     take_back(&run->pages);
 }
 
-/* A shape, one in sixteen with a number outside its bounds. */
+/* A shape, with any marks in one of two, one in sixteen with a number outside its bounds. */
 static MdehShape random_shape(uint64_t *seed) {
     MdehShape shape;
     uint32_t j, narrow = below(seed, 2);
@@ -50,6 +51,7 @@ static MdehShape random_shape(uint64_t *seed) {
     for (j = 0; j < 4; j++)
         shape.widths[j] = 1 + below(seed, narrow ? 3 : 16);
     shape.capacity = 1 + below(seed, narrow ? 3 : 16);
+    shape.signs = below(seed, 2) ? (uint32_t)number64(seed) : 0;
     if (below(seed, 16) == 0) {
         uint32_t *numbers[6] = {&shape.attributes, &shape.capacity, shape.widths, shape.widths + 1, shape.widths + 2,
                                 shape.widths + 3};
@@ -59,22 +61,24 @@ static MdehShape random_shape(uint64_t *seed) {
     return shape;
 }
 
-/* A key: stored, next to a stored one, or random; one in sixteen has a number too large. */
+/* A key: stored, next to a stored one, or random; one in sixteen has a bit changed that may be past a width. */
 static MdehKey random_key(Run *run) {
     const MdehShape *shape = &run->model.shape;
     MdehKey key = {{0, 0, 0, 0}};
     uint32_t j, kind = below(&run->seed, 3);
     for (j = 0; j < shape->attributes; j++)
-        key.values[j] = below(&run->seed, (uint32_t)1 << shape->widths[j]);
+        key.values[j] = model_value(shape, j, below(&run->seed, (uint32_t)1 << shape->widths[j]));
     if (kind > 0 && run->model.count > 0) {
         size_t i = below(&run->seed, (uint32_t)run->model.count);
+        uint32_t encoding;
         memcpy(key.values, run->model.records[i].record.values, sizeof key.values);
         j = below(&run->seed, shape->attributes);
-        key.values[j] ^= (uint32_t)(kind - 1) << below(&run->seed, shape->widths[j]);
+        encoding = model_encoding(shape, j, key.values[j]) ^ (kind - 1) << below(&run->seed, shape->widths[j]);
+        key.values[j] = model_value(shape, j, encoding);
     }
     if (below(&run->seed, 16) == 0) {
         j = below(&run->seed, 4);
-        key.values[j] ^= (uint32_t)1 << below(&run->seed, 32);
+        key.values[j] = (int32_t)((uint32_t)key.values[j] ^ (uint32_t)1 << below(&run->seed, 32));
     }
     return key;
 }
@@ -92,7 +96,7 @@ static MdehQuery random_query(Run *run) {
     for (j = 0; j < 4; j++) {
         int given = below(&run->seed, j < run->model.shape.attributes ? 3 : 40) == 0;
         query.given[j] = given ? 1 + below(&run->seed, UINT32_MAX) : 0;
-        query.values[j] = given ? key.values[j] : (uint32_t)number64(&run->seed);
+        query.values[j] = given ? key.values[j] : (int32_t)number64(&run->seed);
     }
     return query;
 }
@@ -105,14 +109,15 @@ static MdehRange random_range(Run *run) {
     uint32_t j;
     for (j = 0; j < 4; j++) {
         int used = j < run->model.shape.attributes, given = below(&run->seed, used ? 2 : 40) == 0;
-        uint32_t kind = below(&run->seed, 16), low = one.values[j], high = kind < 4 ? low : other.values[j];
+        uint32_t kind = below(&run->seed, 16);
+        int32_t low = one.values[j], high = kind < 4 ? low : other.values[j];
         int swapped = (low > high) != (kind == 15);
         range.given[j] = given ? 1 + below(&run->seed, UINT32_MAX) : 0;
-        range.low[j] = given ? (swapped ? high : low) : (uint32_t)number64(&run->seed);
-        range.high[j] = given ? (swapped ? low : high) : (uint32_t)number64(&run->seed);
+        range.low[j] = given ? (swapped ? high : low) : (int32_t)number64(&run->seed);
+        range.high[j] = given ? (swapped ? low : high) : (int32_t)number64(&run->seed);
         if (given && used && kind == 4) {
-            range.low[j] = 0;
-            range.high[j] = ((uint32_t)1 << run->model.shape.widths[j]) - 1;
+            range.low[j] = model_least(&run->model.shape, j);
+            range.high[j] = model_greatest(&run->model.shape, j);
         }
     }
     return range;
@@ -167,7 +172,7 @@ static void compare_lookup(Run *run, MdehKey key) {
     if (model.number != MDEH_REFUSED_VALUE) {
         size_t place = record_of(run, key);
         HOLDS((place > 0) == (model.number == MDEH_ACCEPTED));
-        HOLDS(place == 0 || mdeh_record(bytes_of(&run->pages) + place, 0).payload == model.payload);
+        HOLDS(place == 0 || mdeh_record(run->model.shape, bytes_of(&run->pages) + place, 0).payload == model.payload);
     }
 }
 
@@ -181,6 +186,7 @@ static void compare_change(Run *run, uint32_t number, uint32_t wanted) {
     if (number != MDEH_ACCEPTED)
         return;
     HOLDS(unchanged_from(&run->state, 4 * MDEH_STATE_WORDS));
+    HOLDS(mdeh_shape(words_of(&run->state)).signs == run->model.shape.signs);
     HOLDS(unchanged_from(&run->directory, (size_t)4 << run->model.depth_limit));
     HOLDS(unchanged_from(&run->pages, lent_pages(run)));
     keep(run);
@@ -189,15 +195,18 @@ static void compare_change(Run *run, uint32_t number, uint32_t wanted) {
     compare_query(run, all, MDEH_RECORD_BYTES * (uint32_t)run->model.count + 5);
 }
 
-/* Moves the store into other memory, some words and bytes longer, as from a file. */
+/* Moves the store into other memory, some words and bytes longer, as from a file, and gives it any marks past d. */
 static void reopen(Run *run) {
     Run moved = *run;
+    uint32_t past = (uint32_t)number64(&run->seed) << run->model.shape.attributes;
     moved.state = lend_words(&run->seed, run->state.bytes / 4 + below(&run->seed, 2));
     moved.directory = lend_words(&run->seed, run->directory.bytes / 4 + below(&run->seed, 5));
     moved.pages = lend_bytes(&run->seed, run->pages.bytes + below(&run->seed, 300));
     memcpy(words_of(&moved.state), words_of(&run->state), 4 * MDEH_STATE_WORDS);
     memcpy(words_of(&moved.directory), words_of(&run->directory), (size_t)4 << words_of(&run->state)[8]);
     memcpy(bytes_of(&moved.pages), bytes_of(&run->pages), lent_pages(run));
+    moved.model.shape.signs ^= past;
+    words_of(&moved.state)[MDEH_STATE_WORDS - 1] = moved.model.shape.signs;
     take_store_back(run);
     moved.seed = run->seed;
     *run = moved;
@@ -315,6 +324,12 @@ int main(int count, char **arguments) {
     payloads();
     stored_zero();
     addresses();
+    signed_bounds();
+    signed_order();
+    signed_records();
+    signed_twins();
+    marks_past();
+    signed_fields();
     for (seed = 1; seed <= 1500; seed++)
         list(seed * 0x9e3779b97f4a7c15);
     for (number = MDEH_ACCEPTED; number <= MDEH_REFUSED_PAYLOAD; number++)

@@ -1,7 +1,7 @@
 //! A store whose calls are made on a plain model too, and all that it shows compared after each.
 use crate::cells::Cells;
 use crate::compare::Comparisons;
-use crate::host::{self, Shape};
+use crate::host::Shape;
 use crate::lent::LentStore;
 use crate::plain::image::{Image, STATE};
 use crate::plain::model::Model;
@@ -37,12 +37,7 @@ impl Followed {
             dir: random.words(words),
             pages: random.bytes(bytes),
         };
-        let mut store = LentStore::new(random, &image);
-        let LentStore { state, dir, pages } = &mut store;
-        host::fresh(shape, state.slice_mut(), dir.slice_mut(), pages.slice_mut()).expect("accepted");
-        state.lend_again();
-        dir.lend_again();
-        pages.lend_again();
+        let store = LentStore::fresh(random, shape, &image);
         Followed::new(store, Model::fresh(shape, words, bytes).expect("accepted"))
     }
 
@@ -54,7 +49,7 @@ impl Followed {
 
     /// Inserts a record, and compares. Returns the answer.
     #[track_caller]
-    pub fn insert(&mut self, count: &mut Comparisons, key: [u32; 4], payload: u32) -> Result<(), u32> {
+    pub fn insert(&mut self, count: &mut Comparisons, key: [i32; 4], payload: u32) -> Result<(), u32> {
         let answer = self.store.insert(key, payload);
         let expected = self.model.insert(key, payload);
         self.compare(count, answer, expected, format_args!("insert {key:?}, {payload}"));
@@ -63,7 +58,7 @@ impl Followed {
 
     /// Deletes the record of a key, and compares. Returns the answer.
     #[track_caller]
-    pub fn delete(&mut self, count: &mut Comparisons, key: [u32; 4]) -> Result<(), u32> {
+    pub fn delete(&mut self, count: &mut Comparisons, key: [i32; 4]) -> Result<(), u32> {
         let answer = self.store.delete(key);
         let expected = self.model.delete(key);
         self.compare(count, answer, expected, format_args!("delete {key:?}"));
@@ -71,7 +66,7 @@ impl Followed {
     }
 
     /// Writes payload 0 over that of some records, in the bytes of their pages, and in the model. Returns their keys.
-    pub fn clear_payloads(&mut self, mut chosen: impl FnMut() -> bool) -> Vec<[u32; 4]> {
+    pub fn clear_payloads(&mut self, mut chosen: impl FnMut() -> bool) -> Vec<[i32; 4]> {
         let mut image = self.store.image();
         let mut keys = vec![];
         for &g in self.pages.values().flatten() {

@@ -1,6 +1,6 @@
 //! Slices lent to calls, between guards that no call may change.
-use crate::host::{self, CheckResult, HostQuery, HostRange, LookupResult, QueryResult};
-use crate::plain::image::{Image, Laid, DEPTH, DEPTH_LIMIT, PAGE_LIMIT, STATE};
+use crate::host::{self, CheckResult, HostQuery, HostRange, LookupResult, QueryResult, Shape};
+use crate::plain::image::{Image, Laid, DEPTH, DEPTH_LIMIT, PAGE_LIMIT, SIGNS, STATE};
 use crate::plain::kept::Change;
 use crate::plain::model::Model;
 use crate::plain::range::Intervals;
@@ -94,8 +94,19 @@ impl LentStore {
         LentStore::new(random, &laid.image)
     }
 
+    /// A store that Fresh makes of memory.
+    pub fn fresh(random: &mut Random, shape: Shape, memory: &Image) -> LentStore {
+        let mut store = LentStore::new(random, memory);
+        let LentStore { state, dir, pages } = &mut store;
+        host::fresh(shape, state.slice_mut(), dir.slice_mut(), pages.slice_mut()).expect("accepted");
+        state.lend_again();
+        dir.lend_again();
+        pages.lend_again();
+        store
+    }
+
     /// The payload and the reads, or the number of the refusal.
-    pub fn lookup(&self, key: [u32; 4]) -> Result<(u32, u32), u32> {
+    pub fn lookup(&self, key: [i32; 4]) -> Result<(u32, u32), u32> {
         let LookupResult { number, payload, reads } =
             host::lookup_result(self.state.slice(), self.dir.slice(), self.pages.slice(), key);
         self.assert_unchanged();
@@ -104,9 +115,9 @@ impl LentStore {
 
     /// Written, total and reads, or the number of the refusal. Attributes are given by any number but 0, and have
     /// any value where they are free.
-    pub fn query(&self, query: [Option<u32>; 4], out: &mut Lent<u8>) -> Result<(u64, u64, u64), u32> {
+    pub fn query(&self, query: [Option<i32>; 4], out: &mut Lent<u8>) -> Result<(u64, u64, u64), u32> {
         let given = [0, 1, 2, 3].map(|j| if query[j].is_some() { [1, 2, 1 << 31, u32::MAX][j] } else { 0 });
-        let values = [0, 1, 2, 3].map(|j| query[j].unwrap_or([u32::MAX, 1, 1 << 16, 0][j]));
+        let values = [0, 1, 2, 3].map(|j| query[j].unwrap_or([-1, 1, 1 << 16, i32::MIN][j]));
         let query = HostQuery { given, values };
         let (state, dir, pages) = (self.state.slice(), self.dir.slice(), self.pages.slice());
         let result = host::query_result(state, dir, pages, query, out.slice_mut());
@@ -117,7 +128,8 @@ impl LentStore {
     /// any ends where they are free.
     pub fn range(&self, range: Intervals, out: &mut Lent<u8>) -> Result<(u64, u64, u64), u32> {
         let given = [0, 1, 2, 3].map(|j| if range[j].is_some() { [u32::MAX, 1 << 31, 2, 1][j] } else { 0 });
-        let ends = [0, 1, 2, 3].map(|j| range[j].unwrap_or([(1, 0), (u32::MAX, 0), (0, 1 << 16), (5, 2)][j]));
+        let any = [(1, 0), (i32::MAX, i32::MIN), (-1, 1 << 16), (5, -2)];
+        let ends = [0, 1, 2, 3].map(|j| range[j].unwrap_or(any[j]));
         let range = HostRange { given, low: ends.map(|(low, _)| low), high: ends.map(|(_, high)| high) };
         let (state, dir, pages) = (self.state.slice(), self.dir.slice(), self.pages.slice());
         let result = host::range_result(state, dir, pages, range, out.slice_mut());
@@ -142,14 +154,14 @@ impl LentStore {
     }
 
     /// Adds a record, or returns the number of the refusal.
-    pub fn insert(&mut self, key: [u32; 4], payload: u32) -> Result<(), u32> {
+    pub fn insert(&mut self, key: [i32; 4], payload: u32) -> Result<(), u32> {
         let (state, dir, pages) = (self.state.slice_mut(), self.dir.slice_mut(), self.pages.slice_mut());
         let answer = host::insert(state, dir, pages, key, payload);
         self.settle(answer)
     }
 
     /// Removes the record of a key, or returns the number of the refusal.
-    pub fn delete(&mut self, key: [u32; 4]) -> Result<(), u32> {
+    pub fn delete(&mut self, key: [i32; 4]) -> Result<(), u32> {
         let (state, dir, pages) = (self.state.slice_mut(), self.dir.slice_mut(), self.pages.slice_mut());
         let answer = host::delete(state, dir, pages, key);
         self.settle(answer)
@@ -175,6 +187,7 @@ impl LentStore {
         let (p, l) = (state[PAGE_LIMIT] as usize, state[DEPTH_LIMIT]);
         let size = 2 + 12 * state[5] as usize;
         assert_eq!(self.state.slice()[..DEPTH], state[..DEPTH], "shape, P and L");
+        assert_eq!(self.state.slice()[SIGNS], state[SIGNS], "marks");
         assert!(self.state.unchanged_from(STATE), "what lies past the state is changed");
         assert!(self.dir.unchanged_from(1 << l), "words past 2^L are changed");
         assert!(self.pages.unchanged_from(p * size), "bytes past the P pages are changed");

@@ -10,6 +10,7 @@ pub mod random;
 pub mod reference;
 pub mod samples;
 pub mod shapes;
+pub mod twins;
 
 /// The calls on lent slices.
 pub use mdeh::raw as host;

@@ -11,7 +11,7 @@ pub mod words;
 
 use crate::host::Shape;
 use crate::pages::packed;
-use crate::plain::image::{DEPTH, DEPTH_LIMIT, STATE};
+use crate::plain::image::{DEPTH, DEPTH_LIMIT, PAGE_LIMIT, SIGNS, STATE, TALLY};
 use crate::plain::refusal::{shape_refused, used_widths};
 
 /// The widths of the four attributes in bits, 0 for an unused one.
@@ -30,10 +30,36 @@ struct Key {
     values: [u32; 4],
 }
 
-/// A state in its words.
+/// A state as the steps take it: its marks stand with the shape.
 #[repr(C)]
 struct State {
-    words: [u32; STATE],
+    shape: Shape,
+    page_limit: u32,
+    depth_limit: u32,
+    depth: u32,
+    tally: [u32; 13],
+}
+
+impl State {
+    /// The state of these words.
+    fn of(words: &[u32; STATE]) -> State {
+        let [attributes, w0, w1, w2, w3, capacity, ..] = *words;
+        State {
+            shape: Shape { attributes, widths: [w0, w1, w2, w3], capacity, signs: words[SIGNS] },
+            page_limit: words[PAGE_LIMIT],
+            depth_limit: words[DEPTH_LIMIT],
+            depth: words[DEPTH],
+            tally: std::array::from_fn(|x| words[TALLY + x]),
+        }
+    }
+
+    /// Its words.
+    fn words(&self) -> [u32; STATE] {
+        let Shape { attributes, widths, capacity, signs } = self.shape;
+        let limits = [self.page_limit, self.depth_limit, self.depth];
+        let words = [&[attributes][..], &widths, &[capacity], &limits, &self.tally, &[signs]].concat();
+        words.try_into().expect("as many as a state has")
+    }
 }
 
 /// A full leaf and the split step at which it is divided: its page and depth, the place that a new key has on the page,
@@ -109,23 +135,22 @@ pub fn double(widths: &Widths, t: u64, dir: &mut [u32]) -> Option<()> {
     Some(())
 }
 
-/// Doubles the directory of a state in its first 22 words, until the new leaves of a full leaf fit, and puts the new T
-/// into them.
+/// Doubles the directory of a state in the first of these words, until the new leaves of a full leaf fit, and puts the
+/// new T into them.
 pub fn insert_double(state: &mut [u32], dir: &mut [u32], split: Split) -> Option<()> {
     let words: &mut [u32; STATE] = state.first_chunk_mut()?;
-    let [attributes, w0, w1, w2, w3, capacity, ..] = *words;
-    let shape = Shape { attributes, widths: [w0, w1, w2, w3], capacity };
-    let (limit, t) = (u64::from(words[DEPTH_LIMIT]), u64::from(words[DEPTH]));
-    if shape_refused(shape) || t > limit || split.step >= limit {
+    let before = State::of(words);
+    let (limit, t) = (u64::from(before.depth_limit), u64::from(before.depth));
+    if shape_refused(before.shape) || t > limit || split.step >= limit {
         return None;
     }
-    if !Widths::new(&used_widths(shape))?.directory_fits(limit, dir.len()) {
+    if !Widths::new(&used_widths(before.shape))?.directory_fits(limit, dir.len()) {
         return None;
     }
     // SAFETY: the shape is in bounds, a directory of depth L fits, T is at most L and the step below it, as the
     // `requires` asks; pointer and length are of one slice.
-    *words =
-        unsafe { probe_insert_double(State { words: *words }, dir.as_mut_ptr(), dir.len(), split) }.words;
+    let after = unsafe { probe_insert_double(before, dir.as_mut_ptr(), dir.len(), split) };
+    *words = after.words();
     Some(())
 }
 

@@ -42,5 +42,13 @@ pub fn random_widths(random: &mut Random, total: u32) -> Vec<u32> {
 pub fn random_shape(random: &mut Random, bits: u32, most: u64) -> Shape {
     let total = random.between(1, bits.into()) as u32;
     let widths = random_widths(random, total);
-    Shape::new(&widths, random.between(1, most) as u32)
+    let capacity = random.between(1, most) as u32;
+    marked(random, Shape::new(&widths, capacity))
+}
+
+/// The shape with marks of signed attributes: none in one of three cases, some of four in another, and in the third any
+/// bits, most of which stand for no attribute.
+pub fn marked(random: &mut Random, shape: Shape) -> Shape {
+    let signs = random.number() as u32;
+    Shape { signs: [0, signs & 15, signs][random.below(3)], ..shape }
 }

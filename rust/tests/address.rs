@@ -1,9 +1,10 @@
-//! The address map and its inverse, compared with the doubling array and with the formula of document 01.
+//! The address map and its inverse, compared with the doubling array and with the formula of document 01, which know no
+//! marks.
 use mdeh_tests::compare::Comparisons;
 use mdeh_tests::host::{self, AddressResult, Index, IndexResult, Shape};
 use mdeh_tests::random::Random;
 use mdeh_tests::reference::{formula, steps, DoublingArray};
-use mdeh_tests::shapes::{all_widths, random_widths};
+use mdeh_tests::shapes::{all_widths, marked, random_widths};
 
 const SEED: u64 = 0x6d64_6568_2d30_3031;
 
@@ -58,7 +59,8 @@ fn first_entries_of_shapes_of_11_to_64_bits() {
     for total in 11..=64 {
         for _ in 0..4 {
             let widths = random_widths(&mut random, total);
-            compare_with_array(&mut count, Shape::new(&widths, 1), &DoublingArray::new(&widths, 11));
+            let shape = marked(&mut random, Shape::new(&widths, 1));
+            compare_with_array(&mut count, shape, &DoublingArray::new(&widths, 11));
         }
     }
     count.end(54 * 4 * 2048 * 2);
@@ -71,7 +73,7 @@ fn random_vectors_of_shapes_of_11_to_64_bits() {
     for total in 11..=64 {
         for _ in 0..40 {
             let widths = random_widths(&mut random, total);
-            let shape = Shape::new(&widths, 1);
+            let shape = marked(&mut random, Shape::new(&widths, 1));
             let steps = steps(&widths);
             for _ in 0..500 {
                 let mut index = [0; 4];
@@ -95,7 +97,7 @@ fn random_addresses_of_shapes_of_11_to_64_bits() {
     for total in 11..=64 {
         for _ in 0..40 {
             let widths = random_widths(&mut random, total);
-            let shape = Shape::new(&widths, 1);
+            let shape = marked(&mut random, Shape::new(&widths, 1));
             let steps = steps(&widths);
             for _ in 0..500 {
                 let a = random.short(total);
@@ -117,7 +119,7 @@ fn last_vector_and_first_address_past_it() {
     for total in 1..=64 {
         for _ in 0..40 {
             let widths = random_widths(&mut random, total);
-            let shape = Shape::new(&widths, 1);
+            let shape = marked(&mut random, Shape::new(&widths, 1));
             let about = format_args!("{shape:?}");
             let ones = shape.widths.map(|width| (1 << width) - 1);
             let last = u64::MAX >> (64 - total);
@@ -159,18 +161,18 @@ fn index_refused(count: &mut Comparisons, shape: Shape, address: u64, number: u3
 fn bad_shapes() -> Vec<Shape> {
     let mut shapes = Vec::new();
     for attributes in [0, 5, 6, 257, 65_536 + 2, 1 << 31, u32::MAX] {
-        shapes.push(Shape { attributes, widths: [2; 4], capacity: 2 });
+        shapes.push(Shape { attributes, ..Shape::new(&[2; 4], 2) });
     }
     for attributes in 1..=4 {
         for j in 0..attributes as usize {
             for width in BAD_WIDTHS {
                 let mut widths = [2; 4];
                 widths[j] = width;
-                shapes.push(Shape { attributes, widths, capacity: 2 });
+                shapes.push(Shape { attributes, ..Shape::new(&widths, 2) });
             }
         }
         for capacity in [0, 17, 257, 65_536 + 1, u32::MAX] {
-            shapes.push(Shape { attributes, widths: [2; 4], capacity });
+            shapes.push(Shape { attributes, ..Shape::new(&[2; 4], capacity) });
         }
     }
     assert_eq!(shapes.len(), 7 + 10 * 5 + 4 * 5);
@@ -204,7 +206,7 @@ fn shape_within_its_bounds_is_accepted() {
     for attributes in 1..=4 {
         for width in 1..=16 {
             for capacity in 1..=16 {
-                let shape = Shape { attributes, widths: [width; 4], capacity };
+                let shape = Shape { attributes, ..Shape::new(&[width; 4], capacity) };
                 count.same(host::address(shape, [1, 0, 0, 0]), Ok(1), format_args!("{shape:?}"));
                 count.same(host::index(shape, 1), Ok([1, 0, 0, 0]), format_args!("{shape:?}"));
             }

@@ -11,14 +11,14 @@ use mdeh_tests::plain::met::{each_damaged_count, each_damaged_word, DAMAGED_COUN
 use mdeh_tests::plain::model::Model;
 use mdeh_tests::plain::reading::Reading;
 use mdeh_tests::plain::refusal::key_refused;
-use mdeh_tests::plain::samples::{early_refused, random_key, random_model};
+use mdeh_tests::plain::samples::{early_refused, outside, random_key, random_model};
 use mdeh_tests::plain::unsound;
 use mdeh_tests::random::Random;
 
 const SEED: u64 = 0x6d64_6568_2d30_3132;
 
 /// An insert and a delete, each by its name.
-const CALLS: [(&str, fn(&mut LentStore, [u32; 4]) -> Result<(), u32>); 2] =
+const CALLS: [(&str, fn(&mut LentStore, [i32; 4]) -> Result<(), u32>); 2] =
     [("insert", |store, key| store.insert(key, 0x1234_5678)), ("delete", |store, key| store.delete(key))];
 
 // ---- 1, 2, 3
@@ -31,8 +31,7 @@ fn values_out_of_range_are_refused_with_3() {
         let model = random_model(&mut random);
         let mut store = LentStore::of(&mut random, &model);
         for j in 0..4 {
-            let least = 1u32 << model.shape.widths[j];
-            for value in [least, least + 1, 1 << 16, 1 << 31, u32::MAX] {
+            for value in outside(model.shape, j) {
                 let mut key = random_key(&mut random, &model);
                 key[j] = value;
                 for (name, call) in CALLS {
@@ -42,7 +41,7 @@ fn values_out_of_range_are_refused_with_3() {
             }
         }
     }
-    count.end(500 * 4 * 5 * 2);
+    count.end(500 * 4 * 8 * 2);
 }
 
 #[test]
@@ -54,7 +53,7 @@ fn refusals_1_and_2_come_before_3() {
         let laid = Laid::new(&mut random, &model);
         for (image, number) in early_refused(&laid.image, &model) {
             let mut store = LentStore::new(&mut random, &image);
-            for key in [random_key(&mut random, &model), [u32::MAX; 4]] {
+            for key in [random_key(&mut random, &model), [i32::MIN; 4]] {
                 for (name, call) in CALLS {
                     count.same(call(&mut store, key), Err(number), format_args!("{name}: {:?}", image.state));
                 }
@@ -127,7 +126,7 @@ fn ordinary_calls(count: &mut Comparisons, random: &mut Random, model: &Model, i
 /// Whether a change of a key may be answered so after 1, 2 and 3, and keeps what is other leaves'.
 fn is_ordinary(
     name: &str,
-    key: [u32; 4],
+    key: [i32; 4],
     found: Result<(), u32>,
     cells: &Cells,
     before: &Image,

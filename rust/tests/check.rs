@@ -2,7 +2,7 @@
 use mdeh_tests::compare::Comparisons;
 use mdeh_tests::lent::LentStore;
 use mdeh_tests::plain::damage::WAYS;
-use mdeh_tests::plain::image::{Image, Laid, DEPTH, STATE};
+use mdeh_tests::plain::image::{Image, Laid, DEPTH, SIGNS, STATE};
 use mdeh_tests::plain::judge::judge;
 use mdeh_tests::plain::samples::random_model;
 use mdeh_tests::random::Random;
@@ -24,7 +24,7 @@ fn sound_stores() {
 }
 
 #[test]
-fn widths_past_d_are_ignored() {
+fn widths_and_marks_past_d_are_ignored() {
     let mut count = Comparisons::default();
     let mut random = Random::new(SEED);
     for _ in 0..500 {
@@ -33,6 +33,7 @@ fn widths_past_d_are_ignored() {
         for j in model.widths().len()..4 {
             image.state[1 + j] = random.number() as u32;
         }
+        image.state[SIGNS] ^= (random.number() as u32) << model.widths().len();
         count.same(LentStore::new(&mut random, &image).check(), Ok(true), format_args!("{:?}", image.state));
     }
     count.end(500);

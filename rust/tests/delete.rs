@@ -6,11 +6,12 @@ use mdeh_tests::host::Shape;
 use mdeh_tests::plain::model::Model;
 use mdeh_tests::plain::samples::{given_payload, random_key, random_model, random_payload};
 use mdeh_tests::random::Random;
+use mdeh_tests::shapes::marked;
 
 const SEED: u64 = 0x6d64_6568_2d30_3131;
 
 /// A stored key.
-fn stored_key(random: &mut Random, model: &Model) -> [u32; 4] {
+fn stored_key(random: &mut Random, model: &Model) -> [i32; 4] {
     model.records[random.below(model.records.len())].key
 }
 
@@ -41,8 +42,8 @@ fn all_records_in_turn() {
     let mut calls = 0;
     for capacity in 1..=16 {
         for widths in [&[1][..], &[5], &[2, 2], &[1, 16], &[16, 1, 1, 1], &[3, 4, 5, 2], &[16; 4]] {
-            let mut model =
-                Model::new(Shape::new(widths, capacity), 40, 6.min(widths.iter().sum::<u32>() as usize));
+            let shape = marked(&mut random, Shape::new(widths, capacity));
+            let mut model = Model::new(shape, 40, 6.min(widths.iter().sum::<u32>() as usize));
             for _ in 0..120 {
                 let key = random_key(&mut random, &model);
                 let _ = model.insert(key, given_payload(&mut random));
@@ -82,7 +83,8 @@ fn leaves_are_joined_over_several_levels() {
     let mut random = Random::new(SEED);
     for m in 0..12 {
         for capacity in 1..=16 {
-            let mut model = Model::new(Shape::new(&[7, 9], capacity), 3, 12);
+            let shape = marked(&mut random, Shape::new(&[7, 9], capacity));
+            let mut model = Model::new(shape, 3, 12);
             let first: Vec<bool> = (0..m).map(|_| random.below(2) == 1).collect();
             for bit in [false, true] {
                 add_random(&mut random, &mut model, &[&first[..], &[bit]].concat());
@@ -109,7 +111,8 @@ fn a_divided_sibling_is_not_joined() {
     let mut stores = 0;
     while stores < 300 {
         let capacity = random.between(2, 16) as usize;
-        let mut model = Model::new(Shape::new(&[6, 6], capacity as u32), 10, 8);
+        let shape = marked(&mut random, Shape::new(&[6, 6], capacity as u32));
+        let mut model = Model::new(shape, 10, 8);
         while model.records.len() < 2 {
             add_random(&mut random, &mut model, &[false]);
         }

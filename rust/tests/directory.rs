@@ -173,7 +173,7 @@ fn insert_doubles_random_words_until_the_new_leaves_fit() {
         let cells = Cells::new(&widths, limit);
         let all = cells_of_depths(&cells, limit);
         for (t, step) in (0..=limit).flat_map(|t| (0..limit).map(move |step| (t, step))) {
-            // any P, any tally, any widths past d
+            // any P, any tally, any widths past d, any marks
             let mut state = random.words(STATE);
             state[0] = widths.len() as u32;
             state[1..=widths.len()].copy_from_slice(&widths);
@@ -333,18 +333,18 @@ fn what_a_step_does_not_accept_is_not_called() {
     }
     // state words, directory words, then d, b, L, T and the step, of widths 5 and 3
     for (words, size, attributes, capacity, limit, t, step, doubled) in [
-        (22, 256, 2, 1, 8, 0, 7, Some(())),
-        (22, 256, 2, 1, 8, 8, 7, Some(())),
-        (22, 1, 2, 1, 1, 0, 0, None),
-        (21, 256, 2, 1, 8, 0, 7, None),
-        (22, 255, 2, 1, 8, 0, 7, None),
-        (22, 256, 3, 1, 8, 0, 7, None),
-        (22, 256, 2, 0, 8, 0, 7, None),
-        (22, 8192, 2, 1, 9, 0, 7, None),
-        (22, 256, 2, 1, 8, 9, 7, None),
-        (22, 256, 2, 1, 8, 0, 8, None),
-        (22, 256, 2, 1, 8, 0, u64::MAX, None),
-        (22, 256, 2, 1, 0, 0, 0, None),
+        (STATE, 256, 2, 1, 8, 0, 7, Some(())),
+        (STATE, 256, 2, 1, 8, 8, 7, Some(())),
+        (STATE, 1, 2, 1, 1, 0, 0, None),
+        (STATE - 1, 256, 2, 1, 8, 0, 7, None),
+        (STATE, 255, 2, 1, 8, 0, 7, None),
+        (STATE, 256, 3, 1, 8, 0, 7, None),
+        (STATE, 256, 2, 0, 8, 0, 7, None),
+        (STATE, 8192, 2, 1, 9, 0, 7, None),
+        (STATE, 256, 2, 1, 8, 9, 7, None),
+        (STATE, 256, 2, 1, 8, 0, 8, None),
+        (STATE, 256, 2, 1, 8, 0, u64::MAX, None),
+        (STATE, 256, 2, 1, 0, 0, 0, None),
     ] {
         let mut state = vec![attributes, 5, 3, 0, 0, capacity, 1, limit, t];
         state.resize(words, 0);

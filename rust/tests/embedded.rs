@@ -4,13 +4,14 @@ use mdeh::{Key, Listing, Query, Range, Record, Refusal, Shape, Store, RECORD_BYT
 use mdeh_tests::compare::Comparisons;
 use mdeh_tests::host;
 use mdeh_tests::lent::{lend_bytes, lend_words, Lent};
-use mdeh_tests::plain::image::{state_words, Image, Laid};
+use mdeh_tests::plain::image::{state_words, Image, Laid, STATE};
 use mdeh_tests::plain::model::Model;
 use mdeh_tests::plain::range::Intervals;
 use mdeh_tests::plain::samples::{
     early_refused, query_of, random_key, random_model, random_payload, range_of,
 };
 use mdeh_tests::plain::unsound;
+use mdeh_tests::plain::value::{bounds, number_in};
 use mdeh_tests::random::Random;
 use mdeh_tests::shapes::random_shape;
 use std::fmt::Arguments;
@@ -22,7 +23,7 @@ const SEED: u64 = 0x6d64_6568_2d30_3134;
 type Memory = (Lent<u32>, Lent<u8>);
 
 /// A key near those of a model, one in sixteen with a bit changed that may be past a width.
-fn any_key(random: &mut Random, model: &Model) -> [u32; 4] {
+fn any_key(random: &mut Random, model: &Model) -> [i32; 4] {
     let mut key = random_key(random, model);
     if random.below(16) == 0 {
         key[random.below(4)] ^= 1 << random.below(32);
@@ -31,7 +32,7 @@ fn any_key(random: &mut Random, model: &Model) -> [u32; 4] {
 }
 
 /// The key from as few values as it needs.
-fn key_from(values: [u32; 4]) -> Key {
+fn key_from(values: [i32; 4]) -> Key {
     match values {
         [a, 0, 0, 0] => [a].into(),
         [a, b, 0, 0] => [a, b].into(),
@@ -41,7 +42,7 @@ fn key_from(values: [u32; 4]) -> Key {
 }
 
 /// The query from as few options as it needs, which is the one that is built value by value.
-fn query_from(count: &mut Comparisons, wanted: [Option<u32>; 4]) -> Query {
+fn query_from(count: &mut Comparisons, wanted: [Option<i32>; 4]) -> Query {
     let query = match wanted {
         [a, None, None, None] => [a].into(),
         [a, b, None, None] => [a, b].into(),
@@ -58,12 +59,12 @@ fn range_from(random: &mut Random, model: &Model, intervals: Intervals) -> Range
     let mut range = Range::all();
     for (j, ends) in intervals.into_iter().enumerate() {
         let Some((low, high)) = ends else { continue };
-        let greatest = model.widths().get(j).map(|&width| (1 << width) - 1);
+        let (least, greatest) = bounds(model.shape, j);
         range = match random.below(5) {
-            0 if high < u32::MAX => range.within(j, low..high + 1),
-            1 if low == 0 => range.within(j, ..=high),
-            2 if Some(high) == greatest => range.within(j, low..),
-            3 if low > 0 => range.within(j, (Excluded(low - 1), Included(high))),
+            0 if high < i32::MAX => range.within(j, low..high + 1),
+            1 if low == least => range.within(j, ..=high),
+            2 if high == greatest => range.within(j, low..),
+            3 if low > i32::MIN => range.within(j, (Excluded(low - 1), Included(high))),
             _ => range.within(j, low..=high),
         };
     }
@@ -125,9 +126,15 @@ fn compare_list(
     assert!(out.guards_stay(), "a guard of the output is changed");
     let written =
         expected.chunks_exact(RECORD_BYTES).take(counts.map_or(0, |(written, ..)| written as usize));
-    let records = found.iter().flat_map(|listed| &listed.records);
-    let listed = records.map(|record| model.record(record.values, record.payload).bytes());
-    count.same(listed.collect::<Vec<_>>(), written.map(Vec::from).collect(), about);
+    let records = found.iter().flat_map(|listed| &listed.records).copied();
+    count.same(records.collect::<Vec<_>>(), written.map(|bytes| read(model.shape, bytes)).collect(), about);
+}
+
+/// The record of these bytes.
+fn read(shape: Shape, bytes: &[u8]) -> Record {
+    let field = |j: usize| u16::from_le_bytes([bytes[2 * j], bytes[2 * j + 1]]);
+    let values = [0, 1, 2, 3].map(|j| number_in(shape, j, field(j)));
+    Record { values, payload: u32::from_le_bytes([bytes[8], bytes[9], bytes[10], bytes[11]]) }
 }
 
 /// The comparisons of one turn.
@@ -223,7 +230,7 @@ fn same_answers(
     model: &Model,
     image: &Image,
 ) -> Result<(), u32> {
-    let state = image.state[..].try_into().expect("22 words");
+    let state = image.state[..].try_into().expect("the words of a state");
     let (mut dir, mut pages) = (image.dir.clone(), image.pages.clone());
     let mut store = Store::reopen(state, &mut dir, &mut pages);
     let Image { state, dir, pages } = &mut image.clone();
@@ -289,15 +296,15 @@ fn an_attribute_that_no_shape_has() {
     for _ in 0..100 {
         let model = random_model(&mut random);
         let image = Laid::new(&mut random, &model).image;
-        let early = early_refused(&image, &model).into_iter().filter(|(image, _)| image.state.len() == 22);
+        let early = early_refused(&image, &model).into_iter().filter(|(image, _)| image.state.len() == STATE);
         for (Image { state, mut dir, mut pages }, number) in early.chain([(image, 8)]) {
-            let state = state[..].try_into().expect("22 words");
+            let state = state[..].try_into().expect("the words of a state");
             let store = Store::reopen(state, &mut dir, &mut pages);
             for attribute in [4, 5, 1 << 32, usize::MAX] {
-                let query = Query::all().given(0, u32::MAX).given(attribute, 0);
+                let query = Query::all().given(0, i32::MAX).given(attribute, 0);
                 let found = store.query(query, &mut []);
                 count.same(found.err().map(Refusal::number), Some(number), format_args!("{attribute}"));
-                let range = Range::all().within(0, u32::MAX..).within(attribute, ..);
+                let range = Range::all().within(0, i32::MAX..).within(attribute, ..);
                 let found = store.range(range, &mut []);
                 count.same(found.err().map(Refusal::number), Some(number), format_args!("{attribute}"));
             }
@@ -306,47 +313,57 @@ fn an_attribute_that_no_shape_has() {
     count.end(100 * 7 * 4 * 2);
 }
 
-/// Every form of a range of Rust on an attribute of four bits that has all its values: the values that it contains are
-/// counted, an end past the width is refused, and so is a range that contains no value.
+/// Every form of a range of Rust on an attribute of four bits that has all its values, marked or not: the values in it
+/// are counted, an end out of bounds is refused, and so is a range without a value.
 #[test]
 fn ranges_of_every_form() {
     let mut count = Comparisons::default();
-    let (mut directory, mut pages) = ([0; 16], [0; 16 * 26]);
-    let mut store = Store::fresh(Shape::new(&[4], 2), &mut directory, &mut pages).expect("accepted");
-    (0..16).for_each(|value| store.insert([value], 1 + value).expect("accepted"));
-    let bounds =
-        || (0..20).chain([u32::MAX - 1, u32::MAX]).flat_map(|value| [Included(value), Excluded(value)]);
-    for start in bounds().chain([Unbounded]) {
-        for end in bounds().chain([Unbounded]) {
-            let range = Range::all().within(0, (start, end));
-            let found = store.range(range, &mut []).map(|listing| listing.total);
-            let (low, high) = (lowest(start), highest(end));
-            let expected = match (low, high) {
-                _ if low >= 16 || high >= 16 => Err(Refusal::Value),
-                _ if low > high => Err(Refusal::Interval),
-                _ => Ok((high - low + 1) as u64),
-            };
-            count.same(found, expected, format_args!("{start:?}, {end:?}"));
+    for shape in [Shape::new(&[4], 2), Shape::new(&[4], 2).signed(0)] {
+        let (mut directory, mut pages) = ([0; 16], [0; 16 * 26]);
+        let mut store = Store::fresh(shape, &mut directory, &mut pages).expect("accepted");
+        let (least, greatest) = bounds(shape, 0);
+        (least..=greatest).for_each(|value| store.insert([value], 1).expect("accepted"));
+        let ends = || {
+            (-10..20)
+                .chain([i32::MIN, i32::MIN + 1, i32::MAX - 1, i32::MAX])
+                .flat_map(|value| [Included(value), Excluded(value)])
+        };
+        for start in ends().chain([Unbounded]) {
+            for end in ends().chain([Unbounded]) {
+                let range = Range::all().within(0, (start, end));
+                let found = store.range(range, &mut []).map(|listing| listing.total);
+                let (low, high) = (lowest(start, least), highest(end, greatest));
+                let is_value = |end: i64| i64::from(least) <= end && end <= i64::from(greatest);
+                let expected = match (low, high) {
+                    _ if !is_value(low) => Err(Refusal::Value),
+                    // nothing is below the least value
+                    _ if end == Excluded(least) => Err(Refusal::Interval),
+                    _ if !is_value(high) => Err(Refusal::Value),
+                    _ if low > high => Err(Refusal::Interval),
+                    _ => Ok((high - low + 1) as u64),
+                };
+                count.same(found, expected, format_args!("{shape:?}, {start:?}, {end:?}"));
+            }
         }
     }
-    count.end(45 * 45);
+    count.end(2 * 69 * 69);
 }
 
-/// The least value past a start of a range, as wide as it may be.
-fn lowest(start: Bound<u32>) -> i64 {
+/// The least value past a start of a range, as wide as it may be, of an attribute with this least one.
+fn lowest(start: Bound<i32>, least: i32) -> i64 {
     match start {
         Included(low) => low.into(),
         Excluded(before) => i64::from(before) + 1,
-        Unbounded => 0,
+        Unbounded => least.into(),
     }
 }
 
-/// The greatest value of an attribute of four bits before an end.
-fn highest(end: Bound<u32>) -> i64 {
+/// The greatest value before an end, of an attribute with this greatest one.
+fn highest(end: Bound<i32>, greatest: i32) -> i64 {
     match end {
         Included(high) => high.into(),
         Excluded(past) => i64::from(past) - 1,
-        Unbounded => 15,
+        Unbounded => greatest.into(),
     }
 }
 

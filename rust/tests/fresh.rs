@@ -1,13 +1,14 @@
 //! The call Fresh, compared with document 01's words: "sets the count of each of the P pages and word 0 to 0, T = 0, one
-//! leaf at depth 0 in the tally".
+//! leaf at depth 0 in the tally"; widths past d are held as 0, and marks past d are cleared (document 02, request 4).
 use mdeh_tests::compare::Comparisons;
 use mdeh_tests::host::{self, Shape};
 use mdeh_tests::lent::{lend_bytes, lend_words, LentStore};
-use mdeh_tests::plain::image::{Image, STATE};
+use mdeh_tests::plain::image::{Image, SIGNS, STATE, TALLY};
 use mdeh_tests::plain::model::Model;
 use mdeh_tests::plain::refusal::page_size;
+use mdeh_tests::plain::value::bounds;
 use mdeh_tests::random::Random;
-use mdeh_tests::shapes::random_widths;
+use mdeh_tests::shapes::{marked, random_widths};
 
 const SEED: u64 = 0x6d64_6568_2d30_3034;
 
@@ -22,7 +23,8 @@ fn expected(shape: Shape, before: &Image) -> (Result<(), u32>, Image) {
             after.state[0] = shape.attributes;
             after.state[1..5].copy_from_slice(&shape.widths);
             after.state[5..9].copy_from_slice(&[shape.capacity, page_limit as u32, depth_limit as u32, 0]);
-            after.state[9..22].copy_from_slice(&[1, 0, 0, 0, 0, 0, 0, 0, 0, 0, 0, 0, 0]);
+            after.state[TALLY..SIGNS].copy_from_slice(&[1, 0, 0, 0, 0, 0, 0, 0, 0, 0, 0, 0, 0]);
+            after.state[SIGNS] = shape.signs;
             after.dir[0] = 0;
             (0..page_limit).for_each(|g| after.set_count(g, 0));
             (Ok(()), after)
@@ -56,11 +58,12 @@ fn compare(
     after
 }
 
-/// A shape of random widths; of those past d any number.
+/// A shape of random widths and marks; of widths past d any number.
 fn random_shape(random: &mut Random) -> Shape {
     let total = random.between(1, 64) as u32;
     let widths = random_widths(random, total);
-    let mut shape = Shape::new(&widths, random.between(1, 16) as u32);
+    let capacity = random.between(1, 16) as u32;
+    let mut shape = marked(random, Shape::new(&widths, capacity));
     shape.widths[widths.len()..].fill_with(|| random.number() as u32);
     shape
 }
@@ -125,7 +128,7 @@ fn a_fresh_store_is_sound_and_without_records() {
         let store = LentStore::new(&mut random, &after);
         let out = random.bytes(60);
         let mut out = lend_bytes(&mut random, &out);
-        let key = [0, 1, 2, 3].map(|j| if j < shape.attributes { 1 } else { 0 });
+        let key = [0, 1, 2, 3].map(|j| bounds(shape, j).1);
         count.same(store.check(), Ok(true), format_args!("{shape:?}"));
         count.same(store.lookup(key), Err(5), format_args!("{shape:?}"));
         count.same(store.query([None; 4], &mut out), Ok((0, 0, 0)), format_args!("{shape:?}"));
@@ -138,7 +141,7 @@ fn a_fresh_store_is_sound_and_without_records() {
 fn a_shape_outside_its_bounds_is_refused_with_1_before_2() {
     let mut count = Comparisons::default();
     let mut random = Random::new(SEED);
-    let good = Shape { attributes: 3, widths: [2; 4], capacity: 2 };
+    let good = Shape { attributes: 3, widths: [2; 4], capacity: 2, signs: 0 };
     let mut shapes: Vec<Shape> =
         [0, 5, 257, 65_538, u32::MAX].map(|attributes| Shape { attributes, ..good }).into();
     shapes.extend([0, 17, 257, 65_538, u32::MAX].map(|capacity| Shape { capacity, ..good }));
@@ -150,7 +153,10 @@ fn a_shape_outside_its_bounds_is_refused_with_1_before_2() {
         }
     }
     for shape in shapes {
-        for (state, words, bytes) in [(22, 16, 500), (0, 16, 500), (22, 0, 500), (22, 16, 0), (0, 0, 0)] {
+        let shape = marked(&mut random, shape);
+        for (state, words, bytes) in
+            [(STATE, 16, 500), (0, 16, 500), (STATE, 0, 500), (STATE, 16, 0), (0, 0, 0)]
+        {
             compare(&mut count, &mut random, shape, state, words, bytes);
         }
     }
@@ -171,7 +177,7 @@ fn slices_that_are_too_short_are_refused_with_2() {
             compare(&mut count, &mut random, shape, STATE, words, bytes);
         }
     }
-    count.end(20 * (22 + 5) * 3);
+    count.end(20 * (STATE as u64 + 5) * 3);
 }
 
 /// The state is the same, whatever words and bytes are lent.

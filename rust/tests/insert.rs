@@ -5,6 +5,7 @@ use mdeh_tests::followed::{Followed, COMPARED};
 use mdeh_tests::host::Shape;
 use mdeh_tests::plain::samples::{given_payload, random_key, random_model, random_payload};
 use mdeh_tests::random::Random;
+use mdeh_tests::shapes::marked;
 
 const SEED: u64 = 0x6d64_6568_2d30_3130;
 
@@ -34,7 +35,8 @@ fn long_lists_for_each_capacity() {
     let (mut accepted, mut refused) = (0, 0);
     for capacity in 1..=16 {
         for widths in [&[1][..], &[5], &[2, 2], &[1, 16], &[16, 1, 1, 1], &[3, 4, 5, 2], &[16; 4]] {
-            let mut followed = Followed::fresh(&mut random, Shape::new(widths, capacity), 64, 40);
+            let shape = marked(&mut random, Shape::new(widths, capacity));
+            let mut followed = Followed::fresh(&mut random, shape, 64, 40);
             for _ in 0..120 {
                 let key = random_key(&mut random, &followed.model);
                 let answer = followed.insert(&mut count, key, random_payload(&mut random));
@@ -58,9 +60,9 @@ fn every_order_of_few_keys() {
         let total: u32 = widths.iter().sum();
         for capacity in 1..1u32 << (total - 1) {
             for payload in 1..=200 {
-                let mut followed =
-                    Followed::fresh(&mut random, Shape::new(widths, capacity), 1 << total, 1 << total);
-                let mut keys: Vec<[u32; 4]> = (0..1 << total)
+                let shape = marked(&mut random, Shape::new(widths, capacity));
+                let mut followed = Followed::fresh(&mut random, shape, 1 << total, 1 << total);
+                let mut keys: Vec<[i32; 4]> = (0..1 << total)
                     .map(|code| followed.model.key_of(&bits_of(code, total as usize)))
                     .collect();
                 random.shuffle(&mut keys);
@@ -90,6 +92,7 @@ fn keys_that_share_their_first_bits_are_refused_with_6() {
     for depth_limit in 0..=12 {
         for capacity in [1, 2, 5, 16] {
             let shape = Shape::new(&[[16, 16], [3, 16]][random.below(2)], capacity);
+            let shape = marked(&mut random, shape);
             let mut followed = Followed::fresh(&mut random, shape, 1 << depth_limit, 60);
             let total = followed.model.widths().iter().sum::<u32>() as usize;
             let first: Vec<bool> = (0..total).map(|_| random.below(2) == 1).collect();
@@ -116,7 +119,8 @@ fn without_a_free_page_a_new_leaf_is_refused_with_7() {
     let mut refused = 0;
     for pages in 1..=12 {
         for capacity in [1, 2, 3, 8] {
-            let mut followed = Followed::fresh(&mut random, Shape::new(&[5, 7, 4], capacity), 256, pages);
+            let shape = marked(&mut random, Shape::new(&[5, 7, 4], capacity));
+            let mut followed = Followed::fresh(&mut random, shape, 256, pages);
             for _ in 0..40 {
                 let key = random_key(&mut random, &followed.model);
                 let answer = followed.insert(&mut count, key, given_payload(&mut random));
@@ -166,7 +170,7 @@ fn a_stored_key_is_refused_with_4() {
     let mut stored = 0;
     for _ in 0..200 {
         let model = random_model(&mut random);
-        let keys: Vec<[u32; 4]> = model.records.iter().take(20).map(|record| record.key).collect();
+        let keys: Vec<[i32; 4]> = model.records.iter().take(20).map(|record| record.key).collect();
         let mut followed = Followed::of(&mut random, model);
         for key in keys {
             stored += 1;

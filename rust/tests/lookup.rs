@@ -5,7 +5,7 @@ use mdeh_tests::lent::LentStore;
 use mdeh_tests::plain::image::{Image, Laid};
 use mdeh_tests::plain::met::{each_damaged_count, each_damaged_word, DAMAGED_COUNTS, DAMAGED_WORDS};
 use mdeh_tests::plain::model::Model;
-use mdeh_tests::plain::samples::{early_refused, random_key, random_model, random_payload};
+use mdeh_tests::plain::samples::{early_refused, outside, random_key, random_model, random_payload};
 use mdeh_tests::random::Random;
 
 const SEED: u64 = 0x6d64_6568_2d30_3035;
@@ -29,8 +29,8 @@ fn keys_of_random_stores() {
 fn every_key_of_a_large_store() {
     let mut count = Comparisons::default();
     let mut random = Random::new(SEED);
-    for widths in [&[8, 8, 10][..], &[16], &[3, 4, 5, 2], &[16; 4]] {
-        let mut model = Model::new(Shape::new(widths, 8), 4096, 12);
+    for (widths, signs) in [(&[8, 8, 10][..], 0b100), (&[16], 1), (&[3, 4, 5, 2], 0), (&[16; 4], 0b1010)] {
+        let mut model = Model::new(Shape { signs, ..Shape::new(widths, 8) }, 4096, 12);
         while model.records.len() < 3000 {
             let bits: Vec<bool> = (0..widths.iter().sum()).map(|_| random.below(2) == 1).collect();
             let record = model.record(model.key_of(&bits), random_payload(&mut random));
@@ -84,8 +84,7 @@ fn values_out_of_range_are_refused_with_3() {
         let model = random_model(&mut random);
         let store = LentStore::of(&mut random, &model);
         for j in 0..4 {
-            let least = 1u32 << model.shape.widths[j];
-            for value in [least, least + 1, 1 << 16, 1 << 31, u32::MAX] {
+            for value in outside(model.shape, j) {
                 let mut key = random_key(&mut random, &model);
                 key[j] = value;
                 let about = format_args!("{:?}, {key:?}", model.shape);
@@ -94,7 +93,7 @@ fn values_out_of_range_are_refused_with_3() {
             }
         }
     }
-    count.end(500 * 4 * 5 * 2);
+    count.end(500 * 4 * 8 * 2);
 }
 
 #[test]
@@ -104,7 +103,7 @@ fn refusals_1_and_2_come_before_3() {
     for _ in 0..200 {
         let model = random_model(&mut random);
         let laid = Laid::new(&mut random, &model);
-        let bad_key = [u32::MAX; 4];
+        let bad_key = [i32::MIN; 4];
         for (image, number) in early_refused(&laid.image, &model) {
             let store = LentStore::new(&mut random, &image);
             for key in [random_key(&mut random, &model), bad_key] {

@@ -46,8 +46,7 @@ fn the_records_that_match_are_written_while_whole_ones_fit() {
                         "query {query:?}, from {total} in {bytes} bytes, {n} of {page:?}, {kind:?}"
                     );
                     let mut after = before.clone();
-                    let pattern = pattern_of(query).expect("values have 16 bits");
-                    let found = put_matches(&page.bytes(), n, pattern, &mut after, total);
+                    let found = put_matches(&page.bytes(), n, pattern_of(query), &mut after, total);
                     let mut expected = before.clone();
                     let all = pages::put_matches(records, query, &mut expected, total);
                     count.same(found, Some(all), about);
@@ -65,7 +64,7 @@ fn a_full_output_stays_and_records_are_counted_up_to_2_to_the_32() {
     let mut random = Random::new(SEED);
     for b in 1..=16 {
         let (page, _) = random_page(&mut random, &[8, 8], b, Kind::Full);
-        let every = pattern_of([None; 4]).expect("no value");
+        let every = pattern_of([None; 4]);
         for total in [b, 1 << 31, (1 << 32) - b] {
             let before = vec![9; 12 * b];
             let mut after = before.clone();
@@ -83,16 +82,16 @@ fn patterns_of_queries() {
     let mut random = Random::new(SEED);
     for given in 0u32..1 << 4 {
         for _ in 0..1_000 {
-            let query = [0, 1, 2, 3].map(|j| (given >> j & 1 == 1).then(|| random.short(16) as u32));
-            // four hexadecimal digits for each attribute, the last attribute first
+            let query = [0, 1, 2, 3].map(|j| (given >> j & 1 == 1).then(|| random.short(32) as u32));
+            // the last four hexadecimal digits for each attribute, the last attribute first
             let digits = |digits: fn(Option<u32>) -> u32| {
                 let text: String =
-                    query.iter().rev().map(|&value| format!("{:04x}", digits(value))).collect();
+                    query.iter().rev().map(|&value| format!("{:04x}", digits(value) & 0xffff)).collect();
                 u64::from_str_radix(&text, 16).expect("16 digits")
             };
             let mask = digits(|value| value.map_or(0, |_| 0xffff));
             let value = digits(|value| value.unwrap_or(0));
-            count.same(pattern_of(query), Some(Pattern { mask, value }), format_args!("query {query:?}"));
+            count.same(pattern_of(query), Pattern { mask, value }, format_args!("query {query:?}"));
         }
     }
     count.end(16 * 1_000);
@@ -101,13 +100,6 @@ fn patterns_of_queries() {
 #[test]
 fn what_a_step_does_not_accept_is_not_called() {
     let mut count = Comparisons::default();
-    for j in 0..4 {
-        for value in [0x1_0000, u32::MAX] {
-            let mut query = [None; 4];
-            query[j] = Some(value);
-            count.same(pattern_of(query), None, format_args!("query {query:?}"));
-        }
-    }
     let every = Pattern { mask: 0, value: 0 };
     for b in 0..=16usize {
         let page = vec![7; 2 + 12 * b];
@@ -124,5 +116,5 @@ fn what_a_step_does_not_accept_is_not_called() {
             count.same(&out[..], &vec![9; 12 * b][..], about);
         }
     }
-    count.end(4 * 2 + 17 * 5 * 2);
+    count.end(17 * 5 * 2);
 }

@@ -36,7 +36,7 @@ const TURNS: usize = 4;
 
 /// Whether the key is stored, whether "b stored keys share their first L split bits with it", and whether "the new set
 /// has more than P non-empty leaves".
-fn situation(model: &Model, key: [u32; 4]) -> [bool; 3] {
+fn situation(model: &Model, key: [i32; 4]) -> [bool; 3] {
     let new = model.record(key, 1);
     let stored = model.records.iter().any(|record| record.key == key);
     let first = &new.bits[..model.depth_limit];
@@ -76,14 +76,15 @@ fn edge_payload(random: &mut Random) -> u32 {
     [1, 1 << 8, 1 << 16, 1 << 24, u32::MAX, given_payload(random)][random.below(6)]
 }
 
-/// A store, a key and a payload for which the chosen of 1, 2, 3 and 11 hold. A value out of bounds keeps its lowest bits.
+/// A store, a key and a payload for which the chosen of 1, 2, 3 and 11 hold. A number out of bounds keeps its lowest
+/// bits.
 fn spoiled(
     random: &mut Random,
     model: &Model,
     image: &Image,
-    mut key: [u32; 4],
+    mut key: [i32; 4],
     early: [bool; 4],
-) -> (Image, [u32; 4], u32) {
+) -> (Image, [i32; 4], u32) {
     let [shape, memory, value, zero] = early;
     let mut image = image.clone();
     if shape {
@@ -94,7 +95,7 @@ fn spoiled(
     }
     if value {
         let j = random.below(4);
-        key[j] |= 1 << random.between(model.shape.widths[j].into(), 31);
+        key[j] ^= 1 << random.between(model.shape.widths[j].into(), 31);
     }
     (image, key, if zero { 0 } else { edge_payload(random) })
 }
@@ -105,7 +106,7 @@ fn each_combination(
     count: &mut Comparisons,
     random: &mut Random,
     model: &Model,
-    key: [u32; 4],
+    key: [i32; 4],
     late: [bool; 3],
 ) -> Vec<u32> {
     let laid = Laid::new(random, model);
@@ -243,9 +244,10 @@ fn every_other_payload_is_accepted() {
     let payloads: Vec<u32> =
         (0..32).flat_map(|bit| [1 << bit, !(1 << bit)]).chain([u32::MAX, 0xffff_0000, 0x00ff_ff00]).collect();
     for capacity in [1, 2, 16] {
-        let mut followed = Followed::fresh(&mut random, Shape::new(&[4, 4], capacity), 256, 256);
+        let shape = Shape::new(&[4, 4], capacity).signed(0);
+        let mut followed = Followed::fresh(&mut random, shape, 256, 256);
         for (i, &payload) in (0..).zip(&payloads) {
-            let key = [i % 16, i / 16, 0, 0];
+            let key = [i % 16 - 8, i / 16, 0, 0];
             let about = format_args!("b = {capacity}, {payload:#x}");
             let answer = followed.insert(&mut count, key, 0);
             count.same(answer, Err(11), about);

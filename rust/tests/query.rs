@@ -1,11 +1,11 @@
 //! The call query on sound stores and on what it meets of unsound ones, compared with a list scanned in full.
 use mdeh_tests::compare::Comparisons;
 use mdeh_tests::lent::{lend_bytes, LentStore};
-use mdeh_tests::plain::image::{Image, Laid, Placed};
+use mdeh_tests::plain::image::{Image, Laid, Placed, STATE};
 use mdeh_tests::plain::met::{each_damaged_count, each_damaged_word, each_shallow_word};
 use mdeh_tests::plain::met::{DAMAGED_COUNTS, DAMAGED_WORDS, SHALLOW_WORDS};
 use mdeh_tests::plain::model::Model;
-use mdeh_tests::plain::samples::{query_of, random_key, random_model};
+use mdeh_tests::plain::samples::{outside, query_of, random_key, random_model};
 use mdeh_tests::random::Random;
 
 const SEED: u64 = 0x6d64_6568_2d30_3036;
@@ -16,7 +16,7 @@ fn compare(
     random: &mut Random,
     model: &Model,
     store: &LentStore,
-    query: [Option<u32>; 4],
+    query: [Option<i32>; 4],
     bytes: usize,
 ) {
     let mut expected = random.bytes(bytes);
@@ -28,13 +28,13 @@ fn compare(
 }
 
 /// A random query of the shape's attributes.
-fn random_query(random: &mut Random, model: &Model) -> [Option<u32>; 4] {
+fn random_query(random: &mut Random, model: &Model) -> [Option<i32>; 4] {
     let subset = random.below(1 << model.widths().len());
     query_of(subset, random_key(random, model))
 }
 
 /// How many bytes a query's output takes.
-fn output_size(model: &Model, query: [Option<u32>; 4]) -> usize {
+fn output_size(model: &Model, query: [Option<i32>; 4]) -> usize {
     12 * model.records.iter().filter(|record| record.matches(query)).count()
 }
 
@@ -115,18 +115,17 @@ fn refusal_8_comes_before_3() {
         let model = random_model(&mut random);
         let store = LentStore::of(&mut random, &model);
         for j in 0..4 {
-            let large = 1u32 << model.shape.widths[j];
-            for value in [0, large, large + 1, 1 << 16, 1 << 31, u32::MAX] {
+            for value in [&[0][..], &outside(model.shape, j)].concat() {
                 let mut query = random_query(&mut random, &model);
                 query[j] = Some(value);
                 compare(&mut count, &mut random, &model, &store, query, 30);
-                // a value out of range in every attribute of the shape
-                let query = query.map(|wanted| wanted.map(|_| u32::MAX));
+                // a number out of bounds in every attribute of the shape
+                let query = query.map(|wanted| wanted.map(|_| [i32::MIN, i32::MAX][random.below(2)]));
                 compare(&mut count, &mut random, &model, &store, query, 30);
             }
         }
     }
-    count.end(300 * 4 * 6 * 2 * 2);
+    count.end(300 * 4 * 9 * 2 * 2);
 }
 
 #[test]
@@ -142,13 +141,13 @@ fn refusals_1_and_2_come_before_8_and_3() {
         stores[0].0.state[0] = 0;
         stores[1].0.state[1] = 0;
         stores[2].0.state[5] = 17;
-        stores[3].0.state.truncate(21);
+        stores[3].0.state.truncate(STATE - 1);
         stores[4].0.dir.truncate(words);
         stores[5].0.pages.truncate(bytes);
         for (i, (image, number)) in stores.iter_mut().enumerate() {
             *number = if i < 4 { 1 } else { 2 };
             let store = LentStore::new(&mut random, image);
-            for query in [[None; 4], [Some(0); 4], [Some(u32::MAX); 4], random_query(&mut random, &model)] {
+            for query in [[None; 4], [Some(0); 4], [Some(i32::MIN); 4], random_query(&mut random, &model)] {
                 let content = random.bytes(60);
                 let mut out = lend_bytes(&mut random, &content);
                 let about = format_args!("{:?}, {query:?}", image.state);

@@ -7,9 +7,10 @@ use mdeh_tests::plain::met::{each_damaged_count, each_damaged_word, each_shallow
 use mdeh_tests::plain::met::{DAMAGED_COUNTS, DAMAGED_WORDS, SHALLOW_WORDS};
 use mdeh_tests::plain::model::Model;
 use mdeh_tests::plain::range::Intervals;
-use mdeh_tests::plain::samples::{early_refused, query_of, random_key, random_model, range_of};
+use mdeh_tests::plain::samples::{early_refused, outside, query_of, random_key, random_model, range_of};
+use mdeh_tests::plain::value::bounds;
 use mdeh_tests::random::Random;
-use mdeh_tests::shapes::all_widths;
+use mdeh_tests::shapes::{all_widths, marked};
 
 const SEED: u64 = 0x6d64_6568_2d30_3138;
 
@@ -42,10 +43,11 @@ fn output_size(model: &Model, range: Intervals) -> usize {
     12 * model.records.iter().filter(|record| record.lies_in(range)).count()
 }
 
-/// A store of these widths with random limits and as many records as a random number of inserts leaves.
+/// A store of these widths with random marks and limits and as many records as a random number of inserts leaves.
 fn model_of(random: &mut Random, widths: &[u32]) -> Model {
     let total = widths.iter().sum::<u32>().min(12) as usize;
-    let shape = Shape::new(widths, random.between(1, 3) as u32);
+    let capacity = random.between(1, 3) as u32;
+    let shape = marked(random, Shape::new(widths, capacity));
     let mut model = Model::new(shape, 1 + random.below(40), total - random.below(2));
     for payload in 1..=random.between(0, 60) as u32 {
         let key = random_key(random, &model);
@@ -55,18 +57,18 @@ fn model_of(random: &mut Random, widths: &[u32]) -> Model {
     model
 }
 
-/// An attribute of this width free, and all of its intervals.
-fn intervals(width: u32) -> Vec<Option<(u32, u32)>> {
-    let values = 0..1u32 << width;
-    let of_low = |low: u32| values.clone().skip(low as usize).map(move |high| Some((low, high)));
-    [None].into_iter().chain(values.clone().flat_map(of_low)).collect()
+/// Attribute j free, and all of its intervals.
+fn intervals(shape: Shape, j: usize) -> Vec<Option<(i32, i32)>> {
+    let (least, greatest) = bounds(shape, j);
+    let of_low = |low: i32| (low..=greatest).map(move |high| Some((low, high)));
+    [None].into_iter().chain((least..=greatest).flat_map(of_low)).collect()
 }
 
-/// All ranges of these widths.
-fn all_ranges(widths: &[u32]) -> Vec<Intervals> {
+/// All ranges of a shape.
+fn all_ranges(shape: Shape) -> Vec<Intervals> {
     let mut all = vec![[None; 4]];
-    for (j, &width) in widths.iter().enumerate() {
-        let intervals = intervals(width);
+    for j in 0..shape.attributes as usize {
+        let intervals = intervals(shape, j);
         let with = |range: Intervals, ends| std::array::from_fn(|i| if i == j { ends } else { range[i] });
         all = all.iter().flat_map(|&range| intervals.iter().map(move |&ends| with(range, ends))).collect();
     }
@@ -84,16 +86,16 @@ fn a_region_meets_if_some_key_of_it_is_inside() {
     let mut regions = 0;
     for widths in (1..=4).flat_map(|d| all_widths(d, 6)) {
         let total = widths.iter().sum::<u32>() as usize;
-        let model = Model::new(Shape::new(&widths, 1), 1, 0);
+        let model = Model::new(marked(&mut random, Shape::new(&widths, 1)), 1, 0);
         let strings = |x: usize| (0..1usize << x).map(move |n| (0..x).map(|t| n >> t & 1 == 1).collect());
         let keys: Vec<_> =
             strings(total).map(|bits: Vec<bool>| model.record(model.key_of(&bits), 0)).collect();
         for region in (0..=total).flat_map(strings) {
             for _ in 0..10 {
                 regions += 1;
-                let range = [0, 1, 2, 3].map(|j| any_interval(&mut random, widths.get(j)));
+                let range = [0, 1, 2, 3].map(|j| any_interval(&mut random, model.shape, j));
                 let inside = keys.iter().any(|key| key.bits.starts_with(&region) && key.lies_in(range));
-                let about = format_args!("{widths:?}, {region:?}, {range:?}");
+                let about = format_args!("{:?}, {region:?}, {range:?}", model.shape);
                 count.same(model.meets(&region, range), inside, about);
             }
         }
@@ -112,10 +114,11 @@ fn every_range_of_small_shapes() {
     for widths in (1..=4).flat_map(|d| all_widths(d, 9)) {
         let model = model_of(&mut random, &widths);
         let store = LentStore::of(&mut random, &model);
-        let number: usize = widths.iter().map(|&width| intervals(width).len()).product();
+        let number: usize = (0..widths.len()).map(|j| intervals(model.shape, j).len()).product();
+        let any = |random: &mut Random| [0, 1, 2, 3].map(|j| any_interval(random, model.shape, j));
         let chosen = match number {
-            ..=2100 => all_ranges(&widths),
-            _ => (0..1000).map(|_| [0, 1, 2, 3].map(|j| any_interval(&mut random, widths.get(j)))).collect(),
+            ..=2100 => all_ranges(model.shape),
+            _ => (0..1000).map(|_| any(&mut random)).collect(),
         };
         exhausted += u64::from(number <= 2100);
         ranges += chosen.len() as u64;
@@ -128,11 +131,11 @@ fn every_range_of_small_shapes() {
     count.end(ranges * 2);
 }
 
-/// One of an attribute's intervals, or none.
-fn any_interval(random: &mut Random, width: Option<&u32>) -> Option<(u32, u32)> {
-    let values = 1 << width?;
-    let [a, b] = [0; 2].map(|_| random.below(values) as u32);
-    (random.below(4) > 0).then_some((a.min(b), a.max(b)))
+/// One of the intervals of attribute j, or none.
+fn any_interval(random: &mut Random, shape: Shape, j: usize) -> Option<(i32, i32)> {
+    let (least, greatest) = bounds(shape, j);
+    let [a, b] = [0; 2].map(|_| least + random.below((greatest - least) as usize + 1) as i32);
+    (j < shape.attributes as usize && random.below(4) > 0).then_some((a.min(b), a.max(b)))
 }
 
 /// Random stores of up to 64 bits, each subset of attributes.
@@ -162,6 +165,7 @@ fn every_subset_of_given_attributes() {
 fn the_least_and_the_greatest_width() {
     let mut count = Comparisons::default();
     let mut random = Random::new(SEED);
+    // by how far they are above the least value
     let ends = |width: u32| match width {
         1 => vec![None, Some((0, 0)), Some((0, 1)), Some((1, 1))],
         _ => [(0, 0), (0, 1), (1, 0x7fff), (0x7fff, 0x8000), (0x8000, 0xfffe), (0xffff, 0xffff), (0, 0xffff)]
@@ -177,7 +181,9 @@ fn the_least_and_the_greatest_width() {
                 ranges += 1;
                 let choose = |j: usize| widths.get(j).map(|&width| ends(width));
                 let choices = [0, 1, 2, 3].map(|j| choose(j).unwrap_or(vec![None]));
-                let range = choices.map(|choices| choices[random.below(choices.len())]);
+                let above = choices.map(|choices| choices[random.below(choices.len())]);
+                let least = [0, 1, 2, 3].map(|j| bounds(model.shape, j).0);
+                let range = [0, 1, 2, 3].map(|j| above[j].map(|(a, b)| (least[j] + a, least[j] + b)));
                 compare(&mut count, &mut random, &model, &store, range, 300);
             }
         }
@@ -204,11 +210,11 @@ fn ends_at_and_beside_a_leafs_edge() {
         let leaves = model.leaves();
         for _ in 0..4 {
             let (least, greatest) = model.box_of(&leaves[random.below(leaves.len())].bits);
-            for (j, &width) in model.widths().iter().enumerate() {
-                let most = (1 << width) - 1;
-                let edges = [least[j].saturating_sub(1), least[j], greatest[j], most.min(greatest[j] + 1)];
-                let mut ends: Vec<(u32, u32)> = edges.iter().flat_map(|&a| edges.map(|b| (a, b))).collect();
-                ends.extend(edges.iter().flat_map(|&edge| [(0, edge), (edge, most)]));
+            for j in 0..model.widths().len() {
+                let (first, last) = bounds(model.shape, j);
+                let edges = [first.max(least[j] - 1), least[j], greatest[j], last.min(greatest[j] + 1)];
+                let mut ends: Vec<(i32, i32)> = edges.iter().flat_map(|&a| edges.map(|b| (a, b))).collect();
+                ends.extend(edges.iter().flat_map(|&edge| [(first, edge), (edge, last)]));
                 ends.retain(|(low, high)| low <= high);
                 let others = random_range(&mut random, &model);
                 for (ends, rest) in ends.iter().flat_map(|&ends| [(ends, [None; 4]), (ends, others)]) {
@@ -263,7 +269,7 @@ fn equal_ends_as_the_query_and_all_values_as_free() {
             count.same(outs[0].slice(), outs[1].slice(), about);
             let mut outs = [0; 2].map(|_| lend_bytes(&mut random, &content));
             let range = random_range(&mut random, &model);
-            let all = |j: usize| model.widths().get(j).map(|&width| (0, (1 << width) - 1));
+            let all = |j: usize| (j < d).then(|| bounds(model.shape, j));
             let full = [0, 1, 2, 3].map(|j| range[j].or(all(j)));
             let about = format_args!("{:?}, {range:?}, {bytes} bytes", model.shape);
             let found = store.range(range, &mut outs[0]);
@@ -320,8 +326,8 @@ fn compare_refused(
     count.same(out.unchanged(), true, about);
 }
 
-/// An attribute free, an interval, one whose low or high end is past the width, one with its ends reversed, and one
-/// with both faults, in each attribute.
+/// An attribute free, an interval, one whose low or high end is out of bounds, one with its ends reversed, and one with
+/// both faults, in each attribute.
 #[test]
 fn refusals_8_3_and_10_in_every_combination() {
     let mut count = Comparisons::default();
@@ -337,11 +343,11 @@ fn refusals_8_3_and_10_in_every_combination() {
         for turn in 0..7usize.pow(4) {
             let kinds = [0, 1, 2, 3].map(|j| turn / 7usize.pow(j) % 7);
             let range = [0, 1, 2, 3].map(|j| {
-                let past = 1u32 << model.shape.widths[j];
-                let large = [past, past + 1, 1 << 16, 1 << 31, u32::MAX][random.below(5)];
-                [None, Some((0, past - 1)), Some((0, large)), Some((large, past - 1)), Some((large, large))]
+                let (least, greatest) = bounds(model.shape, j);
+                let out = outside(model.shape, j)[random.below(8)];
+                [None, Some((least, greatest)), Some((least, out)), Some((out, greatest)), Some((out, out))]
                     .into_iter()
-                    .chain([Some((past.max(2) - 1, 0)), Some((u32::MAX, past))])
+                    .chain([Some((greatest.max(least + 1), least)), Some((i32::MAX, i32::MIN))])
                     .nth(kinds[j])
                     .expect("one of seven")
             });
@@ -393,7 +399,7 @@ fn refusals_1_and_2_come_before_8_3_and_10() {
             let store = LentStore::new(&mut random, &image);
             let random_one = random_range(&mut random, &model);
             for range in
-                [[None; 4], [Some((0, 0)); 4], [Some((1, 0)); 4], [Some((u32::MAX, 0)); 4], random_one]
+                [[None; 4], [Some((0, 0)); 4], [Some((1, 0)); 4], [Some((i32::MAX, i32::MIN)); 4], random_one]
             {
                 compare_refused(&mut count, &mut random, &store, range, number);
             }

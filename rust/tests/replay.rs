@@ -1,6 +1,6 @@
 //! Demand 3 on the running code: random lists of calls, encoded in words and replayed on lent memory, answer by answer
-//! and byte by byte as the plain model gives them (document 01, "The plain model of demand 3"; document 02, requests 1
-//! and 2).
+//! and byte by byte as the plain model gives them (document 01, "The plain model of demand 3"; document 02, requests
+//! 1, 2 and 4).
 use mdeh_tests::cells::Cells;
 use mdeh_tests::compare::Comparisons;
 use mdeh_tests::host::{self, CheckResult, Shape};
@@ -22,10 +22,10 @@ const SEED: u64 = 0x6d64_6568_2d30_3137;
 /// A call as the model is given it; a query and a range with the bytes of its output.
 #[derive(Clone, Copy, Debug)]
 enum Call {
-    Insert([u32; 4], u32),
-    Delete([u32; 4]),
-    Lookup([u32; 4]),
-    Query([Option<u32>; 4], usize),
+    Insert([i32; 4], u32),
+    Delete([i32; 4]),
+    Lookup([i32; 4]),
+    Query([Option<i32>; 4], usize),
     Range(Intervals, usize),
 }
 
@@ -36,28 +36,30 @@ fn words_of(random: &mut Random, call: Call) -> Vec<u32> {
     match call {
         Call::Insert(key, payload) => {
             (words[0], words[9]) = (0, payload);
-            words[1..5].copy_from_slice(&key);
+            words[1..5].copy_from_slice(&key.map(|value| value as u32));
         }
         Call::Delete(key) => {
             words[0] = 1;
-            words[1..5].copy_from_slice(&key);
+            words[1..5].copy_from_slice(&key.map(|value| value as u32));
         }
         Call::Lookup(key) => {
             words[0] = 2;
-            words[1..5].copy_from_slice(&key);
+            words[1..5].copy_from_slice(&key.map(|value| value as u32));
         }
         Call::Query(query, size) => {
             (words[0], words[10]) = (3, size as u32);
             for (j, value) in query.into_iter().enumerate() {
-                words[1 + j] = value.unwrap_or(words[1 + j]);
+                words[1 + j] = value.map_or(words[1 + j], |value| value as u32);
                 words[5 + j] = if value.is_some() { words[5 + j].max(1) } else { 0 };
             }
         }
         Call::Range(range, size) => {
             (words[0], words[10]) = ([4, 5, 1 << 31, u32::MAX][random.below(4)], size as u32);
             for (j, ends) in range.into_iter().enumerate() {
-                (words[1 + j], words[11 + j]) = ends.unwrap_or((words[1 + j], words[11 + j]));
                 words[5 + j] = if ends.is_some() { words[5 + j].max(1) } else { 0 };
+                if let Some((low, high)) = ends {
+                    (words[1 + j], words[11 + j]) = (low as u32, high as u32);
+                }
             }
         }
     }
@@ -69,7 +71,7 @@ fn words_of(random: &mut Random, call: Call) -> Vec<u32> {
 fn random_call(random: &mut Random, model: &Model, inserts: usize) -> Call {
     let mut key = random_key(random, model);
     if random.below(16) == 0 {
-        key[random.below(4)] = random.short(32) as u32;
+        key[random.below(4)] = any_number(random);
     }
     match random.below(16) {
         turn if turn < inserts => Call::Insert(key, random_payload(random)),
@@ -78,6 +80,12 @@ fn random_call(random: &mut Random, model: &Model, inserts: usize) -> Call {
         turn if turn < 14 => Call::Query(query_of(given(random, model), key), random.below(121)),
         _ => Call::Range(random_range(random, model), random.below(121)),
     }
+}
+
+/// A number of up to 32 bits, in every other case below 0.
+fn any_number(random: &mut Random) -> i32 {
+    let number = random.short(32) as i32;
+    [number, number.wrapping_neg()][random.below(2)]
 }
 
 /// The attributes that a query or a range gives: in one of four cases any, else some of those in use.
@@ -92,7 +100,7 @@ fn random_range(random: &mut Random, model: &Model) -> Intervals {
     let subset = given(random, model);
     let mut range = range_of(random, model, subset, keys);
     if random.below(16) == 0 {
-        range[random.below(4)] = Some((random.short(32) as u32, random.short(32) as u32));
+        range[random.below(4)] = Some((any_number(random), any_number(random)));
     }
     range
 }

@@ -2,9 +2,9 @@
 //! the store sound after each call, guards around every lent slice.
 use mdeh_tests::compare::Comparisons;
 use mdeh_tests::followed::{Followed, COMPARED};
-use mdeh_tests::host::{self, Shape};
+use mdeh_tests::host::Shape;
 use mdeh_tests::lent::{lend_bytes, LentStore};
-use mdeh_tests::plain::image::{Image, STATE};
+use mdeh_tests::plain::image::Image;
 use mdeh_tests::plain::model::Model;
 use mdeh_tests::plain::ordered::Ordered;
 use mdeh_tests::plain::refusal::page_size;
@@ -75,20 +75,14 @@ struct Run {
 impl Run {
     fn new(mut random: Random, shape: Shape, words: usize, pages: usize) -> Run {
         let bytes = pages * page_size(shape);
-        let image =
-            Image { state: random.words(STATE), dir: random.words(words), pages: random.bytes(bytes) };
-        let mut store = LentStore::new(&mut random, &image);
-        let LentStore { state, dir, pages } = &mut store;
-        host::fresh(shape, state.slice_mut(), dir.slice_mut(), pages.slice_mut()).expect("accepted");
-        state.lend_again();
-        dir.lend_again();
-        pages.lend_again();
+        let image = Image::random(&mut random, words, bytes);
+        let store = LentStore::fresh(&mut random, shape, &image);
         let list = Ordered::new(Model::fresh(shape, words, bytes).expect("accepted"));
         Run { store, list, random, calls: 1, refused: 0 }
     }
 
     /// A key: of three, one is stored, one shares its first bits with a stored one, one is random.
-    fn key(&mut self) -> [u32; 4] {
+    fn key(&mut self) -> [i32; 4] {
         let code = self.random.number();
         if self.list.is_empty() {
             return self.list.key_of(code);
@@ -222,11 +216,12 @@ fn stores_of_many_records() {
     runs(SEED + 2, 10, 64, 16, 300, 8000);
 }
 
-/// The greatest store: 4,096 words and pages. Check, a query of everything and a range come every 500 calls.
+/// The greatest store: 4,096 words and pages, its last attribute marked. Check, a query of everything and a range come
+/// every 500 calls.
 #[test]
 fn the_greatest_store() {
     let mut count = Comparisons::default();
-    let shape = Shape::new(&[8, 8, 10], 16);
+    let shape = Shape::new(&[8, 8, 10], 16).signed(2);
     let mut run = Run::new(Random::new(SEED), shape, 4096, 4096);
     for turn in 0..40_000 {
         run.change(&mut count, if turn < 26_000 { 15 } else { 4 });

@@ -234,3 +234,27 @@ fn payload_0_in_a_full_store_prints_no_11() {
     ]);
     replies(&lines);
 }
+
+// ---- minus signs
+
+/// "`stock` marks none and takes no minus sign": a number of 2^31 or more is no number below 0 either.
+#[test]
+fn a_minus_sign_is_a_bad_line() {
+    replies(&[
+        ("shape 2 2 2 2", "ok"),
+        ("shape 2 -2 2 2", "bad line"),
+        ("shape -2 2 2 2", "bad line"),
+        ("put -1 0 5", "bad line"),
+        ("put 0 -0 5", "bad line"),
+        ("cut -1 0", "bad line"),
+        ("list -1 *", "bad line"),
+        ("put 3 3 5", "ok"),
+        ("put 4294967295 0 5", "no 3"),
+        ("put 4294967294 0 5", "no 3"),
+        ("put 2147483648 0 5", "no 3"),
+        ("cut 4294967295 3", "no 3"),
+        ("list 4294967295 *", "no 3"),
+        ("cut 3 3", "ok"),
+        ("list * *", "= 0 0"),
+    ]);
+}

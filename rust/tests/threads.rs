@@ -4,7 +4,7 @@ use mdeh_tests::random::Random;
 use std::thread;
 
 const SEED: u64 = 0x6d64_6568_2d30_3135;
-const SHAPE: Shape = Shape::new(&[8, 8, 10], 16);
+const SHAPE: Shape = Shape::new(&[8, 8, 10], 16).signed(2);
 
 /// The stack that the header says, and what a thread itself needs.
 const STACK: usize = (32 + 8) << 10;
@@ -15,16 +15,18 @@ fn memory() -> (Vec<u32>, Vec<u8>) {
 }
 
 /// The payload of a key, 0 for one of eight.
-fn payload_of([a, b, c]: [u32; 3]) -> u32 {
+fn payload_of([a, b, c]: [i32; 3]) -> u32 {
     match c % 8 {
         0 => 0,
-        _ => 1 + (a ^ b ^ c),
+        _ => 1 + (a ^ b ^ (c + 512)) as u32,
     }
 }
 
 /// Random keys, those refused for their payload or their depth left out.
-fn fill(store: &mut Store, random: &mut Random) -> Vec<[u32; 3]> {
-    let mut keys: Vec<_> = (0..30_000).map(|_| [8, 8, 10].map(|w| random.below(1 << w) as u32)).collect();
+fn fill(store: &mut Store, random: &mut Random) -> Vec<[i32; 3]> {
+    let bounds = [(0, 255), (0, 255), (-512, 511)];
+    let mut value = |(least, greatest)| least + random.below((greatest - least) as usize + 1) as i32;
+    let mut keys: Vec<_> = (0..30_000).map(|_| bounds.map(&mut value)).collect();
     let mut refused = 0;
     keys.retain(|&key| {
         let answer = store.insert(key, payload_of(key)).map_err(Refusal::number);
@@ -42,15 +44,15 @@ fn threads_share_a_store() {
     let mut store = Store::fresh(SHAPE, &mut directory, &mut pages).expect("accepted");
     let keys = fill(&mut store, &mut Random::new(SEED));
     let (store, keys) = (&store, &keys);
-    let read = |code: u32| {
+    let read = |code: i32| {
         let mut out = vec![0; keys.len() * RECORD_BYTES];
         assert!(keys
             .iter()
             .all(|&key| store.lookup(key).is_ok_and(|found| found.payload == payload_of(key))));
         let found = store.query(Query::all().given(0, code), &mut out).expect("accepted");
         assert_eq!(found.total, keys.iter().filter(|key| key[0] == code).count() as u64);
-        let found = store.range(Range::all().within(2, code..480), &mut out).expect("accepted");
-        assert_eq!(found.total, keys.iter().filter(|key| (code..480).contains(&key[2])).count() as u64);
+        let found = store.range(Range::all().within(2, -code..480), &mut out).expect("accepted");
+        assert_eq!(found.total, keys.iter().filter(|key| (-code..480).contains(&key[2])).count() as u64);
         assert_eq!(store.check(), Ok(true));
     };
     thread::scope(|scope| (0..4).for_each(|code| drop(scope.spawn(move || read(code)))));
@@ -65,8 +67,9 @@ fn every_call_on_a_small_stack() {
         let keys = fill(&mut store, &mut Random::new(SEED));
         let listed = store.query(Query::all(), &mut out).expect("accepted").records().count();
         assert_eq!((listed, store.check()), (keys.len(), Ok(true)));
-        let listed = store.range(Range::all().within(1, 1..), &mut out).expect("accepted").records().count();
-        assert_eq!(listed, keys.iter().filter(|key| key[1] > 0).count());
+        let range = Range::all().within(1, 1..).within(2, ..100);
+        let listed = store.range(range, &mut out).expect("accepted").records().count();
+        assert_eq!(listed, keys.iter().filter(|key| key[1] > 0 && key[2] < 100).count());
         assert!(keys.iter().all(|&key| store.lookup(key).is_ok() && store.delete(key).is_ok()));
     };
     thread::Builder::new().stack_size(STACK).spawn(calls).expect("a thread").join().expect("the calls end");

@@ -50,7 +50,7 @@ fn deep_model(random: &mut Random) -> Model {
 }
 
 /// A key, which is stored in every other case.
-fn some_key(random: &mut Random, model: &Model) -> [u32; 4] {
+fn some_key(random: &mut Random, model: &Model) -> [i32; 4] {
     match model.records.len() {
         stored if stored > 0 && random.below(2) == 1 => model.records[random.below(stored)].key,
         _ => random_key(random, model),
@@ -67,7 +67,7 @@ fn harmed_cells(cells: &Cells, now: &Image, image: &Image) -> Vec<Vec<bool>> {
 }
 
 /// A key, which is in a harmed cell in every other case.
-fn near_key(random: &mut Random, model: &Model, harmed: &[Vec<bool>]) -> [u32; 4] {
+fn near_key(random: &mut Random, model: &Model, harmed: &[Vec<bool>]) -> [i32; 4] {
     let key = some_key(random, model);
     if harmed.is_empty() || random.below(2) == 0 {
         return key;
@@ -139,7 +139,7 @@ struct Damaged<'a> {
 
 impl Damaged<'_> {
     /// A call of this name with a key.
-    fn call(&self, random: &mut Random, name: &str, key: [u32; 4]) -> Answer {
+    fn call(&self, random: &mut Random, name: &str, key: [i32; 4]) -> Answer {
         let mut store = LentStore::new(random, self.image);
         let mut model = self.model.clone();
         let before = Reading::new(self.image, self.cells);
@@ -163,7 +163,7 @@ impl Damaged<'_> {
     }
 
     /// A query with some of the key's values given, and an output of any length, which is left alone by a refusal.
-    fn query(&self, random: &mut Random, store: &LentStore, key: [u32; 4]) -> Answer {
+    fn query(&self, random: &mut Random, store: &LentStore, key: [i32; 4]) -> Answer {
         let query = query_of(random.below(1 << self.model.widths().len()), key);
         let length = 12 * random.below(self.model.records.len() + 3) + random.below(12);
         let mut expected = random.bytes(length);
@@ -176,7 +176,7 @@ impl Damaged<'_> {
     }
 
     /// A range between some of the values of the key and of another, and an output as of a query.
-    fn range(&self, random: &mut Random, store: &LentStore, key: [u32; 4]) -> Answer {
+    fn range(&self, random: &mut Random, store: &LentStore, key: [i32; 4]) -> Answer {
         let subset = random.below(1 << self.model.widths().len());
         let keys = [key, some_key(random, self.model)];
         let range = range_of(random, self.model, subset, keys);
@@ -193,7 +193,7 @@ impl Damaged<'_> {
     }
 
     /// The answer to a change of a key, with what it lost of other leaves if it is accepted.
-    fn contained(&self, answer: Answer, before: Reading, image: &Image, key: [u32; 4]) -> Answer {
+    fn contained(&self, answer: Answer, before: Reading, image: &Image, key: [i32; 4]) -> Answer {
         if image == self.image {
             return answer;
         }
@@ -266,7 +266,7 @@ fn table_store(random: &mut Random) -> (Model, Image) {
 }
 
 /// The 16 keys of two attributes of two bits.
-fn all_keys() -> impl Iterator<Item = [u32; 4]> {
+fn all_keys() -> impl Iterator<Item = [i32; 4]> {
     (0..16).map(|i| [i / 4, i % 4, 0, 0])
 }
 

@@ -9,6 +9,7 @@ use mdeh_tests::plain::image::Image;
 use mdeh_tests::plain::judge::judge;
 use mdeh_tests::plain::samples::{given_payload, query_of, random_key, range_of};
 use mdeh_tests::random::Random;
+use mdeh_tests::shapes::marked;
 
 const SEED: u64 = 0x6d64_6568_2d30_3230;
 
@@ -17,13 +18,13 @@ const STORES: u64 = 6 * 3 * 3 * 3;
 
 /// Stores with few records up to full ones, of which about an eighth, about half, or all get payload 0. The keys of
 /// these come with the store.
-fn each_store(mut test: impl FnMut(&mut Random, Followed, Vec<[u32; 4]>)) {
+fn each_store(mut test: impl FnMut(&mut Random, Followed, Vec<[i32; 4]>)) {
     let mut random = Random::new(SEED);
     for widths in [&[1][..], &[5], &[2, 2], &[1, 16], &[3, 4, 5, 2], &[16; 4]] {
         for capacity in [1, 2, 16] {
             for inserts in [2, 20, 200] {
                 for share in [1, 4, 8] {
-                    let shape = Shape::new(widths, capacity);
+                    let shape = marked(&mut random, Shape::new(widths, capacity));
                     let mut followed = Followed::fresh(&mut random, shape, 64, 40);
                     fill(&mut random, &mut followed, inserts);
                     let mut zeros = followed.clear_payloads(|| random.below(8) < share);
@@ -47,7 +48,7 @@ fn fill(random: &mut Random, followed: &mut Followed, inserts: usize) {
 }
 
 /// The page and the place where a key's record stands.
-fn place(image: &Image, pages: usize, key: [u32; 4]) -> Option<(usize, usize)> {
+fn place(image: &Image, pages: usize, key: [i32; 4]) -> Option<(usize, usize)> {
     let places = (0..pages).flat_map(|g| (0..image.count(g)).map(move |i| (g, i)));
     places.into_iter().find(|&(g, i)| image.content(g, i).0 == key)
 }
@@ -72,7 +73,7 @@ fn a_lookup_gives_0_and_1_read() {
         for &key in &zeros {
             count.same(followed.store.lookup(key), Ok((0, 1)), about);
         }
-        let near: Vec<[u32; 4]> = (0..20).map(|_| random_key(random, &followed.model)).collect();
+        let near: Vec<[i32; 4]> = (0..20).map(|_| random_key(random, &followed.model)).collect();
         let stored = followed.model.records.iter().map(|record| record.key);
         for key in stored.chain(near) {
             count.same(followed.store.lookup(key), followed.model.lookup(key), about);
@@ -127,7 +128,7 @@ fn deletes_remove_them_and_join_leaves() {
     each_store(|random, mut followed, mut zeros| {
         random.shuffle(&mut zeros);
         let others = followed.model.records.iter().map(|record| record.key);
-        let others: Vec<[u32; 4]> = others.filter(|key| !zeros.contains(key)).collect();
+        let others: Vec<[i32; 4]> = others.filter(|key| !zeros.contains(key)).collect();
         for key in zeros.into_iter().chain(others) {
             let leaves = followed.model.leaves().len();
             assert_eq!(followed.delete(&mut count, key), Ok(()));

@@ -32,13 +32,15 @@ impl Console {
         match word {
             b"put" => {
                 let values = numbers(&items)?;
-                (values.len() == d + 1).then(|| changed(model.insert(four(&values[..d], 0), values[d])))
+                (values.len() == d + 1).then(|| changed(model.insert(key(&values[..d]), values[d])))
             }
             b"cut" => {
                 let values = numbers(&items)?;
-                (values.len() == d).then(|| changed(model.delete(four(&values, 0))))
+                (values.len() == d).then(|| changed(model.delete(key(&values))))
             }
-            b"list" => (items.len() == d).then(|| listed(model, four(&items, None))),
+            b"list" => {
+                (items.len() == d).then(|| listed(model, four(&items, None).map(|item| item.map(value))))
+            }
             _ => None,
         }
     }
@@ -53,7 +55,8 @@ impl Console {
         if numbers.len() != d + 2 {
             return None;
         }
-        let shape = Shape { attributes, widths: four(&numbers[1..=d], 0), capacity: numbers[d + 1] };
+        let shape =
+            Shape { attributes, widths: four(&numbers[1..=d], 0), capacity: numbers[d + 1], signs: 0 };
         let fresh = Model::fresh(shape, WORDS, BYTES);
         Some(changed(fresh.map(|model| self.model = Some(model))))
     }
@@ -76,6 +79,16 @@ fn numbers(items: &[Option<u32>]) -> Option<Vec<u32>> {
     items.iter().copied().collect()
 }
 
+/// A number as a value: one of 2^31 or more is past every bound in either form.
+fn value(number: u32) -> i32 {
+    number as i32
+}
+
+/// The key of these values.
+fn key(values: &[u32]) -> [i32; 4] {
+    four(values, 0).map(value)
+}
+
 /// One thing for each of the four attributes.
 fn four<T: Copy>(items: &[T], rest: T) -> [T; 4] {
     std::array::from_fn(|j| items.get(j).copied().unwrap_or(rest))
@@ -86,7 +99,7 @@ fn changed(answer: Result<(), u32>) -> String {
 }
 
 /// "the records (values, payload), then `=`, total, reads".
-fn listed(model: &Model, query: [Option<u32>; 4]) -> String {
+fn listed(model: &Model, query: [Option<i32>; 4]) -> String {
     let mut out = [0; OUTPUT];
     match model.query(query, &mut out) {
         Err(number) => format!("no {number}\n"),

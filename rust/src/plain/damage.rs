@@ -25,7 +25,7 @@ pub const WAYS: [(&str, Break); 25] = [
     ("a record outside its leaf", pages::outside_leaf),
     ("a key twice", pages::key_twice),
     ("an unused value that is not 0", pages::unused_value),
-    ("a value of 2^w or more", pages::large_value),
+    ("a number that is no value", pages::outside_bounds),
     ("one more leaf in the tally", state::tally_above),
     ("one leaf less in the tally", state::tally_below),
     ("T too small", state::depth_too_small),

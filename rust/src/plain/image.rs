@@ -2,18 +2,20 @@
 use super::leaves::{greatest_depth, leaf_of, tally, Leaf, Record};
 use super::model::Model;
 use super::refusal::page_size;
+use super::value::number_in;
 use crate::cells::Cells;
 use crate::host::Shape;
 use crate::random::Random;
 
-/// The state's words: d, the four widths, b, P, L, T, and the tally at depths 0 to 12.
-pub const STATE: usize = 22;
+/// The state's words: d, the four widths, b, P, L, T, the tally at depths 0 to 12, and the marks of signed attributes.
+pub const STATE: usize = 23;
 
-/// Where P, L, T and the tally stand in the state.
+/// Where P, L, T, the tally and the marks stand in the state.
 pub const PAGE_LIMIT: usize = 6;
 pub const DEPTH_LIMIT: usize = 7;
 pub const DEPTH: usize = 8;
 pub const TALLY: usize = 9;
+pub const SIGNS: usize = 22;
 
 /// A store as it is lent.
 #[derive(Clone, Debug, PartialEq)]
@@ -24,9 +26,14 @@ pub struct Image {
 }
 
 impl Image {
+    /// Random memory of these lengths.
+    pub fn random(random: &mut Random, words: usize, bytes: usize) -> Image {
+        Image { state: random.words(STATE), dir: random.words(words), pages: random.bytes(bytes) }
+    }
+
     pub fn shape(&self) -> Shape {
         let s = &self.state;
-        Shape { attributes: s[0], widths: [s[1], s[2], s[3], s[4]], capacity: s[5] }
+        Shape { attributes: s[0], widths: [s[1], s[2], s[3], s[4]], capacity: s[5], signs: s[SIGNS] }
     }
 
     /// The bytes of page g.
@@ -46,14 +53,14 @@ impl Image {
 
     /// The count of page g.
     pub fn count(&self, g: usize) -> usize {
-        self.number(g, 0) as usize
+        self.number(g, 0).into()
     }
 
     /// Key and payload of record i of page g.
-    pub fn content(&self, g: usize, i: usize) -> ([u32; 4], u32) {
-        let at = 2 + 12 * i;
-        let key = [0, 1, 2, 3].map(|j| self.number(g, at + 2 * j));
-        (key, self.number(g, at + 8) | self.number(g, at + 10) << 16)
+    pub fn content(&self, g: usize, i: usize) -> ([i32; 4], u32) {
+        let (at, shape) = (2 + 12 * i, self.shape());
+        let key = [0, 1, 2, 3].map(|j| number_in(shape, j, self.number(g, at + 2 * j)));
+        (key, u32::from(self.number(g, at + 8)) | u32::from(self.number(g, at + 10)) << 16)
     }
 
     /// Whether page g has the same bytes in another store of this shape.
@@ -64,9 +71,9 @@ impl Image {
     }
 
     /// The little-endian number of 16 bits at a place of page g.
-    fn number(&self, g: usize, place: usize) -> u32 {
+    fn number(&self, g: usize, place: usize) -> u16 {
         let at = g * page_size(self.shape()) + place;
-        u32::from(self.pages[at]) + 256 * u32::from(self.pages[at + 1])
+        u16::from_le_bytes([self.pages[at], self.pages[at + 1]])
     }
 }
 
@@ -145,9 +152,9 @@ pub fn depth_of(word: u32) -> usize {
 
 /// The state of a store that shows these leaves.
 pub fn state_words(model: &Model, leaves: &[Leaf]) -> Vec<u32> {
-    let Shape { attributes, widths, capacity } = model.shape;
+    let Shape { attributes, widths, capacity, signs } = model.shape;
     let limits = [model.page_limit as u32, model.depth_limit as u32, greatest_depth(leaves) as u32];
-    [&[attributes][..], &widths, &[capacity], &limits, &tally(leaves)].concat()
+    [&[attributes][..], &widths, &[capacity], &limits, &tally(leaves), &[signs]].concat()
 }
 
 /// "count (2), then records in split order".

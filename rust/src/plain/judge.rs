@@ -2,7 +2,7 @@
 //!
 //! In a sound store a page is free or has the records of a leaf, so that the set can only be that of all records in
 //! pages that are not free. The judge reads it there and then compares the store with the set's leaves.
-use super::image::{page_of, word_of, Image, DEPTH, DEPTH_LIMIT, PAGE_LIMIT, STATE, TALLY};
+use super::image::{page_of, word_of, Image, DEPTH, DEPTH_LIMIT, PAGE_LIMIT, SIGNS, TALLY};
 use super::leaves::{greatest_depth, leaf_of, leaves, tally, Record};
 use super::model::Model;
 use super::refusal::{key_refused, memory_refused, shape_refused, used_widths};
@@ -52,7 +52,7 @@ fn is_sound(image: &Image) -> bool {
         return false;
     }
     let leaves = leaves(image.shape().capacity as usize, &set);
-    if greatest_depth(&leaves) != t || tally(&leaves) != image.state[TALLY..STATE] {
+    if greatest_depth(&leaves) != t || tally(&leaves) != image.state[TALLY..SIGNS] {
         return false;
     }
     // "no two leaves share a page, every page without a leaf is free" follow: no key stands twice
@@ -68,7 +68,7 @@ fn is_sound(image: &Image) -> bool {
     })
 }
 
-/// The records of page g: none of a free page; `None` for a count above b or a value out of range.
+/// The records of page g: none of a free page; `None` for a count above b or a number that is no value.
 fn records_of(image: &Image, model: &Model, g: usize) -> Option<Vec<Record>> {
     let count = image.count(g);
     if count > model.shape.capacity as usize {

@@ -1,22 +1,23 @@
 //! Records, and the leaves of a set of them (document 01, "Regions of a set").
+use super::value::field_of;
 
 /// A record: its key's split bits and values, and its payload.
 #[derive(Clone, Debug, PartialEq)]
 pub struct Record {
     pub bits: Vec<bool>,
-    pub key: [u32; 4],
+    pub key: [i32; 4],
     pub payload: u32,
 }
 
 impl Record {
     /// "each four 16-bit values (unused ones 0) and a 32-bit payload", little-endian.
     pub fn bytes(&self) -> Vec<u8> {
-        let values = self.key.iter().flat_map(|&value| (value as u16).to_le_bytes());
+        let values = self.key.iter().flat_map(|&value| field_of(value).to_le_bytes());
         values.chain(self.payload.to_le_bytes()).collect()
     }
 
     /// "A record matches if it has the query's value in every given attribute."
-    pub fn matches(&self, query: [Option<u32>; 4]) -> bool {
+    pub fn matches(&self, query: [Option<i32>; 4]) -> bool {
         query.iter().zip(self.key).all(|(wanted, value)| wanted.is_none_or(|wanted| wanted == value))
     }
 }

@@ -3,7 +3,7 @@ use super::samples::random_payload;
 use crate::random::Random;
 
 /// Lines at the edges of the line form, one run of them.
-pub const EDGES: [&[u8]; 43] = [
+pub const EDGES: [&[u8]; 49] = [
     b"list *",
     b"put 1 2",
     b"shape",
@@ -30,6 +30,12 @@ pub const EDGES: [&[u8]; 43] = [
     b"put 1 1 4294967296",
     b"put +1 1 1",
     b"put 1 -1 1",
+    b"cut -1 1",
+    b"list * -1",
+    b"shape 2 2 -2 2",
+    b"put 2147483648 0 1",
+    b"cut 4294967295 0",
+    b"list 4294967295 *",
     b"put 1\t1 1",
     b"put 4 0 1",
     b"put 0 0 5",

@@ -18,3 +18,4 @@ pub mod samples;
 pub mod shown;
 pub mod told;
 pub mod unsound;
+pub mod value;

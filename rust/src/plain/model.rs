@@ -2,6 +2,7 @@
 use super::leaves::{greatest_depth, leaves, Leaf, Record};
 use super::range::{range_refused, Intervals};
 use super::refusal::{insert_refused, key_refused, page_size, query_refused, shape_refused, used_widths};
+use super::value::{encoding, used_signs, value_of};
 use crate::host::Shape;
 use crate::reference::steps;
 
@@ -18,7 +19,7 @@ pub struct Model {
 
 impl Model {
     /// The model of an accepted Fresh, or the number of the refusal.
-    pub fn fresh(shape: Shape, words: usize, bytes: usize) -> Result<Model, u32> {
+    pub fn fresh(mut shape: Shape, words: usize, bytes: usize) -> Result<Model, u32> {
         if shape_refused(shape) {
             return Err(1);
         }
@@ -29,10 +30,11 @@ impl Model {
         // "the smallest of 12, W and the rounded-down base-2 logarithm of the directory's length"
         let bits = used_widths(shape).iter().sum::<u32>() as usize;
         let logarithm = (0..64).rev().find(|&l| words >> l != 0).unwrap();
+        shape.signs = used_signs(shape);
         Ok(Model::new(shape, whole_pages.min(4096), logarithm.min(bits).min(12)))
     }
 
-    /// The model without records of this shape, P and L.
+    /// The model without records of this shape, P and L. Marks past d are held as they are.
     pub fn new(mut shape: Shape, page_limit: usize, depth_limit: usize) -> Model {
         // "Fresh holds them as 0"
         shape.widths[shape.attributes as usize..].fill(0);
@@ -46,27 +48,32 @@ impl Model {
         &self.widths
     }
 
-    /// "The split bits of a key are its bits in this order."
-    pub fn split_bits(&self, key: [u32; 4]) -> Vec<bool> {
-        self.steps.iter().map(|&(k, j)| (key[j] >> (self.widths[j] - 1 - k)) & 1 == 1).collect()
+    /// "The split bits of a key are its bits in this order", those of its encodings.
+    pub fn split_bits(&self, key: [i32; 4]) -> Vec<bool> {
+        self.steps.iter().map(|&(k, j)| self.bit(k, j, key[j])).collect()
     }
 
     /// The key with these first split bits, and 0 in the others.
-    pub fn key_of(&self, bits: &[bool]) -> [u32; 4] {
-        let mut key = [0; 4];
+    pub fn key_of(&self, bits: &[bool]) -> [i32; 4] {
+        let mut encodings = [0; 4];
         for (&bit, &(k, j)) in bits.iter().zip(&self.steps) {
-            key[j] |= u32::from(bit) << (self.widths[j] - 1 - k);
+            encodings[j] |= u32::from(bit) << (self.widths[j] - 1 - k);
         }
-        key
+        [0, 1, 2, 3].map(|j| value_of(self.shape, j, encodings[j]))
+    }
+
+    /// Bit k of a value of attribute j: "Bit 0 of an encoding is its most significant of w_j bits".
+    fn bit(&self, k: u32, j: usize, value: i32) -> bool {
+        encoding(self.shape, j, value) >> (self.widths[j] - 1 - k) & 1 == 1
     }
 
     /// The attribute of a split step, and what its bit counts in a value.
-    pub fn split_step(&self, t: usize) -> (usize, u32) {
+    pub fn split_step(&self, t: usize) -> (usize, i32) {
         let (k, j) = self.steps[t];
         (j, 1 << (self.widths[j] - 1 - k))
     }
 
-    pub fn record(&self, key: [u32; 4], payload: u32) -> Record {
+    pub fn record(&self, key: [i32; 4], payload: u32) -> Record {
         Record { bits: self.split_bits(key), key, payload }
     }
 
@@ -83,14 +90,15 @@ impl Model {
     }
 
     /// "A query agrees with a region if every bit of a given attribute in its string equals the query's."
-    pub fn agrees(&self, region: &[bool], query: [Option<u32>; 4]) -> bool {
-        region.iter().zip(&self.steps).all(|(&bit, &(k, j))| {
-            query[j].is_none_or(|value| ((value >> (self.widths[j] - 1 - k)) & 1 == 1) == bit)
-        })
+    pub fn agrees(&self, region: &[bool], query: [Option<i32>; 4]) -> bool {
+        region
+            .iter()
+            .zip(&self.steps)
+            .all(|(&bit, &(k, j))| query[j].is_none_or(|value| self.bit(k, j, value) == bit))
     }
 
     /// The leaves that agree with a query.
-    pub fn agreeing(&self, query: [Option<u32>; 4]) -> Vec<Leaf> {
+    pub fn agreeing(&self, query: [Option<i32>; 4]) -> Vec<Leaf> {
         let mut leaves = self.leaves();
         leaves.retain(|leaf| self.agrees(&leaf.bits, query));
         leaves
@@ -98,7 +106,7 @@ impl Model {
 
     // ---- calls
 
-    pub fn insert(&mut self, key: [u32; 4], payload: u32) -> Result<(), u32> {
+    pub fn insert(&mut self, key: [i32; 4], payload: u32) -> Result<(), u32> {
         if let Some(number) = insert_refused(self.shape, key, payload) {
             return Err(number);
         }
@@ -120,7 +128,7 @@ impl Model {
         Ok(())
     }
 
-    pub fn delete(&mut self, key: [u32; 4]) -> Result<(), u32> {
+    pub fn delete(&mut self, key: [i32; 4]) -> Result<(), u32> {
         if key_refused(self.shape, key) {
             return Err(3);
         }
@@ -130,7 +138,7 @@ impl Model {
     }
 
     /// The payload, and 1 page read.
-    pub fn lookup(&self, key: [u32; 4]) -> Result<(u32, u32), u32> {
+    pub fn lookup(&self, key: [i32; 4]) -> Result<(u32, u32), u32> {
         if key_refused(self.shape, key) {
             return Err(3);
         }
@@ -138,7 +146,7 @@ impl Model {
     }
 
     /// Written, total and reads.
-    pub fn query(&self, query: [Option<u32>; 4], out: &mut [u8]) -> Result<(u64, u64, u64), u32> {
+    pub fn query(&self, query: [Option<i32>; 4], out: &mut [u8]) -> Result<(u64, u64, u64), u32> {
         if let Some(number) = query_refused(self.shape, query) {
             return Err(number);
         }

@@ -1,6 +1,6 @@
 //! The plain model for long runs: a list in split order, with a key's split bits as one number. The leaves are counted
 //! from the whole list for every answer.
-use super::image::STATE;
+use super::image::{SIGNS, STATE, TALLY};
 use super::leaves::Record;
 use super::model::Model;
 use super::range::{range_refused, Intervals};
@@ -10,7 +10,7 @@ use super::refusal::{insert_refused, key_refused, query_refused};
 pub struct Ordered {
     pub model: Model,
     /// the split bits, the first one highest, with key and payload, in split order
-    records: Vec<(u64, [u32; 4], u32)>,
+    records: Vec<(u64, [i32; 4], u32)>,
 }
 
 /// The leaves of a set: how many at each depth, and how many that are not empty.
@@ -35,18 +35,18 @@ impl Ordered {
     }
 
     /// The key at a place of the list.
-    pub fn key(&self, i: usize) -> [u32; 4] {
+    pub fn key(&self, i: usize) -> [i32; 4] {
         self.records[i].1
     }
 
     /// A key's split bits, the first one highest.
-    pub fn code(&self, key: [u32; 4]) -> u64 {
+    pub fn code(&self, key: [i32; 4]) -> u64 {
         let bits = self.model.split_bits(key);
         bits.iter().enumerate().fold(0, |code, (t, &bit)| code | u64::from(bit) << (63 - t))
     }
 
     /// The key of some split bits; those past the last are ignored.
-    pub fn key_of(&self, code: u64) -> [u32; 4] {
+    pub fn key_of(&self, code: u64) -> [i32; 4] {
         let total = self.model.widths().iter().sum::<u32>();
         let bits: Vec<bool> = (0..total).map(|t| code >> (63 - t) & 1 == 1).collect();
         self.model.key_of(&bits)
@@ -70,12 +70,13 @@ impl Ordered {
         let limits = [self.model.page_limit as u32, self.model.depth_limit as u32, depth as u32];
         state[5] = shape.capacity;
         state[6..9].copy_from_slice(&limits);
-        state[9..].copy_from_slice(&tally);
+        state[TALLY..SIGNS].copy_from_slice(&tally);
+        state[SIGNS] = shape.signs;
         state
     }
 
     /// Adds the leaves of a region of depth x with these records.
-    fn add_leaves(&self, records: &[(u64, [u32; 4], u32)], x: usize, extent: &mut Extent) {
+    fn add_leaves(&self, records: &[(u64, [i32; 4], u32)], x: usize, extent: &mut Extent) {
         if records.len() <= self.model.shape.capacity as usize {
             // deeper leaves than the tally has come with a set that no store holds
             if let Some(leaves) = extent.tally.get_mut(x) {
@@ -91,7 +92,7 @@ impl Ordered {
 
     // ---- calls
 
-    pub fn insert(&mut self, key: [u32; 4], payload: u32) -> Result<(), u32> {
+    pub fn insert(&mut self, key: [i32; 4], payload: u32) -> Result<(), u32> {
         if let Some(number) = insert_refused(self.model.shape, key, payload) {
             return Err(number);
         }
@@ -112,7 +113,7 @@ impl Ordered {
         Ok(())
     }
 
-    pub fn delete(&mut self, key: [u32; 4]) -> Result<(), u32> {
+    pub fn delete(&mut self, key: [i32; 4]) -> Result<(), u32> {
         if key_refused(self.model.shape, key) {
             return Err(3);
         }
@@ -122,7 +123,7 @@ impl Ordered {
     }
 
     /// The payload, and 1 page read.
-    pub fn lookup(&self, key: [u32; 4]) -> Result<(u32, u32), u32> {
+    pub fn lookup(&self, key: [i32; 4]) -> Result<(u32, u32), u32> {
         if key_refused(self.model.shape, key) {
             return Err(3);
         }
@@ -131,7 +132,7 @@ impl Ordered {
     }
 
     /// Written, total and reads.
-    pub fn query(&self, query: [Option<u32>; 4], out: &mut [u8]) -> Result<(u64, u64, u64), u32> {
+    pub fn query(&self, query: [Option<i32>; 4], out: &mut [u8]) -> Result<(u64, u64, u64), u32> {
         if let Some(number) = query_refused(self.model.shape, query) {
             return Err(number);
         }
@@ -145,8 +146,8 @@ impl Ordered {
             return Err(number);
         }
         let (written, total) = self.list(|record| record.lies_in(range), out);
-        let greatest = self.key_of(u64::MAX);
-        Ok((written, total, self.reads_met(&self.records, 0, [0; 4], greatest, range)))
+        let [least, greatest] = [0, u64::MAX].map(|code| self.key_of(code));
+        Ok((written, total, self.reads_met(&self.records, 0, least, greatest, range)))
     }
 
     /// Writes the wanted records while whole ones fit, and counts written and all of them.
@@ -165,14 +166,15 @@ impl Ordered {
     }
 
     /// The leaves that are not empty and agree with a query.
-    fn reads(&self, query: [Option<u32>; 4]) -> u64 {
-        let given = self.code(query.map(|wanted| if wanted.is_some() { u32::MAX } else { 0 }));
-        let wanted = self.code(query.map(|wanted| wanted.unwrap_or(0)));
-        self.reads_below(&self.records, 0, given, wanted)
+    fn reads(&self, query: [Option<i32>; 4]) -> u64 {
+        let [least, greatest] = [0, u64::MAX].map(|code| self.key_of(code));
+        let given = [0, 1, 2, 3].map(|j| if query[j].is_some() { greatest[j] } else { least[j] });
+        let wanted = [0, 1, 2, 3].map(|j| query[j].unwrap_or(least[j]));
+        self.reads_below(&self.records, 0, self.code(given), self.code(wanted))
     }
 
     /// The same below a region of depth x that agrees, with the bits that are given and what they are.
-    fn reads_below(&self, records: &[(u64, [u32; 4], u32)], x: usize, given: u64, wanted: u64) -> u64 {
+    fn reads_below(&self, records: &[(u64, [i32; 4], u32)], x: usize, given: u64, wanted: u64) -> u64 {
         if records.len() <= self.model.shape.capacity as usize {
             return u64::from(!records.is_empty());
         }
@@ -188,10 +190,10 @@ impl Ordered {
     /// The leaves that are not empty and meet a range, below a region of depth x with these least and greatest values.
     fn reads_met(
         &self,
-        records: &[(u64, [u32; 4], u32)],
+        records: &[(u64, [i32; 4], u32)],
         x: usize,
-        least: [u32; 4],
-        greatest: [u32; 4],
+        least: [i32; 4],
+        greatest: [i32; 4],
         range: Intervals,
     ) -> u64 {
         if (0..4).any(|j| range[j].is_some_and(|(low, high)| greatest[j] < low || high < least[j])) {

@@ -1,25 +1,23 @@
-//! Ranges (document 02, request 1), by intervals of values.
+//! Ranges (document 02, requests 1 and 4), by intervals of values.
 use super::leaves::{Leaf, Record};
 use super::model::Model;
-use super::refusal::used_widths;
+use super::value::is_value;
 use crate::host::Shape;
 
 /// "leaves each attribute free or gives it an interval, low to high, both included".
-pub type Intervals = [Option<(u32, u32)>; 4];
+pub type Intervals = [Option<(i32, i32)>; 4];
 
-/// 8 for an interval of attribute d or above, then 3 for an end of 2^w_j or more in any attribute, then "10, low above
-/// high in some attribute, checked after 3".
+/// 8 for an interval of attribute d or above, then 3 for an end out of bounds in any attribute, then "10, low above high
+/// in some attribute, checked after 3".
 pub fn range_refused(shape: Shape, range: Intervals) -> Option<u32> {
-    let widths = used_widths(shape);
-    if range[widths.len()..].iter().any(Option::is_some) {
+    if range[shape.attributes as usize..].iter().any(Option::is_some) {
         return Some(8);
     }
-    let given: Vec<((u32, u32), u32)> =
-        range.iter().zip(widths).filter_map(|(ends, width)| Some(((*ends)?, width))).collect();
-    if given.iter().any(|&((low, high), width)| low >= 1 << width || high >= 1 << width) {
+    let outside = |j, (low, high)| !is_value(shape, j, low) || !is_value(shape, j, high);
+    if (0..4).any(|j| range[j].is_some_and(|ends| outside(j, ends))) {
         return Some(3);
     }
-    given.iter().any(|&((low, high), _)| low > high).then_some(10)
+    range.iter().flatten().any(|(low, high)| low > high).then_some(10)
 }
 
 impl Record {
@@ -34,7 +32,7 @@ impl Record {
 
 impl Model {
     /// The "box of values" of a region: the least and the greatest value of each attribute that its keys have.
-    pub fn box_of(&self, region: &[bool]) -> ([u32; 4], [u32; 4]) {
+    pub fn box_of(&self, region: &[bool]) -> ([i32; 4], [i32; 4]) {
         let total = self.widths().iter().sum::<u32>() as usize;
         let filled = |bit| [region, &vec![bit; total - region.len()]].concat();
         (self.key_of(&filled(false)), self.key_of(&filled(true)))

@@ -61,7 +61,7 @@ impl Reading<'_> {
     }
 
     /// The keys of all records in pages, of up to b in each.
-    pub fn keys(&self) -> Vec<[u32; 4]> {
+    pub fn keys(&self) -> Vec<[i32; 4]> {
         let most = self.model.shape.capacity as usize;
         let of_page = |g| (0..self.image.count(g).min(most)).map(move |i| self.image.content(g, i).0);
         (0..self.model.page_limit).flat_map(of_page).collect()

@@ -1,5 +1,6 @@
 //! The refusals that need no look into words and pages, from the table of document 01, "Refused calls", and from
-//! document 02, request 2.
+//! document 02, requests 2 and 4.
+use super::value::is_value;
 use crate::host::Shape;
 
 /// A page's bytes: "A page has 2 + 12b bytes".
@@ -25,17 +26,14 @@ pub fn memory_refused(shape: Shape, page_limit: u32, depth_limit: u32, words: us
     (words as u128) < words_needed || (bytes as u128) < page_limit as u128 * page_size(shape) as u128
 }
 
-/// 3: "value or index of 2^w_j or more .. unused key or index value not 0".
-pub fn key_refused(shape: Shape, key: [u32; 4]) -> bool {
-    let widths = used_widths(shape);
-    (0..4).any(|j| match widths.get(j) {
-        Some(&width) => key[j] >= 1 << width,
-        None => key[j] != 0,
-    })
+/// 3: "value or index of 2^w_j or more .. unused key or index value not 0"; "Number 3 uses these bounds for values of a
+/// marked attribute .. any other value below 0 gets it too".
+pub fn key_refused(shape: Shape, key: [i32; 4]) -> bool {
+    (0..4).any(|j| !is_value(shape, j, key[j]))
 }
 
 /// 3, then "11, payload 0 on insert, after 3 and before 4".
-pub fn insert_refused(shape: Shape, key: [u32; 4], payload: u32) -> Option<u32> {
+pub fn insert_refused(shape: Shape, key: [i32; 4], payload: u32) -> Option<u32> {
     if key_refused(shape, key) {
         return Some(3);
     }
@@ -43,11 +41,9 @@ pub fn insert_refused(shape: Shape, key: [u32; 4], payload: u32) -> Option<u32> 
 }
 
 /// 8: "query names attribute d or above", then 3 for a given value; "A value of a free attribute is ignored."
-pub fn query_refused(shape: Shape, query: [Option<u32>; 4]) -> Option<u32> {
-    let widths = used_widths(shape);
-    if query[widths.len()..].iter().any(Option::is_some) {
+pub fn query_refused(shape: Shape, query: [Option<i32>; 4]) -> Option<u32> {
+    if query[shape.attributes as usize..].iter().any(Option::is_some) {
         return Some(8);
     }
-    let large = |(value, &width): (&Option<u32>, &u32)| value.is_some_and(|value| value >= 1 << width);
-    query.iter().zip(&widths).any(large).then_some(3)
+    (0..4).any(|j| query[j].is_some_and(|value| !is_value(shape, j, value))).then_some(3)
 }

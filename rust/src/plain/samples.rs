@@ -1,20 +1,22 @@
 //! Random models, keys and payloads.
-use super::image::Image;
+use super::image::{Image, STATE};
 use super::model::Model;
 use super::range::Intervals;
+use super::value::bounds;
 use crate::host::Shape;
 use crate::random::Random;
-use crate::shapes::random_widths;
+use crate::shapes::{marked, random_widths};
 
 /// A model of a random shape, with random limits and as many records as a random number of inserts leaves. Few bits,
 /// low limits and small capacities are likely, and so are full stores and keys with long common beginnings. One record
-/// in eight has payload 0: "Stores that already hold such payloads stay sound".
+/// in eight has payload 0: "Stores that already hold such payloads stay sound". Two shapes in three have marks.
 pub fn random_model(random: &mut Random) -> Model {
     let most = [6, 14, 64][random.below(3)];
     let total = random.between(1, most) as u32;
     let widths = random_widths(random, total);
     let most = [3, 16][random.below(2)];
-    let shape = Shape::new(&widths, random.between(1, most) as u32);
+    let capacity = random.between(1, most) as u32;
+    let shape = marked(random, Shape::new(&widths, capacity));
     let depth_limit = [total.min(12) as usize, random.below(total.min(12) as usize + 1)][random.below(2)];
     let page_limit = 1 + random.below(40);
     let mut model = Model::new(shape, page_limit, depth_limit);
@@ -31,7 +33,7 @@ pub fn random_model(random: &mut Random) -> Model {
 
 /// A key within the shape's bounds: half of them have their first bits, up to a random one, from a stored key, and one
 /// in eight is a stored key.
-pub fn random_key(random: &mut Random, model: &Model) -> [u32; 4] {
+pub fn random_key(random: &mut Random, model: &Model) -> [i32; 4] {
     let total = model.widths().iter().sum::<u32>() as usize;
     let mut bits: Vec<bool> = (0..total).map(|_| random.below(2) == 1).collect();
     if !model.records.is_empty() && random.below(2) == 1 {
@@ -56,32 +58,39 @@ pub fn random_payload(random: &mut Random) -> u32 {
 }
 
 /// A query that gives the attributes of a subset (bit j for attribute j) the values of a key.
-pub fn query_of(subset: usize, key: [u32; 4]) -> [Option<u32>; 4] {
+pub fn query_of(subset: usize, key: [i32; 4]) -> [Option<i32>; 4] {
     [0, 1, 2, 3].map(|j| (subset >> j & 1 == 1).then_some(key[j]))
 }
 
 /// A range that gives the attributes of a subset (bit j for attribute j) intervals at the values of two keys: from one
-/// to the other, one value, or with an end at 0, at the greatest value or one value off. One in forty has its ends
-/// reversed or one past the width.
-pub fn range_of(random: &mut Random, model: &Model, subset: usize, keys: [[u32; 4]; 2]) -> Intervals {
+/// to the other, one value, or with an end at the least or the greatest value or one value off. Three in eighty have
+/// their ends reversed or one out of bounds.
+pub fn range_of(random: &mut Random, model: &Model, subset: usize, keys: [[i32; 4]; 2]) -> Intervals {
     [0, 1, 2, 3].map(|j| {
-        let greatest = model.widths().get(j).map_or(0, |&width| (1 << width) - 1);
+        let (least, greatest) = bounds(model.shape, j);
         let [low, high] = [keys[0][j].min(keys[1][j]), keys[0][j].max(keys[1][j])];
         let ends = match random.below(8) {
             0 => (low, low),
-            1 => (0, high),
+            1 => (least, high),
             2 => (low, greatest),
-            3 => (low.saturating_sub(1), high),
-            4 => (low, greatest.min(high + 1)),
+            3 => (least.max(low.saturating_sub(1)), high),
+            4 => (low, greatest.min(high.saturating_add(1))),
             _ => (low, high),
         };
         let ends = match random.below(80) {
             0 => (ends.1, ends.0),
             1 => (ends.0, greatest + 1),
+            2 => (least - 1, ends.1),
             _ => ends,
         };
         (subset >> j & 1 == 1).then_some(ends)
     })
+}
+
+/// Numbers that are no values of attribute j: those next to its bounds, and others at the ends of 16 and of 32 bits.
+pub fn outside(shape: Shape, j: usize) -> [i32; 8] {
+    let (least, greatest) = bounds(shape, j);
+    [least - 1, least - 2, -(1 << 16), i32::MIN, greatest + 1, greatest + 2, 1 << 16, i32::MAX]
 }
 
 /// A store with a bad shape, too few state words, words or pages, or both, and the number that refuses each.
@@ -97,7 +106,7 @@ pub fn early_refused(image: &Image, model: &Model) -> Vec<(Image, u32)> {
         changed(&|image| image.state[0] = 5, 1),
         changed(&|image| image.state[1] = 17, 1),
         changed(&|image| image.state[5] = 0, 1),
-        changed(&|image| image.state.truncate(21), 1),
+        changed(&|image| image.state.truncate(STATE - 1), 1),
         changed(&|image| image.state.clear(), 1),
         changed(&|image| image.dir.truncate(words), 2),
         changed(&|image| image.pages.truncate(bytes), 2),

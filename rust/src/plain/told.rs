@@ -1,19 +1,19 @@
 //! Damage that a call meets and has to tell, with 9: words and pages that no sound store has, and a region that a
 //! change would set although other words stand in it. On any other store a call answers 9 or what is ordinary for it.
-use super::image::{depth_of, page_of, word_of, STATE, TALLY};
+use super::image::{depth_of, page_of, word_of, SIGNS, TALLY};
 use super::range::Intervals;
 use super::reading::{sibling, Reading};
 use crate::cells::Cell;
 
 impl Reading<'_> {
     /// Whether a lookup of a key has to be answered with 9, after 1, 2 and 3.
-    pub fn lookup_told(&self, key: [u32; 4]) -> bool {
+    pub fn lookup_told(&self, key: [i32; 4]) -> bool {
         let bits = self.model.split_bits(key);
         self.leaf_told(&bits, self.word(&bits))
     }
 
     /// Whether a query has to be answered with 9, after 1, 2, 8 and 3.
-    pub fn query_told(&self, query: [Option<u32>; 4]) -> bool {
+    pub fn query_told(&self, query: [Option<i32>; 4]) -> bool {
         self.walk_told(&[], &|side| self.model.agrees(side, query))
     }
 
@@ -23,7 +23,7 @@ impl Reading<'_> {
     }
 
     /// Whether an insert of a key has to be answered with 9, after 1, 2, 3 and 11.
-    pub fn insert_told(&self, key: [u32; 4]) -> bool {
+    pub fn insert_told(&self, key: [i32; 4]) -> bool {
         let bits = self.model.split_bits(key);
         let word = self.word(&bits);
         if self.leaf_told(&bits, word) {
@@ -37,7 +37,7 @@ impl Reading<'_> {
     }
 
     /// Whether a delete of a key has to be answered with 9, after 1, 2 and 3.
-    pub fn delete_told(&self, key: [u32; 4]) -> bool {
+    pub fn delete_told(&self, key: [i32; 4]) -> bool {
         let bits = self.model.split_bits(key);
         let word = self.word(&bits);
         if self.leaf_told(&bits, word) {
@@ -114,7 +114,7 @@ impl Reading<'_> {
     /// Whether a join of a leaf with its sibling and with the empty siblings above is told: a tally with more leaves
     /// than there are regions, a region whose cells do not all hold their leaf's word, a T that cuts words off.
     fn join_told(&self, leaf: &[bool], word: u32, other: u32) -> bool {
-        let tally = &self.image.state[TALLY..STATE];
+        let tally = &self.image.state[TALLY..SIGNS];
         if tally.iter().enumerate().any(|(x, &leaves)| leaves > 1 << x) {
             return true;
         }
@@ -133,7 +133,7 @@ impl Reading<'_> {
 
     /// T by the tally after joins from depth x up to `top`: two leaves of a depth give way to one above.
     fn joined_depth(&self, top: usize, x: usize) -> usize {
-        let mut tally = self.image.state[TALLY..STATE].to_vec();
+        let mut tally = self.image.state[TALLY..SIGNS].to_vec();
         for y in (top..x).rev() {
             tally[y + 1] = tally[y + 1].saturating_sub(2);
             tally[y] += 1;

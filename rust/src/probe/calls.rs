@@ -1,4 +1,5 @@
 //! Lists of calls, encoded in words, replayed on a fresh store.
+use super::State;
 use crate::host::Shape;
 use crate::plain::image::STATE;
 
@@ -8,12 +9,17 @@ pub const CALL_SIZE: usize = 15;
 /// The words of an answer.
 pub const ANSWER_SIZE: usize = 4;
 
-/// The number of Fresh's refusal, 0 where it is accepted, and the state after the calls.
-#[repr(C)]
+/// The number of Fresh's refusal, 0 where it is accepted, and the words of the state after the calls.
 #[derive(Clone, Debug)]
 pub struct Replayed {
     pub number: u32,
     pub state: [u32; STATE],
+}
+
+#[repr(C)]
+struct ReplayFields {
+    number: u32,
+    state: State,
 }
 
 extern "C" {
@@ -29,7 +35,7 @@ extern "C" {
         answer_words: usize,
         out: *mut u8,
         out_bytes: usize,
-    ) -> Replayed;
+    ) -> ReplayFields;
 }
 
 /// Makes a store in lent memory and runs the calls on it, as many as there are whole ones and as many as the answers
@@ -43,7 +49,7 @@ pub fn replay(
     out: &mut [u8],
 ) -> Replayed {
     // SAFETY: nothing is required; each pointer and length are of one slice, and no two slices overlap.
-    unsafe {
+    let ReplayFields { number, state } = unsafe {
         probe_replay(
             shape,
             dir.as_mut_ptr(),
@@ -57,5 +63,6 @@ pub fn replay(
             out.as_mut_ptr(),
             out.len(),
         )
-    }
+    };
+    Replayed { number, state: state.words() }
 }

@@ -28,17 +28,14 @@ extern "C" {
     ) -> usize;
 }
 
-/// The pattern of a query, which gives each attribute a value of 16 bits or none.
-pub fn pattern_of(query: [Option<u32>; 4]) -> Option<Pattern> {
-    if query.iter().flatten().any(|&value| value > 0xffff) {
-        return None;
-    }
+/// The pattern of a query, which gives each attribute a number or none; of a number its low 16 bits count.
+pub fn pattern_of(query: [Option<u32>; 4]) -> Pattern {
     let wanted = HostQuery {
         given: query.map(|value| value.is_some().into()),
         values: query.map(Option::unwrap_or_default),
     };
-    // SAFETY: the given values have 16 bits, as the `requires` asks; numbers alone go in and out.
-    Some(unsafe { probe_pattern_of(wanted) })
+    // SAFETY: numbers alone go in and out, and the function has no `requires`.
+    unsafe { probe_pattern_of(wanted) }
 }
 
 /// Writes the records that match, of the n of a page, into the output from its record `total` on, while whole

@@ -2,6 +2,7 @@
 use super::{changed, pick, pick_page};
 use crate::plain::image::{Image, Laid, Placed};
 use crate::plain::refusal::used_widths;
+use crate::plain::value::{encoding, is_value, number_in, value_of};
 use crate::random::Random;
 use crate::reference::steps;
 
@@ -47,11 +48,12 @@ pub fn out_of_order(random: &mut Random, laid: &Laid) -> Option<Image> {
 
 pub fn outside_leaf(random: &mut Random, laid: &Laid) -> Option<Image> {
     let placed = pick(random, laid, |placed| placed.page.is_some() && placed.leaf.depth() > 0)?;
-    let widths = used_widths(laid.image.shape());
+    let shape = laid.image.shape();
+    let widths = used_widths(shape);
     let (k, j) = steps(&widths)[random.below(placed.leaf.depth())];
     let mut record = placed.leaf.records[random.below(placed.leaf.records.len())].clone();
     let i = placed.leaf.records.iter().position(|stored| stored.key == record.key)?;
-    record.key[j] ^= 1 << (widths[j] - 1 - k);
+    record.key[j] = value_of(shape, j, encoding(shape, j, record.key[j]) ^ 1 << (widths[j] - 1 - k));
     changed(laid, |image| image.record(placed.page.expect("picked"), i).copy_from_slice(&record.bytes()))
 }
 
@@ -64,24 +66,26 @@ pub fn key_twice(random: &mut Random, laid: &Laid) -> Option<Image> {
     })
 }
 
-/// Replaces value j of a record.
-fn with_value(random: &mut Random, laid: &Laid, j: usize, value: u16) -> Option<Image> {
+/// Replaces field j of a record.
+fn with_field(random: &mut Random, laid: &Laid, j: usize, field: u16) -> Option<Image> {
     let (placed, page) = pick_page(random, laid, 1)?;
     let i = random.below(placed.leaf.records.len());
-    changed(laid, |image| image.record(page, i)[2 * j..2 * j + 2].copy_from_slice(&value.to_le_bytes()))
+    changed(laid, |image| image.record(page, i)[2 * j..2 * j + 2].copy_from_slice(&field.to_le_bytes()))
 }
 
 pub fn unused_value(random: &mut Random, laid: &Laid) -> Option<Image> {
     let d = laid.image.shape().attributes as usize;
     let j = (d < 4).then(|| d + random.below(4 - d))?;
-    let value = [1, 0x8000, 1 + random.number() as u16 % 65_535][random.below(3)];
-    with_value(random, laid, j, value)
+    let field = [1, 0x8000, u16::MAX, 1 + random.number() as u16 % 65_535][random.below(4)];
+    with_field(random, laid, j, field)
 }
 
-pub fn large_value(random: &mut Random, laid: &Laid) -> Option<Image> {
-    let widths = used_widths(laid.image.shape());
-    let j = random.below(widths.len());
-    let least = (widths[j] < 16).then(|| 1u64 << widths[j])?;
-    let value = [least, random.between(least, 65_535)][random.below(2)];
-    with_value(random, laid, j, value as u16)
+/// A field of one of the attributes in use: the first or the last that holds no value, or any other such.
+pub fn outside_bounds(random: &mut Random, laid: &Laid) -> Option<Image> {
+    let shape = laid.image.shape();
+    let j = random.below(shape.attributes as usize);
+    let fields: Vec<u16> =
+        (0..=u16::MAX).filter(|&field| !is_value(shape, j, number_in(shape, j, field))).collect();
+    let chosen = [0, fields.len().saturating_sub(1), random.below(fields.len().max(1))][random.below(3)];
+    with_field(random, laid, j, *fields.get(chosen)?)
 }
