@@ -47,7 +47,7 @@
  *   values     of a marked attribute of width w run from -2^(w-1) to 2^(w-1) - 1, of any other from 0 to 2^w - 1. Those
  *              outside are refused with 3, so every value below 0 of an attribute that is not marked.
  *   encodings  are the value plus 2^(w-1) where marked, otherwise the value. Split order, leaves, queries and ranges go
- *              by them, so that -1 stands straight before 0, and an interval may begin below 0 and end above it.
+ *              by them: that of -1 comes straight before that of 0, and an interval may begin below 0 and end above it.
  *   fields     in pages and outputs hold the value in 16-bit two's complement; mdeh_record reads it back.
  * Indices and addresses are not values: they have no sign, whatever the marks.
  *

@@ -19,9 +19,8 @@ pub enum Place {
     At(usize),
 }
 
-// Looks a packed key of encodings up among the n records of a page, where a shape adds a bias to its
-// values. Of a page in another order it tells what the
-// records beside the place say.
+// Looks a packed key of encodings up among the n records of a page, where a shape adds a bias to
+// its values. Of a page in another order it tells what the records beside the place say.
 pub fn find(page: &[u8], n: usize, widths: Widths, bias: u64, key: u64) -> Place
     requires { ⌜ (recordOffset n ≤ length (now page)) × Fit (widthList widths) ⌝ }
     ensures { λ r. ⌜ Placed (widthList widths) bias (unpackedKey key) (now (page .entry)) n r ⌝ }

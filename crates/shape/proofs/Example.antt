@@ -1,4 +1,5 @@
--- Offsets from -512 to 511, computed: one marked attribute of width 10 (document 02, request 4). Assumes nothing.
+-- Marked attributes, computed (document 02, request 4): offsets from -512 to 511, of width 10; which of two attributes a
+-- mark is of; the least and the greatest width. Assumes nothing.
 use Prim.Native.Nat.{ℕ, _-_, _%_, _^_}
 use mathlib.Core.Path.{_≡_, refl}
 use mathlib.Core.Bool.{true, false}
@@ -39,3 +40,25 @@ fields-integers = refl
 pub numbers-integers : map (integerOf 32) numbers ≡ map (fieldInteger offsets 0) fields
 unfolding fieldInteger integerOf marked
 numbers-integers = refl
+
+-- ---- bit j marks attribute j
+
+abbrev second : Shape
+second = record { attributes = 2; widths = 1 ∷ 16 ∷ 5 ∷ 0 ∷ []; capacity = 1; signs = 6 }
+
+pub second-marked : map (marked second) (0 ∷ 1 ∷ 2 ∷ []) ≡ false ∷ true ∷ false ∷ []
+unfolding marked
+second-marked = refl
+
+-- of 16 bits, -32769, -32768, 32767 and 32768
+pub widest-fit : map (valueFits second 1) ((2 ^ 32 - 32769) ∷ (2 ^ 32 - 32768) ∷ 32767 ∷ 32768 ∷ [])
+    ≡ false ∷ true ∷ true ∷ false ∷ []
+unfolding valueFits encode bias marked
+widest-fit = refl
+
+-- of 1 bit, -2, -1, 0 and 1
+pub narrowest-fit : map (valueFits (record { attributes = 1; widths = 1 ∷ 0 ∷ 0 ∷ 0 ∷ []; capacity = 1; signs = 1 }) 0)
+    ((2 ^ 32 - 2) ∷ (2 ^ 32 - 1) ∷ 0 ∷ 1 ∷ [])
+    ≡ false ∷ true ∷ true ∷ false ∷ []
+unfolding valueFits encode bias marked
+narrowest-fit = refl

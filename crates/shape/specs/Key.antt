@@ -60,7 +60,7 @@ encodedFields s fields = perAttribute (λ j. encodeField s j (getD fields j 0))
 
 -- ---- keys
 
--- no "value .. of 2^w_j or more", no "unused key .. value not 0"
+-- no "value .. of 2^w_j or more", or outside the bounds of a marked attribute; no "unused key .. value not 0"
 unfoldable pub keyFits : Shape → List ℕ → Bool
 keyFits s values = allBelow 4 (λ j. valueFits s j (getD values j 0))
 
@@ -100,6 +100,6 @@ ifGiven test (some v) = test v
 unfoldable pub namesUnused : {A : Type 0} → Shape → List (Option A) → Bool
 namesUnused s q = not (allBelow 4 (λ j. ltb j (s .attributes) || not (isGiven (getD q j none))))
 
--- no given "value .. of 2^w_j or more"
+-- no given "value .. of 2^w_j or more", or outside the bounds of a marked attribute
 unfoldable pub queryFits : Shape → List (Option ℕ) → Bool
 queryFits s q = allBelow 4 (λ j. ifGiven (valueFits s j) (getD q j none))

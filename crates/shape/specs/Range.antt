@@ -38,7 +38,7 @@ intervalsOf given lows highs = perAttribute (λ j. intervalIf (getD given j 0) (
 
 -- ---- refusals
 
--- no end of a given interval is a "value .. of 2^w_j or more"
+-- no end of a given interval is a "value .. of 2^w_j or more", or outside the bounds of a marked attribute
 abbrev pub endsFit : Shape → ℕ → Interval → Bool
 endsFit s j i = valueFits s j (i .low) && valueFits s j (i .high)
 

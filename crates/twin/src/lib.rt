@@ -1,2 +1,2 @@
-// A marked store as the unmarked store of its encodings (document 02, request 4): a law of the model
-// and one of soundness. No code.
+// A marked store as the unmarked store of its encodings (document 02, request 4): laws of the model, of
+// soundness and of Fresh. No code.

@@ -41,7 +41,7 @@
 //! A [`Shape`] may mark attributes as signed. A marked attribute of width w has the values from -2^(w-1) to 2^(w-1) - 1,
 //! any other those from 0 to 2^w - 1 ([`Shape::values`]); a number outside is refused with [`Refusal::Value`], never cut
 //! off. The encoding of a value is the value plus 2^(w-1) where it is marked, otherwise the value. Split order, leaves,
-//! queries and ranges go by encodings, so that -1 stands straight before 0. Pages and outputs hold the value itself, in
+//! queries and ranges go by encodings: that of -1 comes straight before that of 0. Pages and outputs hold the value itself, in
 //! 16-bit two's complement. Indices and addresses have no sign.
 //!
 //! ```

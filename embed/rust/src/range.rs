@@ -48,7 +48,7 @@ impl Range {
     /// attribute with [`Refusal::Value`](crate::Refusal::Value). An interval without a value, as `7..7`, `479..=400` or
     /// one that ends before the least value, is not answered with an empty list: it is refused with
     /// [`Refusal::Interval`](crate::Refusal::Interval) where its ends are values of the attribute, and with `Value`
-    /// where one is not.
+    /// where one is not, so too for a start that excludes the greatest value.
     ///
     /// ```
     /// use mdeh::{Range, Refusal, Shape, Store};
