@@ -62,7 +62,7 @@ pub fn fresh(shape: Shape, dir: &mut [u32], pages: &mut [u8]) -> Change
 }
 
 // The answer of a refused call, and no state to go on with.
-fn refuse(number: u32) -> Change
+pub fn refuse(number: u32) -> Change
     ensures { λ r. ⌜ (changedAnswer (r .answer) ≡ refused number) × (r .state ≡ noState) ⌝ }
 {
     let widths = [0u32; 4];
@@ -88,7 +88,7 @@ fn refuse(number: u32) -> Change
 }
 
 // Whether there is no directory word or no whole page.
-fn lacks_word_or_page(shape: Shape, words: usize, bytes: usize) -> bool
+pub fn lacks_word_or_page(shape: Shape, words: usize, bytes: usize) -> bool
     ensures { λ r. ⌜ r ≡ lacksWordOrPage shape words bytes ⌝ }
 {
     if words == 0 {
@@ -98,7 +98,7 @@ fn lacks_word_or_page(shape: Shape, words: usize, bytes: usize) -> bool
 }
 
 // P: the smaller of 4,096 and the whole pages in the lent bytes.
-fn page_limit(shape: Shape, bytes: usize) -> u32
+pub fn page_limit(shape: Shape, bytes: usize) -> u32
     ensures { λ r. ⌜ r ≡ pageLimitOf shape bytes ⌝ }
 {
     let whole = bytes / page_size(shape.capacity as usize);
@@ -106,7 +106,7 @@ fn page_limit(shape: Shape, bytes: usize) -> u32
 }
 
 // L: the smallest of 12, W and the rounded-down base-2 logarithm of the directory's length.
-fn depth_limit(shape: Shape, words: usize) -> u32
+pub fn depth_limit(shape: Shape, words: usize) -> u32
     requires { ⌜ (shapeNumber shape ≡ 0) × (0 < words) ⌝ }
     ensures { λ r. ⌜ r ≡ depthLimitOf shape words ⌝ }
 {
@@ -168,7 +168,7 @@ fn fresh_shape(shape: Shape) -> Shape
 }
 
 // The marks of the first d attributes.
-fn marks_below(signs: u32, d: u32) -> u32
+pub fn marks_below(signs: u32, d: u32) -> u32
     requires { ⌜ d ≤ 4 ⌝ }
     ensures { λ r. ⌜ r ≡ signs % 2 ^ d ⌝ }
 {

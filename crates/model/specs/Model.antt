@@ -73,14 +73,16 @@ abbrev pub payloadConditions : Content → List Condition
 payloadConditions content = refusal 11 (eqb (content .payload) 0) ∷ []
 
 module _ (f : Fixed) (S : List Record) where
-  -- 4 "key stored already", 6 "b stored keys share their first L split bits with it", 7 "the new set has more than P
-  -- non-empty leaves"
-  abbrev pub addConditions : Record → List Condition
-  addConditions r =
-      refusal 4 (nonEmpty (stored (r .key) S))
-      ∷ refusal 6 (leb (f .shape .capacity) (length (sharing (f .shape) (f .depthLimit) r S)))
+  -- 6 "b stored keys share their first L split bits with it", 7 "the new set has more than P non-empty leaves"
+  abbrev pub roomConditions : Record → List Condition
+  roomConditions r =
+      refusal 6 (leb (f .shape .capacity) (length (sharing (f .shape) (f .depthLimit) r S)))
       ∷ refusal 7 (ltb (f .pageLimit) (nonEmptyLeaves (divisionOf (f .shape) (withRecord (f .shape) r S))))
       ∷ []
+
+  -- 4 "key stored already", 6, 7
+  abbrev pub addConditions : Record → List Condition
+  addConditions r = refusal 4 (nonEmpty (stored (r .key) S)) ∷ roomConditions r
 
   -- 3, 11, 4, 6, 7
   abbrev pub insertConditions : List ℕ → Content → List Condition

@@ -1,0 +1,4 @@
+pub mod Answers
+pub mod File
+pub mod Loading
+pub mod Promises
