@@ -23,6 +23,8 @@ use Rattle.shape.specs.Key.{perAttribute}
 use Rattle.shape.specs.declared.Shape.{Shape}
 use Rattle.record.specs.Record.{Record}
 use Rattle.record.specs.Bytes.{recordSize, littleEndian, numberOf, field, recordsBytes}
+use Rattle.record.specs.Lanes.{laneSum}
+use Rattle.record.specs.Packed.{keyIn}
 use Rattle.page.specs.Page.{recordsFrom}
 
 -- ---- the file of a set
@@ -84,6 +86,13 @@ fileShape file =
 -- the records
 unfoldable pub fileRecords : List ℕ → List Record
 fileRecords file = recordsFrom (fileShape file) (fileCount file) 0 file
+
+-- record i: its bytes, and its packed encodings, where a shape adds a bias to its values
+abbrev pub recordAt : List ℕ → ℕ → List ℕ
+recordAt file i = field file (recordSize * i) recordSize
+
+abbrev pub encodingsAt : ℕ → List ℕ → ℕ → ℕ
+encodingsAt bias file i = laneSum (keyIn (recordAt file i)) bias
 
 -- not "fewer than 24 bytes, or trailer letters or distances not those of its count and the file's length"
 unfoldable pub isWhole : List ℕ → Bool

@@ -1,23 +1,18 @@
-// The parts of a file (document 02, request 5), read and written: its shape, its trailer, and the
-// encodings of its records.
+// The parts of a file (document 02, request 5), read and written: its shape and its trailer.
 use file::END_SIZE;
 use fresh::marks_below;
-use key_encoding::to_encodings;
 use record::RECORD_SIZE;
 use record::numbers::read32;
 use record::numbers::write32;
-use record::read_key;
 use shape::Shape;
 use shape::widths_of;
 ghost use mathlib.Core.Path.{_≡_};
 ghost use mathlib.Core.Bool.{true};
-ghost use Prim.Native.Nat.{_+_, _*_, _≤_};
+ghost use Prim.Native.Nat.{_*_, _≤_};
 ghost use lib.ListN.{length};
 ghost use lib.Seq.{paste};
 ghost use Rattle.shape.specs.Shape.{shapeNumber};
-ghost use Rattle.record.specs.Bytes.{recordSize, field};
-ghost use Rattle.record.specs.Lanes.{laneSum};
-ghost use Rattle.record.specs.Packed.{keyIn};
+ghost use Rattle.record.specs.Bytes.{recordSize};
 ghost use Rattle.file.specs.File.{endSize, fileSize, endBytes, fileCount, fileShape, isWhole, isPlain};
 
 // Whether a file ends in a trailer with the letters, and with the distances of its count and its
@@ -89,14 +84,6 @@ pub fn is_plain(file: &[u8]) -> bool
         j += 1;
     }
     shape.signs >> shape.attributes == 0
-}
-
-// The packed encodings of record i, where a shape adds a bias to its values.
-pub fn encodings_at(file: &[u8], i: usize, bias: u64) -> u64
-    requires { ⌜ recordSize * i + recordSize ≤ length (now file) ⌝ }
-    ensures { λ r. ⌜ r ≡ laneSum (keyIn (field (now (file .entry)) (recordSize * i) recordSize)) bias ⌝ }
-{
-    to_encodings(bias, read_key(file, RECORD_SIZE * i))
 }
 
 // Writes what stands behind n records: the shape and the trailer.

@@ -1,6 +1,6 @@
 // Whether the records of a file are a set in split order (document 02, request 5): every value
 // within its bounds, and each record behind the one before it.
-use file_parts::encodings_at;
+use file::encodings_at;
 use key_encoding::bias_key;
 use key_order::Order;
 use key_order::compare;

@@ -1,7 +1,7 @@
 // 6 and 7 of a file's records, found without a write (document 02, request 5): "6 and 7 at the first
 // record that meets them". The records are in split order, so that the leaves of the first i are
 // told by the first split steps in which neighbours differ, none further apart than b + 1 places.
-use file_parts::encodings_at;
+use file::encodings_at;
 use key_encoding::bias_key;
 use key_order::first_step;
 use shape::Shape;

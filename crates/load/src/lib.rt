@@ -1,6 +1,6 @@
 // The call load: a store made from the bytes of a file (document 02, request 5). Every refusal is
 // found before the first write; then Fresh, and the records one after the other.
-use file_parts::encodings_at;
+use file::encodings_at;
 use file_parts::is_plain;
 use file_parts::is_whole;
 use file_parts::record_count;
