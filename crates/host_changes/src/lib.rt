@@ -76,10 +76,10 @@ pub fn load_in_words(file: &[u8], state: &mut [u32], dir: &mut [u32], pages: &mu
         (memory (now (dir .entry)) (now (pages .entry))) r (now (state .exit))
         (memory (now (dir .exit)) (now (pages .exit))) ⌝ }
 {
-    if state.len() < STATE_SIZE {
-        let refused = load(file, &mut dir[0..0], &mut pages[0..0]);
-        return settle(state, refused);
+    if state.len() >= STATE_SIZE {
+        let loaded = load(file, dir, pages);
+        return settle(state, loaded);
     }
-    let loaded = load(file, dir, pages);
-    settle(state, loaded)
+    let refused = load(file, &mut dir[0..0], &mut pages[0..0]);
+    settle(state, refused)
 }
