@@ -6,8 +6,8 @@ use mathlib.Core.List.{List}
 use Rattle.shape.specs.Refusal.{accepted}
 use Rattle.shape.specs.declared.Shape.{Shape}
 use Rattle.record.specs.Record.{Record}
-use Rattle.model.specs.Limits.{fixedBy}
-use Rattle.model.specs.Model.{Fixed, changed}
+use Rattle.model.specs.Limits.{freshShape, fixedBy}
+use Rattle.model.specs.Model.{changed}
 use Rattle.store.specs.Store.{Store, Memory, fixedOf}
 use Rattle.store.specs.Sound.{Sound}
 use Rattle.store.specs.Fresh.{freshState}
@@ -17,6 +17,7 @@ use Rattle.file.specs.File.{fileShape, fileRecords}
 use Rattle.file.specs.Loading.{loadFixed}
 use Rattle.file.specs.Promises.{everyLeaf, LoadPromise}
 use Rattle.file.proofs.PlainLaws.{freshShape-fileShape}
+use Rattle.saved.proofs.AcceptedLaws.{passed-of-accepted}
 use Rattle.saved.specs.Again.{LoadedHistory, SavesAs, SavedRun, SavedLoadedRun}
 
 -- ---- a loaded store
@@ -26,7 +27,7 @@ pub fixedOf-loaded : (file : List ℕ) (m : Memory) (loaded : Store) → LoadPro
     → fixedOf (loaded .state) ≡ loadFixed file m
 unfolding fixedBy freshState
 fixedOf-loaded file m loaded p =
-    rw (p .shape-as refl, p .limits-as refl, freshShape-fileShape file (plain-of-load file m loaded p))
+    rw (p .shape-as refl, p .limits-as refl, freshShape-fileShape file (passed-of-accepted file m loaded p .plain))
 
 pub loaded-history : LoadedHistory
 loaded-history file m loaded p calls outcomes after r =
@@ -34,18 +35,17 @@ loaded-history file m loaded p calls outcomes after r =
 
 -- ---- a save after calls
 
-saves-as : (store : Store) (f : Fixed) (S : List Record) → fixedOf (store .state) ≡ f → Sound store S
-    → SavesAs (f .shape) S store
-saves-as store f S e sound out answer out′ p =
-    let same : store .state .shape ≡ f .shape = ap (λ g. g .shape) e in
-    rw (← same) (p .saved-as S (soundWhere-of-sound store everyLeaf S sound))
+saves-as : (store : Store) (s : Shape) (S : List Record) → store .state .shape ≡ s → Sound store S → SavesAs s S store
+saves-as store s S e sound out answer out′ p =
+    rw (← e) (p .saved-as S (soundWhere-of-sound store everyLeaf S sound))
 
 pub saved-run : SavedRun
 unfolding fixedBy
 saved-run s m fresh p calls outcomes after r =
-    saves-as after (fixedBy s _ _) _ (fixedOf-run r ∙ fixedOf-fresh s m fresh p)
+    saves-as after (freshShape s) _ (ap (λ f. f .shape) (fixedOf-run r ∙ fixedOf-fresh s m fresh p))
     (history s m fresh p calls outcomes after r .2)
 
 pub saved-loaded-run : SavedLoadedRun
 saved-loaded-run file m loaded p calls outcomes after r =
-    saves-as after (fixedOf (loaded .state)) _ (fixedOf-run r) (loaded-history file m loaded p calls outcomes after r .2)
+    saves-as after (fileShape file) _ (ap (λ f. f .shape) (fixedOf-run r) ∙ p .shape-as refl)
+    (loaded-history file m loaded p calls outcomes after r .2)
