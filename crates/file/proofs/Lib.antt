@@ -1,0 +1,4 @@
+pub mod EndLaws
+pub mod FileLaws
+pub mod FreshLaws
+pub mod PlainLaws

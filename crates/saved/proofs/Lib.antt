@@ -1,0 +1,4 @@
+pub mod AcceptedLaws
+pub mod HistoryFromLaws
+pub mod JoinLaws
+pub mod RisingTmp
