@@ -39,8 +39,7 @@ fitsBytes-of-set : (s : Shape) (S : List Record) → shapeNumber s ≡ 0 → all
 fitsBytes-of-set s [] good e small = tt
 fitsBytes-of-set s (r ∷ rs) good e small =
     let parts = and-split (inShape s r) (all (inShape s) rs) e in
-    let four = length-of-inShape s r (parts .0) in
-    (
+    let four = length-of-inShape s r (parts .0) in (
       record {
         numbers = four;
         below = key-below-bytes s good (r .key) four (fits-of-inShape s r (parts .0));
@@ -113,8 +112,8 @@ module _ (s : Shape) (S U : List Record) (good : shapeNumber s ≡ 0)
   pub fileOf-same : (fileOf s S ≡ fileOf s U) ↔ (S ≡ U)
   fileOf-same = (
     λ e.
-    sym (fileRecords-fileOf s S S-few good S-set S-small)
-    ∙ ap fileRecords e
-    ∙ fileRecords-fileOf s U U-few good U-set U-small,
+        sym (fileRecords-fileOf s S S-few good S-set S-small)
+        ∙ ap fileRecords e
+        ∙ fileRecords-fileOf s U U-few good U-set U-small,
     λ e. ap (fileOf s) e,
   )
