@@ -1,5 +1,5 @@
 pub mod AcceptedLaws
+pub mod AlikeLaws
 pub mod HistoryFromLaws
 pub mod JoinLaws
 pub mod ReloadLaws
-pub mod RisingTmp
