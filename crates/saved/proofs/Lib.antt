@@ -1,0 +1,5 @@
+pub mod AcceptedLaws
+pub mod HistoryFromLaws
+pub mod JoinLaws
+pub mod ReloadLaws
+pub mod RisingTmp
