@@ -1,7 +1,6 @@
 -- Two loads of one file are answered alike by calls that read: of what Fresh fixes, the model's answers to these go by
 -- the shape alone. Assumes nothing.
-use Prim.Native.Nat.{ℕ}
-use mathlib.Core.Path.{_≡_, refl, sym, ap, _∙_}
+use mathlib.Core.Path.{_≡_, refl, sym, _∙_}
 use mathlib.Core.Bool.{true, false≢true}
 use mathlib.Core.List.{List, [], _∷_}
 use Rattle.lists.specs.Filter.{all}
