@@ -1,5 +1,5 @@
--- A saved set loads again: in slices that are large enough L reaches the set's greatest depth and P its non-empty leaves,
--- so that no record is refused; and slices in which a load is accepted are large enough. Assumes nothing.
+-- A saved set loads again: in slices that are large enough L reaches the set's greatest depth and P its non-empty
+-- leaves, so that no record is refused; and slices in which a load is accepted are large enough. Assumes nothing.
 use Prim.Native.Nat.{ℕ, zero, suc, _*_, _/_, _^_, _≤_, _<_}
 use mathlib.Core.Path.{_≡_, refl, ap, subst, _∙_}
 use mathlib.Core.Bool.{Bool, true, false}
