@@ -1,12 +1,12 @@
 -- Laws of the file of a set: its length, and what is read from it: the set's count, shape and records. So two sets of
 -- one shape have one file only if they are one set. Assumes nothing.
-use Prim.Native.Nat.{ℕ, zero, suc, _+_, _*_, _/_, _%_, _^_, _≤_, _<_}
+use Prim.Native.Nat.{_+_, _^_, _≤_, _<_}
 use mathlib.Core.Path.{_≡_, refl, sym, ap, _∙_}
-use mathlib.Core.Bool.{Bool, true, _&&_}
+use mathlib.Core.Bool.{true}
 use mathlib.Core.List.{List, [], _∷_, _++_}
 use mathlib.Core.Logic.{_↔_}
 use native.Mathlib.Omega.{arith}
-use lib.ListN.{length, getD, length-append}
+use lib.ListN.{length, length-append}
 use Rattle.lists.specs.Filter.{all}
 use Rattle.lists.specs.Members.{All}
 use Rattle.lists.proofs.Bools.{and-split}
@@ -14,7 +14,7 @@ use Rattle.shape.specs.Shape.{shapeNumber}
 use Rattle.shape.specs.declared.Shape.{Shape}
 use Rattle.shape.proofs.ShapeLaws.{shapeNumber-true, inBounds-of}
 use Rattle.record.specs.Record.{Record}
-use Rattle.record.specs.Bytes.{recordSize, recordsBytes}
+use Rattle.record.specs.Bytes.{recordsBytes}
 use Rattle.record.proofs.ByteLaws.{FitsBytes, length-recordsBytes}
 use Rattle.record.proofs.KeyLaws.{key-below-bytes}
 use Rattle.page.specs.Page.{recordsFrom}

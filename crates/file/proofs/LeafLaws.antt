@@ -1,13 +1,12 @@
 -- Laws of the records of all leaves: what holds of each leaf's holds of them, and how many they can be.
 -- Assumes nothing.
-use Prim.Native.Nat.{ℕ, suc, _+_, _*_, _≤_}
-use mathlib.Core.Path.{_≡_, refl, sym, ap, subst, _∙_}
+use Prim.Native.Nat.{ℕ, suc, _*_, _≤_}
+use mathlib.Core.Path.{_≡_, sym, subst, _∙_}
 use mathlib.Core.Bool.{Bool, true, false, cond}
 use mathlib.Core.List.{List, [], _∷_}
 use native.Mathlib.Nat.{add-mul}
 use native.Mathlib.Omega.{arith}
 use lib.ListN.{length, length-append}
-use Rattle.lists.specs.Filter.{nonEmpty}
 use Rattle.lists.specs.Members.{All}
 use Rattle.lists.proofs.MemberLaws.{All-append}
 use Rattle.region.specs.Strings.{withBit, emptyString}

@@ -1,16 +1,15 @@
 -- The set of a sound store has a file: its records are few, and their payloads are those of pages. Assumes nothing.
 use Prim.Native.Nat.{ℕ, _*_, _^_, _≤_, _<_}
-use mathlib.Core.Path.{_≡_, sym, ap, subst, _∙_}
-use mathlib.Core.Bool.{Bool}
+use mathlib.Core.Path.{_≡_, ap, subst}
 use mathlib.Core.List.{List, [], _∷_}
-use native.Mathlib.Nat.{le-trans, mul-le-mul, mul-le-mul-right}
+use native.Mathlib.Nat.{mul-le-mul, mul-le-mul-right}
 use native.Mathlib.Omega.{arith}
 use lib.ListN.{length}
 use Rattle.lists.specs.Members.{All}
 use Rattle.lists.proofs.MemberLaws.{All-imp}
 use Rattle.shape.specs.declared.Shape.{Shape}
 use Rattle.shape.proofs.ShapeLaws.{capacity-bounds}
-use Rattle.region.specs.Division.{allRecords, nonEmptyLeaves, leafDepth, leafRecords}
+use Rattle.region.specs.Division.{allRecords, leafDepth, leafRecords}
 use Rattle.record.specs.Record.{Record}
 use Rattle.record.proofs.ByteLaws.{AreBytes, FitsBytes, AreBytes-field}
 use Rattle.page.specs.Page.{pageSize, countOf, pageAt}

@@ -1,8 +1,8 @@
 -- A file that was read and is written again: a whole and plain file is the file of its shape and its records.
 -- Assumes nothing.
-use Prim.Native.Nat.{ℕ, zero, suc, _+_, _-_, _*_, _/_, _%_, _^_, _≤_, _<_}
+use Prim.Native.Nat.{ℕ, zero, suc, _+_, _-_, _*_, _≤_, _<_}
 use mathlib.Core.Path.{_≡_, refl, sym, ap, _∙_}
-use mathlib.Core.Bool.{Bool, true, _&&_}
+use mathlib.Core.Bool.{Bool, true}
 use mathlib.Core.List.{List, [], _∷_, _++_}
 use native.Mathlib.Omega.{arith}
 use lib.Dec.{leb, eqb}
@@ -10,10 +10,9 @@ use lib.ListN.{length, getD, take, drop, length-drop, take-append-drop}
 use lib.Seq.{take-all, drop-cons}
 use borrow.Author.Tests.{leb-true, eqb-true}
 use Rattle.lists.proofs.Bools.{and-split}
-use Rattle.shape.specs.Shape.{allBelow, widthsOf}
-use Rattle.shape.specs.declared.Shape.{Shape}
+use Rattle.shape.specs.Shape.{allBelow}
 use Rattle.shape.proofs.BoundsLaws.{test-of-allBelow}
-use Rattle.record.specs.Bytes.{recordSize, littleEndian, numberOf, field, recordsBytes}
+use Rattle.record.specs.Bytes.{recordSize, littleEndian, field, recordsBytes}
 use Rattle.record.proofs.ByteLaws.{AreBytes, littleEndian-numberOf-field, field-append-field}
 use Rattle.page.proofs.PageLaws.{recordsBytes-recordsFrom}
 use Rattle.page.proofs.FieldLaws.{length-recordsFrom}
