@@ -1,25 +1,24 @@
 -- Laws of a file's end: what stands a number of bytes before the end is of the end alone; what is read from an end that
 -- was written. Assumes nothing.
-use Prim.Native.Nat.{ℕ, _+_, _-_, _*_, _/_, _%_, _^_, _≤_, _<_}
-use mathlib.Core.Path.{_≡_, refl, sym, ap, _∙_}
-use mathlib.Core.Bool.{Bool, true, false, _&&_, _||_}
+use Prim.Native.Nat.{ℕ, _+_, _-_, _*_, _%_, _^_, _≤_, _<_}
+use mathlib.Core.Path.{_≡_, refl, ap, _∙_}
+use mathlib.Core.Bool.{Bool, true, false, _||_}
 use mathlib.Core.List.{List, [], _∷_, _++_}
 use mathlib.Core.Logic.{_⊎_, inl, inr}
 use native.Mathlib.Nat.{div-eq-of-lt}
 use native.Mathlib.Omega.{arith}
-use lib.Dec.{leb, ltb, eqb}
+use lib.Dec.{ltb, eqb}
 use lib.ListN.{length, getD, take, length-append}
 use lib.Seq.{getD-append-add, drop-append-add}
 use borrow.Author.Tests.{le-leb, lt-ltb, eq-eqb}
 use Rattle.lists.proofs.Bools.{and-both}
 use Rattle.lists.proofs.Numbers.{lt-or-le}
-use Rattle.shape.specs.Shape.{allBelow, widthOf, widthsOf}
-use Rattle.shape.specs.Key.{perAttribute}
+use Rattle.shape.specs.Shape.{allBelow, widthsOf}
 use Rattle.shape.specs.declared.Shape.{Shape}
 use Rattle.shape.proofs.AttributeLaws.{getD-widthsOf}
 use Rattle.shape.proofs.BoundsLaws.{allBelow-ext}
 use Rattle.shape.proofs.ShapeLaws.{widthOf-unused}
-use Rattle.record.specs.Bytes.{recordSize, littleEndian, numberOf, field}
+use Rattle.record.specs.Bytes.{recordSize, numberOf, field}
 use Rattle.record.proofs.ByteLaws.{numberOf-littleEndian}
 use Rattle.model.specs.Limits.{freshShape}
 use Rattle.model.proofs.LimitLaws.{signs-freshShape-lt}

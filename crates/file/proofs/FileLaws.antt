@@ -1,12 +1,12 @@
 -- Laws of the file of a set: its length, and what is read from it: the set's count, shape and records. So two sets of
 -- one shape have one file only if they are one set. Assumes nothing.
-use Prim.Native.Nat.{ℕ, zero, suc, _+_, _*_, _/_, _%_, _^_, _≤_, _<_}
+use Prim.Native.Nat.{_+_, _^_, _≤_, _<_}
 use mathlib.Core.Path.{_≡_, refl, sym, ap, _∙_}
-use mathlib.Core.Bool.{Bool, true, _&&_}
+use mathlib.Core.Bool.{true}
 use mathlib.Core.List.{List, [], _∷_, _++_}
 use mathlib.Core.Logic.{_↔_}
 use native.Mathlib.Omega.{arith}
-use lib.ListN.{length, getD, length-append}
+use lib.ListN.{length, length-append}
 use Rattle.lists.specs.Filter.{all}
 use Rattle.lists.specs.Members.{All}
 use Rattle.lists.proofs.Bools.{and-split}
@@ -14,7 +14,7 @@ use Rattle.shape.specs.Shape.{shapeNumber}
 use Rattle.shape.specs.declared.Shape.{Shape}
 use Rattle.shape.proofs.ShapeLaws.{shapeNumber-true, inBounds-of}
 use Rattle.record.specs.Record.{Record}
-use Rattle.record.specs.Bytes.{recordSize, recordsBytes}
+use Rattle.record.specs.Bytes.{recordsBytes}
 use Rattle.record.proofs.ByteLaws.{FitsBytes, length-recordsBytes}
 use Rattle.record.proofs.KeyLaws.{key-below-bytes}
 use Rattle.page.specs.Page.{recordsFrom}
@@ -39,8 +39,7 @@ fitsBytes-of-set : (s : Shape) (S : List Record) → shapeNumber s ≡ 0 → all
 fitsBytes-of-set s [] good e small = tt
 fitsBytes-of-set s (r ∷ rs) good e small =
     let parts = and-split (inShape s r) (all (inShape s) rs) e in
-    let four = length-of-inShape s r (parts .0) in
-    (
+    let four = length-of-inShape s r (parts .0) in (
       record {
         numbers = four;
         below = key-below-bytes s good (r .key) four (fits-of-inShape s r (parts .0));
@@ -113,8 +112,8 @@ module _ (s : Shape) (S U : List Record) (good : shapeNumber s ≡ 0)
   pub fileOf-same : (fileOf s S ≡ fileOf s U) ↔ (S ≡ U)
   fileOf-same = (
     λ e.
-    sym (fileRecords-fileOf s S S-few good S-set S-small)
-    ∙ ap fileRecords e
-    ∙ fileRecords-fileOf s U U-few good U-set U-small,
+        sym (fileRecords-fileOf s S S-few good S-set S-small)
+        ∙ ap fileRecords e
+        ∙ fileRecords-fileOf s U U-few good U-set U-small,
     λ e. ap (fileOf s) e,
   )

@@ -8,7 +8,7 @@ use native.Mathlib.Omega.{arith}
 use lib.Dec.{eqb}
 use lib.ListN.{length, getD}
 use Rattle.lists.specs.Filter.{all}
-use Rattle.shape.specs.Shape.{widthOf, widthsOf, total, indexFits}
+use Rattle.shape.specs.Shape.{widthOf, total, indexFits}
 use Rattle.shape.specs.Key.{marked, bias, decode}
 use Rattle.shape.specs.declared.Shape.{Shape}
 use Rattle.shape.proofs.AttributeLaws.{getD-widthsOf}

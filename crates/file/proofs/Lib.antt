@@ -1,4 +1,7 @@
 pub mod EndLaws
 pub mod FileLaws
 pub mod FreshLaws
+pub mod LeafLaws
 pub mod PlainLaws
+pub mod SoundLaws
+pub mod WrittenLaws

@@ -1,5 +1,8 @@
 pub mod AcceptedLaws
+pub mod AlikeLaws
+pub mod EqualSetLaws
 pub mod HistoryFromLaws
 pub mod JoinLaws
-pub mod RisingTmp
+pub mod ReloadLaws
+pub mod SavedLaws
 pub mod StepLaws

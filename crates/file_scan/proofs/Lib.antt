@@ -1,0 +1,6 @@
+pub mod Example
+pub mod GrowthLaws
+pub mod MetLaws
+pub mod ModelLaws
+pub mod RisingLaws
+pub mod WindowLaws
