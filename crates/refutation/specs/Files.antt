@@ -5,7 +5,7 @@ use lib.ListN.{length, replicate}
 use Rattle.record.specs.Record.{Record}
 use Rattle.record.specs.Bytes.{littleEndian, recordsBytes}
 use Rattle.store.specs.Store.{Memory}
-use Rattle.file.specs.File.{letters, endSize, fileSize, fileOf, trailerBytes}
+use Rattle.file.specs.File.{letters, endSize, trailerBytes}
 use Rattle.table.specs.Table.{twoTwo}
 use Rattle.refutation.specs.Stores.{recordAt}
 

@@ -1,10 +1,9 @@
 -- Demand 3 with saves among the calls: a call is a run of one, and a save is answered by the set that the store shows.
 -- Assumes nothing.
-use Prim.Native.Nat.{ℕ}
-use mathlib.Core.Path.{_≡_, refl, sym, ap, _∙_}
+use mathlib.Core.Path.{_≡_, refl, ap, _∙_}
 use mathlib.Core.List.{List, [], _∷_}
 use Rattle.record.specs.Record.{Record}
-use Rattle.model.specs.Model.{Fixed, Call, Outcome, outcome, next, run}
+use Rattle.model.specs.Model.{Fixed, Outcome, run}
 use Rattle.store.specs.Store.{Store, fixedOf}
 use Rattle.store.specs.Sound.{Sound}
 use Rattle.store.proofs.ReadLaws.{soundWhere-of-sound}
@@ -12,7 +11,7 @@ use Rattle.history.specs.History.{Run, no-call, one-more}
 use Rattle.history.proofs.HistoryLaws.{listed-as, fixedOf-run, fixedOf-fresh, history}
 use Rattle.file.specs.Promises.{everyLeaf}
 use Rattle.saved.specs.Steps.{Step, call, save, StepOutcome, called, saved, stepOutcome, stepNext, stepRun, stepSet}
-use Rattle.saved.specs.Steps.{StepPromised, StepsRan, no-step, step-more, StepBounded, StepsBounded, AsModel}
+use Rattle.saved.specs.Steps.{StepPromised, StepsRan, no-step, step-more, StepBounded, StepsBounded}
 use Rattle.saved.specs.Steps.{SavedHistory}
 use Rattle.saved.proofs.HistoryFromLaws.{fixedOf-loaded}
 

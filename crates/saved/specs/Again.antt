@@ -1,29 +1,26 @@
--- Saved and loaded stores in use (document 02, request 5): demand 3 from a loaded store, what a save writes after any
--- calls, that a saved set loads again, and that two loads of one file are read alike. Over the promises of save and
--- load, so of any programs that keep them. Assumes nothing.
+-- Loaded stores in use (document 02, request 5): demand 3 from a loaded store, that a saved set loads again, and that
+-- two loads of one file are read alike. Over the promise of load, so of any programs that keep it. Assumes nothing.
 use Prim.Native.Nat.{ℕ, _*_, _^_, _≤_, _<_}
 use mathlib.Core.Path.{_≡_}
 use mathlib.Core.Bool.{Bool, true, false}
-use mathlib.Core.List.{List, [], _++_}
+use mathlib.Core.List.{List}
 use mathlib.Core.Logic.{_↔_}
-use lib.ListN.{length, getD, drop}
+use lib.ListN.{length, getD}
 use Rattle.lists.specs.Filter.{all}
-use Rattle.shape.specs.Refusal.{Answer, accepted, answered}
+use Rattle.shape.specs.Refusal.{Answer, accepted}
 use Rattle.shape.specs.declared.Shape.{Shape}
 use Rattle.region.specs.Division.{greatestDepth, nonEmptyLeaves}
 use Rattle.record.specs.Record.{Record}
 use Rattle.page.specs.Page.{pageSize}
-use Rattle.model.specs.Limits.{freshShape, fixedBy}
 use Rattle.model.specs.Model.{Call, insertCall, deleteCall, lookupCall, queryCall, rangeCall, Reply, changed, Outcome}
-use Rattle.model.specs.Model.{run, lastSet, ifAccepted}
+use Rattle.model.specs.Model.{run, lastSet}
 use Rattle.model.specs.Sets.{divisionOf}
 use Rattle.store.specs.Store.{Store, Memory, pagesSize}
 use Rattle.store.specs.Sound.{Sound}
-use Rattle.store.specs.Fresh.{FreshPromise}
 use Rattle.history.specs.History.{Run, WithinBounds}
-use Rattle.file.specs.File.{fileSize, fileOf, fileShape, fileRecords}
+use Rattle.file.specs.File.{fileOf, fileRecords}
 use Rattle.file.specs.Loading.{loadFixed, loadNumber}
-use Rattle.file.specs.Promises.{fitNumber, SavePromise, LoadPromise}
+use Rattle.file.specs.Promises.{LoadPromise}
 
 -- ---- demand 3 from a loaded store
 
@@ -38,30 +35,6 @@ LoadedHistory =
     → (outcomes ≡ run (loadFixed file m) (fileRecords file) calls)
     × WithinBounds (loadFixed file m) (fileRecords file) calls outcomes
     × Sound after (lastSet (loadFixed file m) (fileRecords file) calls)
-
--- ---- a save after calls
-
--- a save of the store, into any output, answers and writes as the file of the set S and the shape s says
-abbrev pub SavesAs : Shape → List Record → Store → Type 0
-SavesAs s S store =
-    (out : List ℕ) (answer : Answer ℕ) (out′ : List ℕ) → SavePromise store out answer out′
-    → (answer ≡ answered (fitNumber S out) (fileSize (length S)))
-    × (out′ ≡ ifAccepted (fitNumber S out) (fileOf s S ++ drop (fileSize (length S)) out) out)
-
--- "The file holds the records in split order": after any list of calls on a fresh store it is the file of the set that
--- the plain model has then, and of the shape that Fresh holds
-abbrev pub SavedRun : Type 0
-SavedRun =
-    (s : Shape) (m : Memory) (fresh : Store) → FreshPromise s m (accepted changed) fresh
-    → (calls : List Call) (outcomes : List Outcome) (after : Store) → Run fresh calls outcomes after
-    → SavesAs (freshShape s) (lastSet (fixedBy s (length (m .words)) (length (m .bytes))) [] calls) after
-
--- the same after calls on a loaded store, and of its file's shape
-abbrev pub SavedLoadedRun : Type 0
-SavedLoadedRun =
-    (file : List ℕ) (m : Memory) (loaded : Store) → LoadPromise file m (accepted changed) loaded
-    → (calls : List Call) (outcomes : List Outcome) (after : Store) → Run loaded calls outcomes after
-    → SavesAs (fileShape file) (lastSet (loadFixed file m) (fileRecords file) calls) after
 
 -- ---- loading again
 
