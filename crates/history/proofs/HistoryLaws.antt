@@ -50,7 +50,7 @@ unfolding outcome
 no-output f S c e e′ = rw (e, e′) (ifAccepted-same (numberFor f S c) [])
 
 -- a call that changes no set
-same-set : (f : Fixed) (S : List Record) (c : Call) → setAfter f S c ≡ S → next f S c ≡ S
+pub same-set : (f : Fixed) (S : List Record) (c : Call) → setAfter f S c ≡ S → next f S c ≡ S
 unfolding next
 same-set f S c e = rw e (ifAccepted-same (numberFor f S c) S)
 

@@ -2,13 +2,13 @@
 -- Assumes nothing.
 use Prim.Native.Nat.{ℕ, zero, suc}
 use mathlib.Core.Path.{_≡_, refl, _∙_}
-use mathlib.Core.Bool.{Bool, true, false, not, _&&_}
+use mathlib.Core.Bool.{true, not, _&&_}
 use mathlib.Core.List.{List, []}
 use borrow.Author.Tests.{not-false}
-use Rattle.lists.proofs.Bools.{and-split, and-both}
+use Rattle.lists.proofs.Bools.{and-split}
 use Rattle.shape.specs.Refusal.{accepted, answered, firstNumber}
-use Rattle.shape.specs.Shape.{shapeNumber, inBounds, shapeConditions}
-use Rattle.model.specs.Model.{Reply, changed}
+use Rattle.shape.specs.Shape.{inBounds, shapeConditions}
+use Rattle.model.specs.Model.{changed}
 use Rattle.model.specs.Sets.{isSet}
 use Rattle.model.proofs.ConditionLaws.{firstNumber-zero, firstNumber-none, firstNumber-rest}
 use Rattle.store.specs.Store.{Store, Memory}

@@ -1,17 +1,17 @@
--- A saved set loads again: in slices that are large enough L reaches the set's greatest depth and P its non-empty leaves,
--- so that no record is refused; and slices in which a load is accepted are large enough. Assumes nothing.
-use Prim.Native.Nat.{ℕ, zero, suc, _+_, _*_, _/_, _^_, min, _≤_, _<_}
-use mathlib.Core.Path.{_≡_, refl, sym, ap, _∙_}
+-- A saved set loads again: in slices that are large enough L reaches the set's greatest depth and P its non-empty
+-- leaves, so that no record is refused; and slices in which a load is accepted are large enough. Assumes nothing.
+use Prim.Native.Nat.{ℕ, zero, suc, _*_, _/_, _^_, _≤_, _<_}
+use mathlib.Core.Path.{_≡_, refl, ap, subst, _∙_}
 use mathlib.Core.Bool.{Bool, true, false}
-use mathlib.Core.List.{List, []}
+use mathlib.Core.List.{List}
 use native.Mathlib.Omega.{arith}
 use native.Mathlib.Nat.{le-trans, le-div-iff-mul-le, mul-le-mul-right}
 use lib.Dec.{ltb}
 use lib.ListN.{length}
 use lib.Pow.{pow-mono, pow-pos}
-use borrow.Author.Tests.{ltb-true, ltb-false, le-ltb, ne-eqb}
-use Rattle.shape.specs.Refusal.{Answer, accepted, answered, firstNumber}
-use Rattle.shape.specs.Shape.{inBounds, widthsOf, total, shapeNumber}
+use borrow.Author.Tests.{ltb-true, le-ltb, ne-eqb}
+use Rattle.shape.specs.Refusal.{accepted, answered, firstNumber}
+use Rattle.shape.specs.Shape.{widthsOf, total, shapeNumber}
 use Rattle.shape.specs.declared.Shape.{Shape}
 use Rattle.shape.proofs.ShapeLaws.{shapeNumber-true, inBounds-of}
 use Rattle.split.specs.Bits.{splitBit}
@@ -20,20 +20,22 @@ use Rattle.region.proofs.DivideLaws.{greatestDepth-divide-le}
 use Rattle.record.specs.Record.{Record, recordBit}
 use Rattle.page.specs.Page.{pageSize}
 use Rattle.model.specs.Limits.{logarithm, pageLimitOf, depthLimitOf, freshShape, fixedBy}
-use Rattle.model.specs.Model.{Fixed, Reply, changed}
+use Rattle.model.specs.Model.{Fixed, changed}
 use Rattle.model.specs.Sets.{isSet, divisionOf}
 use Rattle.model.proofs.LimitLaws.{widthsOf-freshShape, inBounds-freshShape}
-use Rattle.store.specs.Store.{Store, Memory, pagesSize}
+use Rattle.store.specs.Store.{Store, Memory}
 use Rattle.store.specs.Sound.{Sound}
 use Rattle.store.specs.Fresh.{freshConditions}
+use Rattle.store.proofs.ShownLaws.{shape-of-Sound}
 use Rattle.store.proofs.RoomLaws.{nonEmptyLeaves-le-pages}
-use Rattle.file.specs.File.{fileSize, fileOf, fileShape, fileRecords}
-use Rattle.file.specs.Loading.{loadFixed, joinConditions, loadNumber}
+use Rattle.file.specs.File.{fileSize, fileOf, fileShape}
+use Rattle.file.specs.Loading.{loadFixed, loadNumber}
 use Rattle.file.specs.Promises.{LoadPromise}
 use Rattle.file.proofs.FreshLaws.{isSet-freshShape}
 use Rattle.file.proofs.FileLaws.{SmallPayloads, fileShape-fileOf, isPlain-fileOf, shapeNumber-fileOf, isWhole-fileOf}
 use Rattle.file.proofs.FileLaws.{fileRecords-fileOf, isSet-fileOf}
-use Rattle.saved.specs.Again.{LargeEnough, Reloads, LoadsAgain, OwnSlicesEnough}
+use Rattle.file.proofs.SoundLaws.{fileSize-set-lt, payloads-of-sound}
+use Rattle.saved.specs.Again.{LargeEnough, LoadsAgain, OwnSlicesEnough}
 use Rattle.saved.proofs.AcceptedLaws.{Passed, loadNumber-passed}
 use Rattle.saved.proofs.JoinLaws.{firstNumber-join}
 
@@ -56,9 +58,9 @@ module _ (s : Shape) where
   unfolding depthLimitOf
   le-depthLimitOf words k h w l = omega (arith, le-logarithm 64 k words (omega arith) l)
 
-  le-pageLimitOf : (bytes k : ℕ) → k ≤ 4096 → k * pageSize (s .capacity) ≤ bytes → k ≤ pageLimitOf s bytes
+  pages-le-pageLimitOf : (bytes k : ℕ) → k ≤ 4096 → k * pageSize (s .capacity) ≤ bytes → k ≤ pageLimitOf s bytes
   unfolding pageLimitOf
-  le-pageLimitOf bytes k h l =
+  pages-le-pageLimitOf bytes k h l =
       let whole : k ≤ bytes / pageSize (s .capacity) =
       le-div-iff-mul-le {k = pageSize (s .capacity)} {x = k} {y = bytes} (omega arith) .1 l in
       omega arith
@@ -124,7 +126,7 @@ module _ (s : Shape) (good : shapeNumber s ≡ 0) (S : List Record) (set : isSet
     unfolding fixedBy
     pages-enough =
         rw shape-division
-        (le-pageLimitOf (freshShape s) (length (m .bytes)) (nonEmptyLeaves (divisionOf s S)) paged
+        (pages-le-pageLimitOf (freshShape s) (length (m .bytes)) (nonEmptyLeaves (divisionOf s S)) paged
         (rw (capacity-freshShape s) (large .pages)))
 
     lent-enough : firstNumber (freshConditions (freshShape s) m) ≡ 0
@@ -168,3 +170,28 @@ module _ (s : Shape) (good : shapeNumber s ≡ 0) (S : List Record) (set : isSet
           pages = rw (divisionOf-freshShape s S, capacity-freshShape s) at (held .pages);
           some-page = rw (capacity-freshShape s) at (held .some-page);
         }
+
+-- ---- the set of a sound store loads again
+
+pub loads-again : LoadsAgain
+loads-again store S sound bytes m =
+    let s = store .state .shape in
+    let good = shape-of-Sound store S sound in
+    let small = payloads-of-sound store S sound bytes in
+    let few = fileSize-set-lt store S sound in
+    let shallow : greatestDepth (divisionOf s S) ≤ 12 =
+    omega (arith, sound .deepest, sound .depth-within, sound .depth-limit) in
+    let paged : nonEmptyLeaves (divisionOf s S) ≤ 4096 =
+    omega (arith, nonEmptyLeaves-le-pages store S sound, sound .most-pages) in
+    let none-met : LargeEnough s S m → loadNumber (fileOf s S) m ≡ 0 =
+    λ large. loadNumber-passed (fileOf s S) m
+    (passed-fileOf s good S (sound .set) small few m shallow paged large) in
+    record {
+      no-refusal = none-met;
+      exactly = λ answer after p. (
+        λ e. largeEnough-of-accepted s good S (sound .set) small few m after
+            (subst (λ a. LoadPromise (fileOf s S) m a after) e p),
+        λ large. p .answered-as ∙ ap (λ n. answered n changed) (none-met large),
+      );
+      shown = shown-fileOf s good S (sound .set) small few m;
+    }

@@ -1,5 +1,6 @@
--- Saved and loaded stores and what goes on with them (document 02, request 5): demand 3 from a loaded store, what a save
--- writes after any calls, and that a saved set loads again. Assumes nothing.
+-- Saved and loaded stores in use (document 02, request 5): demand 3 from a loaded store, what a save writes after any
+-- calls, that a saved set loads again, and that two loads of one file are read alike. Over the promises of save and
+-- load, so of any programs that keep them. Assumes nothing.
 use Prim.Native.Nat.{ℕ, _*_, _^_, _≤_, _<_}
 use mathlib.Core.Path.{_≡_}
 use mathlib.Core.Bool.{Bool, true, false}
@@ -27,9 +28,9 @@ use Rattle.file.specs.Promises.{fitNumber, SavePromise, LoadPromise}
 -- ---- demand 3 from a loaded store
 
 -- "Loading makes a sound store of the file's shape and records in lent slices, with P and L set as by Fresh": the store
--- that an accepted load leaves is a start of demand 3 as a fresh one is. The plain model begins with the file's records;
--- any list of calls is answered as it answers, each query's reads are within the bound, and the store that is left shows
--- the model's set
+-- that an accepted load leaves is a start of demand 3 as a fresh one is. The plain model begins with the file's
+-- records; any list of calls is answered as it answers, each query's reads are within the bound, and the store that is
+-- left shows the model's set
 abbrev pub LoadedHistory : Type 0
 LoadedHistory =
     (file : List ℕ) (m : Memory) (loaded : Store) → LoadPromise file m (accepted changed) loaded
