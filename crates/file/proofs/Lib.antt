@@ -1,4 +1,5 @@
 pub mod EndLaws
+pub mod Example
 pub mod FileLaws
 pub mod FreshLaws
 pub mod LeafLaws
