@@ -77,7 +77,7 @@ module _ (file : List ℕ) (whole : isWhole file ≡ true) where
   pub length-whole : length file ≡ fileSize (fileCount file)
   length-whole = eqb-true (length file) (fileSize (fileCount file)) (tests .4)
 
-  pub bytes-whole : (k n : ℕ) → n ≤ k → k ≤ endSize → bytesBefore file k n ≡ listedBefore file k n
+  bytes-whole : (k n : ℕ) → n ≤ k → k ≤ endSize → bytesBefore file k n ≡ listedBefore file k n
   bytes-whole k n h l = bytesBefore-listed file k n h (omega (arith, end-within))
 
   letters-whole : letters ≡ bytesBefore file 16 4
