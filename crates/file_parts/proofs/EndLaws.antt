@@ -1,24 +1,17 @@
 -- Laws of the bytes behind the records: written one part behind the other. Assumes nothing.
-use Prim.Native.Nat.{ℕ, _+_, _-_, _%_, _^_, _≤_, _<_}
+use Prim.Native.Nat.{ℕ, _+_, _%_, _^_, _≤_, _<_}
 use mathlib.Core.Path.{_≡_, refl, ap, _∙_}
 use mathlib.Core.List.{List, _++_}
 use native.Mathlib.Omega.{arith}
 use native.Mathlib.Nat.{mod-lt}
-use lib.ListN.{length, getD}
+use lib.ListN.{length}
 use lib.Pow.{pow-pos, pow-mono}
 use lib.Seq.{paste}
 use Rattle.moves.proofs.PasteLaws.{paste-paste}
 use Rattle.shape.specs.declared.Shape.{Shape}
 use Rattle.shape.specs.Shape.{widthsOf}
 use Rattle.record.specs.Bytes.{littleEndian}
-use Rattle.file.specs.File.{letters, endSize, fileSize, shapeBytes, trailerBytes, endBytes, byteBefore}
-
--- a byte by its offset from the shape's first one
-pub byteBefore-at : (file : List ℕ) → endSize ≤ length file → (offset n : ℕ) → offset + n ≡ endSize
-    → getD file (length file - endSize + offset) 0 ≡ byteBefore n file
-byteBefore-at file long offset n e =
-    let place : length file - endSize + offset ≡ length file - n = omega arith in
-    ap (λ k. getD file k 0) place
+use Rattle.file.specs.File.{letters, endSize, fileSize, shapeBytes, trailerBytes, endBytes}
 
 -- the marks of at most four attributes fit a byte
 pub marks-lt : (signs d marks : ℕ) → marks ≡ signs % 2 ^ d → d ≤ 4 → marks < 256

@@ -9,29 +9,38 @@ use shape::Shape;
 use shape::widths_of;
 ghost use mathlib.Core.Path.{_≡_};
 ghost use mathlib.Core.Bool.{true};
-ghost use Prim.Native.Nat.{_+_, _*_, _^_, _≤_, _<_};
+ghost use Prim.Native.Nat.{_+_, _-_, _*_, _^_, _≤_, _<_};
 ghost use lib.Dec.{eqb};
 ghost use lib.ListN.{length, getD};
 ghost use lib.Seq.{paste};
 ghost use Rattle.shape.specs.Shape.{allBelow, shapeNumber};
 ghost use Rattle.record.specs.Bytes.{recordSize};
 ghost use Rattle.file.specs.File.{letters, endSize, fileSize, shapeBytes, trailerBytes, endBytes};
-ghost use Rattle.file.specs.File.{fileCount, fileShape, isWhole, isPlain};
+ghost use Rattle.file.specs.File.{byteBefore, numberBefore, fileCount, fileShape, isWhole, isPlain};
 
 // The letters M, D, E, H, with which the trailer begins.
 const LETTERS: [u8; 4] = [0x4d, 0x44, 0x45, 0x48];
 
-// The bytes of the shape, and of the trailer behind it.
-const SHAPE_SIZE: usize = 8;
+// How far before the end of a file its parts begin, behind the shape's first byte at END_SIZE: the
+// widths, b, the marks and the shape's last byte; the trailer and its numbers.
+const WIDTHS: usize = 23;
 
-const TRAILER_SIZE: usize = 16;
+const CAPACITY: usize = 19;
 
-// Where the trailer's numbers stand in it.
-const SHAPE_DISTANCE: usize = 4;
+const MARKS: usize = 18;
+
+const LAST: usize = 17;
+
+const TRAILER: usize = 16;
+
+const SHAPE_DISTANCE: usize = 12;
 
 const FILE_DISTANCE: usize = 8;
 
-const COUNT: usize = 12;
+const COUNT: usize = 4;
+
+// The bytes of the shape.
+const SHAPE_SIZE: usize = END_SIZE - TRAILER;
 
 // Whether a file ends in a trailer with the letters, and with the distances of its count and its
 // length; 12 is due if not.
@@ -42,15 +51,14 @@ pub fn is_whole(file: &[u8]) -> bool
     if size < END_SIZE {
         return false;
     }
-    let trailer = size - TRAILER_SIZE;
-    if !has_letters(file, trailer) {
+    if !has_letters(file) {
         return false;
     }
-    if read32(file, trailer + SHAPE_DISTANCE) != (END_SIZE as u64) {
+    if number_before(file, SHAPE_DISTANCE) != (END_SIZE as u64) {
         return false;
     }
-    let counted = size_with(read32(file, trailer + COUNT));
-    if read32(file, trailer + FILE_DISTANCE) != counted {
+    let counted = size_with(number_before(file, COUNT));
+    if number_before(file, FILE_DISTANCE) != counted {
         return false;
     }
     (size as u64) == counted
@@ -59,10 +67,10 @@ pub fn is_whole(file: &[u8]) -> bool
 // How many records a whole file has.
 pub fn record_count(file: &[u8]) -> usize
     requires { ⌜ isWhole (now file) ≡ true ⌝ }
-    ensures { λ r. ⌜ (r ≡ fileCount (now (file .entry))) × (fileSize r ≡ length (now (file .entry))) ⌝ }
+    ensures { λ r. ⌜ (r ≡ fileCount (now (file .entry)))
+        × (fileSize r ≡ length (now (file .entry))) ⌝ }
 {
-    let trailer = file.len() - TRAILER_SIZE;
-    read32(file, trailer + COUNT) as usize
+    number_before(file, COUNT) as usize
 }
 
 // The shape that a file names, within its bounds or not.
@@ -70,18 +78,17 @@ pub fn shape_in(file: &[u8]) -> Shape
     requires { ⌜ endSize ≤ length (now file) ⌝ }
     ensures { λ r. ⌜ r ≡ fileShape (now (file .entry)) ⌝ }
 {
-    let at = file.len() - END_SIZE;
     let widths = [
-        wide(file[at + 1]),
-        wide(file[at + 2]),
-        wide(file[at + 3]),
-        wide(file[at + 4]),
+        byte_before(file, WIDTHS),
+        byte_before(file, WIDTHS - 1),
+        byte_before(file, WIDTHS - 2),
+        byte_before(file, WIDTHS - 3),
     ];
     Shape {
-        attributes: wide(file[at]),
+        attributes: byte_before(file, END_SIZE),
         widths,
-        capacity: wide(file[at + 5]),
-        signs: wide(file[at + 6]),
+        capacity: byte_before(file, CAPACITY),
+        signs: byte_before(file, MARKS),
     }
 }
 
@@ -91,8 +98,7 @@ pub fn is_plain(file: &[u8]) -> bool
     requires { ⌜ (endSize ≤ length (now file)) × (shapeNumber (fileShape (now file)) ≡ 0) ⌝ }
     ensures { λ r. ⌜ r ≡ isPlain (now (file .entry)) ⌝ }
 {
-    let last = file.len() - TRAILER_SIZE - 1;
-    if file[last] != 0 {
+    if byte_before(file, LAST) != 0 {
         return false;
     }
     let shape = shape_in(file);
@@ -118,15 +124,17 @@ pub fn put_end(out: &mut [u8], shape: Shape, n: usize)
     put_trailer(out, at + SHAPE_SIZE, n as u64);
 }
 
-// Whether the letters stand at an offset.
-fn has_letters(file: &[u8], at: usize) -> bool
-    requires { ⌜ at + 4 ≤ length (now file) ⌝ }
-    ensures { λ r. ⌜ r ≡ allBelow 4 (λ i. eqb (getD (now (file .entry)) (at + i) 0) (getD letters i 0)) ⌝ }
+// Whether a file's trailer begins with the letters.
+fn has_letters(file: &[u8]) -> bool
+    requires { ⌜ endSize ≤ length (now file) ⌝ }
+    ensures { λ r. ⌜ r
+        ≡ allBelow 4 (λ i. eqb (byteBefore (16 - i) (now (file .entry))) (getD letters i 0)) ⌝ }
 {
+    let size = file.len();
     let wanted = LETTERS;
     let mut i: usize = 0;
     while i < 4 {
-        if file[at + i] != wanted[i] {
+        if file[size - (TRAILER - i)] != wanted[i] {
             return false;
         }
         i += 1;
@@ -142,11 +150,20 @@ fn size_with(count: u64) -> u64
     (RECORD_SIZE as u64) * count + (END_SIZE as u64)
 }
 
-// A byte as a number of 32 bits.
-fn wide(byte: u8) -> u32
-    ensures { λ r. ⌜ r ≡ byte ⌝ }
+// The byte that stands n bytes before the end of a file.
+fn byte_before(file: &[u8], n: usize) -> u32
+    requires { ⌜ (0 < n) × (n ≤ length (now file)) ⌝ }
+    ensures { λ r. ⌜ r ≡ byteBefore n (now (file .entry)) ⌝ }
 {
-    byte as u32
+    file[file.len() - n] as u32
+}
+
+// The number in the four bytes from n bytes before the end of a file on.
+fn number_before(file: &[u8], n: usize) -> u64
+    requires { ⌜ (4 ≤ n) × (n ≤ length (now file)) ⌝ }
+    ensures { λ r. ⌜ (r ≡ numberBefore n (now (file .entry))) × (r < 2 ^ 32) ⌝ }
+{
+    read32(file, file.len() - n)
 }
 
 // Writes the shape at an offset.
@@ -184,7 +201,7 @@ fn put_trailer(out: &mut [u8], at: usize, count: u64)
 {
     let bytes = LETTERS;
     copy(&bytes, 0, out, at, 4);
-    write32(out, at + SHAPE_DISTANCE, END_SIZE as u64);
-    write32(out, at + FILE_DISTANCE, size_with(count));
-    write32(out, at + COUNT, count);
+    write32(out, at + (TRAILER - SHAPE_DISTANCE), END_SIZE as u64);
+    write32(out, at + (TRAILER - FILE_DISTANCE), size_with(count));
+    write32(out, at + (TRAILER - COUNT), count);
 }

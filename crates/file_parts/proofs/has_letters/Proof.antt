@@ -4,43 +4,46 @@ use mathlib.Core.Path.{_≡_, refl, sym}
 use mathlib.Core.Bool.{true}
 use native.Mathlib.Omega.{arith}
 use native.Mathlib.Numerals.{add-one}
+use borrow.Author.Needs.{needs}
 use borrow.Author.Tests.{eq-eqb, ne-eqb}
 use Rattle.shape.specs.Shape.{allBelow}
 use Rattle.shape.proofs.BoundsLaws.{allBelow-suc, allBelow-fails}
-use Rattle.file_parts.proofs.WholeLaws.{letterAt}
+use Rattle.file_parts.proofs.WholeLaws.{letterStands}
 use Rattle.file_parts.proofs.has_letters.Statement.{statement}
 use Rattle.file_parts.proofs.has_letters.Tie as tie
 
 abbrev Inv-loop : tie.InvT-loop
-Inv-loop file at wanted i₀ i =
-    (i ≤ 4) × (allBelow i (letterAt file at) ≡ true)
+Inv-loop file size wanted i₀ i = (i ≤ 4) × (allBelow i (letterStands file) ≡ true)
 
 abbrev μ-loop : tie.MeasureT-loop
-μ-loop file at wanted i₀ i = 4 - i
+μ-loop file size wanted i₀ i = 4 - i
 
 loop-holds : tie.Need-loop-holds Inv-loop μ-loop
 loop-holds c = (omega arith, refl)
 
-add-if1 : tie.Need-add-if1 Inv-loop μ-loop
-add-if1 c = omega arith
+sub-if1 : tie.Need-sub-if1 Inv-loop μ-loop
+sub-if1 c = search needs
+
+sub-if1-2 : tie.Need-sub-if1-2 Inv-loop μ-loop
+sub-if1-2 c = search needs
 
 shared-slice-read-if1 : tie.Need-shared-slice-read-if1 Inv-loop μ-loop
-shared-slice-read-if1 c = omega arith
+shared-slice-read-if1 c = search needs
 
 array-read-if1 : tie.Need-array-read-if1 Inv-loop μ-loop
-array-read-if1 c = omega arith
+array-read-if1 c = search needs
 
 returns : tie.Need-returns Inv-loop μ-loop
 returns c =
-    let a = c .before .before .before .before .args in
+    let file = c .before .before .before .before .args .file .now in
     let i = c .before .before .before .loop .i in
-    sym (allBelow-fails (letterAt (a .file .now) (a .at)) 4 i (omega arith) (ne-eqb _ _ (c .if1 .taken)))
+    sym (allBelow-fails (letterStands file) 4 i (omega arith) (ne-eqb _ _ (c .if1 .taken)))
 
 add-i : tie.Need-add-i Inv-loop μ-loop
-add-i c = omega arith
+add-i c = search needs
 
 loop-less : tie.Need-loop-less Inv-loop μ-loop
-loop-less c = omega arith
+loop-less c = search needs
 
 loop-again : tie.Need-loop-again Inv-loop μ-loop
 loop-again c =
@@ -60,7 +63,8 @@ has-letters-spec =
     Inv-loop
     μ-loop
     loop-holds
-    add-if1
+    sub-if1
+    sub-if1-2
     shared-slice-read-if1
     array-read-if1
     returns

@@ -1,10 +1,9 @@
 -- `file_parts::is_plain` meets its contract: the unused widths below j are 0, and 4 - j falls. Assumes nothing.
 use Prim.Native.Nat.{_-_, _≤_}
-use mathlib.Core.Path.{_≡_, sym, ap, _∙_}
+use mathlib.Core.Path.{_≡_, sym, _∙_}
 use mathlib.Core.Bool.{true}
 use native.Mathlib.Omega.{arith}
 use native.Mathlib.Numerals.{add-one}
-use lib.ListN.{length, getD}
 use borrow.Author.Needs.{needs}
 use borrow.Author.Tests.{eq-eqb}
 use Rattle.shape.specs.Shape.{allBelow, shapeNumber}
@@ -16,11 +15,11 @@ use Rattle.file_parts.proofs.is_plain.Statement.{statement}
 use Rattle.file_parts.proofs.is_plain.Tie as tie
 
 abbrev Inv-loop : tie.InvT-loop
-Inv-loop file last shape widths j₀ j =
+Inv-loop file shape widths j₀ j =
     (shape .attributes ≤ j) × (j ≤ 4) × (allBelow j (plainWidth (shape .attributes) widths) ≡ true)
 
 abbrev μ-loop : tie.MeasureT-loop
-μ-loop file last shape widths j₀ j = 4 - j
+μ-loop file shape widths j₀ j = 4 - j
 
 bound : (c : tie.After-shape-in Inv-loop μ-loop) → c .shape-in .result .attributes ≤ 4
 bound c =
@@ -28,20 +27,13 @@ bound c =
     let number : shapeNumber shape ≡ 0 = rw (c .shape-in .ensures) (c .before .before .before .before .pre .1) in
     attributes-le shape (inBounds-of shape number)
 
-sub-last : tie.Need-sub-last Inv-loop μ-loop
-sub-last c = search needs
-
-sub-last-2 : tie.Need-sub-last-2 Inv-loop μ-loop
-sub-last-2 c = search needs
-
-shared-slice-read-if1 : tie.Need-shared-slice-read-if1 Inv-loop μ-loop
-shared-slice-read-if1 c = search needs
+byte-before-requires : tie.Need-byte-before-requires Inv-loop μ-loop
+byte-before-requires c κs = search needs
 
 returns : tie.Need-returns Inv-loop μ-loop
 returns c =
-    let file = c .before .before .before .args .file .now in
-    let place : length file - 16 - 1 ≡ length file - 17 = omega arith in
-    sym (isPlain-last file (λ e. c .if1 .taken (ap (λ i. getD file i 0) place ∙ e)))
+    let call = c .before in
+    sym (isPlain-last (call .before .before .args .file .now) (λ e. c .if1 .taken (call .byte-before .ensures ∙ e)))
 
 shape-in-requires : tie.Need-shape-in-requires Inv-loop μ-loop
 shape-in-requires c κs = search needs
@@ -64,9 +56,9 @@ returns-2 : tie.Need-returns-2 Inv-loop μ-loop
 returns-2 c =
     let loop = c .before .before in
     let call = loop .before .before .before in
+    let shape = call .shape-in .result in
     let file = call .before .before .before .before .args .file .now in
-    sym (isPlain-width file (call .shape-in .result) (call .shape-in .ensures) (loop .loop .j) (omega arith) (omega arith)
-    (c .if2 .taken))
+    sym (isPlain-width file shape (call .shape-in .ensures) (loop .loop .j) (omega arith) (omega arith) (c .if2 .taken))
 
 add-j : tie.Need-add-j Inv-loop μ-loop
 add-j c = search needs
@@ -78,21 +70,22 @@ loop-again : tie.Need-loop-again Inv-loop μ-loop
 loop-again c =
     let loop = c .before .before .loop in
     let shape = c .before .before .before .before .before .shape-in .result in
-    let zero = plainWidth-unused (shape .attributes) (shape .widths) (loop .j) (loop .inv .0) ∙ eq-eqb _ _ (c .if2 .left) in
-    (omega arith, omega arith, rw (add-one (loop .j)) (allBelow-suc _ (loop .j) (loop .inv .2) zero))
+    let unused = plainWidth-unused (shape .attributes) (shape .widths) (loop .j) (loop .inv .0) in
+    let plain = unused ∙ eq-eqb _ _ (c .if2 .left) in
+    (omega arith, omega arith, rw (add-one (loop .j)) (allBelow-suc _ (loop .j) (loop .inv .2) plain))
 
 shr-result : tie.Need-shr-result Inv-loop μ-loop
 shr-result c = omega (arith, bound (c .before .before .before .before .before))
 
 returns-3 : tie.Need-returns-3 Inv-loop μ-loop
 returns-3 c =
-    let loop = c .before .before in
-    let call = loop .before .before .before in
-    let file = call .before .before .before .before .args .file .now in
-    let place : length file - 16 - 1 ≡ length file - 17 = omega arith in
-    let last = sym (ap (λ i. getD file i 0) place) ∙ call .before .if1 .left in
-    let end : loop .loop .j ≡ 4 = omega arith in
-    sym (isPlain-marks file (call .shape-in .result) (call .shape-in .ensures) last (rw end at (loop .loop .inv .2)))
+    let loop = c .before .before .loop in
+    let call = c .before .before .before .before .before in
+    let first = call .before .before in
+    let file = first .before .before .args .file .now in
+    let last = sym (first .byte-before .ensures) ∙ call .before .if1 .left in
+    let end : loop .j ≡ 4 = omega arith in
+    sym (isPlain-marks file (call .shape-in .result) (call .shape-in .ensures) last (rw end at (loop .inv .2)))
 
 pub is-plain-spec : {M : Type 1} → statement M
 is-plain-spec =
@@ -100,9 +93,7 @@ is-plain-spec =
     (tie.spec
     Inv-loop
     μ-loop
-    sub-last
-    sub-last-2
-    shared-slice-read-if1
+    byte-before-requires
     returns
     shape-in-requires
     cast-j

@@ -11,11 +11,17 @@ slice-aggregate-copy c = search needs
 copy-requires : tie.Need-copy-requires
 copy-requires c κs = search needs
 
+sub-write32 : tie.Need-sub-write32
+sub-write32 c = search needs
+
 add-write32 : tie.Need-add-write32
 add-write32 c = search needs
 
 write32-requires : tie.Need-write32-requires
 write32-requires c κs = search needs
+
+sub-write32-2 : tie.Need-sub-write32-2
+sub-write32-2 c = search needs
 
 add-write32-2 : tie.Need-add-write32-2
 add-write32-2 c = search needs
@@ -25,6 +31,9 @@ size-with-requires c κs = search needs
 
 write32-requires-2 : tie.Need-write32-requires-2
 write32-requires-2 c κs = search needs
+
+sub-write32-3 : tie.Need-sub-write32-3
+sub-write32-3 c = search needs
 
 add-write32-3 : tie.Need-add-write32-3
 add-write32-3 c = search needs
@@ -52,11 +61,14 @@ put-trailer-spec =
     (tie.spec
     slice-aggregate-copy
     copy-requires
+    sub-write32
     add-write32
     write32-requires
+    sub-write32-2
     add-write32-2
     size-with-requires
     write32-requires-2
+    sub-write32-3
     add-write32-3
     write32-requires-3
     same-length

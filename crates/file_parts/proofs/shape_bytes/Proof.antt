@@ -45,15 +45,16 @@ cast-t9 c =
 
 cast-t10 : tie.Need-cast-t10
 cast-t10 c =
-    let bound = attributes-bound (c .before .before .before .before .before .before .before .before) in
-    record { fits = marks-lt _ _ _ (c .before .before .before .before .before .before .marks-below .ensures) (omega (arith, bound)) }
+    let call = c .before .before .before .before .before .before in
+    let bound = attributes-bound (call .before .before) in
+    record { fits = marks-lt _ _ _ (call .marks-below .ensures) (omega (arith, bound)) }
 
 returns : tie.Need-returns
 returns c =
-    let marks = c .before .before .before .before .before .before in
-    let shape = marks .before .before .args .shape in
+    let call = c .before .before .before .before .before .before in
+    let shape = call .before .before .args .shape in
     λ i. shape .attributes
-    ∷ (marks .before .widths-of .ensures i ++ shape .capacity ∷ marks .marks-below .ensures i ∷ 0 ∷ [])
+    ∷ (call .before .widths-of .ensures i ++ shape .capacity ∷ call .marks-below .ensures i ∷ 0 ∷ [])
 
 pub shape-bytes-spec : {M : Type 1} → statement M
 shape-bytes-spec =
