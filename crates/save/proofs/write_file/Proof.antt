@@ -15,8 +15,8 @@ cast-capacity c = search needs
 count-records-requires : tie.Need-count-records-requires
 count-records-requires c κs = search needs
 
-mul-size : tie.Need-mul-size
-mul-size c = search needs
+mul-end : tie.Need-mul-end
+mul-end c = search needs
 
 add-size : tie.Need-add-size
 add-size c = search needs
@@ -62,7 +62,7 @@ write-file-spec =
     (tie.spec
     cast-capacity
     count-records-requires
-    mul-size
+    mul-end
     add-size
     returns
     put-whole-requires
