@@ -78,7 +78,8 @@ fn write_file(shape: Shape, pages: &[u8], list: &[u32], n: usize, out: &mut [u8]
 {
     let capacity = shape.capacity as usize;
     let total = count_records(pages, capacity, list, n);
-    let size = RECORD_SIZE * total + END_SIZE;
+    let end = RECORD_SIZE * total;
+    let size = end + END_SIZE;
     if out.len() < size {
         return Saved::Refused(2);
     }

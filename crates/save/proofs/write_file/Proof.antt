@@ -1,5 +1,6 @@
 -- `save::write_file` meets its contract: a law for each way that it ends. Assumes nothing.
 use mathlib.Core.List.{flatMap}
+use native.Mathlib.Omega.{arith}
 use lib.ListN.{take}
 use Rattle.query_records.specs.Records.{pageFields}
 use Rattle.file.specs.Answers.{savedAnswer}
@@ -14,8 +15,8 @@ cast-capacity c = search needs
 count-records-requires : tie.Need-count-records-requires
 count-records-requires c κs = search needs
 
-mul-size : tie.Need-mul-size
-mul-size c = search needs
+mul-end : tie.Need-mul-end
+mul-end c = search needs
 
 add-size : tie.Need-add-size
 add-size c = search needs
@@ -26,13 +27,19 @@ returns c =
     let counted = c .before in
     let a = counted .before .before .before .before .before .args in
     filed-short (a .shape) (flatMap (pageFields (a .shape .capacity) (a .pages .now)) (take (a .n) (a .list .now)))
-    (a .out .now) _ (counted .count-records .ensures .0) (c .if1 .taken)
+    (a .out .now) _ (counted .count-records .ensures .0) (omega (arith, c .if1 .taken))
 
 put-whole-requires : tie.Need-put-whole-requires
 put-whole-requires c κs = search needs
 
+-- the whole file fits
 put-end-requires : tie.Need-put-end-requires
-put-end-requires c κs = search needs
+put-end-requires c κs =
+    let put = c .before .before .before in
+    let test = put .before .before in
+    let counted = test .before in
+    let s = counted .before .before .before .before .before in
+    (s .pre .0, counted .count-records .ensures .1, omega (arith, test .if1 .left, put .put-whole .kept .1 .1 .1 .1 .0))
 
 same-length : tie.Need-same-length
 same-length c = search needs
@@ -46,7 +53,7 @@ returns-2 c =
     let counted = test .before in
     let a = counted .before .before .before .before .before .args in
     filed-fits (a .shape) (flatMap (pageFields (a .shape .capacity) (a .pages .now)) (take (a .n) (a .list .now)))
-    (a .out .now) _ (counted .count-records .ensures .0) (test .if1 .left) _ (put .put-whole .ensures .bytes) _
+    (a .out .now) _ (counted .count-records .ensures .0) (omega (arith, test .if1 .left)) _ (put .put-whole .ensures .bytes) _
     (ended .put-end .ensures)
 
 pub write-file-spec : {M : Type 1} → statement M
@@ -55,7 +62,7 @@ write-file-spec =
     (tie.spec
     cast-capacity
     count-records-requires
-    mul-size
+    mul-end
     add-size
     returns
     put-whole-requires
