@@ -1,1 +1,8 @@
+pub mod EndLaws
+pub mod Example
+pub mod FileLaws
+pub mod FreshLaws
+pub mod LeafLaws
 pub mod PlainLaws
+pub mod SoundLaws
+pub mod WrittenLaws
