@@ -1,3 +1,4 @@
+pub mod ByteLaws
 pub mod EndLaws
 pub mod Example
 pub mod FileLaws
