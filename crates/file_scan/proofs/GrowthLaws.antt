@@ -24,8 +24,8 @@ use Rattle.region.proofs.DivideLaws.{divide-leaf, greatestDepth-divide-le}
 use Rattle.region.proofs.StringLeafLaws.{leafDepth-le, leafDepth-same, leafRecords-same, leafRecords-divide}
 use Rattle.region.proofs.StringLeafLaws.{divided-of-lt-leafDepth, lt-leafDepth-of-divided}
 use Rattle.key_order.proofs.FirstLaws.{sameBits-commonBits}
-use Rattle.file_scan.specs.Scan.{StepsOf, startsBy, depthAt, startsLeaf, leavesWith}
-use Rattle.file_scan.proofs.WindowLaws.{before-getD, absent-getD, insert-getD, leb-withPrefix-window}
+use Rattle.file_scan.specs.Scan.{startsBy, depthAt, startsLeaf, leavesWith}
+use Rattle.file_scan.proofs.WindowLaws.{StepsOf, before-getD, absent-getD, insert-getD, leb-withPrefix-window}
 use Rattle.file_scan.proofs.RisingLaws.{sorted-take}
 use Rattle.file_scan.proofs.MetLaws.{nonEmptyLeaves-insert-met}
 

@@ -1,9 +1,9 @@
--- Laws of a set's records, each of which joins those before it in split order, as a load lets them: the set grows by the
--- record, 4 never holds, leaves never become fewer; 6 and 7 of one record and of all; and the main law, that the scan by
+-- Laws of a set's records, each of which joins those before it in split order, as in a load: the set with the record, 4
+-- never holds, leaves never become fewer; 6 and 7 of one record and of all; and the main law, that the scan by
 -- neighbours finds them. Assumes nothing.
 use Prim.Native.Nat.{ℕ, zero, suc, _+_, _-_, _≤_, _<_}
 use mathlib.Core.Path.{_≡_, refl, sym, ap, _∙_}
-use mathlib.Core.Bool.{true, false, cond}
+use mathlib.Core.Bool.{true, false}
 use mathlib.Core.List.{List, [], _∷_, _++_}
 use mathlib.Core.Logic.{_⊎_, inl, inr}
 use native.Mathlib.Nat.{add-zero}
@@ -31,11 +31,15 @@ use Rattle.model.proofs.SetLaws.{sorted-of-isSet, inShape-of-isSet, isSet-of-pa
 use Rattle.model.proofs.ConditionLaws.{firstNumber-rest, firstNumber-none}
 use Rattle.model.proofs.AddRefusalLaws.{addNumber-new}
 use Rattle.file.specs.Loading.{joinConditions}
-use Rattle.file_scan.specs.Scan.{StepsOf, depthAt, leavesWith, scanConditions}
+use Rattle.file_scan.specs.Scan.{depthAt, leavesWith, scanConditions}
 use Rattle.file_scan.proofs.RisingLaws.{all-take, sorted-take}
-use Rattle.file_scan.proofs.WindowLaws.{absent-getD, insert-getD}
+use Rattle.file_scan.proofs.WindowLaws.{StepsOf, absent-getD, insert-getD}
 use Rattle.file_scan.proofs.MetLaws.{nonEmptyLeaves-insert-met}
 use Rattle.file_scan.proofs.GrowthLaws.{leb-withPrefix-depthAt, nonEmptyLeaves-take-suc}
+
+-- stands past the end of a list, and is never looked at
+abbrev pub past : Record
+past = record { key = []; content = record { payload = 0 } }
 
 -- ---- the first records of a set
 
@@ -64,10 +68,6 @@ module _ (s : Shape) (S : List Record) (set : isSet s S ≡ true) where
     -- the non-empty leaves of the first i
     abbrev leavesTo : ℕ → ℕ
     leavesTo i = nonEmptyLeaves (divisionOf s (take i S))
-
-    -- stands past the end, and is never looked at
-    abbrev past : Record
-    past = record { key = []; content = record { payload = 0 } }
 
     leaves-suc : (i : ℕ) → i < length S → leavesTo i ≤ leavesTo (suc i)
     unfolding divisionOf

@@ -21,9 +21,13 @@ use Rattle.region.proofs.StringLaws.{sameBits-refl, sameBits-comm, sameBits-joi
 use Rattle.key_order.specs.Order.{commonBits}
 use Rattle.key_order.proofs.FirstLaws.{sameBits-commonBits, sameBits-between}
 use Rattle.page_place.proofs.SortedLaws.{all-getD}
-use Rattle.file_scan.specs.Scan.{StepsOf}
 use Rattle.file_scan.proofs.RisingLaws.{all-append-split, all-take, sorted-append-split, sorted-take}
 use Rattle.file_scan.proofs.RisingLaws.{insert-last, absent-last}
+
+-- `step i j` is the first of W split steps in which the records at i and j differ; W where they do not
+abbrev pub StepsOf : {R : Type 0} → (R → ℕ → Bool) → ℕ → R → List R → (ℕ → ℕ → ℕ) → Type 0
+StepsOf bit W none S step =
+    (i j : ℕ) → i < length S → j < length S → step i j ≡ commonBits (bit (getD S i none)) (bit (getD S j none)) W 0
 
 or-left : (α β : Bool) → α ≡ true → (α || β) ≡ true
 or-left α β e = rw e

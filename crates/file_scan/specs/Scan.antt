@@ -1,29 +1,19 @@
 -- The scan of records in split order, each of which joins those before it: 6 and 7 by the first split steps in which
 -- neighbours differ, none further apart than b places (document 02, request 5: "6 and 7 at the first record that meets
 -- them"). Assumes nothing.
-use Prim.Native.Nat.{ℕ, zero, suc, _+_, _-_, _<_}
-use mathlib.Core.Path.{_≡_}
+use Prim.Native.Nat.{ℕ, zero, suc, _+_, _-_}
 use mathlib.Core.Bool.{Bool, _&&_, _||_, cond}
 use mathlib.Core.List.{List, [], _∷_}
 use lib.Dec.{leb, ltb, eqb}
-use lib.ListN.{length, getD}
 use Rattle.shape.specs.Refusal.{Condition, refusal}
 use Rattle.record.specs.Packed.{unpackedKey}
-use Rattle.key_order.specs.Order.{commonBits, firstStep}
+use Rattle.key_order.specs.Order.{firstStep}
 use Rattle.file.specs.File.{encodingsAt}
 
--- ---- the steps in which records differ
-
--- `step i j` is the first of W split steps in which the records at i and j differ; W where they do not
-abbrev pub StepsOf : {R : Type 0} → (R → ℕ → Bool) → ℕ → R → List R → (ℕ → ℕ → ℕ) → Type 0
-StepsOf bit W none S step =
-    (i j : ℕ) → i < length S → j < length S → step i j ≡ commonBits (bit (getD S i none)) (bit (getD S j none)) W 0
-
--- the steps of a file's records, by the widths and the bias that a shape adds to its values
+-- the first split step in which records i and j of a file differ, by the widths and the bias that a shape adds to its
+-- values; W where they do not
 abbrev pub fileStep : List ℕ → ℕ → List ℕ → ℕ → ℕ → ℕ
 fileStep ws bias file i j = firstStep ws (unpackedKey (encodingsAt bias file i)) (unpackedKey (encodingsAt bias file j))
-
--- ---- the scan
 
 -- record i starts one non-empty leaf more: it is the first; or it lies outside the leaf of depth x that record i − 1
 -- lies in, as they differ at step `near`; or that leaf is divided, as it is full: record i − b, which differs from
@@ -31,11 +21,13 @@ fileStep ws bias file i j = firstStep ws (unpackedKey (encodingsAt bias file i))
 abbrev pub startsBy : ℕ → ℕ → ℕ → ℕ → ℕ → Bool
 startsBy b i x near far = eqb i 0 || (ltb near x || (leb b i && leb x far))
 
+-- `step i j` is the first split step in which records i and j differ; a leaf has b records at most
 module _ (step : ℕ → ℕ → ℕ) (b : ℕ) where
   -- the depth of record i's leaf among the first i + 1: b + 1 of them do not share one
   abbrev pub depthAt : ℕ → ℕ
   depthAt i = cond (ltb i b) 0 (suc (step (i - b) i))
 
+  -- record i starts one more than the i before it have
   abbrev pub startsLeaf : ℕ → Bool
   startsLeaf i = startsBy b i (depthAt (i - 1)) (step (i - 1) i) (step (i - b) (i - 1))
 
