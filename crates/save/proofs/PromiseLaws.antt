@@ -9,7 +9,7 @@ use native.Mathlib.Omega.{arith}
 use lib.ListN.{length, drop, length-map}
 use borrow.Author.Tests.{lt-ltb, le-ltb}
 use Rattle.lists.specs.Members.{All}
-use Rattle.shape.specs.Refusal.{Answer, accepted, refused, answered, firstNumber}
+use Rattle.shape.specs.Refusal.{Answer, accepted, refused, answered}
 use Rattle.shape.specs.declared.Shape.{Shape}
 use Rattle.record.specs.Record.{Record}
 use Rattle.record.specs.Bytes.{recordOf, recordsBytes}
@@ -23,18 +23,9 @@ use Rattle.refusals.proofs.LentLaws.{lentNumber-by}
 use Rattle.list_call.proofs.LentLaws.{lentNumberBy-sound}
 use Rattle.file.specs.File.{fileSize, endBytes, fileOf}
 use Rattle.file.specs.Promises.{SavePromise, everyLeaf, fitNumber}
+use Rattle.file.proofs.FitLaws.{fitNumber-short, fitNumber-fits}
 use Rattle.save.specs.Private.{withFile, Filed}
 use Rattle.save.proofs.OutputLaws.{length-records, withFile-bytes}
-
--- ---- the fit of a set's file
-
-fitNumber-short : (S : List Record) (out : List ℕ) → length out < fileSize (length S) → fitNumber S out ≡ 2
-unfolding firstNumber
-fitNumber-short S out l = rw (lt-ltb (length out) (fileSize (length S)) l)
-
-fitNumber-fits : (S : List Record) (out : List ℕ) → fileSize (length S) ≤ length out → fitNumber S out ≡ 0
-unfolding firstNumber
-fitNumber-fits S out l = rw (le-ltb (length out) (fileSize (length S)) l)
 
 module _ (st : State) (words bytes out : List ℕ) where
   abbrev here : Store
