@@ -1,6 +1,8 @@
+pub mod ByteLaws
 pub mod EndLaws
 pub mod Example
 pub mod FileLaws
+pub mod FitLaws
 pub mod FreshLaws
 pub mod LeafLaws
 pub mod PlainLaws

@@ -5,7 +5,6 @@ use mathlib.Core.List.{List, _++_}
 use native.Mathlib.Omega.{arith}
 use native.Mathlib.Nat.{mod-lt}
 use lib.ListN.{length}
-use lib.Pow.{pow-pos, pow-mono}
 use lib.Seq.{paste}
 use Rattle.moves.proofs.PasteLaws.{paste-paste}
 use Rattle.shape.specs.declared.Shape.{Shape}
@@ -13,10 +12,9 @@ use Rattle.shape.specs.Shape.{widthsOf}
 use Rattle.record.specs.Bytes.{littleEndian}
 use Rattle.file.specs.File.{letters, endSize, fileSize, shapeBytes, trailerBytes, endBytes}
 
--- the marks of at most four attributes fit a byte
-pub marks-lt : (signs d marks : ℕ) → marks ≡ signs % 2 ^ d → d ≤ 4 → marks < 256
-marks-lt signs d marks e h =
-    omega (arith, mod-lt signs {m = 2 ^ d} (pow-pos d), pow-mono {j = 4} h)
+-- marks below 2^4, or a lower power, fit a byte
+pub marks-lt : (signs power marks : ℕ) → marks ≡ signs % power → 0 < power → power ≤ 2 ^ 4 → marks < 2 ^ 8
+marks-lt signs power marks e p h = omega (arith, mod-lt signs p)
 
 -- a run written behind a run
 behind : (a b c : List ℕ) (at : ℕ) (ys zs : List ℕ) (n m : ℕ) → length ys ≡ n → m ≤ length zs → at + n ≤ length a

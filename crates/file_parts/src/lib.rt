@@ -21,22 +21,29 @@ ghost use Rattle.file.specs.File.{byteBefore, numberBefore, fileCount, fileShap
 // The letters M, D, E, H, with which the trailer begins.
 const LETTERS: [u8; 4] = [0x4d, 0x44, 0x45, 0x48];
 
-// How far before the end of a file its parts begin, behind the shape's first byte at END_SIZE: the
-// widths, b, the marks and the shape's last byte; the trailer and its numbers.
+// How far before the end of a file its parts begin, the first one, the shape, at END_SIZE. The
+// widths, behind d.
 const WIDTHS: usize = 23;
 
+// The page capacity b.
 const CAPACITY: usize = 19;
 
+// The marks of signed attributes.
 const MARKS: usize = 18;
 
+// The last byte of the shape, 0.
 const LAST: usize = 17;
 
+// The trailer, with the letters first.
 const TRAILER: usize = 16;
 
+// The distance back to the shape.
 const SHAPE_DISTANCE: usize = 12;
 
+// The distance back to the first byte of the file.
 const FILE_DISTANCE: usize = 8;
 
+// The record count.
 const COUNT: usize = 4;
 
 // The bytes of the shape.

@@ -1,4 +1,4 @@
-// The records of the pages that a query's walk noted, written into the output (document 01,
+// The records of the pages that a walk noted, counted, or written into the output (document 01,
 // "Calls"): all of them, or those that match.
 use page::count;
 use page::page_size;

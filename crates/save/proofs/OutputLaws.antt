@@ -69,7 +69,8 @@ module _ (s : Shape) (fs : List (List ℕ)) (out : List ℕ) (total : ℕ) (coun
       record { replied = rw short refl; left = rw short refl }
 
   pub filed-fits : fileSize total ≤ length out → (put : List ℕ) → put ≡ emit out 0 fs → (out′ : List ℕ)
-      → out′ ≡ paste put (recordSize * total) (endBytes s total) endSize → Filed s fs out (accepted (fileSize total)) out′
+      → out′ ≡ paste put (recordSize * total) (endBytes s total) endSize
+      → Filed s fs out (accepted (fileSize total)) out′
   unfolding withFile
   filed-fits l put e out′ d =
       let fit = le-ltb (length out) (fileSize (length fs)) (omega (arith, l, counted)) in

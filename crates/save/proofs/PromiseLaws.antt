@@ -9,7 +9,7 @@ use native.Mathlib.Omega.{arith}
 use lib.ListN.{length, drop, length-map}
 use borrow.Author.Tests.{lt-ltb, le-ltb}
 use Rattle.lists.specs.Members.{All}
-use Rattle.shape.specs.Refusal.{Answer, accepted, refused, answered, firstNumber}
+use Rattle.shape.specs.Refusal.{Answer, accepted, refused, answered}
 use Rattle.shape.specs.declared.Shape.{Shape}
 use Rattle.record.specs.Record.{Record}
 use Rattle.record.specs.Bytes.{recordOf, recordsBytes}
@@ -23,18 +23,9 @@ use Rattle.refusals.proofs.LentLaws.{lentNumber-by}
 use Rattle.list_call.proofs.LentLaws.{lentNumberBy-sound}
 use Rattle.file.specs.File.{fileSize, endBytes, fileOf}
 use Rattle.file.specs.Promises.{SavePromise, everyLeaf, fitNumber}
+use Rattle.file.proofs.FitLaws.{fitNumber-short, fitNumber-fits}
 use Rattle.save.specs.Private.{withFile, Filed}
 use Rattle.save.proofs.OutputLaws.{length-records, withFile-bytes}
-
--- ---- the fit of a set's file
-
-fitNumber-short : (S : List Record) (out : List ℕ) → length out < fileSize (length S) → fitNumber S out ≡ 2
-unfolding firstNumber
-fitNumber-short S out l = rw (lt-ltb (length out) (fileSize (length S)) l)
-
-fitNumber-fits : (S : List Record) (out : List ℕ) → fileSize (length S) ≤ length out → fitNumber S out ≡ 0
-unfolding firstNumber
-fitNumber-fits S out l = rw (le-ltb (length out) (fileSize (length S)) l)
 
 module _ (st : State) (words bytes out : List ℕ) where
   abbrev here : Store
@@ -76,73 +67,74 @@ module _ (st : State) (words bytes out : List ℕ) where
       saved-as = λ S h. absurd (unsound S h);
     }
 
-    module _ (fs : List (List ℕ)) (model : (S : List Record) → SoundWhere here everyLeaf S → map (recordOf shape) fs ≡ S)
-      where
-        same-count : (S : List Record) → SoundWhere here everyLeaf S → length S ≡ length fs
-        same-count S h = ap length (sym (model S h)) ∙ length-map fs (recordOf shape)
+    -- the records that are saved, as their bytes
+    module _ (fs : List (List ℕ))
+        (model : (S : List Record) → SoundWhere here everyLeaf S → map (recordOf shape) fs ≡ S) where
+      same-count : (S : List Record) → SoundWhere here everyLeaf S → length S ≡ length fs
+      same-count S h = ap length (sym (model S h)) ∙ length-map fs (recordOf shape)
 
-        -- ---- refused with 2
+      -- ---- refused with 2
 
-        pub promise-short : length out < fileSize (length fs) → SavePromise here out (refused 2) out
-        promise-short l = record {
+      pub promise-short : length out < fileSize (length fs) → SavePromise here out (refused 2) out
+      promise-short l = record {
+        early-refused = λ m d. absurd (omega (arith, none-early, d));
+        unchanged = λ m d. refl;
+        ordinary = λ d. inr (inl refl);
+        saved-as = λ S h.
+            let none-fit = fitNumber-short S out (omega (arith, l, same-count S h)) in
+            rw none-fit (refl, refl);
+      }
+
+      -- ---- accepted
+
+      module _ (whole : All IsField fs) (fits : fileSize (length fs) ≤ length out) where
+        file-written : (S : List Record) → map (recordOf shape) fs ≡ S → length S ≡ length fs
+            → withFile shape fs out ≡ fileOf shape S ++ drop (fileSize (length S)) out
+        unfolding fileOf
+        file-written S e n =
+            withFile-bytes shape fs whole out fits S e
+            ∙ (λ i. recordsBytes shape S
+            ++ (endBytes shape (sym n i) ++ drop (fileSize (sym n i)) out))
+            ∙ sym (append-assoc (recordsBytes shape S) (endBytes shape (length S)) (drop (fileSize (length S)) out))
+
+        saved : (S : List Record) → SoundWhere here everyLeaf S
+            → SavedAs S (accepted (fileSize (length fs))) (withFile shape fs out)
+        saved S h =
+            let n = same-count S h in
+            let fit = fitNumber-fits S out (omega (arith, fits, n)) in
+            rw fit (ap (λ k. accepted (fileSize k)) (sym n), file-written S (model S h) n)
+
+        pub promise-saved : SavePromise here out (accepted (fileSize (length fs))) (withFile shape fs out)
+        promise-saved = record {
           early-refused = λ m d. absurd (omega (arith, none-early, d));
-          unchanged = λ m d. refl;
-          ordinary = λ d. inr (inl refl);
-          saved-as = λ S h.
-              let none-fit = fitNumber-short S out (omega (arith, l, same-count S h)) in
-              rw none-fit (refl, refl);
+          unchanged = λ m d. let z : false ≡ true = cc in absurd (false≢true z);
+          ordinary = λ d. inl (
+            length fs,
+            recordsBytes shape (map (recordOf shape) fs),
+            refl,
+            fits,
+            length-records shape fs whole out fits (map (recordOf shape) fs) refl,
+            withFile-bytes shape fs whole out fits (map (recordOf shape) fs) refl,
+          );
+          saved-as = saved;
         }
 
-        -- ---- accepted
+      -- ---- both
 
-        module _ (whole : All IsField fs) (fits : fileSize (length fs) ≤ length out) where
-          file-written : (S : List Record) → map (recordOf shape) fs ≡ S → length S ≡ length fs
-              → withFile shape fs out ≡ fileOf shape S ++ drop (fileSize (length S)) out
-          unfolding fileOf
-          file-written S e n =
-              withFile-bytes shape fs whole out fits S e
-              ∙ (λ i. recordsBytes shape S
-              ++ (endBytes shape (sym n i) ++ drop (fileSize (sym n i)) out))
-              ∙ sym (append-assoc (recordsBytes shape S) (endBytes shape (length S)) (drop (fileSize (length S)) out))
+      pub promise-filed : All IsField fs → (answer : Answer ℕ) (out′ : List ℕ) → Filed shape fs out answer out′
+          → SavePromise here out answer out′
+      promise-filed whole answer out′ f = go (decLt (length out) (fileSize (length fs)))
+        where
+          as-is : (a : Answer ℕ) (o : List ℕ) → answer ≡ a → out′ ≡ o → SavePromise here out a o
+              → SavePromise here out answer out′
+          as-is a o e d p = rw (e, d) p
 
-          saved : (S : List Record) → SoundWhere here everyLeaf S
-              → SavedAs S (accepted (fileSize (length fs))) (withFile shape fs out)
-          saved S h =
-              let n = same-count S h in
-              let fit = fitNumber-fits S out (omega (arith, fits, n)) in
-              rw fit (ap (λ k. accepted (fileSize k)) (sym n), file-written S (model S h) n)
-
-          pub promise-saved : SavePromise here out (accepted (fileSize (length fs))) (withFile shape fs out)
-          promise-saved = record {
-            early-refused = λ m d. absurd (omega (arith, none-early, d));
-            unchanged = λ m d. let z : false ≡ true = cc in absurd (false≢true z);
-            ordinary = λ d. inl (
-              length fs,
-              recordsBytes shape (map (recordOf shape) fs),
-              refl,
-              fits,
-              length-records shape fs whole out fits (map (recordOf shape) fs) refl,
-              withFile-bytes shape fs whole out fits (map (recordOf shape) fs) refl,
-            );
-            saved-as = saved;
-          }
-
-        -- ---- both
-
-        pub promise-filed : All IsField fs → (answer : Answer ℕ) (out′ : List ℕ) → Filed shape fs out answer out′
-            → SavePromise here out answer out′
-        promise-filed whole answer out′ f = go (decLt (length out) (fileSize (length fs)))
-          where
-            as-is : (a : Answer ℕ) (o : List ℕ) → answer ≡ a → out′ ≡ o → SavePromise here out a o
-                → SavePromise here out answer out′
-            as-is a o e d p = rw (e, d) p
-
-            go : Dec (length out < fileSize (length fs)) → SavePromise here out answer out′
-            go (yes l) =
-                let short = lt-ltb (length out) (fileSize (length fs)) l in
-                as-is (refused 2) out (f .replied ∙ rw short refl) (f .left ∙ rw short refl) (promise-short l)
-            go (no l) =
-                let long : fileSize (length fs) ≤ length out = omega arith in
-                let fit = le-ltb (length out) (fileSize (length fs)) long in
-                as-is (accepted (fileSize (length fs))) (withFile shape fs out)
-                (f .replied ∙ rw fit refl) (f .left ∙ rw fit refl) (promise-saved whole long)
+          go : Dec (length out < fileSize (length fs)) → SavePromise here out answer out′
+          go (yes l) =
+              let short = lt-ltb (length out) (fileSize (length fs)) l in
+              as-is (refused 2) out (f .replied ∙ rw short refl) (f .left ∙ rw short refl) (promise-short l)
+          go (no l) =
+              let long : fileSize (length fs) ≤ length out = omega arith in
+              let fit = le-ltb (length out) (fileSize (length fs)) long in
+              as-is (accepted (fileSize (length fs))) (withFile shape fs out)
+              (f .replied ∙ rw fit refl) (f .left ∙ rw fit refl) (promise-saved whole long)

@@ -29,9 +29,10 @@ ghost use Rattle.file.specs.Answers.{savedAnswer};
 ghost use Rattle.file.specs.Promises.{SavePromise};
 ghost use Rattle.save.specs.Private.{Filed, freeBits};
 
-// Writes the file of the store's records from the output's first byte on, and returns how many bytes
-// it has; the bytes behind it stay. Refused with 1, 2 (slices or output too short) or 9, the first
-// that holds in this order; a refused call leaves the output as it came. Writes nothing in the store.
+// Writes the file of the store's records from the output's first byte on, and returns how many
+// bytes it has; the bytes behind it stay. Refused with 1, 2 for short slices, 9, or 2 for an output
+// shorter than the file, the first that holds in this order; a refused call leaves the output as it
+// came. Writes nothing in the store.
 pub fn save(state: State, dir: &[u32], pages: &[u8], out: &mut [u8]) -> Saved
     ensures { λ r. ⌜ SavePromise (store state (now (dir .entry)) (now (pages .entry))) (now (out .entry))
         (savedAnswer r) (now (out .exit)) ⌝ }
@@ -58,12 +59,7 @@ fn note_all(state: State, dir: &[u32], pages: &[u8], list: &mut [u32]) -> Noted
         (now (list .exit)) ⌝ }
 {
     let mut rows = [0u64; TABLE];
-    fill_rows(
-        state.shape,
-        free_query(),
-        state.deepest as usize,
-        &mut rows,
-    );
+    fill_rows(state.shape, free_query(), state.deepest as usize, &mut rows);
     fill_limits(state, &mut rows);
     note_pages(state, &rows, dir, pages, list)
 }

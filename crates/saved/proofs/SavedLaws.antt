@@ -2,12 +2,10 @@
 -- the file back. Assumes nothing.
 use Prim.Native.Nat.{ℕ, zero, suc, _≤_, _<_}
 use mathlib.Core.Path.{_≡_, refl, sym, ap, subst, _∙_}
-use mathlib.Core.Bool.{cond}
 use mathlib.Core.List.{List, _++_}
 use lib.ListN.{length, take, drop}
 use lib.Seq.{take-at}
-use borrow.Author.Tests.{lt-ltb, le-ltb}
-use Rattle.shape.specs.Refusal.{Answer, accepted, answered, firstNumber}
+use Rattle.shape.specs.Refusal.{Answer, accepted, answered}
 use Rattle.shape.proofs.ShapeLaws.{shapeNumber-true}
 use Rattle.record.specs.Record.{Record}
 use Rattle.record.proofs.ByteLaws.{AreBytes}
@@ -22,6 +20,7 @@ use Rattle.file.specs.File.{fileSize, fileOf, fileRecords}
 use Rattle.file.specs.Promises.{everyLeaf, fitNumber, SavePromise, LoadPromise}
 use Rattle.file.proofs.FreshLaws.{isSet-freshShape, fileOf-freshShape}
 use Rattle.file.proofs.FileLaws.{length-fileOf, fileOf-same}
+use Rattle.file.proofs.FitLaws.{fitNumber-fits, fitNumber-short}
 use Rattle.file.proofs.SoundLaws.{fileSize-set-lt, payloads-of-sound}
 use Rattle.file.proofs.WrittenLaws.{length-fileRecords, length-whole, fileOf-fileRecords}
 use Rattle.saved.specs.Saved.{EqualBytes, SavedAgain}
@@ -68,15 +67,6 @@ equal-bytes one other S U S-sound U-sound S-bytes U-bytes same n k out out′ ot
     (λ e. files .0 (sym S-saved ∙ e ∙ U-saved), λ e. S-saved ∙ files .1 e ∙ sym U-saved)
 
 -- ---- saving after a load
-
-module _ (S : List Record) (out : List ℕ) where
-  fitNumber-fits : fileSize (length S) ≤ length out → fitNumber S out ≡ 0
-  unfolding firstNumber
-  fitNumber-fits h = ap (λ β. cond β 2 0) (le-ltb (length out) (fileSize (length S)) h)
-
-  fitNumber-short : length out < fileSize (length S) → fitNumber S out ≡ 2
-  unfolding firstNumber
-  fitNumber-short h = ap (λ β. cond β 2 0) (lt-ltb (length out) (fileSize (length S)) h)
 
 module _ (file : List ℕ) (bytes : AreBytes file) (m : Memory) (loaded : Store)
     (load : LoadPromise file m (accepted changed) loaded) where

@@ -3,6 +3,7 @@
 use Prim.Native.Nat.{_≤_}
 use mathlib.Core.List.{[], _∷_, _++_}
 use native.Mathlib.Omega.{arith}
+use lib.Pow.{pow-pos, pow-mono}
 use borrow.Author.Needs.{needs}
 use Rattle.shape.specs.Shape.{Fit, widthList}
 use Rattle.shape.proofs.BoundsLaws.{attributes-le}
@@ -46,8 +47,9 @@ cast-t9 c =
 cast-t10 : tie.Need-cast-t10
 cast-t10 c =
     let call = c .before .before .before .before .before .before in
-    let bound = attributes-bound (call .before .before) in
-    record { fits = marks-lt _ _ _ (call .marks-below .ensures) (omega (arith, bound)) }
+    let positive = pow-pos (call .before .before .args .shape .attributes) in
+    let bound = pow-mono {j = 4} (attributes-bound (call .before .before)) in
+    record { fits = marks-lt _ _ _ (call .marks-below .ensures) (omega arith) (omega arith) }
 
 returns : tie.Need-returns
 returns c =

@@ -53,8 +53,8 @@ returns-2 c =
     let counted = test .before in
     let a = counted .before .before .before .before .before .args in
     filed-fits (a .shape) (flatMap (pageFields (a .shape .capacity) (a .pages .now)) (take (a .n) (a .list .now)))
-    (a .out .now) _ (counted .count-records .ensures .0) (omega (arith, test .if1 .left)) _ (put .put-whole .ensures .bytes) _
-    (ended .put-end .ensures)
+    (a .out .now) _ (counted .count-records .ensures .0) (omega (arith, test .if1 .left)) _
+    (put .put-whole .ensures .bytes) _ (ended .put-end .ensures)
 
 pub write-file-spec : {M : Type 1} → statement M
 write-file-spec =
