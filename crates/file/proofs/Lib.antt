@@ -1,0 +1,10 @@
+pub mod ByteLaws
+pub mod EndLaws
+pub mod Example
+pub mod FileLaws
+pub mod FitLaws
+pub mod FreshLaws
+pub mod LeafLaws
+pub mod PlainLaws
+pub mod SoundLaws
+pub mod WrittenLaws

@@ -25,12 +25,11 @@ use Rattle.history.specs.History.{Promised, Run, no-call, one-more, Read
 
 -- ---- one call
 
--- on a sound store: the model's outcome, the model's set after it, the bound, and the same shape, P and L
+-- on a sound store: the model's outcome, the model's set after it, and the bound
 record Stepped (before : Store) (S : List Record) (c : Call) (o : Outcome) (after : Store) : Type 0 where
   as-model : o ≡ outcome (fixedOf (before .state)) S c
   shown : Sound after (next (fixedOf (before .state)) S c)
   bounded : ReadsBounded (fixedOf (before .state)) S c o
-  fixed : fixedOf (after .state) ≡ fixedOf (before .state)
 
 ifAccepted-same : {A : Type 0} (n : ℕ) (x : A) → ifAccepted n x x ≡ x
 ifAccepted-same zero x = refl
@@ -51,7 +50,7 @@ unfolding outcome
 no-output f S c e e′ = rw (e, e′) (ifAccepted-same (numberFor f S c) [])
 
 -- a call that changes no set
-same-set : (f : Fixed) (S : List Record) (c : Call) → setAfter f S c ≡ S → next f S c ≡ S
+pub same-set : (f : Fixed) (S : List Record) (c : Call) → setAfter f S c ≡ S → next f S c ≡ S
 unfolding next
 same-set f S c e = rw e (ifAccepted-same (numberFor f S c) S)
 
@@ -60,6 +59,15 @@ same-fixed : {joins : Bool} {values : List ℕ} {early : ℕ} {numbers : List �
     → ChangePromise joins values early numbers model next before answer after
     → fixedOf (after .state) ≡ fixedOf (before .state)
 same-fixed p = rw (p .shape-kept, p .limits-kept)
+
+-- on any store: the same shape, P and L
+fixedOf-promised : (before after : Store) (c : Call) (o : Outcome) → Promised before c o after
+    → fixedOf (after .state) ≡ fixedOf (before .state)
+fixedOf-promised before after (insertCall values content) o p = same-fixed (p .0)
+fixedOf-promised before after (deleteCall values) o p = same-fixed (p .0)
+fixedOf-promised before after (lookupCall values) o p = rw (p .2)
+fixedOf-promised before after (queryCall q out) o p = rw (p .1)
+fixedOf-promised before after (rangeCall r out) o p = rw (p .1)
 
 stepped : (before after : Store) (S : List Record) (c : Call) (o : Outcome) → Promised before c o after → Sound before S
     → Stepped before S c o after
@@ -71,7 +79,6 @@ stepped before after S (insertCall values content) o p h =
       as-model = same-outcome (p .0 .answered-as S h) (p .1 ∙ sym (no-output f S c refl refl));
       shown = p .0 .shown S h;
       bounded = tt;
-      fixed = same-fixed (p .0);
     }
 stepped before after S (deleteCall values) o p h =
     let f = fixedOf (before .state) in
@@ -80,7 +87,6 @@ stepped before after S (deleteCall values) o p h =
       as-model = same-outcome (p .0 .answered-as S h) (p .1 ∙ sym (no-output f S c refl refl));
       shown = p .0 .shown S h;
       bounded = tt;
-      fixed = same-fixed (p .0);
     }
 stepped before after S (lookupCall values) o p h =
     let f = fixedOf (before .state) in
@@ -90,7 +96,6 @@ stepped before after S (lookupCall values) o p h =
       as-model = same-outcome answer-as (p .1 ∙ sym (no-output f S c refl refl));
       shown = rw (p .2, same-set f S c refl) h;
       bounded = tt;
-      fixed = rw (p .2);
     }
 stepped before after S (queryCall q out) o p h =
     let f = fixedOf (before .state) in
@@ -100,7 +105,6 @@ stepped before after S (queryCall q out) o p h =
       as-model = same-outcome (as-model .0) (as-model .1);
       shown = rw (p .1, same-set f S (queryCall q out) refl) h;
       bounded = λ written total reads e. rw (← h .deepest) (p .0 .bounded S sound written total reads e);
-      fixed = rw (p .1);
     }
 stepped before after S (rangeCall r out) o p h =
     let f = fixedOf (before .state) in
@@ -110,12 +114,19 @@ stepped before after S (rangeCall r out) o p h =
       as-model = same-outcome (as-model .0) (as-model .1);
       shown = rw (p .1, same-set f S (rangeCall r out) refl) h;
       bounded = tt;
-      fixed = rw (p .1);
     }
 
 -- ---- a list of calls
 
-listed-as : {store after : Store} {calls : List Call} {outcomes : List Outcome} (f : Fixed) (S : List Record)
+-- shape, P and L stay, whatever the store
+pub fixedOf-run : {store after : Store} {calls : List Call} {outcomes : List Outcome} → Run store calls outcomes after
+    → fixedOf (after .state) ≡ fixedOf (store .state)
+fixedOf-run no-call = refl
+fixedOf-run (one-more {before = before} {between = between} {c = c} {o = o} p r) =
+    fixedOf-run r ∙ fixedOf-promised before between c o p
+
+-- from any sound store: the model's outcomes, the bound, and the model's set in the store that is left
+pub listed-as : {store after : Store} {calls : List Call} {outcomes : List Outcome} (f : Fixed) (S : List Record)
     → fixedOf (store .state) ≡ f → Sound store S → Run store calls outcomes after
     → (outcomes ≡ run f S calls) × WithinBounds f S calls outcomes × Sound after (lastSet f S calls)
 unfolding run
@@ -125,7 +136,7 @@ listed-as f S e h (one-more {before = before} {between = between} {c = c} {cs = 
     let o-as : o ≡ outcome f S c = rw e at (step .as-model) in
     let bounded : ReadsBounded f S c o = rw e at (step .bounded) in
     let sound : Sound between (next f S c) = rw e at (step .shown) in
-    let rest = listed-as f (next f S c) (step .fixed ∙ e) sound r in
+    let rest = listed-as f (next f S c) (fixedOf-promised before between c o p ∙ e) sound r in
     let all-as : o ∷ os ≡ run f S (c ∷ cs) = cc in
     (all-as, (bounded, rest .1), rest .2)
 
@@ -155,10 +166,13 @@ fresh-store s m fresh p =
     let memory : fresh .memory ≡ freshMemory s m = rw number at (p .memory-as) in
     same-store state memory
 
+-- what it fixes is what the model is given
+pub fixedOf-fresh : (s : Shape) (m : Memory) (fresh : Store) → FreshPromise s m (accepted changed) fresh
+    → fixedOf (fresh .state) ≡ fixedBy s (length (m .words)) (length (m .bytes))
+fixedOf-fresh s m fresh p = rw (fresh-store s m fresh p) (fixedOf-freshState s m)
+
 pub history : History
 history s m fresh p calls outcomes after r =
     let f = fixedBy s (length (m .words)) (length (m .bytes)) in
-    let store = fresh-store s m fresh p in
-    let sound : Sound fresh [] = rw store (sound-of-fresh s m (fresh-accepted s m fresh p)) in
-    let fixed : fixedOf (fresh .state) ≡ f = rw store (fixedOf-freshState s m) in
-    listed-as f [] fixed sound r
+    let sound : Sound fresh [] = rw (fresh-store s m fresh p) (sound-of-fresh s m (fresh-accepted s m fresh p)) in
+    listed-as f [] (fixedOf-fresh s m fresh p) sound r

@@ -3,18 +3,18 @@
 use Prim.Native.Nat.{ℕ, zero, suc, _*_, _/_, min}
 use mathlib.Core.Path.{_≡_, refl, sym, ap, _∙_, subst}
 use mathlib.Core.Bool.{Bool, true, false, true≢false}
-use mathlib.Core.List.{List, [], _∷_, map}
+use mathlib.Core.List.{List, map}
 use mathlib.Core.Logic.{inl, inr}
 use native.Mathlib.Omega.{arith}
-use lib.ListN.{length, take, drop, length-append, length-map}
+use lib.ListN.{length, take, drop, length-map}
 use lib.Seq.{drop-at, length-take-le}
 use Rattle.lists.specs.Members.{All}
 use Rattle.shape.specs.Refusal.{Answer, accepted, refused, answered}
 use Rattle.shape.specs.declared.Shape.{Shape}
 use Rattle.region.specs.Query.{LeafTest}
 use Rattle.record.specs.Record.{Record}
-use Rattle.record.specs.Bytes.{recordSize, recordOf, recordBytes, recordsBytes}
-use Rattle.record.proofs.ByteLaws.{length-recordBytes}
+use Rattle.record.specs.Bytes.{recordSize, recordOf, recordsBytes}
+use Rattle.record.proofs.ByteLaws.{length-recordsBytes}
 use Rattle.model.specs.Model.{Reply, listed, Outcome, writtenFor, outputFor, ifAccepted}
 use Rattle.page_matches.specs.Output.{emit}
 use Rattle.page_matches.proofs.EmitLaws.{IsField, length-emit, emit-records}
@@ -24,12 +24,6 @@ use Rattle.store.specs.Promises.{SoundWhere, ListPromise}
 abbrev pub isAccepted : Answer Reply → Bool
 isAccepted (accepted x) = true
 isAccepted (refused n) = false
-
-length-recordsBytes : (s : Shape) (rs : List Record) → length (recordsBytes s rs) ≡ recordSize * length rs
-length-recordsBytes s [] = refl
-length-recordsBytes s (r ∷ rs) =
-    length-append (recordBytes s r) (recordsBytes s rs)
-    ∙ omega (arith, length-recordBytes s r, length-recordsBytes s rs)
 
 -- what the model answers and leaves as the output, where `number S` is that of its refusal (0 for none), `found S` are
 -- the records of S that it lists, and `count S` are its reads

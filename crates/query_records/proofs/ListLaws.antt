@@ -25,6 +25,33 @@ module _ (f : ℕ → List (List ℕ)) (list : List ℕ) where
       ∙ flatMap-append f (take i list) (getD list i 0 ∷ [])
       ∙ ap (λ l. first i ++ l) (append-nil (f (getD list i 0)))
 
+  -- ---- counted one after the other
+
+  -- what is counted after i words
+  abbrev pub CountedTo : ℕ → ℕ → Type 0
+  CountedTo i total = (total ≤ 16 * i) × (total ≡ length (first i))
+
+  pub countedTo-none : CountedTo 0 0
+  unfolding flatMap
+  countedTo-none = (omega arith, refl)
+
+  pub countedTo-next : (i total : ℕ) → CountedTo i total → i < length list → length (f (getD list i 0)) ≤ 16
+      → (total′ : ℕ) → total′ ≡ total + length (f (getD list i 0)) → CountedTo (i + 1) total′
+  countedTo-next i total w h few total′ t =
+      let here = f (getD list i 0) in (
+        omega (arith, w .0, few, t),
+        t
+            ∙ ap (λ k. k + length here) (w .1)
+            ∙ sym (length-append (first i) here)
+            ∙ ap length (sym (flatMap-take-next i h)),
+      )
+
+  pub countedTo-all : (n i total : ℕ) → i ≤ n → n ≤ i → n ≤ 4096 → CountedTo i total
+      → (total ≡ length (first n)) × (total ≤ 65536)
+  countedTo-all n i total l h few w =
+      let all : i ≡ n = omega arith in
+      (w .1 ∙ ap (λ k. length (first k)) all, omega (arith, w .0))
+
   -- ---- written one after the other
 
   module _ (out₀ : List ℕ) where
@@ -43,13 +70,11 @@ module _ (f : ℕ → List (List ℕ)) (list : List ℕ) where
         → EmittedTo (i + 1) out′ total′
     emittedTo-next i total out w h few total′ t out′ o same =
         let here = f (getD list i 0) in
+        let counted = countedTo-next i total (w .0, w .2) h few total′ t in
         let zero-first : 0 + length (first i) ≡ length (first i) = omega arith in (
-          omega (arith, w .0, few, t),
+          counted .0,
           same ∙ w .1,
-          t
-              ∙ ap (λ k. k + length here) (w .2)
-              ∙ sym (length-append (first i) here)
-              ∙ ap length (sym (flatMap-take-next i h)),
+          counted .1,
           o
               ∙ (λ k. emit (w .3 k) (w .2 k) here)
               ∙ ap (λ k. emit (emit out₀ 0 (first i)) k here) (sym zero-first)
@@ -61,9 +86,10 @@ module _ (f : ℕ → List (List ℕ)) (list : List ℕ) where
         → Emitted f (take n list) out₀ out total
     emittedTo-all n i total out l h few w =
         let all : i ≡ n = omega arith in
+        let counted = countedTo-all n i total l h few (w .0, w .2) in
         record {
-          all = w .2 ∙ ap (λ k. length (first k)) all;
-          most = omega (arith, w .0);
+          all = counted .0;
+          most = counted .1;
           bytes = w .3 ∙ ap (λ k. emit out₀ 0 (first k)) all;
         }
 

@@ -1,4 +1,4 @@
-// The records of the pages that a query's walk noted, written into the output (document 01,
+// The records of the pages that a walk noted, counted, or written into the output (document 01,
 // "Calls"): all of them, or those that match.
 use page::count;
 use page::page_size;
@@ -46,8 +46,23 @@ pub fn put_pages(
     put_matched(pages, capacity, list, m, out)
 }
 
+// How many records the first n pages of the list have.
+pub fn count_records(pages: &[u8], capacity: usize, list: &[u32], n: usize) -> usize
+    requires { ⌜ ListOf (PageWithin capacity (now pages)) capacity n (now list) ⌝ }
+    ensures { λ r. ⌜ (r ≡ length (flatMap (pageFields capacity (now (pages .entry))) (take n (now (list .entry)))))
+        × (r ≤ 65536) ⌝ }
+{
+    let mut total = 0;
+    let mut i = 0;
+    while i < n {
+        total += count_at(pages, capacity, list[i] as usize);
+        i += 1;
+    }
+    total
+}
+
 // Writes all records of the first n pages of the list. Returns how many these are.
-fn put_whole(pages: &[u8], capacity: usize, list: &[u32], n: usize, out: &mut [u8]) -> usize
+pub fn put_whole(pages: &[u8], capacity: usize, list: &[u32], n: usize, out: &mut [u8]) -> usize
     requires { ⌜ ListOf (PageWithin capacity (now pages)) capacity n (now list) ⌝ }
     ensures { λ r. ⌜ Emitted (pageFields capacity (now (pages .entry))) (take n (now (list .entry)))
         (now (out .entry)) (now (out .exit)) r ⌝ }
@@ -61,8 +76,18 @@ fn put_whole(pages: &[u8], capacity: usize, list: &[u32], n: usize, out: &mut [u
     total
 }
 
-// The same of page g alone, from record `total` of the output on. Returns how many these are, with
-// the `total` before.
+// How many records page g has.
+fn count_at(pages: &[u8], capacity: usize, g: usize) -> usize
+    requires { ⌜ (capacity ≤ 16) × PageWithin capacity (now pages) g ⌝ }
+    ensures { λ r. ⌜ (r ≡ length (pageFields capacity (now (pages .entry)) g)) × (r ≤ 16) ⌝ }
+{
+    let start = page_start(capacity, g);
+    let end = start + page_size(capacity);
+    count(&pages[start..end])
+}
+
+// The records of page g alone, written from record `total` of the output on. Returns how many
+// these are, with the `total` before.
 fn put_at(pages: &[u8], capacity: usize, g: usize, out: &mut [u8], total: usize) -> usize
     requires { ⌜ PutAsked (PageWithin capacity (now pages)) capacity g total ⌝ }
     ensures { λ r. ⌜ r ≡ total + length (pageFields capacity (now (pages .entry)) g) ⌝ }

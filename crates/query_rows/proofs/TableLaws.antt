@@ -8,14 +8,14 @@ use native.Mathlib.Omega.{arith}
 use lib.Dec.{ltb}
 use lib.ListN.{getD, length}
 use Rattle.shape.specs.Shape.{Fit, inBounds, shapeNumber, widthsOf, total}
-use Rattle.shape.specs.Key.{encodeWanted, encodedWanted}
+use Rattle.shape.specs.Key.{perAttribute, encodeWanted, encodedWanted}
 use Rattle.shape.specs.declared.Shape.{Shape}
 use Rattle.shape.proofs.AttributeLaws.{getD-perAttribute}
 use Rattle.shape.proofs.ShapeLaws.{shapeNumber-true, widthsOf-fit}
 use Rattle.split.specs.Steps.{step, steps}
 use Rattle.split.proofs.StepLaws.{length-steps}
 use Rattle.split.proofs.DepthLaws.{step-of, step-here}
-use Rattle.region.specs.Query.{QueryBit}
+use Rattle.region.specs.Query.{QueryBit, free}
 use Rattle.record.proofs.KeyLaws.{length-steps-widthsOf}
 use Rattle.model.specs.Sets.{queryBitOf, queryBits}
 use Rattle.record.specs.Lanes.{biasKey}
@@ -57,6 +57,28 @@ module _ (s : Shape) (good : shapeNumber s ≡ 0) (wanted : List (Option ℕ)) w
     where
       row-with : ℕ → QueryBit → List ℕ
       row-with y q = stepRow (widthsOf s) (λ t. q) y
+
+-- the rows of a query that gives nothing are free in every step
+module _ (ws : List ℕ) where
+  abbrev nothing : List (Option ℕ)
+  nothing = perAttribute (λ j. none)
+
+  getD-none : (j : ℕ) → getD nothing j none ≡ none
+  getD-none zero = refl
+  getD-none (suc zero) = refl
+  getD-none (suc (suc zero)) = refl
+  getD-none (suc (suc (suc zero))) = refl
+  getD-none (suc (suc (suc (suc j)))) = refl
+
+  pub rows-free : (t : ℕ) (rows : List ℕ) → Rows ws (wantedAt ws nothing) t rows → Rows ws (λ x. free) t rows
+  unfolding stepRow
+  rows-free t rows r = record {
+    row = λ y i a b. r .row y i a b ∙ ap (λ o. getD (row-with y o) i 0) (getD-none (step ws y .attribute));
+    fixed = r .fixed;
+  }
+    where
+      row-with : ℕ → Option ℕ → List ℕ
+      row-with y o = stepRow ws (λ t. queryBitOf (getD ws (step ws y .attribute) 0) (step ws y .bit) o) y
 
 -- and behind them P, b, T, the depths in the tally and the shape's bias
 module _ (st : State) (rows : List ℕ) (deep : st .deepest ≤ 12) where

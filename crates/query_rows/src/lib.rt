@@ -19,6 +19,7 @@ use key_encoding::bias_key;
 use page_ends::fixed_bits_before;
 use pairs::depth_before;
 use pairs::width_at;
+use shape::Attribute;
 use shape::Query;
 use shape::Shape;
 use shape::Wanted;
@@ -35,7 +36,7 @@ ghost use lib.Dec.{eqb};
 ghost use lib.ListN.{getD, length};
 ghost use lib.Seq.{sets};
 ghost use Rattle.shape.specs.Shape.{shapeNumber, widthList, widthsOf};
-ghost use Rattle.shape.specs.Key.{wantedValues};
+ghost use Rattle.shape.specs.Key.{perAttribute, wantedValues};
 ghost use Rattle.split.specs.Steps.{stepsBelow};
 ghost use Rattle.model.specs.Sets.{queryBitOf};
 ghost use Rattle.query_rows.specs.Rows.{Rows, RowsAsked, stepRow, rowList, wantedAt, wantedNumber};
@@ -143,6 +144,17 @@ pub fn fill_limits(state: State, rows: &mut [u64; TABLE])
     rows[DEEPEST] = state.deepest as u64;
     rows[TALLIED] = tallied_depths(state.tally);
     rows[BIAS] = bias_key(shape);
+}
+
+// The query that gives nothing: a walk by its rows enters every region.
+pub fn free_query() -> Query
+    ensures { λ r. ⌜ wantedValues r ≡ perAttribute (λ j. none) ⌝ }
+{
+    let free = Attribute {
+        wanted: Wanted::Free,
+    };
+    let attributes = [free, free, free, free];
+    Query { attributes }
 }
 
 // How many pages a walk by the rows of the steps below t notes at most: twice as many for each step in

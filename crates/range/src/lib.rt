@@ -4,6 +4,7 @@ use numbers::smaller_length;
 use query_rows::TABLE;
 use query_rows::fill_limits;
 use query_rows::fill_rows;
+use query_rows::free_query;
 use query_walk::Noted;
 use range_number::high_key;
 use range_number::low_key;
@@ -12,10 +13,7 @@ use range_records::put_within;
 use range_walk::note_met;
 use record::RECORD_SIZE;
 use refusals::limits_hold;
-use shape::Attribute;
-use shape::Query;
 use shape::Range;
-use shape::Wanted;
 use store::Counts;
 use store::Listed;
 use store::State;
@@ -59,8 +57,8 @@ pub fn range(state: State, dir: &[u32], pages: &[u8], range: Range, out: &mut [u
     read_pages(state, range, &mut rows, dir, pages, &mut list, out)
 }
 
-// The same once the state, the range and the limits are tested and the rows are made, with a list
-// for the pages that are read: at most 2^T.
+// The same once the state, the range and the limits are tested and the rows are made, which are
+// those of any query, with a list for the pages that are read: at most 2^T.
 fn read_pages(
     state: State,
     range: Range,
@@ -98,13 +96,4 @@ fn read_pages(
         total: total as u64,
         reads: n as u64,
     })
-}
-
-// The query that gives nothing: the rows of a box's walk are those of any query.
-fn free_query() -> Query {
-    let free = Attribute {
-        wanted: Wanted::Free,
-    };
-    let attributes = [free, free, free, free];
-    Query { attributes }
 }

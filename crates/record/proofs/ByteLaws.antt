@@ -26,10 +26,20 @@ AreBytes-take (suc n) (x ∷ xs) h (suc i) = AreBytes-take n xs (λ m. h (suc m)
 AreBytes-drop : (n : ℕ) (xs : List ℕ) → AreBytes xs → AreBytes (drop n xs)
 AreBytes-drop n xs h i = rw (getD-drop n xs i 0) (h (n + i))
 
+pub AreBytes-append : (xs ys : List ℕ) → AreBytes xs → AreBytes ys → AreBytes (xs ++ ys)
+AreBytes-append [] ys h k i = k i
+AreBytes-append (x ∷ xs) ys h k zero = h 0
+AreBytes-append (x ∷ xs) ys h k (suc i) = AreBytes-append xs ys (λ m. h (suc m)) k i
+
 pub AreBytes-field : (xs : List ℕ) (offset n : ℕ) → AreBytes xs → AreBytes (field xs offset n)
 AreBytes-field xs offset n h = AreBytes-take n (drop offset xs) (AreBytes-drop offset xs h)
 
 -- ---- numbers
+
+pub AreBytes-littleEndian : (n v : ℕ) → AreBytes (littleEndian n v)
+AreBytes-littleEndian zero v i = omega arith
+AreBytes-littleEndian (suc n) v zero = omega arith
+AreBytes-littleEndian (suc n) v (suc i) = AreBytes-littleEndian n (v / 256) i
 
 pub length-littleEndian : (n v : ℕ) → length (littleEndian n v) ≡ n
 length-littleEndian zero v = refl
@@ -83,6 +93,17 @@ module _ (s : Shape) where
   pub length-recordBytes : (r : Record) → length (recordBytes s r) ≡ recordSize
   unfolding recordBytes
   length-recordBytes r = refl
+
+  AreBytes-recordBytes : (r : Record) → AreBytes (recordBytes s r)
+  unfolding recordBytes
+  AreBytes-recordBytes r =
+      let value : ℕ → List ℕ = λ j. littleEndian 2 (decode s j (getD (r .key) j 0)) in
+      let payload : List ℕ = littleEndian 4 (r .content .payload) in
+      let more : (j : ℕ) (rest : List ℕ) → AreBytes rest → AreBytes (value j ++ rest) =
+      λ j rest. AreBytes-append (value j) rest (AreBytes-littleEndian 2 (decode s j (getD (r .key) j 0))) in
+      more 0 (value 1 ++ (value 2 ++ (value 3 ++ payload)))
+      (more 1 (value 2 ++ (value 3 ++ payload))
+      (more 2 (value 3 ++ payload) (more 3 payload (AreBytes-littleEndian 4 (r .content .payload)))))
 
 -- what its bytes can hold: four key numbers of 16 bits and a payload of 32
 pub record FitsBytes (r : Record) : Type 0 where
@@ -171,6 +192,11 @@ pub length-recordsBytes : (s : Shape) (rs : List Record) → length (recordsByte
 length-recordsBytes s [] = refl
 length-recordsBytes s (r ∷ rs) =
     omega (arith, length-append (recordBytes s r) (recordsBytes s rs), length-recordBytes s r, length-recordsBytes s rs)
+
+pub AreBytes-recordsBytes : (s : Shape) (rs : List Record) → AreBytes (recordsBytes s rs)
+AreBytes-recordsBytes s [] = λ i. omega arith
+AreBytes-recordsBytes s (r ∷ rs) =
+    AreBytes-append (recordBytes s r) (recordsBytes s rs) (AreBytes-recordBytes s r) (AreBytes-recordsBytes s rs)
 
 pub recordsBytes-append : (s : Shape) (rs qs : List Record)
     → recordsBytes s (rs ++ qs) ≡ recordsBytes s rs ++ recordsBytes s qs

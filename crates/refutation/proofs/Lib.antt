@@ -18,4 +18,5 @@ pub mod QueryRefuted
 pub mod RangeRefuted
 pub mod TableStoreLaws
 pub mod TwoLeavesSound
+pub mod SavedRefuted
 pub mod SignedRefuted

@@ -1,4 +1,5 @@
--- Laws of a replay: a refused Fresh, and the calls run on an accepted one. Assumes nothing.
+-- Laws of a replay: a refused Fresh or load, and the calls run on the store that an accepted one leaves. Assumes
+-- nothing.
 use Prim.Native.Nat.{ℕ, suc, _*_}
 use mathlib.Core.Path.{_≡_, refl, sym, ap, subst, _∙_}
 use mathlib.Core.List.{List, [], _++_}
@@ -6,54 +7,96 @@ use native.Mathlib.Omega.{arith}
 use lib.ListN.{length, drop}
 use Rattle.shape.specs.Refusal.{Answer, accepted, refused, answered}
 use Rattle.shape.specs.declared.Shape.{Shape}
-use Rattle.model.specs.Model.{Outcome, Reply, changed}
-use Rattle.store.specs.Store.{Store, Memory}
+use Rattle.record.specs.Record.{Record}
+use Rattle.model.specs.Model.{Fixed, Outcome, Reply, changed}
+use Rattle.store.specs.Store.{Store, Memory, fixedOf}
+use Rattle.store.specs.Sound.{Sound}
 use Rattle.store.specs.Fresh.{FreshPromise, freshNumber}
-use Rattle.history.specs.History.{WithinBounds}
-use Rattle.history.proofs.HistoryLaws.{history}
+use Rattle.history.specs.History.{WithinBounds, no-call}
+use Rattle.history.proofs.HistoryLaws.{listed-as, fixedOf-fresh, history}
+use Rattle.file.specs.File.{fileRecords}
+use Rattle.file.specs.Loading.{loadNumber}
+use Rattle.file.specs.Promises.{LoadPromise}
+use Rattle.saved.proofs.HistoryFromLaws.{fixedOf-loaded}
 use Rattle.replay_encoding.specs.Encoding.{callCount, answerSize, answersOf, outputsOf, outputStart}
 use Rattle.replay.specs.Private.{CallsRan}
-use Rattle.replay.specs.Replayed.{modelFixed, modelCalls, Replayed}
+use Rattle.replay.specs.Replayed.{modelCalls, ReplayedFrom, Replayed, ReplayedFile}
 
 -- an accepted answer is no refused one
 accepted-refused : {C : Type 0} (n : ℕ) → _≡_ {A = Answer Reply} (accepted changed) (refused n) → C
 accepted-refused n e = let z : _≡_ {A = ℕ} 0 1 = cc in absurd (omega arith)
 
-module _ (s : Shape) (m : Memory) (words answers out : List ℕ) (answer : Answer Reply) where
-  number-answer : (fresh : Store) (k : ℕ) → FreshPromise s m answer fresh → freshNumber s m ≡ k
-      → answer ≡ answered k changed
-  number-answer fresh k p e = p .answered-as ∙ ap (λ k. answered k changed) e
+-- ---- from any start
 
-  pub replayed-refused : (n : ℕ) (after : Store) → answer ≡ refused n → FreshPromise s m answer after
-      → Replayed s m words answers out answer after answers out
-  replayed-refused n after e-refused p =
-      let clash : freshNumber s m ≡ 0 → accepted changed ≡ refused n =
-      λ e. sym (number-answer after 0 p e) ∙ e-refused in
+-- an answer by its number, a set, and what the model is given
+module _ (number : ℕ) (f : Fixed) (S : List Record) (m : Memory) (words answers out : List ℕ) (answer : Answer Reply)
+    (answered-as : answer ≡ answered number changed) where
+  answer-of : (k : ℕ) → number ≡ k → answer ≡ answered k changed
+  answer-of k e = answered-as ∙ ap (λ k. answered k changed) e
+
+  from-refused : (n : ℕ) (after : Store) → answer ≡ refused n → ((k : ℕ) → number ≡ suc k → after .memory ≡ m)
+      → ReplayedFrom number f S m words answers out answer after answers out
+  from-refused n after e-refused kept =
+      let clash : number ≡ 0 → accepted changed ≡ refused n = λ e. sym (answer-of 0 e) ∙ e-refused in
       record {
-        refused-as = λ k e. (number-answer after (suc k) p e, rw e at (p .memory-as), refl, refl);
-        accepted-as = λ e. number-answer after 0 p e;
+        refused-as = λ k e. (answer-of (suc k) e, kept k e, refl, refl);
+        accepted-as = λ e. answer-of 0 e;
         answers-as = λ e. accepted-refused n (clash e);
         outputs-as = λ e. accepted-refused n (clash e);
         bounded = λ e. accepted-refused n (clash e);
         shown = λ e. accepted-refused n (clash e);
       }
 
-  pub replayed-accepted : (fresh after : Store) (answers′ out′ : List ℕ) → answer ≡ accepted changed
-      → FreshPromise s m answer fresh → CallsRan fresh words answers out (callCount words answers) after answers′ out′
-      → Replayed s m words answers out (accepted changed) after answers′ out′
-  replayed-accepted fresh after answers′ out′ e-accepted p r =
-      let f = modelFixed s m in
+  from-accepted : (start after : Store) (answers′ out′ : List ℕ) → answer ≡ accepted changed
+      → fixedOf (start .state) ≡ f → Sound start S
+      → CallsRan start words answers out (callCount words answers) after answers′ out′
+      → ReplayedFrom number f S m words answers out (accepted changed) after answers′ out′
+  from-accepted start after answers′ out′ e-accepted fixed sound r =
       let cs = modelCalls words answers out in
-      let accepted-fresh = subst (λ (x : Answer Reply). FreshPromise s m x fresh) e-accepted p in
-      let model = history s m fresh accepted-fresh cs (r .outcomes) after (r .ran) in
+      let model = listed-as f S fixed sound (r .ran) in
       record {
-        refused-as = λ n e. accepted-refused (suc n) (sym e-accepted ∙ number-answer fresh (suc n) p e);
+        refused-as = λ n e. accepted-refused (suc n) (sym e-accepted ∙ answer-of (suc n) e);
         accepted-as = λ e. refl;
         answers-as = λ e.
             r .answers-as ∙ ap (λ os. answersOf os ++ drop (answerSize * callCount words answers) answers) (model .0);
         outputs-as = λ e.
             r .outputs-as
             ∙ ap (λ os. outputsOf os ++ drop (outputStart words (length out) (callCount words answers)) out) (model .0);
-        bounded = λ e. subst (λ (os : List Outcome). WithinBounds f [] cs os) (model .0) (model .1);
+        bounded = λ e. subst (λ (os : List Outcome). WithinBounds f S cs os) (model .0) (model .1);
         shown = λ e. model .2;
       }
+
+-- ---- from a fresh store
+
+module _ (s : Shape) (m : Memory) (words answers out : List ℕ) (answer : Answer Reply) where
+  pub replayed-refused : (n : ℕ) (after : Store) → answer ≡ refused n → FreshPromise s m answer after
+      → Replayed s m words answers out answer after answers out
+  replayed-refused n after e p =
+      from-refused (freshNumber s m) _ [] m words answers out answer (p .answered-as) n after e
+      (λ k d. rw d at (p .memory-as))
+
+  pub replayed-accepted : (fresh after : Store) (answers′ out′ : List ℕ) → answer ≡ accepted changed
+      → FreshPromise s m answer fresh → CallsRan fresh words answers out (callCount words answers) after answers′ out′
+      → Replayed s m words answers out (accepted changed) after answers′ out′
+  replayed-accepted fresh after answers′ out′ e p r =
+      let accepted-fresh = subst (λ (x : Answer Reply). FreshPromise s m x fresh) e p in
+      from-accepted (freshNumber s m) _ [] m words answers out answer (p .answered-as) fresh after answers′ out′ e
+      (fixedOf-fresh s m fresh accepted-fresh) (history s m fresh accepted-fresh [] [] fresh no-call .2) r
+
+-- ---- from a loaded store
+
+module _ (file : List ℕ) (m : Memory) (words answers out : List ℕ) (answer : Answer Reply) where
+  pub replayed-file-refused : (n : ℕ) (after : Store) → answer ≡ refused n → LoadPromise file m answer after
+      → ReplayedFile file m words answers out answer after answers out
+  replayed-file-refused n after e p =
+      from-refused (loadNumber file m) _ (fileRecords file) m words answers out answer (p .answered-as) n after e
+      (λ k d. p .memory-kept n e)
+
+  pub replayed-file-accepted : (loaded after : Store) (answers′ out′ : List ℕ) → answer ≡ accepted changed
+      → LoadPromise file m answer loaded
+      → CallsRan loaded words answers out (callCount words answers) after answers′ out′
+      → ReplayedFile file m words answers out (accepted changed) after answers′ out′
+  replayed-file-accepted loaded after answers′ out′ e p r =
+      let accepted-load = subst (λ (x : Answer Reply). LoadPromise file m x loaded) e p in
+      from-accepted (loadNumber file m) _ (fileRecords file) m words answers out answer (p .answered-as) loaded after
+      answers′ out′ e (fixedOf-loaded file m loaded accepted-load) (p .shown e) r

@@ -1,21 +1,21 @@
 -- Every sound store has a twin: each of its pages, with the encodings of its records in place of their values, has as
 -- many records and the same ones where no attribute is marked. Assumes nothing.
-use Prim.Native.Nat.{ℕ, zero, suc, _+_, _*_, _/_, _≤_, _<_}
+use Prim.Native.Nat.{ℕ, zero, suc, _+_, _*_, _≤_, _<_}
 use mathlib.Core.Path.{_≡_, refl, sym, ap, _∙_}
 use mathlib.Core.Bool.{Bool}
-use mathlib.Core.List.{List, [], _∷_, _++_, append-nil}
+use mathlib.Core.List.{List, [], _++_, append-nil}
 use mathlib.Core.Logic.{_⊎_, inl, inr}
 use native.Mathlib.Nat.{le-trans}
 use native.Mathlib.Omega.{arith}
-use lib.ListN.{length, getD, take, drop}
+use lib.ListN.{length, take, drop}
 use lib.Seq.{paste, getD-drop}
 use Rattle.lists.proofs.Numbers.{lt-or-le, eq-or-ne}
-use Rattle.shape.specs.Key.{decode}
 use Rattle.shape.specs.declared.Shape.{Shape}
 use Rattle.region.specs.Division.{leafDepth, leafRecords}
 use Rattle.record.specs.Record.{Record}
-use Rattle.record.specs.Bytes.{recordSize, littleEndian, recordBytes, recordsBytes}
-use Rattle.record.proofs.ByteLaws.{AreBytes, AreBytes-field, numberOf-field-lt, length-recordsBytes}
+use Rattle.record.specs.Bytes.{recordSize, littleEndian, recordsBytes}
+use Rattle.record.proofs.ByteLaws.{AreBytes, AreBytes-append, AreBytes-field, AreBytes-littleEndian}
+use Rattle.record.proofs.ByteLaws.{AreBytes-recordsBytes, numberOf-field-lt, length-recordsBytes}
 use Rattle.page.specs.Page.{pageSize, countOf, recordsFrom, recordsOf, pageAt}
 use Rattle.page.specs.Fields.{recordOffset}
 use Rattle.page.specs.Changes.{countedPage, appendedPage}
@@ -37,39 +37,12 @@ use Rattle.twin.specs.Twin.{unmarked, TwinExists}
 
 -- ---- bytes
 
-AreBytes-append : (xs ys : List ℕ) → AreBytes xs → AreBytes ys → AreBytes (xs ++ ys)
-AreBytes-append [] ys h k i = k i
-AreBytes-append (x ∷ xs) ys h k zero = h 0
-AreBytes-append (x ∷ xs) ys h k (suc i) = AreBytes-append xs ys (λ m. h (suc m)) k i
-
 AreBytes-paste : (xs : List ℕ) (offset : ℕ) (ys : List ℕ) (n : ℕ) → AreBytes xs → AreBytes ys
     → AreBytes (paste xs offset ys n)
 AreBytes-paste xs offset ys n h k =
     AreBytes-append (take offset xs ++ take n ys) (drop (offset + n) xs)
     (AreBytes-append (take offset xs) (take n ys) (AreBytes-field xs 0 offset h) (AreBytes-field ys 0 n k))
     (λ i. rw (getD-drop (offset + n) xs i 0) (h (offset + n + i)))
-
-AreBytes-littleEndian : (n v : ℕ) → AreBytes (littleEndian n v)
-AreBytes-littleEndian zero v i = omega arith
-AreBytes-littleEndian (suc n) v zero = omega arith
-AreBytes-littleEndian (suc n) v (suc i) = AreBytes-littleEndian n (v / 256) i
-
-module _ (s : Shape) where
-  AreBytes-recordBytes : (r : Record) → AreBytes (recordBytes s r)
-  unfolding recordBytes
-  AreBytes-recordBytes r =
-      let value : ℕ → List ℕ = λ j. littleEndian 2 (decode s j (getD (r .key) j 0)) in
-      let payload : List ℕ = littleEndian 4 (r .content .payload) in
-      let more : (j : ℕ) (rest : List ℕ) → AreBytes rest → AreBytes (value j ++ rest) =
-      λ j rest. AreBytes-append (value j) rest (AreBytes-littleEndian 2 (decode s j (getD (r .key) j 0))) in
-      more 0 (value 1 ++ (value 2 ++ (value 3 ++ payload)))
-      (more 1 (value 2 ++ (value 3 ++ payload))
-      (more 2 (value 3 ++ payload) (more 3 payload (AreBytes-littleEndian 4 (r .content .payload)))))
-
-  AreBytes-recordsBytes : (rs : List Record) → AreBytes (recordsBytes s rs)
-  AreBytes-recordsBytes [] = λ i. omega arith
-  AreBytes-recordsBytes (r ∷ rs) =
-      AreBytes-append (recordBytes s r) (recordsBytes s rs) (AreBytes-recordBytes r) (AreBytes-recordsBytes rs)
 
 -- ---- one page
 

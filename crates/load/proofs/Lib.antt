@@ -1,0 +1,5 @@
+pub mod ClearedLaws
+pub mod DecodedLaws
+pub mod JoinedLaws
+pub mod NumberLaws
+pub mod PromiseLaws

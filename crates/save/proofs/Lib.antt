@@ -1,0 +1,3 @@
+pub mod CallLaws
+pub mod OutputLaws
+pub mod PromiseLaws
