@@ -1,5 +1,5 @@
--- `replay::replay_file` meets its contract: the load is refused, or the calls on the loaded store give the model's run. Assumes
--- nothing.
+-- `replay::replay_file` meets its contract: the load is refused, or the calls on the loaded store give the model's run.
+-- Assumes nothing.
 use mathlib.Core.Path.{ap}
 use Rattle.store.specs.Answers.{changedAnswer}
 use Rattle.store.specs.Store.{memory}
@@ -27,9 +27,9 @@ returns : tie.Need-returns
 unfolding changedAnswer
 returns c =
     let call = c .before .before .before .before .before .before in
-    let a = call .before .before .before .before .before .before .before .before .args in
-    replayed-file-refused (a .file .now) (memory (a .dir .now) (a .pages .now)) (a .calls .now) (a .answers .now) (a .out .now)
-    (changedAnswer (call .load .result .answer)) _ _ (ap changedAnswer (c .enum-told2 .given .1))
+    let a = call .before .before .before .before .before .before .before .before .before .args in
+    replayed-file-refused (a .file .now) (memory (a .dir .now) (a .pages .now)) (a .calls .now) (a .answers .now)
+    (a .out .now) (changedAnswer (call .load .result .answer)) _ _ (ap changedAnswer (c .enum-told2 .given .1))
     (call .load .ensures)
 
 run-calls-requires : tie.Need-run-calls-requires
@@ -53,9 +53,9 @@ returns-2 c =
     let ran = c .before .before .before .before .before .before .before .before in
     let told = ran .before .before .before .before .before .before in
     let call = told .before .before .before .before .before .before in
-    let a = call .before .before .before .before .before .before .before .before .args in
-    replayed-file-accepted (a .file .now) (memory (a .dir .now) (a .pages .now)) (a .calls .now) (a .answers .now) (a .out .now)
-    (changedAnswer (call .load .result .answer)) _ _ _ _ (ap changedAnswer (told .enum-told .given .1))
+    let a = call .before .before .before .before .before .before .before .before .before .args in
+    replayed-file-accepted (a .file .now) (memory (a .dir .now) (a .pages .now)) (a .calls .now) (a .answers .now)
+    (a .out .now) (changedAnswer (call .load .result .answer)) _ _ _ _ (ap changedAnswer (told .enum-told .given .1))
     (call .load .ensures) (ran .run-calls .ensures)
 
 pub replay-file-spec : {M : Type 1} → statement M
