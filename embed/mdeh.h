@@ -23,11 +23,11 @@
  * its refusal (enum below). A refused call has changed nothing, and the values beside its number are 0. Where several
  * reasons hold, the first in the order that stands at the call is given.
  *
- * SOUND. A store is sound if it shows a set of records as the layouts below say. mdeh_fresh makes a sound store, and
- * every call leaves a sound store sound. On an unsound one (memory that something else wrote) a call still ends and
- * keeps to the slices, but gives 9 or answers from what it meets; an accepted insert or delete leaves all words and
- * pages but those of its key's leaf and of the leaves joined with it as they were. mdeh_check tells sound stores from
- * others.
+ * SOUND. A store is sound if it shows a set of records as the layouts below say. mdeh_fresh and mdeh_load make sound
+ * stores, and every call leaves a sound store sound. On an unsound one (memory that something else wrote) a call still
+ * ends and keeps to the slices, but gives 9 or answers from what it meets; an accepted insert or delete leaves all
+ * words and pages but those of its key's leaf and of the leaves joined with it as they were. mdeh_check tells sound
+ * stores from others.
  *
  * CHECK, THEN ASK. A call reads a part of the store, and tests of it the words and each page's count, first and last
  * record; on damaged memory a list with number 0 may still lack records or show wrong ones. Before people act on a
@@ -37,9 +37,9 @@
  * again.
  *
  * PAYLOADS. Hosts read a payload of 0 as "no log line", so mdeh_insert refuses it with 11: payloads start at 1. A store
- * that an earlier version filled may hold payloads of 0. It stays sound, and they are looked up, listed and deleted as
- * others are; to be inserted into another store, such a record needs another payload. The payload of a refused lookup
- * is 0 too: its number tells the two apart.
+ * that an earlier version filled may hold payloads of 0. It stays sound, and they are looked up, listed, deleted, saved
+ * and loaded as others are; to be inserted into another store, such a record needs another payload. The payload of a
+ * refused lookup is 0 too: its number tells the two apart.
  *
  * SIGNED. A shape may mark attributes as signed: bit j of `signs`, MDEH_SIGNED(j), marks attribute j. Marks past the
  * attribute count are ignored, and mdeh_fresh clears them. {2, {6, 10}, 16, MDEH_SIGNED(1)} has a drive's number from 0
@@ -51,15 +51,42 @@
  *   fields     in pages and outputs hold the value in 16-bit two's complement; mdeh_record reads it back.
  * Indices and addresses are not values: they have no sign, whatever the marks.
  *
- * KEEPING. A store is its state, its directory and its pages, as they are; it has no pointers, and may be copied, moved
- * and written to a file. Words of the directory from 2^T on need not be kept (T is state word 8). To open it again,
- * read the three into slices that are as long as before or longer and ask mdeh_check: number 0 and sound 1. It does not
- * tell a changed payload or an older copy; add a sum of your own where the medium may alter bytes. A state that an
- * earlier version kept has no marks and one word less: a word of 0 behind it makes it a state.
+ * KEEPING. A store is its state, its directory and its pages, as they are; it has no pointers, and may be copied and
+ * moved. Words of the directory from 2^T on need not be kept (T is state word 8). To open it again, read the three into
+ * slices that are as long as before or longer and ask mdeh_check: number 0 and sound 1. It does not tell a changed
+ * payload or an older copy; add a sum of your own where the medium may alter bytes. A state that an earlier version
+ * kept has no marks and one word less: a word of 0 behind it makes it a state. To carry records elsewhere, save a file.
  *
- * THREADS. There is no hidden state. Calls on different stores may run at once; on one store, lookups, checks, queries
- * and ranges with outputs of their own may, while mdeh_fresh, mdeh_insert and mdeh_delete need it alone. A call takes
- * up to 32 KiB of stack (measured), never a signal, a lock or a system call.
+ * FILES. mdeh_save writes the records of a store as the bytes of a file, and mdeh_load makes a store of these bytes, in
+ * any slices. To write and read them is the host's: no call does input or output. A file of n records has
+ * MDEH_FILE_BYTES(n) bytes, n being the total of a query with nothing given, and is the same on every machine:
+ *   offset     bytes   meaning
+ *   0          12n     the records in split order, each as in a page
+ *   12n        1       attribute count d
+ *   12n + 1    4       widths of attributes 0 to 3, 0 past d
+ *   12n + 5    1       page capacity b
+ *   12n + 6    1       marks of signed attributes, bit j for attribute j, 0 past d
+ *   12n + 7    1       0
+ *   12n + 8    4       the letters M, D, E, H
+ *   12n + 12   4       24: from the end of the file back to the first byte of the shape
+ *   12n + 16   4       24 + 12n: from the end back to the first byte of the file
+ *   12n + 20   4       n
+ * Two sound stores of one shape save equal bytes exactly when they hold equal sets of records, whatever their slices
+ * and the order of their calls, and saving after an accepted load gives the same bytes. Read from its end, a file tells
+ * its length: where it stands behind other bytes, hand mdeh_load its own alone. The numbers of mdeh_load, in order:
+ *   12  fewer than 24 bytes, other letters, or distances that are not those of n and of the file's length
+ *   1   shape outside its bounds
+ *   13  last shape byte, unused width or mark past d not 0; value outside its bounds, unused value not 0; records that
+ *       do not strictly rise in split order
+ *   2   as of mdeh_fresh: fewer words than a state has, no directory word, no whole page
+ *   6   or 7, at the first record that an insert into a store of those before it would refuse so
+ * Payloads are not looked at: a payload of 0 loads. P and L are fixed by the lengths of the new slices, as by
+ * mdeh_fresh, so a store that has no room (6, 7) grows by mdeh_save, and mdeh_load into longer slices. A file has no
+ * sum: a changed payload, or records that are gone together with their count, are not told.
+ *
+ * THREADS. There is no hidden state. Calls on different stores may run at once; on one store, lookups, checks, and
+ * queries, ranges and saves with outputs of their own may, while mdeh_fresh, mdeh_load, mdeh_insert and mdeh_delete
+ * need it alone. A call takes up to 32 KiB of stack (measured), never a signal, a lock or a system call.
  *
  * LAYOUTS. Bit 0 is the least significant; numbers of several bytes are little-endian.
  *   state      word 0 attribute count d; 1-4 widths (mdeh_fresh writes 0 past d; those past d are ignored); 5 page
@@ -92,11 +119,14 @@ extern "C" {
 /* The words of a state. */
 #define MDEH_STATE_WORDS 23
 
-/* The bytes of a record in an output or a page. */
+/* The bytes of a record in an output, a file or a page. */
 #define MDEH_RECORD_BYTES 12
 
 /* The bytes of a page that holds up to `capacity` records. */
 #define MDEH_PAGE_BYTES(capacity) (2 + MDEH_RECORD_BYTES * (size_t)(capacity))
+
+/* The bytes of a file of n records (FILES). */
+#define MDEH_FILE_BYTES(n) (24 + MDEH_RECORD_BYTES * (size_t)(n))
 
 /* A store has use for so many directory words and pages at most. */
 #define MDEH_MOST_WORDS 4096
@@ -105,20 +135,23 @@ extern "C" {
 /* What a number says. */
 enum {
     MDEH_ACCEPTED = 0,          /* the call did what it was asked */
-    MDEH_REFUSED_SHAPE = 1,     /* shape outside its bounds, also that of a state; all but fresh: fewer words than a
-                                   state has, which show no shape */
-    MDEH_REFUSED_MEMORY = 2,    /* fresh: fewer words than a state has, no directory word, no whole page; later: fewer
-                                   than 2^L words or P pages */
+    MDEH_REFUSED_SHAPE = 1,     /* shape outside its bounds, also that of a state or a file; all but fresh and load:
+                                   fewer words than a state has, which show no shape */
+    MDEH_REFUSED_MEMORY = 2,    /* fresh, load: fewer words than a state has, no directory word, no whole page; later:
+                                   fewer than 2^L words or P pages; save: an output that is shorter than the file */
     MDEH_REFUSED_VALUE = 3,     /* value or end of an interval outside its attribute's bounds, index of 2^width or more,
                                    address past the last, unused value not 0 */
     MDEH_REFUSED_STORED = 4,    /* insert: the key is stored already */
     MDEH_REFUSED_ABSENT = 5,    /* lookup, delete: the key is not stored */
-    MDEH_REFUSED_DEPTH = 6,     /* insert: `capacity` stored keys agree with this one in their first L split bits */
-    MDEH_REFUSED_PAGES = 7,     /* insert: the records would need more than P pages */
+    MDEH_REFUSED_DEPTH = 6,     /* insert: `capacity` stored keys agree with this one in their first L split bits; load:
+                                   so of some record and those before it */
+    MDEH_REFUSED_PAGES = 7,     /* insert, load: the records would need more than P pages */
     MDEH_REFUSED_ATTRIBUTE = 8, /* query, range: an attribute is given that the shape does not have */
     MDEH_REFUSED_UNSOUND = 9,   /* the store is not sound, and the call met it: rebuild it from the event records */
     MDEH_REFUSED_INTERVAL = 10, /* range: the low end of an interval is above its high end */
-    MDEH_REFUSED_PAYLOAD = 11   /* insert: the payload is 0, which hosts read as "no log line" */
+    MDEH_REFUSED_PAYLOAD = 11,  /* insert: the payload is 0, which hosts read as "no log line" */
+    MDEH_REFUSED_FILE = 12,     /* load: the bytes are no whole file: too few, other letters, distances or length */
+    MDEH_REFUSED_CONTENT = 13   /* load: a stray byte in the shape, a value outside its bounds, records out of order */
 };
 
 /* What records look like. In bounds: 1 to 4 attributes, widths of 1 to 16 bits, a capacity of 1 to 16 records. A shape
@@ -178,6 +211,11 @@ typedef struct {
 
 typedef struct {
     uint32_t number;
+    uint64_t size; /* bytes of the file */
+} MdehSaveResult;
+
+typedef struct {
+    uint32_t number;
     uint64_t address;
 } MdehAddressResult;
 
@@ -220,6 +258,17 @@ MdehQueryResult mdeh_range(const uint32_t *state, size_t state_words, const uint
 MdehCheckResult mdeh_check(const uint32_t *state, size_t state_words, const uint32_t *directory, size_t words,
                            const uint8_t *pages, size_t bytes);
 
+/* Writes the file of the store's records into the output, from its first byte on, and says how many bytes it has;
+   leaves the bytes behind it and the store as they are. Refused with 1, 2, 9: 2 also for an output that is shorter than
+   the file; the output is then as it was. */
+MdehSaveResult mdeh_save(const uint32_t *state, size_t state_words, const uint32_t *directory, size_t words,
+                         const uint8_t *pages, size_t bytes, uint8_t *out, size_t out_bytes);
+
+/* Makes a store of a file's shape and records, whatever the slices held: all its bytes are the file's. Refused with 12,
+   1, 13, 2, then with 6 or 7 at the first record that meets one (FILES); the slices are then as they were. */
+uint32_t mdeh_load(const uint8_t *file, size_t file_bytes, uint32_t *state, size_t state_words,
+                   uint32_t *directory, size_t words, uint8_t *pages, size_t bytes);
+
 /* The directory address of an index vector, below 2 to the sum of the widths; the same at every size of the directory
    and whatever the marks. Refused with 1, 3. */
 MdehAddressResult mdeh_address(MdehShape shape, MdehIndex index);
@@ -239,14 +288,14 @@ static inline MdehShape mdeh_shape(const uint32_t *state) {
     return shape;
 }
 
-/* A record of an output or a page. */
+/* A record of an output, a file or a page. */
 typedef struct {
     int32_t values[4];
     uint32_t payload;
 } MdehRecord;
 
-/* Record i of those that begin at `records`: an output, or a page past its two first bytes. A field of 16 bits is from
-   -32768 to 32767 where the shape marks its attribute, otherwise from 0 to 65535. */
+/* Record i of those that begin at `records`: an output, a file, or a page past its two first bytes. A field of 16 bits
+   is from -32768 to 32767 where the shape marks its attribute, otherwise from 0 to 65535. */
 static inline MdehRecord mdeh_record(MdehShape shape, const uint8_t *records, size_t i) {
     const uint8_t *p = records + MDEH_RECORD_BYTES * i;
     MdehRecord record;
@@ -266,7 +315,7 @@ static inline const char *mdeh_reason(uint32_t number) {
     switch (number) {
     case MDEH_ACCEPTED: return "accepted";
     case MDEH_REFUSED_SHAPE: return "the shape is outside its bounds";
-    case MDEH_REFUSED_MEMORY: return "too few words or page bytes are lent";
+    case MDEH_REFUSED_MEMORY: return "too few words or bytes are lent";
     case MDEH_REFUSED_VALUE: return "a value, index or address is outside its bounds, or an unused value is not 0";
     case MDEH_REFUSED_STORED: return "the key is stored already";
     case MDEH_REFUSED_ABSENT: return "the key is not stored";
@@ -276,6 +325,8 @@ static inline const char *mdeh_reason(uint32_t number) {
     case MDEH_REFUSED_UNSOUND: return "the store is not sound";
     case MDEH_REFUSED_INTERVAL: return "an interval's low end is above its high end";
     case MDEH_REFUSED_PAYLOAD: return "the payload is 0";
+    case MDEH_REFUSED_FILE: return "the bytes are no whole file";
+    case MDEH_REFUSED_CONTENT: return "the file has a stray byte, a value out of bounds or records out of order";
     default: return "no number of this library";
     }
 }

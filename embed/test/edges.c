@@ -17,6 +17,7 @@ LAID(lookup_laid, sizeof(MdehLookupResult) == 12 && offsetof(MdehLookupResult, r
 LAID(listed_laid, sizeof(MdehQueryResult) == 32 && offsetof(MdehQueryResult, written) == 8);
 LAID(counts_laid, offsetof(MdehQueryResult, total) == 16 && offsetof(MdehQueryResult, reads) == 24);
 LAID(check_laid, sizeof(MdehCheckResult) == 8 && offsetof(MdehCheckResult, sound) == 4);
+LAID(save_laid, sizeof(MdehSaveResult) == 16 && offsetof(MdehSaveResult, size) == 8);
 LAID(address_laid, sizeof(MdehAddressResult) == 16 && offsetof(MdehAddressResult, address) == 8);
 LAID(index_laid, sizeof(MdehIndexResult) == 40 && offsetof(MdehIndexResult, index) == 8);
 
@@ -48,7 +49,7 @@ static Memory filled(uint32_t count, size_t words, size_t pages) {
 
 void empty_slices(void) {
     uint32_t state[MDEH_STATE_WORDS], directory[8], gone;
-    uint8_t pages[4 * MDEH_PAGE_BYTES(2)], out[MDEH_RECORD_BYTES];
+    uint8_t pages[4 * MDEH_PAGE_BYTES(2)], out[MDEH_FILE_BYTES(1)];
     MdehQueryResult found;
     for (gone = 0; gone < 3; gone++) {
         uint32_t *s = gone == 0 ? NULL : state, *d = gone == 1 ? NULL : directory, number = gone == 0 ? 1 : 2;
@@ -62,12 +63,17 @@ void empty_slices(void) {
         HOLDS(mdeh_check(s, n, d, words, p, bytes).number == number);
         HOLDS(mdeh_query(s, n, d, words, p, bytes, all, out, sizeof out).number == number);
         HOLDS(mdeh_range(s, n, d, words, p, bytes, any, out, sizeof out).number == number);
+        HOLDS(mdeh_save(s, n, d, words, p, bytes, out, sizeof out).number == number);
+        HOLDS(mdeh_save(state, MDEH_STATE_WORDS, directory, 8, pages, sizeof pages, out, sizeof out).size == 24);
+        HOLDS(mdeh_load(out, 24, s, n, d, words, p, bytes) == MDEH_REFUSED_MEMORY);
     }
     HOLDS(mdeh_insert(state, MDEH_STATE_WORDS, directory, 8, pages, sizeof pages, key, 13) == MDEH_ACCEPTED);
     found = mdeh_query(state, MDEH_STATE_WORDS, directory, 8, pages, sizeof pages, all, NULL, 0);
     HOLDS(found.number == MDEH_ACCEPTED && found.written == 0 && found.total == 1 && found.reads == 1);
     found = mdeh_range(state, MDEH_STATE_WORDS, directory, 8, pages, sizeof pages, any, NULL, 0);
     HOLDS(found.number == MDEH_ACCEPTED && found.written == 0 && found.total == 1 && found.reads == 1);
+    HOLDS(mdeh_save(state, MDEH_STATE_WORDS, directory, 8, pages, sizeof pages, NULL, 0).number == MDEH_REFUSED_MEMORY);
+    HOLDS(mdeh_load(NULL, 0, state, MDEH_STATE_WORDS, directory, 8, pages, sizeof pages) == MDEH_REFUSED_FILE);
 }
 
 /* Ranges over a store of the leaves 0 (one record), 100 (two), 101 (one) and 11 (none). */

@@ -43,8 +43,7 @@ static int is_value(const MdehShape *shape, uint32_t j, int32_t number) {
     return model_least(shape, j) <= number && number <= model_greatest(shape, j);
 }
 
-/* Whether a shape is within its bounds. */
-static int in_bounds(const MdehShape *shape) {
+int model_in_bounds(const MdehShape *shape) {
     uint32_t j;
     if (shape->attributes < 1 || shape->attributes > 4 || shape->capacity < 1 || shape->capacity > 16)
         return 0;
@@ -67,8 +66,7 @@ static uint64_t code_of(const MdehShape *shape, const uint32_t *encodings) {
     return code;
 }
 
-/* The split bits of a key. */
-static uint64_t key_code(const MdehShape *shape, MdehKey key) {
+uint64_t model_code(const MdehShape *shape, MdehKey key) {
     uint32_t encodings[4], j;
     for (j = 0; j < 4; j++)
         encodings[j] = model_encoding(shape, j, key.values[j]);
@@ -89,13 +87,12 @@ static MdehKey key_of(const MdehShape *shape, uint64_t code) {
     return key;
 }
 
-/* Whether some number is no value of its attribute, or that of an unused attribute not 0. */
-static int out_of_bounds(const MdehShape *shape, MdehKey key) {
+int model_fits(const MdehShape *shape, MdehKey key) {
     uint32_t j;
     for (j = 0; j < 4; j++)
         if (!is_value(shape, j, key.values[j]))
-            return 1;
-    return 0;
+            return 0;
+    return 1;
 }
 
 /* Where a code stands in the list, or would. */
@@ -136,7 +133,7 @@ static size_t leaves(const Model *model, Leaf *found) {
 uint32_t model_fresh(Model *model, MdehShape shape, size_t words, size_t bytes) {
     size_t pages;
     uint32_t bits, j, signs = 0;
-    if (!in_bounds(&shape))
+    if (!model_in_bounds(&shape))
         return MDEH_REFUSED_SHAPE;
     pages = bytes / MDEH_PAGE_BYTES(shape.capacity);
     if (words == 0 || pages == 0)
@@ -179,12 +176,16 @@ static void drop(Model *model, uint64_t code) {
 }
 
 uint32_t model_insert(Model *model, MdehKey key, uint32_t payload) {
-    uint64_t code = key_code(&model->shape, key);
-    Leaf found[MOST_RECORDS];
-    if (out_of_bounds(&model->shape, key))
+    if (!model_fits(&model->shape, key))
         return MDEH_REFUSED_VALUE;
     if (payload == 0)
         return MDEH_REFUSED_PAYLOAD;
+    return model_join(model, key, payload);
+}
+
+uint32_t model_join(Model *model, MdehKey key, uint32_t payload) {
+    uint64_t code = model_code(&model->shape, key);
+    Leaf found[MOST_RECORDS];
     if (is_stored(model, code))
         return MDEH_REFUSED_STORED;
     if (sharing(model, code) >= model->shape.capacity)
@@ -197,8 +198,8 @@ uint32_t model_insert(Model *model, MdehKey key, uint32_t payload) {
 }
 
 uint32_t model_delete(Model *model, MdehKey key) {
-    uint64_t code = key_code(&model->shape, key);
-    if (out_of_bounds(&model->shape, key))
+    uint64_t code = model_code(&model->shape, key);
+    if (!model_fits(&model->shape, key))
         return MDEH_REFUSED_VALUE;
     if (!is_stored(model, code))
         return MDEH_REFUSED_ABSENT;
@@ -208,8 +209,8 @@ uint32_t model_delete(Model *model, MdehKey key) {
 
 MdehLookupResult model_lookup(const Model *model, MdehKey key) {
     MdehLookupResult result = {0, 0, 0};
-    uint64_t code = key_code(&model->shape, key);
-    if (out_of_bounds(&model->shape, key)) {
+    uint64_t code = model_code(&model->shape, key);
+    if (!model_fits(&model->shape, key)) {
         result.number = MDEH_REFUSED_VALUE;
     } else if (!is_stored(model, code)) {
         result.number = MDEH_REFUSED_ABSENT;
@@ -245,8 +246,7 @@ static int agrees(const Leaf *leaf, uint64_t given, uint64_t wanted) {
     return leaf->depth == 0 || ((leaf->code ^ wanted) & given) >> (64 - leaf->depth) == 0;
 }
 
-/* The bytes of a record, its values in two's complement. */
-static void put(uint8_t *place, const MdehRecord *record) {
+void model_put(uint8_t *place, const MdehRecord *record) {
     uint32_t j;
     for (j = 0; j < 12; j++)
         place[j] = (uint8_t)(j < 8 ? (uint32_t)record->values[j / 2] >> j % 2 * 8 : record->payload >> (j - 8) * 8);
@@ -255,7 +255,7 @@ static void put(uint8_t *place, const MdehRecord *record) {
 /* Counts a record, and puts it into the output if it fits there. */
 static void list(MdehQueryResult *result, const MdehRecord *record, uint8_t *out, size_t out_bytes) {
     if (result->total++ < out_bytes / MDEH_RECORD_BYTES)
-        put(out + MDEH_RECORD_BYTES * result->written++, record);
+        model_put(out + MDEH_RECORD_BYTES * result->written++, record);
 }
 
 MdehQueryResult model_query(const Model *model, MdehQuery query, uint8_t *out, size_t out_bytes) {

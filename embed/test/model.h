@@ -20,6 +20,9 @@ typedef struct {
     ModelRecord records[MOST_RECORDS];
 } Model;
 
+/* Whether a shape is within its bounds. */
+int model_in_bounds(const MdehShape *shape);
+
 /* The sum of the widths in use. */
 uint32_t model_bits(const MdehShape *shape);
 
@@ -31,10 +34,23 @@ int32_t model_greatest(const MdehShape *shape, uint32_t j);
 uint32_t model_encoding(const MdehShape *shape, uint32_t j, int32_t value);
 int32_t model_value(const MdehShape *shape, uint32_t j, uint32_t encoding);
 
+/* Whether each number is a value of its attribute, and that of an unused one 0. */
+int model_fits(const MdehShape *shape, MdehKey key);
+
+/* The split bits of a key, the first one highest. */
+uint64_t model_code(const MdehShape *shape, MdehKey key);
+
+/* The bytes of a record, its values in two's complement. */
+void model_put(uint8_t *place, const MdehRecord *record);
+
 /* The number of Fresh; where it is 0, the model has no records, and its shape no marks but those of attributes. */
 uint32_t model_fresh(Model *model, MdehShape shape, size_t words, size_t bytes);
 
 uint32_t model_insert(Model *model, MdehKey key, uint32_t payload);
+
+/* An insert of a key that fits, with any payload. */
+uint32_t model_join(Model *model, MdehKey key, uint32_t payload);
+
 uint32_t model_delete(Model *model, MdehKey key);
 MdehLookupResult model_lookup(const Model *model, MdehKey key);
 MdehQueryResult model_query(const Model *model, MdehQuery query, uint8_t *out, size_t out_bytes);

@@ -4,9 +4,11 @@
  * the seed of its list; given as an argument, that seed runs its list alone.
  */
 #include "edges.h"
+#include "files.h"
 #include "layout.h"
 #include "lent.h"
 #include "model.h"
+#include "model_file.h"
 #include "signs.h"
 
 #include <stdio.h>
@@ -21,7 +23,7 @@ typedef struct {
 } Run;
 
 /* How often each number came. */
-static unsigned long came[MDEH_REFUSED_PAYLOAD + 1];
+static unsigned long came[MDEH_REFUSED_CONTENT + 1];
 
 /* The three slices of a store. */
 #define STORE(run) SLICE((run)->state), SLICE((run)->directory), bytes_of(&(run)->pages), (run)->pages.bytes
@@ -213,6 +215,49 @@ static void reopen(Run *run) {
     compare_change(run, MDEH_ACCEPTED, MDEH_ACCEPTED);
 }
 
+/* The file of the store, one in four with a bit changed, in a longer output. */
+static size_t save(Run *run, Lent *out) {
+    static uint8_t file[MDEH_FILE_BYTES(MOST_RECORDS)];
+    size_t size = model_save(&run->model, file);
+    MdehSaveResult saved;
+    *out = lend_bytes(&run->seed, size + below(&run->seed, 40));
+    saved = mdeh_save(STORE(run), bytes_of(out), out->bytes);
+    HOLDS(saved.number == MDEH_ACCEPTED && saved.size == size);
+    HOLDS(memcmp(bytes_of(out), file, size) == 0);
+    HOLDS(unchanged_from(out, size) && unchanged(run));
+    if (below(&run->seed, 4) == 0)
+        bytes_of(out)[below(&run->seed, (uint32_t)size)] ^= (uint8_t)(1 << below(&run->seed, 8));
+    lend_again(out);
+    return size;
+}
+
+/* Loads the file of the store into other memory of any lengths. Where it is accepted, the calls go on there. */
+static void carry(Run *run) {
+    Run moved = *run;
+    Lent out;
+    size_t size = save(run, &out);
+    uint32_t number, wanted;
+    int whole;
+    moved.state = lend_words(&run->seed, MDEH_STATE_WORDS - 1 + below(&run->seed, 8));
+    moved.directory = lend_words(&run->seed, below(&run->seed, 400));
+    moved.pages = lend_bytes(&run->seed, below(&run->seed, 6000));
+    moved.seed = run->seed;
+    whole = moved.state.bytes >= 4 * MDEH_STATE_WORDS;
+    wanted = model_load(&moved.model, bytes_of(&out), size, whole ? moved.directory.bytes / 4 : 0,
+                        whole ? moved.pages.bytes : 0);
+    number = mdeh_load(bytes_of(&out), size, STORE(&moved));
+    HOLDS(unchanged_from(&out, 0));
+    take_back(&out);
+    compare_change(&moved, number, wanted);
+    run->seed = moved.seed;
+    if (number != MDEH_ACCEPTED) {
+        take_store_back(&moved);
+        return;
+    }
+    take_store_back(run);
+    *run = moved;
+}
+
 /* Gives a stored record the payload 0, as a store of an earlier version may hold it. */
 static void zero_payload(Run *run) {
     ModelRecord *changed = run->model.records + below(&run->seed, (uint32_t)run->model.count);
@@ -227,7 +272,7 @@ static void zero_payload(Run *run) {
 
 /* One call of any kind, or a change of the memory. */
 static void call(Run *run) {
-    uint32_t kind = below(&run->seed, 24), payload = random_payload(run);
+    uint32_t kind = below(&run->seed, 25), payload = random_payload(run);
     MdehKey key = random_key(run);
     if (kind < 9) {
         compare_change(run, mdeh_insert(STORE(run), key, payload), model_insert(&run->model, key, payload));
@@ -243,6 +288,8 @@ static void call(Run *run) {
         compare_range(run, range, below(&run->seed, 200));
     } else if (kind < 23) {
         reopen(run);
+    } else if (kind < 24) {
+        carry(run);
     } else if (run->model.count > 0) {
         zero_payload(run);
     }
@@ -265,6 +312,7 @@ static void calls_on_damage(Run *run) {
     MdehRange range = random_range(run);
     uint8_t out[100];
     MdehQueryResult found;
+    MdehSaveResult saved;
     uint32_t payload = random_payload(run), early, number;
     uint32_t small = below(&run->seed, 5), word = below(&run->seed, 2) ? small : (uint32_t)number64(&run->seed);
     switch (below(&run->seed, 3)) {
@@ -277,6 +325,9 @@ static void calls_on_damage(Run *run) {
     HOLDS(found.number <= MDEH_REFUSED_UNSOUND && found.written <= found.total && found.written <= sizeof out / 12);
     found = mdeh_range(STORE(run), range, out, sizeof out);
     HOLDS(found.number <= MDEH_REFUSED_INTERVAL && found.written <= found.total && found.written <= sizeof out / 12);
+    saved = mdeh_save(STORE(run), out, sizeof out);
+    HOLDS(saved.number <= MDEH_REFUSED_UNSOUND && saved.size <= sizeof out);
+    HOLDS(saved.number == MDEH_ACCEPTED ? saved.size >= 24 : saved.size == 0);
     early = mdeh_lookup(STORE(run), key).number;
     HOLDS(early <= MDEH_REFUSED_UNSOUND);
     HOLDS(mdeh_check(STORE(run)).number <= MDEH_REFUSED_MEMORY);
@@ -330,9 +381,18 @@ int main(int count, char **arguments) {
     signed_twins();
     marks_past();
     signed_fields();
+    file_layout();
+    file_orders();
+    file_outputs();
+    file_changes();
+    file_lengths();
+    file_counts();
+    file_memory();
+    file_bytes();
+    file_damage();
     for (seed = 1; seed <= 1500; seed++)
         list(seed * 0x9e3779b97f4a7c15);
-    for (number = MDEH_ACCEPTED; number <= MDEH_REFUSED_PAYLOAD; number++)
+    for (number = MDEH_ACCEPTED; number <= MDEH_REFUSED_CONTENT; number++)
         HOLDS(came[number] > 0);
     printf("%lu comparisons\n", compared);
     return 0;

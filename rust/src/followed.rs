@@ -41,7 +41,8 @@ impl Followed {
         Followed::new(store, Model::fresh(shape, words, bytes).expect("accepted"))
     }
 
-    fn new(store: LentStore, model: Model) -> Followed {
+    /// A store that shows a model's set.
+    pub fn new(store: LentStore, model: Model) -> Followed {
         let cells = Cells::new(model.widths(), model.depth_limit);
         let pages = pages_shown(&store.image(), &model, &cells).expect("the store shows the model's set");
         Followed { store, model, cells, pages }

@@ -1,5 +1,7 @@
 //! Slices lent to calls, between guards that no call may change.
-use crate::host::{self, CheckResult, HostQuery, HostRange, LookupResult, QueryResult, Shape};
+use crate::host::{
+    self, CheckResult, HostQuery, HostRange, LookupResult, QueryResult, SaveResult, Shape,
+};
 use crate::plain::image::{Image, Laid, DEPTH, DEPTH_LIMIT, PAGE_LIMIT, SIGNS, STATE};
 use crate::plain::kept::Change;
 use crate::plain::model::Model;
@@ -103,6 +105,41 @@ impl LentStore {
         dir.lend_again();
         pages.lend_again();
         store
+    }
+
+    /// A store that a load makes of a file in memory, or the number of the refusal, with nothing changed. "Words past the
+    /// first 2^L and bytes past the P pages are never changed", and neither is what lies past the state.
+    pub fn load(random: &mut Random, file: &[u8], memory: &Image) -> Result<LentStore, u32> {
+        let mut store = LentStore::new(random, memory);
+        let file = lend_bytes(random, file);
+        let LentStore { state, dir, pages } = &mut store;
+        let answer = host::load(file.slice(), state.slice_mut(), dir.slice_mut(), pages.slice_mut());
+        assert!(file.unchanged(), "the file is changed");
+        if let Err(number) = answer {
+            store.assert_unchanged();
+            return Err(number);
+        }
+        let (p, l) = (state.slice()[PAGE_LIMIT] as usize, state.slice()[DEPTH_LIMIT]);
+        let size = 2 + 12 * state.slice()[5] as usize;
+        assert!(state.unchanged_from(STATE), "what lies past the state is changed");
+        assert!(dir.unchanged_from(1 << l), "words past 2^L are changed");
+        assert!(pages.unchanged_from(p * size), "bytes past the P pages are changed");
+        state.lend_again();
+        dir.lend_again();
+        pages.lend_again();
+        Ok(store)
+    }
+
+    /// The bytes of the file, or the number of the refusal, which leaves the output alone.
+    pub fn save(&self, out: &mut Lent<u8>) -> Result<u64, u32> {
+        let (state, dir, pages) = (self.state.slice(), self.dir.slice(), self.pages.slice());
+        let SaveResult { number, size } = host::save_result(state, dir, pages, out.slice_mut());
+        self.assert_unchanged();
+        match number {
+            0 => assert!(out.unchanged_from(size as usize), "what lies behind the file is changed"),
+            _ => assert!(out.unchanged(), "the output is changed"),
+        }
+        answer(number, size, 0)
     }
 
     /// The payload and the reads, or the number of the refusal.

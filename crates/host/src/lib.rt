@@ -4,6 +4,7 @@ use address_formula::Index;
 use host_changes::delete_in_words;
 use host_changes::fresh_in_words;
 use host_changes::insert_in_words;
+use host_changes::load_in_words;
 use host_map::AddressResult;
 use host_map::IndexResult;
 use host_map::address_result;
@@ -12,11 +13,13 @@ use host_reads::check_result;
 use host_reads::lookup_result;
 use host_reads::query_result;
 use host_reads::range_result;
+use host_reads::save_result;
 use host_results::CheckResult;
 use host_results::HostQuery;
 use host_results::HostRange;
 use host_results::LookupResult;
 use host_results::QueryResult;
+use host_results::SaveResult;
 use shape::Key;
 use shape::Shape;
 ghost use mathlib.Core.List.{[], _∷_};
@@ -34,6 +37,8 @@ ghost use Rattle.host_results.specs.Wanted.{wantedOf};
 ghost use Rattle.shape.specs.Range.{intervalsOf};
 ghost use Rattle.host_changes.specs.Changes.{LentChangePromise};
 ghost use Rattle.host_changes.specs.Fresh.{LentFreshPromise};
+ghost use Rattle.host_changes.specs.Load.{LentLoadPromise};
+ghost use Rattle.file.specs.Promises.{SavePromise};
 
 // Makes a store without records in lent memory: the words of its state, word 0 and the counts of the
 // P pages. Refused with 1 for a shape outside its bounds, then with 2 for fewer words than a state has,
@@ -135,6 +140,36 @@ pub extern "C" fn mdeh_check(state: &[u32], dir: &[u32], pages: &[u8]) -> CheckR
     ensures { λ r. ⌜ r .sound ≤ 1 ⌝ }
 {
     check_result(state, dir, pages)
+}
+
+// Writes the file of the store's records from the output's first byte on, and returns how many bytes
+// it has; the bytes behind it stay. Refused with 1, 2 (slices or output too short) or 9, the first
+// that holds in this order; a refused call leaves the output as it came.
+#[no_mangle]
+pub extern "C" fn mdeh_save(state: &[u32], dir: &[u32], pages: &[u8], out: &mut [u8]) -> SaveResult
+    ensures { λ r. ⌜ Keeps (r .number) (r .size) 0
+        (λ answer. SavePromise (store (stateIn (now (state .entry))) (now (dir .entry)) (now (pages .entry)))
+        (now (out .entry)) answer (now (out .exit))) ⌝ }
+{
+    save_result(state, dir, pages, out)
+}
+
+// Makes a store of a file's shape and records in lent memory, with P and L as Fresh fixes them.
+// Refused with 12 (no whole file), 1, 13 (a shape with stray bytes, a value outside its bounds,
+// records not strictly rising), 2 (fewer words than a state has, no directory word, no whole page),
+// then 6 or 7 at the first record that meets them; a refused call changes nothing.
+#[no_mangle]
+pub extern "C" fn mdeh_load(
+    file: &[u8],
+    state: &mut [u32],
+    dir: &mut [u32],
+    pages: &mut [u8],
+) -> u32
+    ensures { λ r. ⌜ LentLoadPromise (now (file .entry)) (now (state .entry))
+        (memory (now (dir .entry)) (now (pages .entry))) r (now (state .exit))
+        (memory (now (dir .exit)) (now (pages .exit))) ⌝ }
+{
+    load_in_words(file, state, dir, pages)
 }
 
 // The address of an index vector. Refused with 1 for a shape outside its bounds, then with 3 for an

@@ -1,2 +1,3 @@
 pub mod ChangeLaws
 pub mod FreshLaws
+pub mod LoadLaws

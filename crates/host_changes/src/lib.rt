@@ -1,12 +1,14 @@
-// Fresh and the calls that change a store, for hosts: the state lies in lent words (crate
+// Fresh, load and the calls that change a store, for hosts: the state lies in lent words (crate
 // `host_state`), and the answer is a number, 0 for an accepted call. Fewer words than a state has
-// show no shape, so that insert and delete are refused with 1.
+// show no shape, so that insert and delete are refused with 1; Fresh and load, which are given no
+// state, are refused with 2.
 use delete::delete;
 use fresh::fresh;
 use host_results::settle;
 use host_state::STATE_SIZE;
 use host_state::state_in;
 use insert::insert;
+use load::load;
 use record::Content;
 use shape::Key;
 use shape::Shape;
@@ -15,6 +17,7 @@ ghost use Rattle.store.specs.Store.{memory, store};
 ghost use Rattle.store.specs.Promises.{InsertPromise, DeletePromise};
 ghost use Rattle.host_changes.specs.Changes.{LentChangePromise};
 ghost use Rattle.host_changes.specs.Fresh.{LentFreshPromise};
+ghost use Rattle.host_changes.specs.Load.{LentLoadPromise};
 
 // Makes a store without records in lent memory: the words of its state, word 0 and the counts of the
 // P pages. Refused with 1 for a shape outside its bounds, then with 2 for fewer words than a state has,
@@ -61,4 +64,22 @@ pub fn delete_in_words(state: &mut [u32], dir: &mut [u32], pages: &mut [u8], key
 {
     let deleted = delete(state_in(state), dir, pages, key);
     settle(state, deleted)
+}
+
+// Makes a store of a file's shape and records in lent memory, with P and L as Fresh fixes them.
+// Refused with 12 (no whole file), 1, 13 (a shape with stray bytes, a value outside its bounds,
+// records not strictly rising), 2 (fewer words than a state has, no directory word, no whole page),
+// then 6 or 7 at the first record that meets them; a refused call changes nothing. Where the state is
+// too short, the file is judged as if no memory were lent.
+pub fn load_in_words(file: &[u8], state: &mut [u32], dir: &mut [u32], pages: &mut [u8]) -> u32
+    ensures { λ r. ⌜ LentLoadPromise (now (file .entry)) (now (state .entry))
+        (memory (now (dir .entry)) (now (pages .entry))) r (now (state .exit))
+        (memory (now (dir .exit)) (now (pages .exit))) ⌝ }
+{
+    if state.len() >= STATE_SIZE {
+        let loaded = load(file, dir, pages);
+        return settle(state, loaded);
+    }
+    let refused = load(file, &mut dir[0..0], &mut pages[0..0]);
+    settle(state, refused)
 }

@@ -11,6 +11,7 @@ use Rattle.record.specs.Record.{Record}
 use Rattle.model.specs.Model.{Reply, Outcome}
 use Rattle.store.specs.Store.{Store}
 use Rattle.store.specs.Promises.{lentNumber, keyNumber, LookupPromise, ListPromise, CheckPromise}
+use Rattle.file.specs.Promises.{SavePromise}
 
 module _ {A : Type 0} where
   refused-zero-accepted : (x : A) → refused 0 ≡ accepted x → ⊥
@@ -46,4 +47,15 @@ check-not-zero s a p z = go (lentNumber s) refl
     go zero e =
         ⊎-elim (λ h. refused-zero-accepted _ (sym z ∙ h .0)) (λ h. refused-zero-accepted _ (sym z ∙ h .0))
         (p .verdict e)
+    go (suc n) e = refused-zero-suc n (sym z ∙ p .early-refused n e)
+
+pub save-not-zero : (s : Store) (out : List ℕ) (a : Answer ℕ) (out′ : List ℕ) → SavePromise s out a out′
+    → a ≡ refused 0 → ⊥
+save-not-zero s out a out′ p z = go (lentNumber s) refl
+  where
+    go : (n : ℕ) → lentNumber s ≡ n → ⊥
+    go zero e =
+        ⊎-elim (λ h. refused-zero-accepted _ (sym z ∙ h .2))
+        (⊎-elim (λ f. refused-zero-suc 1 (sym z ∙ f)) (λ f. refused-zero-suc 8 (sym z ∙ f)))
+        (p .ordinary e)
     go (suc n) e = refused-zero-suc n (sym z ∙ p .early-refused n e)

@@ -8,20 +8,24 @@ use host_results::HostQuery;
 use host_results::HostRange;
 use host_results::LookupResult;
 use host_results::QueryResult;
+use host_results::SaveResult;
 use host_results::checked_result;
 use host_results::found_result;
 use host_results::listed_result;
+use host_results::saved_result;
 use host_results::store_query;
 use host_results::store_range;
 use host_state::state_in;
 use lookup::lookup;
 use query::query;
 use range::range;
+use save::save;
 use shape::Key;
 ghost use Prim.Native.Nat.{_≤_};
 ghost use Rattle.model.specs.Model.{found, listed};
 ghost use Rattle.store.specs.Store.{store};
 ghost use Rattle.store.specs.Promises.{LookupPromise, QueryPromise, RangePromise, CheckPromise};
+ghost use Rattle.file.specs.Promises.{SavePromise};
 ghost use Rattle.host_state.specs.Image.{stateIn};
 ghost use Rattle.host_results.specs.Result.{Keeps, isYes};
 ghost use Rattle.host_results.specs.Wanted.{wantedOf};
@@ -79,4 +83,15 @@ pub fn check_result(state: &[u32], dir: &[u32], pages: &[u8]) -> CheckResult
     ensures { λ r. ⌜ r .sound ≤ 1 ⌝ }
 {
     checked_result(check(state_in(state), dir, pages))
+}
+
+// Writes the file of the store's records from the output's first byte on, and returns how many bytes
+// it has; the bytes behind it stay. Refused with 1, 2 (slices or output too short) or 9, the first
+// that holds in this order; a refused call leaves the output as it came.
+pub fn save_result(state: &[u32], dir: &[u32], pages: &[u8], out: &mut [u8]) -> SaveResult
+    ensures { λ r. ⌜ Keeps (r .number) (r .size) 0
+        (λ answer. SavePromise (store (stateIn (now (state .entry))) (now (dir .entry)) (now (pages .entry)))
+        (now (out .entry)) answer (now (out .exit))) ⌝ }
+{
+    saved_result(save(state_in(state), dir, pages, out))
 }

@@ -1,6 +1,7 @@
 // What crosses the C interface as numbers: an answer as a struct of numbers, a change as its number
 // and its state in words, a query and a range as they come. A number of 0 stands for an accepted
 // call; any other is the refusal's (document 01, "Refused calls"), and the values beside it are 0.
+use file::Saved;
 use host_state::put_state;
 use shape::Attribute;
 use shape::Query;
@@ -21,6 +22,7 @@ ghost use Rattle.shape.specs.Range.{spanInterval, rangeIntervals, intervalIf, i
 ghost use Rattle.shape.specs.Refusal.{accepted, refused};
 ghost use Rattle.model.specs.Model.{changed, found, listed};
 ghost use Rattle.store.specs.Answers.{changedAnswer, foundAnswer, listedAnswer, checkedAnswer};
+ghost use Rattle.file.specs.Answers.{savedAnswer};
 ghost use Rattle.host_state.specs.Image.{stateSize};
 ghost use Rattle.host_results.specs.Result.{Reports, isYes};
 ghost use Rattle.host_results.specs.Settled.{Settled};
@@ -64,6 +66,13 @@ pub struct QueryResult {
 pub struct CheckResult {
     pub number: u32,
     pub sound: u32,
+}
+
+// How many bytes the file of a store has.
+#[repr(C)]
+pub struct SaveResult {
+    pub number: u32,
+    pub size: u64,
 }
 
 // A lookup's answer as numbers.
@@ -124,6 +133,17 @@ pub fn checked_result(answer: Checked) -> CheckResult
             sound: 0,
         },
         Checked::Refused(number) => CheckResult { number, sound: 0 },
+    }
+}
+
+// A save's answer as numbers.
+pub fn saved_result(answer: Saved) -> SaveResult
+    requires { ⌜ (savedAnswer answer ≡ refused 0 → ⊥) ⌝ }
+    ensures { λ r. ⌜ Reports (r .number) (r .size) 0 (savedAnswer answer) ⌝ }
+{
+    match answer {
+        Saved::Bytes(size) => SaveResult { number: 0, size },
+        Saved::Refused(number) => SaveResult { number, size: 0 },
     }
 }
 

@@ -36,6 +36,41 @@
 //! ([`Store::state`], [`Store::directory`], [`Store::pages`]); [`Store::reopen`] takes them up again.
 //! The layouts are in `embed/mdeh.h`.
 //!
+//! # Files
+//!
+//! [`Store::save`] writes the records of a store as the bytes of a file, and [`Store::load`] makes a store of these
+//! bytes, in any slices: to carry records elsewhere, or to let a store grow that has no room any more. To write and read
+//! the bytes is the host's. A file has the records in split order, 12 bytes each, 8 bytes of shape and 16 of trailer
+//! ([`file_bytes`]), the same on every machine. Two sound stores of one shape save equal bytes exactly when they hold
+//! equal sets of records, whatever their slices and the order of their calls.
+//!
+//! ```
+//! use mdeh::{file_bytes, Refusal, Shape, Store};
+//!
+//! const SHAPE: Shape = Shape::new(&[7, 5, 9], 2);
+//! let mut directory = [0u32; 16];
+//! let mut pages = [0u8; 2 * SHAPE.page_bytes()];
+//! let mut store = Store::fresh(SHAPE, &mut directory, &mut pages)?;
+//! for (slot, payload) in [(2, 6), (5, 14), (17, 1)] {
+//!     store.insert([30, slot, 431], payload)?;
+//! }
+//! assert_eq!(store.insert([100, 9, 398], 1), Err(Refusal::Pages)); // two pages are full of code 30
+//!
+//! let mut file = [0u8; file_bytes(3)];
+//! assert_eq!(store.save(&mut file)?, file.len());
+//! assert_eq!(file[36..44], [3, 7, 5, 9, 0, 2, 0, 0]); // the shape
+//! assert_eq!(file[44..48], *b"MDEH");
+//!
+//! let mut directory = [0u32; 64];
+//! let mut pages = [0u8; 8 * SHAPE.page_bytes()];
+//! let mut store = Store::load(&file, &mut directory, &mut pages)?; // more memory, the same records
+//! store.insert([100, 9, 398], 1)?;
+//! assert_eq!(store.lookup([30, 5, 431])?.payload, 14);
+//!
+//! assert_eq!(Store::load(&file[1..], &mut [0; 64], &mut [0; 400]).unwrap_err(), Refusal::File);
+//! # Ok::<(), Refusal>(())
+//! ```
+//!
 //! # Signed attributes
 //!
 //! A [`Shape`] may mark attributes as signed. A marked attribute of width w has the values from -2^(w-1) to 2^(w-1) - 1,
@@ -79,7 +114,8 @@
 //!
 //! Hosts read a payload of 0 as "no log line", so [`Store::insert`] refuses it with [`Refusal::Payload`]: payloads
 //! start at 1. A store that an earlier version filled may hold payloads of 0. It stays sound, and they are looked up,
-//! listed and deleted as others are; to be inserted into another store, such a record needs another payload.
+//! listed, deleted, saved and loaded as others are; to be inserted into another store, such a record needs another
+//! payload.
 //!
 //! ```
 //! # use mdeh::{Query, Refusal, Shape, Store};
@@ -136,6 +172,7 @@
 #![no_std]
 #![deny(missing_docs, unsafe_code)]
 
+mod file;
 mod key;
 mod query;
 mod range;
@@ -146,6 +183,7 @@ mod refusal;
 mod shape;
 mod store;
 
+pub use file::file_bytes;
 pub use key::{Index, Key};
 pub use query::Query;
 pub use range::Range;

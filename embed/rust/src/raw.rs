@@ -2,12 +2,14 @@
 //! that the caller lends. [`Store`](crate::Store) stands on them, and so do tests that want every slice in their hands.
 //!
 //! Here is the address map; `store` has Fresh and the calls that read, `range` the range call, `changes` insert and
-//! delete.
+//! delete, `files` save and load.
 mod changes;
+mod files;
 mod range;
 mod store;
 
 pub use changes::*;
+pub use files::*;
 pub use range::*;
 pub use store::*;
 

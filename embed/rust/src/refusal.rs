@@ -21,9 +21,10 @@ use core::fmt::{self, Display, Formatter};
 #[repr(u32)]
 #[derive(Clone, Copy, Debug, PartialEq, Eq, Hash)]
 pub enum Refusal {
-    /// A shape outside its bounds, also in the state of a reopened store.
+    /// A shape outside its bounds, also in the state of a reopened store and in a file.
     Shape = 1,
-    /// Fresh: no directory word or no whole page. Later: fewer words or pages than the store has use for.
+    /// Fresh and load: no directory word or no whole page. Later: fewer words or pages than the store has use for. Save:
+    /// an output that is shorter than the file.
     Memory = 2,
     /// A number that is no value of its attribute ([`Shape::values`](crate::Shape::values)), an index past its
     /// attribute's width, an address past the last, or an unused value other than 0.
@@ -32,9 +33,10 @@ pub enum Refusal {
     Stored = 4,
     /// Lookup and delete: the key is not stored.
     Absent = 5,
-    /// Insert: a full page holds keys that the directory cannot tell from this one at its greatest depth.
+    /// Insert: a full page holds keys that the directory cannot tell from this one at its greatest depth. Load: so of
+    /// some record and those before it.
     Depth = 6,
-    /// Insert: the records would need more pages than are lent.
+    /// Insert and load: the records would need more pages than are lent.
     Pages = 7,
     /// Query and range: an attribute is given that the shape does not have.
     Attribute = 8,
@@ -45,6 +47,10 @@ pub enum Refusal {
     Interval = 10,
     /// Insert: the payload is 0, which hosts read as "no log line".
     Payload = 11,
+    /// Load: the bytes are no whole file: they are too few, or the letters, the distances or the length are others.
+    File = 12,
+    /// Load: a stray byte in the shape, a value outside its bounds, or records that do not strictly rise in split order.
+    Content = 13,
 }
 
 impl Refusal {
@@ -54,7 +60,7 @@ impl Refusal {
         self as u32
     }
 
-    /// The reason with a number from 1 to 11; the library gives no other.
+    /// The reason with a number from 1 to 13; the library gives no other.
     #[inline]
     pub(crate) fn of(number: u32) -> Refusal {
         match number {
@@ -68,6 +74,8 @@ impl Refusal {
             8 => Refusal::Attribute,
             10 => Refusal::Interval,
             11 => Refusal::Payload,
+            12 => Refusal::File,
+            13 => Refusal::Content,
             _ => Refusal::Unsound,
         }
     }
@@ -77,7 +85,7 @@ impl Display for Refusal {
     fn fmt(&self, f: &mut Formatter<'_>) -> fmt::Result {
         f.write_str(match self {
             Refusal::Shape => "the shape is outside its bounds",
-            Refusal::Memory => "too few words or page bytes are lent",
+            Refusal::Memory => "too few words or bytes are lent",
             Refusal::Value => "a value, index or address is outside its bounds, or an unused value is not 0",
             Refusal::Stored => "the key is stored already",
             Refusal::Absent => "the key is not stored",
@@ -87,6 +95,8 @@ impl Display for Refusal {
             Refusal::Unsound => "the store is not sound",
             Refusal::Interval => "an interval's low end is above its high end",
             Refusal::Payload => "the payload is 0",
+            Refusal::File => "the bytes are no whole file",
+            Refusal::Content => "the file has a stray byte, a value out of bounds or records out of order",
         })
     }
 }
@@ -99,6 +109,6 @@ mod tests {
 
     #[test]
     fn each_number_names_its_reason() {
-        (1..=11).for_each(|number| assert_eq!(Refusal::of(number).number(), number));
+        (1..=13).for_each(|number| assert_eq!(Refusal::of(number).number(), number));
     }
 }

@@ -14,7 +14,8 @@ pub use crate::raw::STATE_WORDS;
 ///
 /// Calls that read take `&self` and write nothing in the store, so threads may share it. Refusals are listed in the
 /// order in which they are looked for; a refused call has changed nothing. [`Refusal::Unsound`] is never given on a
-/// store that [`Store::check`] finds sound; [`Store::fresh`] makes a sound store, and every call leaves it sound.
+/// store that [`Store::check`] finds sound; [`Store::fresh`] and [`Store::load`] make a sound store, and every call
+/// leaves it sound.
 pub struct Store<'m> {
     state: [u32; STATE_WORDS],
     directory: &'m mut [u32],
@@ -79,6 +80,39 @@ impl<'m> Store<'m> {
     #[inline]
     pub fn reopen(state: [u32; STATE_WORDS], directory: &'m mut [u32], pages: &'m mut [u8]) -> Store<'m> {
         Store { state, directory, pages }
+    }
+
+    /// Makes a store of a file's shape and records in lent memory, whatever it held before. All bytes are the file's.
+    ///
+    /// How far the store can grow is fixed by the memory, as of [`Store::fresh`]. Payloads are not looked at: one of 0
+    /// loads. Refused with [`Refusal::File`], [`Refusal::Shape`], [`Refusal::Content`] or [`Refusal::Memory`], then with
+    /// [`Refusal::Depth`] or [`Refusal::Pages`] at the first record that an insert into a store of those before it would
+    /// refuse so; the memory is then as it was. A file has no sum: a changed payload is not told.
+    ///
+    /// ```
+    /// use mdeh::{file_bytes, Refusal, Shape, Store};
+    ///
+    /// let (mut directory, mut pages) = ([0; 8], [0; 60]);
+    /// let mut store = Store::fresh(Shape::new(&[2, 2], 2), &mut directory, &mut pages)?;
+    /// store.insert([2, 1], 13)?;
+    /// store.insert([3, 1], 12)?;
+    /// let mut file = [0; file_bytes(2)];
+    /// store.save(&mut file)?;
+    ///
+    /// let (mut directory, mut pages) = ([0; 4096], [0; 1000]);
+    /// let loaded = Store::load(&file, &mut directory, &mut pages)?;
+    /// assert_eq!((loaded.shape(), loaded.check()), (store.shape(), Ok(true)));
+    /// assert_eq!(loaded.lookup([2, 1])?.payload, 13);
+    ///
+    /// file[0] = 3; // the first key is (3, 1) now, as the second
+    /// assert_eq!(Store::load(&file, &mut directory, &mut pages).unwrap_err(), Refusal::Content);
+    /// # Ok::<(), Refusal>(())
+    /// ```
+    #[inline]
+    pub fn load(file: &[u8], directory: &'m mut [u32], pages: &'m mut [u8]) -> Result<Store<'m>, Refusal> {
+        let mut state = [0; STATE_WORDS];
+        raw::load(file, &mut state, directory, pages).map_err(Refusal::of)?;
+        Ok(Store { state, directory, pages })
     }
 
     /// Adds a record, whose payload is not 0.
@@ -201,6 +235,32 @@ impl<'m> Store<'m> {
     #[inline]
     pub fn check(&self) -> Result<bool, Refusal> {
         raw::check(&self.state, self.directory, self.pages).map_err(Refusal::of)
+    }
+
+    /// Writes the file of the records into `out`, from its first byte on, and returns how many bytes it has; the bytes
+    /// behind it are left as they are.
+    ///
+    /// Refused with [`Refusal::Shape`], [`Refusal::Memory`] or [`Refusal::Unsound`]; `out` is then as it was. `Memory`
+    /// is also for an output that is shorter than the file: [`file_bytes`](crate::file_bytes) of the records has room.
+    ///
+    /// ```
+    /// use mdeh::{file_bytes, Query, Refusal, Shape, Store};
+    ///
+    /// let (mut directory, mut pages) = ([0; 8], [0; 60]);
+    /// let mut store = Store::fresh(Shape::new(&[2, 2], 2), &mut directory, &mut pages)?;
+    /// store.insert([2, 1], 13)?;
+    ///
+    /// let records = store.query(Query::all(), &mut [])?.total as usize;
+    /// let mut out = [7; 40];
+    /// assert_eq!(store.save(&mut out)?, file_bytes(records));
+    /// assert_eq!(out[..12], [2, 0, 1, 0, 0, 0, 0, 0, 13, 0, 0, 0]);
+    /// assert_eq!(out[36..], [7; 4]); // behind the file
+    /// assert_eq!(store.save(&mut out[..35]), Err(Refusal::Memory));
+    /// # Ok::<(), Refusal>(())
+    /// ```
+    #[inline]
+    pub fn save(&self, out: &mut [u8]) -> Result<usize, Refusal> {
+        raw::save(&self.state, self.directory, self.pages, out).map(|size| size as usize).map_err(Refusal::of)
     }
 
     /// The words of the state: d, the four widths, b, P, L, T, how many leaves there are at depths 0 to 12, and the

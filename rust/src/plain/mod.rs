@@ -3,6 +3,7 @@
 //! what a call meets of damaged memory. Nothing here is taken from the library.
 pub mod console;
 pub mod damage;
+pub mod file;
 pub mod image;
 pub mod judge;
 pub mod kept;

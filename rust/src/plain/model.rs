@@ -110,6 +110,11 @@ impl Model {
         if let Some(number) = insert_refused(self.shape, key, payload) {
             return Err(number);
         }
+        self.join(key, payload)
+    }
+
+    /// An insert of a key within its bounds, after 11: 4, 6 or 7.
+    pub fn join(&mut self, key: [i32; 4], payload: u32) -> Result<(), u32> {
         if self.records.iter().any(|record| record.key == key) {
             return Err(4);
         }

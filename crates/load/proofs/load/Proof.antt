@@ -43,7 +43,8 @@ returns c =
 shape-in-requires : tie.Need-shape-in-requires
 shape-in-requires c κs =
     let a = start (c .before) .args in
-    end-within (a .file .now) (passed-of-loadNumber (a .file .now) (memory (a .dir .now) (a .pages .now)) (none c) .whole)
+    let m = memory (a .dir .now) (a .pages .now) in
+    end-within (a .file .now) (passed-of-loadNumber (a .file .now) m (none c) .whole)
 
 fresh-requires : tie.Need-fresh-requires
 fresh-requires c κs = search needs
