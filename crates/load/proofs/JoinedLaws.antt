@@ -1,8 +1,8 @@
 -- Laws of the records that a load adds: none, and one more, which the model accepts. Assumes nothing.
-use Prim.Native.Nat.{ℕ, suc, _+_, _*_, _^_, _≤_, _<_}
+use Prim.Native.Nat.{ℕ, suc, _+_, _*_, _^_, _<_}
 use mathlib.Core.Path.{_≡_, refl, sym, ap, subst, _∙_}
 use mathlib.Core.Bool.{true}
-use mathlib.Core.List.{List, []}
+use mathlib.Core.List.{List}
 use native.Mathlib.Numerals.{add-one}
 use native.Mathlib.Omega.{arith}
 use lib.ListN.{length, getD, drop}
@@ -23,7 +23,7 @@ use Rattle.model.specs.Sets.{inShape}
 use Rattle.model.specs.Model.{Fixed, Reply, recordFor}
 use Rattle.model.specs.Add.{addNext}
 use Rattle.model.proofs.SetLaws.{inShape-of-isSet}
-use Rattle.store.specs.Store.{Store, fixedOf, pagesSize}
+use Rattle.store.specs.Store.{Store, fixedOf}
 use Rattle.store.specs.Sound.{Sound}
 use Rattle.store.specs.Promises.{keyNumber, AddPromise}
 use Rattle.refusals.proofs.LentLaws.{lentNumberBy-none, keyNumberBy-fits, keyNumber-by}

@@ -1,13 +1,11 @@
--- Laws of the number of a load, one for each way that the tests end; what is known of a file and of lent memory where
--- it is 0. Assumes nothing.
-use Prim.Native.Nat.{ℕ, _≤_}
+-- Laws of the number of a load, one for each way that the tests end; the same number in the words of the promise.
+-- Assumes nothing.
+use Prim.Native.Nat.{ℕ}
 use mathlib.Core.Path.{_≡_, refl, sym, ap, _∙_}
 use mathlib.Core.Bool.{Bool, true, false, not, cond, _&&_}
 use mathlib.Core.List.{List, [], _∷_, _++_}
 use native.Mathlib.Omega.{arith}
-use lib.Dec.{leb}
 use lib.ListN.{length}
-use borrow.Author.Tests.{leb-true, not-false}
 use Rattle.lists.proofs.Bools.{and-split}
 use Rattle.shape.specs.Refusal.{Condition, refusal, firstNumber}
 use Rattle.shape.specs.Shape.{shapeConditions, shapeNumber}
@@ -16,24 +14,17 @@ use Rattle.shape.proofs.RefusalLaws.{firstNumber-shape, firstNumber-shape-out}
 use Rattle.page.specs.Page.{recordsFrom}
 use Rattle.model.specs.Sets.{isSet}
 use Rattle.model.specs.Limits.{pageLimitOf, depthLimitOf, fixedBy}
-use Rattle.model.proofs.ConditionLaws.{firstNumber-zero, firstNumber-none}
 use Rattle.model.proofs.LimitLaws.{depthLimitOf-le}
-use Rattle.store.specs.Fresh.{freshConditions, freshNumber}
 use Rattle.store.specs.Store.{Memory}
 use Rattle.store.specs.declared.Limits.{Limits}
 use Rattle.fresh.specs.Memory.{lacksWordOrPage}
-use Rattle.file.specs.File.{endSize, fileSize, fileCount, fileShape, fileRecords, isWhole, isPlain}
-use Rattle.file.specs.Loading.{loadFixed, joinConditions, contentConditions, loadNumber}
+use Rattle.file.specs.File.{fileSize, fileCount, fileShape, fileRecords, isWhole, isPlain}
+use Rattle.file.specs.Loading.{joinConditions, contentConditions, loadNumber}
 use Rattle.file.proofs.PlainLaws.{freshShape-fileShape}
 use Rattle.file_scan.specs.Asked.{Scannable, fixedWith}
 use Rattle.load.specs.Lengths.{loadNumberBy}
 
--- a whole file has an end
-pub endSize-le : (file : List ℕ) → isWhole file ≡ true → endSize ≤ length file
-unfolding isWhole
-endSize-le file whole = leb-true endSize (length file) (and-split (leb endSize (length file)) _ whole .0)
-
--- its shape and its records, as they are read
+-- a file's shape and its records, as they are read
 module _ (file : List ℕ) (s : Shape) (shape-read : s ≡ fileShape file) (n : ℕ) (counted : n ≡ fileCount file) where
   pub records-read : recordsFrom s n 0 file ≡ fileRecords file
   unfolding fileRecords
@@ -130,33 +121,3 @@ pub loadNumber-by : (file : List ℕ) (m : Memory)
     → loadNumber file m ≡ loadNumberBy file (length (m .words)) (length (m .bytes))
 unfolding loadNumber loadNumberBy
 loadNumber-by file m = refl
-
--- where no condition holds
-pub record Loadable (file : List ℕ) (m : Memory) : Type 0 where
-  pub whole : isWhole file ≡ true
-  pub shape : shapeNumber (fileShape file) ≡ 0
-  pub plain : isPlain file ≡ true
-  pub set : isSet (fileShape file) (fileRecords file) ≡ true
-  pub lent : freshNumber (fileShape file) m ≡ 0
-  pub room : firstNumber (joinConditions (loadFixed file m) [] (fileRecords file)) ≡ 0
-
-pub loadable : (file : List ℕ) (m : Memory) → loadNumber file m ≡ 0 → Loadable file m
-unfolding loadNumber shapeNumber shapeConditions freshNumber
-loadable file m z =
-    let s = fileShape file in
-    let joins = joinConditions (loadFixed file m) [] (fileRecords file) in
-    let lends = freshConditions s m ++ joins in
-    let contents = contentConditions file ++ lends in
-    let first = firstNumber-zero 11 (not (isWhole file)) (shapeConditions s ++ contents) z in
-    let second = firstNumber-none (shapeConditions s) contents refl (first .1) in
-    let third = firstNumber-zero 12 (not (isPlain file && isSet s (fileRecords file))) lends (second .1) in
-    let content = and-split (isPlain file) (isSet s (fileRecords file)) (not-false _ (third .0)) in
-    let fourth = firstNumber-none (freshConditions s m) joins refl (third .1) in
-    record {
-      whole = not-false (isWhole file) (first .0);
-      shape = second .0;
-      plain = content .0;
-      set = content .1;
-      lent = firstNumber-shape s (freshConditions s m) (second .0) ∙ fourth .0;
-      room = fourth .1;
-    }

@@ -1,17 +1,18 @@
 -- Laws of the promise of a load: a refused one, and the file's records joined to a fresh store. Assumes nothing.
-use Prim.Native.Nat.{ℕ, zero, suc, _*_, _^_}
+use Prim.Native.Nat.{ℕ, zero, suc, _*_}
 use mathlib.Core.Path.{_≡_, refl, sym, ap, subst, _∙_}
-use mathlib.Core.List.{List, []}
+use mathlib.Core.List.{List}
 use native.Mathlib.Omega.{arith}
 use lib.ListN.{length, length-set}
-use Rattle.shape.specs.Refusal.{Answer, accepted, refused, answered}
+use Rattle.shape.specs.Refusal.{Answer, accepted, refused}
 use Rattle.shape.specs.declared.Shape.{Shape}
+use Rattle.shape.proofs.RefusalLaws.{firstNumber-shape}
+use Rattle.shape.proofs.ShapeLaws.{shapeNumber-true}
 use Rattle.record.specs.Record.{Record}
 use Rattle.page.specs.Page.{pageSize, recordsFrom}
 use Rattle.model.specs.Limits.{pageLimitOf, depthLimitOf, freshShape, fixedBy}
-use Rattle.model.specs.Sets.{isSet}
 use Rattle.model.specs.Model.{Reply, changed}
-use Rattle.store.specs.Fresh.{FreshPromise, freshState, freshMemory, noState}
+use Rattle.store.specs.Fresh.{FreshPromise, freshConditions, freshNumber, freshState, freshMemory, noState}
 use Rattle.store.specs.Sound.{Sound}
 use Rattle.store.specs.Store.{Store, Memory}
 use Rattle.store.proofs.ClearedLaws.{length-clearedCounts}
@@ -19,10 +20,11 @@ use Rattle.store.proofs.FreshLaws.{fixedOf-freshState, sound-of-fresh}
 use Rattle.file.specs.File.{fileSize, fileCount, fileShape, fileRecords}
 use Rattle.file.specs.Loading.{loadNumber}
 use Rattle.file.specs.Promises.{LoadPromise}
+use Rattle.file.proofs.AcceptedLaws.{Passed, passed-of-loadNumber}
 use Rattle.file.proofs.PlainLaws.{freshShape-fileShape}
 use Rattle.load.specs.Private.{Joining, Joined}
 use Rattle.load.proofs.ClearedLaws.{drop-set-first, drop-clearedCounts}
-use Rattle.load.proofs.NumberLaws.{records-read, set-read, Loadable, loadable}
+use Rattle.load.proofs.NumberLaws.{records-read, set-read}
 
 -- an accepted answer is no refused one
 accepted-refused : {C : Type 0} (n : ℕ) → _≡_ {A = Answer Reply} (accepted changed) (refused n) → C
@@ -50,8 +52,13 @@ module _ (file : List ℕ) (m : Memory) where
     abbrev s : Shape
     s = fileShape file
 
-    known : Loadable file m
-    known = loadable file m z
+    known : Passed file m
+    known = passed-of-loadNumber file m z
+
+    -- Fresh accepts the shape and the memory
+    none-fresh : freshNumber s m ≡ 0
+    unfolding freshNumber
+    none-fresh = firstNumber-shape s (freshConditions s m) (shapeNumber-true s (known .shape)) ∙ known .lent
 
     -- what Fresh leaves
     abbrev fresh : Store
@@ -59,7 +66,7 @@ module _ (file : List ℕ) (m : Memory) where
 
     made-fresh : (answer : Answer Reply) (made : Store) → FreshPromise s m answer made → made ≡ fresh
     made-fresh answer made p =
-        λ i. record { state = (rw (known .lent) at (p .state-as)) i; memory = (rw (known .lent) at (p .memory-as)) i }
+        λ i. record { state = (rw none-fresh at (p .state-as)) i; memory = (rw none-fresh at (p .memory-as)) i }
 
     shape-fresh : fresh .state .shape ≡ s
     unfolding freshState
@@ -73,10 +80,10 @@ module _ (file : List ℕ) (m : Memory) where
       joining-fresh : fileSize n ≡ length file → Joining fresh n file
       joining-fresh size =
           record {
-            sound = sound-of-fresh s m (known .lent);
+            sound = sound-of-fresh s m none-fresh;
             lent = omega (arith, size);
             set = set-read file (fresh .state .shape) shape-fresh n counted ∙ known .set;
-            room = rw (fixedOf-freshState s m, records-fresh) (known .room);
+            room = rw (fixedOf-freshState s m, records-fresh) (known .joined);
           }
 
       promise-accepted : (after : Store) → Joined fresh n file after → LoadPromise file m (accepted changed) after

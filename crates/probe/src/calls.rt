@@ -1,5 +1,6 @@
-// Lists of calls, encoded in words, replayed on a fresh store.
+// Lists of calls, encoded in words, replayed on a fresh store or on a loaded one.
 use replay::replay;
+use replay::replay_file;
 use shape::Shape;
 use store::Change;
 use store::Changed;
@@ -8,10 +9,10 @@ ghost use mathlib.Core.Path.{_≡_};
 ghost use Rattle.shape.specs.Refusal.{answered};
 ghost use Rattle.model.specs.Model.{changed};
 ghost use Rattle.store.specs.Store.{memory, store};
-ghost use Rattle.replay.specs.Replayed.{Replayed};
+ghost use Rattle.replay.specs.Replayed.{Replayed, ReplayedFile};
 ghost use Rattle.probe.specs.Fields.{changedNumber};
 
-// The number of Fresh's refusal, 0 where it is accepted, and the state after the calls.
+// The number of Fresh's or the load's refusal, 0 where it is accepted, and the state after the calls.
 #[repr(C)]
 pub struct ReplayFields {
     pub number: u32,
@@ -34,6 +35,24 @@ pub extern "C" fn probe_replay(
         (store (r .state) (now (dir .exit)) (now (pages .exit))) (now (answers .exit)) (now (out .exit)) ⌝ }
 {
     fields_of(replay(shape, dir, pages, calls, answers, out))
+}
+
+// Makes a store of a file in lent memory and runs the calls on it in the same way. Refused as load
+// is; then nothing is changed.
+#[no_mangle]
+pub extern "C" fn probe_replay_file(
+    file: &[u8],
+    dir: &mut [u32],
+    pages: &mut [u8],
+    calls: &[u32],
+    answers: &mut [u64],
+    out: &mut [u8],
+) -> ReplayFields
+    ensures { λ r. ⌜ ReplayedFile (now (file .entry)) (memory (now (dir .entry)) (now (pages .entry)))
+        (now (calls .entry)) (now (answers .entry)) (now (out .entry)) (answered (r .number) changed)
+        (store (r .state) (now (dir .exit)) (now (pages .exit))) (now (answers .exit)) (now (out .exit)) ⌝ }
+{
+    fields_of(replay_file(file, dir, pages, calls, answers, out))
 }
 
 // The number and the state of a change.

@@ -81,7 +81,8 @@ four-pages = refl
 
 -- ---- load
 
-module _ {file : List ℕ} {m : Memory} {answer : Answer Reply} {after : Store} (p : LoadPromise file m answer after) where
+module _ {file : List ℕ} {m : Memory} {answer : Answer Reply} {after : Store}
+    (p : LoadPromise file m answer after) where
   answer-accepted : loadNumber file m ≡ 0 → answer ≡ accepted changed
   answer-accepted e = p .answered-as ∙ ap (λ n. answered n changed) e
 
@@ -111,7 +112,8 @@ module _ (after : Store) where
   pub mark-cleared : LoadPromise (fileWith setOfOne (shapeWith 4 0)) (slices 8 78) (accepted changed) after → ⊥
   mark-cleared p = refused-not-accepted changed 13 (sym (answer-refused p 12 (loads .stray-mark)))
 
-  -- 7 with empty leaves counted: the four records have three non-empty leaves and an empty one, and three pages are lent
+  -- 7 with empty leaves counted: the four records have three non-empty leaves and an empty one, and there are three
+  -- pages
   pub empty-leaves-counted : LoadPromise (fileOf twoTwo setOfFour) (slices 8 78) (refused 7) after → ⊥
   empty-leaves-counted p = refused-not-accepted changed 7 (answer-accepted p (loads .four))
 

@@ -1,7 +1,8 @@
-// Demand 3 on the running code: a list of calls, encoded in a lent slice, is run on a fresh store in
-// lent memory, and the answers and outputs are those of the plain model (document 01, "The plain
-// model of demand 3").
+// Demand 3 on the running code: a list of calls, encoded in a lent slice, is run on a fresh store or
+// on a loaded one in lent memory, and the answers and outputs are those of the plain model (document
+// 01, "The plain model of demand 3").
 use fresh::fresh;
+use load::load;
 use numbers::smaller_length;
 use replay_call::run_call;
 use replay_encoding::ANSWER_SIZE;
@@ -17,7 +18,7 @@ ghost use Rattle.store.specs.Store.{memory, store};
 ghost use Rattle.store.specs.Answers.{changedAnswer};
 ghost use Rattle.replay_encoding.specs.Encoding.{callCount};
 ghost use Rattle.replay.specs.Private.{CallsRan};
-ghost use Rattle.replay.specs.Replayed.{Replayed};
+ghost use Rattle.replay.specs.Replayed.{Replayed, ReplayedFile};
 
 // Makes a store in lent memory and runs the calls on it, as many as there are whole ones and as many
 // as the answers have room for. Refused with 1 or 2 as Fresh is; then nothing is changed.
@@ -40,6 +41,32 @@ pub fn replay(
     };
     let empty = made.state;
     let state = run_calls(empty, dir, pages, calls, answers, out);
+    Change {
+        answer: Changed::Done,
+        state,
+    }
+}
+
+// The same on a store made from a file. Refused as load is; then nothing is changed.
+pub fn replay_file(
+    file: &[u8],
+    dir: &mut [u32],
+    pages: &mut [u8],
+    calls: &[u32],
+    answers: &mut [u64],
+    out: &mut [u8],
+) -> Change
+    ensures { λ r. ⌜ ReplayedFile (now (file .entry)) (memory (now (dir .entry)) (now (pages .entry)))
+        (now (calls .entry)) (now (answers .entry)) (now (out .entry)) (changedAnswer (r .answer))
+        (store (r .state) (now (dir .exit)) (now (pages .exit))) (now (answers .exit)) (now (out .exit)) ⌝ }
+{
+    let made = load(file, dir, pages);
+    let answer = made.answer;
+    let Changed::Done = answer else {
+        return made;
+    };
+    let loaded = made.state;
+    let state = run_calls(loaded, dir, pages, calls, answers, out);
     Change {
         answer: Changed::Done,
         state,

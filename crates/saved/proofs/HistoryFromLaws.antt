@@ -11,8 +11,8 @@ use Rattle.history.proofs.HistoryLaws.{listed-as}
 use Rattle.file.specs.File.{fileRecords}
 use Rattle.file.specs.Loading.{loadFixed}
 use Rattle.file.specs.Promises.{LoadPromise}
+use Rattle.file.proofs.AcceptedLaws.{passed-of-accepted}
 use Rattle.file.proofs.PlainLaws.{freshShape-fileShape}
-use Rattle.saved.proofs.AcceptedLaws.{passed-of-accepted}
 use Rattle.saved.specs.Again.{LoadedHistory}
 
 -- what an accepted load fixes is what the model is given

@@ -1,4 +1,3 @@
-pub mod AcceptedLaws
 pub mod AlikeLaws
 pub mod EqualSetLaws
 pub mod HistoryFromLaws

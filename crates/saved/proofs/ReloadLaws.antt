@@ -31,12 +31,12 @@ use Rattle.store.proofs.RoomLaws.{nonEmptyLeaves-le-pages}
 use Rattle.file.specs.File.{fileSize, fileOf, fileShape}
 use Rattle.file.specs.Loading.{loadFixed, loadNumber}
 use Rattle.file.specs.Promises.{LoadPromise}
+use Rattle.file.proofs.AcceptedLaws.{Passed, loadNumber-passed}
 use Rattle.file.proofs.FreshLaws.{isSet-freshShape}
 use Rattle.file.proofs.FileLaws.{SmallPayloads, fileShape-fileOf, isPlain-fileOf, shapeNumber-fileOf, isWhole-fileOf}
 use Rattle.file.proofs.FileLaws.{fileRecords-fileOf, isSet-fileOf}
 use Rattle.file.proofs.SoundLaws.{fileSize-set-lt, payloads-of-sound}
 use Rattle.saved.specs.Again.{LargeEnough, LoadsAgain, OwnSlicesEnough}
-use Rattle.saved.proofs.AcceptedLaws.{Passed, loadNumber-passed}
 use Rattle.saved.proofs.JoinLaws.{firstNumber-join}
 
 -- ---- limits that are reached

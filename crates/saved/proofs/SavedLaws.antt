@@ -18,13 +18,13 @@ use Rattle.store.specs.Sound.{Sound}
 use Rattle.store.proofs.ReadLaws.{soundWhere-of-sound}
 use Rattle.file.specs.File.{fileSize, fileOf, fileRecords}
 use Rattle.file.specs.Promises.{everyLeaf, fitNumber, SavePromise, LoadPromise}
+use Rattle.file.proofs.AcceptedLaws.{passed-of-accepted}
 use Rattle.file.proofs.FreshLaws.{isSet-freshShape, fileOf-freshShape}
 use Rattle.file.proofs.FileLaws.{length-fileOf, fileOf-same}
 use Rattle.file.proofs.FitLaws.{fitNumber-fits, fitNumber-short}
 use Rattle.file.proofs.SoundLaws.{fileSize-set-lt, payloads-of-sound}
 use Rattle.file.proofs.WrittenLaws.{length-fileRecords, length-whole, fileOf-fileRecords}
 use Rattle.saved.specs.Saved.{EqualBytes, SavedAgain}
-use Rattle.saved.proofs.AcceptedLaws.{passed-of-accepted}
 
 -- ---- equal bytes
 

@@ -10,8 +10,8 @@ use Rattle.store.proofs.ReadLaws.{soundWhere-of-sound}
 use Rattle.history.specs.History.{Run, no-call, one-more}
 use Rattle.history.proofs.HistoryLaws.{listed-as, fixedOf-run, fixedOf-fresh, history}
 use Rattle.file.specs.Promises.{everyLeaf}
-use Rattle.saved.specs.Steps.{Step, call, save, StepOutcome, called, saved, stepOutcome, stepNext, stepRun, stepSet}
-use Rattle.saved.specs.Steps.{StepPromised, StepsRan, no-step, step-more, StepBounded, StepsBounded}
+use Rattle.saved.specs.Steps.{Step, call, save, StepOutcome, called, saved, stepOutcome, stepNext, stepRun}
+use Rattle.saved.specs.Steps.{stepSet, StepPromised, StepsRan, no-step, step-more, StepBounded, StepsBounded}
 use Rattle.saved.specs.Steps.{SavedHistory}
 use Rattle.saved.proofs.HistoryFromLaws.{fixedOf-loaded}
 

@@ -1,5 +1,5 @@
--- Demand 3 with saves among the calls (document 02, request 5): one statement about a whole list of calls and saves, from
--- a fresh store or from a loaded one. Assumes nothing.
+-- Demand 3 with saves among the calls (document 02, request 5): one statement about a whole list of calls and saves,
+-- from a fresh store or from a loaded one. Assumes nothing.
 use Prim.Native.Nat.{ℕ}
 use mathlib.Core.Path.{_≡_}
 use mathlib.Core.List.{List, [], _∷_, _++_}
@@ -53,7 +53,8 @@ stepSet f S (x ∷ xs) = stepSet f (stepNext f S x) xs
 
 -- ---- runs
 
--- a step took the store `before` to `after` and gave an outcome, as its promise says; a save writes nothing in the store
+-- a step took the store `before` to `after` and gave an outcome, as its promise says; a save writes nothing in the
+-- store
 abbrev pub StepPromised : Store → Step → StepOutcome → Store → Type 0
 StepPromised before (call c) (called o) after = Promised before c o after
 StepPromised before (call c) (saved answer out′) after = ⊥
@@ -86,8 +87,8 @@ AsModel f S store =
     (steps : List Step) (outcomes : List StepOutcome) (after : Store) → StepsRan store steps outcomes after
     → (outcomes ≡ stepRun f S steps) × StepsBounded f S steps outcomes × Sound after (stepSet f S steps)
 
--- from a store that Fresh made, and from one that a load made: "a sound store of the file's shape and records .., with P
--- and L set as by Fresh"
+-- from a store that Fresh made, and from one that a load made: "a sound store of the file's shape and records .., with
+-- P and L set as by Fresh"
 pub record SavedHistory : Type 0 where
   pub from-fresh : (s : Shape) (m : Memory) (fresh : Store) → FreshPromise s m (accepted changed) fresh
       → AsModel (fixedBy s (length (m .words)) (length (m .bytes))) [] fresh

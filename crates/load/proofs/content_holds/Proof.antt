@@ -7,12 +7,13 @@ use borrow.Author.Tests.{not-true, not-false}
 use Rattle.shape.specs.Shape.{shapeNumber}
 use Rattle.model.specs.Sets.{isSet}
 use Rattle.file.specs.File.{fileShape, fileRecords, isPlain}
-use Rattle.load.proofs.NumberLaws.{endSize-le, set-read}
+use Rattle.file.proofs.WrittenLaws.{end-within}
+use Rattle.load.proofs.NumberLaws.{set-read}
 use Rattle.load.proofs.content_holds.Statement.{statement}
 use Rattle.load.proofs.content_holds.Tie as tie
 
 is-plain-requires : tie.Need-is-plain-requires
-is-plain-requires c κs = let s = c .before in (endSize-le (s .args .file .now) (s .pre .0), s .pre .1)
+is-plain-requires c κs = let s = c .before in (end-within (s .args .file .now) (s .pre .0), s .pre .1)
 
 returns : tie.Need-returns
 returns c =
@@ -21,7 +22,7 @@ returns c =
     sym (ap (λ b. b && isSet (fileShape file) (fileRecords file)) plain)
 
 shape-in-requires : tie.Need-shape-in-requires
-shape-in-requires c κs = let s = c .before .before .before in endSize-le (s .args .file .now) (s .pre .0)
+shape-in-requires c κs = let s = c .before .before .before in end-within (s .args .file .now) (s .pre .0)
 
 record-count-requires : tie.Need-record-count-requires
 record-count-requires c κs = search needs

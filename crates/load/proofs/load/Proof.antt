@@ -4,7 +4,9 @@ use mathlib.Core.Path.{_≡_, refl, sym, _∙_}
 use Rattle.store.specs.Answers.{changedAnswer}
 use Rattle.store.specs.Store.{memory}
 use Rattle.file.specs.Loading.{loadNumber}
-use Rattle.load.proofs.NumberLaws.{endSize-le, loadNumber-by, loadable}
+use Rattle.file.proofs.AcceptedLaws.{passed-of-loadNumber}
+use Rattle.file.proofs.WrittenLaws.{end-within}
+use Rattle.load.proofs.NumberLaws.{loadNumber-by}
 use Rattle.load.proofs.PromiseLaws.{promise-refused, joining-made, promise-joined}
 use borrow.Author.Needs.{needs}
 use Rattle.load.proofs.load.Statement.{statement}
@@ -41,7 +43,8 @@ returns c =
 shape-in-requires : tie.Need-shape-in-requires
 shape-in-requires c κs =
     let a = start (c .before) .args in
-    endSize-le (a .file .now) (loadable (a .file .now) (memory (a .dir .now) (a .pages .now)) (none c) .whole)
+    let m = memory (a .dir .now) (a .pages .now) in
+    end-within (a .file .now) (passed-of-loadNumber (a .file .now) m (none c) .whole)
 
 fresh-requires : tie.Need-fresh-requires
 fresh-requires c κs = search needs
@@ -50,7 +53,7 @@ record-count-requires : tie.Need-record-count-requires
 record-count-requires c κs =
     let e = c .before .before .before .before .before .before .before .before in
     let a = start (e .before) .args in
-    loadable (a .file .now) (memory (a .dir .now) (a .pages .now)) (none e) .whole
+    passed-of-loadNumber (a .file .now) (memory (a .dir .now) (a .pages .now)) (none e) .whole
 
 add-records-requires : tie.Need-add-records-requires
 add-records-requires c κs =

@@ -7,7 +7,8 @@ use Rattle.shape.specs.Shape.{shapeNumber}
 use Rattle.fresh.specs.Memory.{lacksWordOrPage}
 use Rattle.fresh.proofs.PromiseLaws.{word-of-lent}
 use Rattle.file.specs.File.{isWhole}
-use Rattle.load.proofs.NumberLaws.{endSize-le, loadNumberBy-not-whole, loadNumberBy-shape-out}
+use Rattle.file.proofs.WrittenLaws.{end-within}
+use Rattle.load.proofs.NumberLaws.{loadNumberBy-not-whole, loadNumberBy-shape-out}
 use Rattle.load.proofs.NumberLaws.{loadNumberBy-content-not, loadNumberBy-lacks, scannable, loadNumberBy-room}
 use Rattle.load.proofs.load_number.Statement.{statement}
 use Rattle.load.proofs.load_number.Tie as tie
@@ -44,7 +45,7 @@ returns c =
     (sym (c .before .is-whole .ensures) ∙ not-true _ (c .if1 .taken))
 
 shape-in-requires : tie.Need-shape-in-requires
-shape-in-requires c κs = endSize-le (start c .args .file .now) (whole c)
+shape-in-requires c κs = end-within (start c .args .file .now) (whole c)
 
 shape-number-requires : tie.Need-shape-number-requires
 shape-number-requires c κs = search needs

@@ -27,7 +27,7 @@ returns c =
     let ran = c .before .before .before .before .before .before .before .before .before .replay in
     let told = c .fields-of .ensures in
     rw (told .1)
-    (replayed-number _ _ _ _ _ _ _ _ (ran .result .answer) (c .fields-of .result .number) (told .0) (ran .ensures))
+    (replayed-number _ _ _ _ _ _ _ _ _ _ (ran .result .answer) (c .fields-of .result .number) (told .0) (ran .ensures))
 
 pub probe-replay-spec : {M : Type 1} → statement M
 probe-replay-spec =
