@@ -2,7 +2,9 @@
 use crate::dynamic::{function, Address, Library};
 use crate::packed::Intervals;
 use crate::step::{EARLIER, PROVED};
-use mdeh_tests::host::{CheckResult, HostQuery, HostRange, Key, LookupResult, QueryResult, Shape};
+use mdeh_tests::host::{
+    CheckResult, HostQuery, HostRange, Key, LookupResult, QueryResult, SaveResult, Shape,
+};
 use std::ffi::{CStr, CString};
 
 /// The variable that names a shared library with the calls of another build.
@@ -28,6 +30,7 @@ pub struct Build {
     check: Check,
     /// which earlier builds may lack
     range: Option<Range>,
+    files: Option<(Save, Load)>,
 }
 
 type Fresh = unsafe extern "C" fn(Shape, *mut u32, usize, *mut u32, usize, *mut u8, usize) -> u32;
@@ -43,6 +46,14 @@ type Query = unsafe extern "C" fn(
 type Range = unsafe extern "C" fn(
     *const u32, usize, *const u32, usize, *const u8, usize, HostRange, *mut u8, usize,
 ) -> QueryResult;
+#[rustfmt::skip]
+type Save = unsafe extern "C" fn(
+    *const u32, usize, *const u32, usize, *const u8, usize, *mut u8, usize,
+) -> SaveResult;
+#[rustfmt::skip]
+type Load = unsafe extern "C" fn(
+    *const u8, usize, *mut u32, usize, *mut u32, usize, *mut u8, usize,
+) -> u32;
 type Check = unsafe extern "C" fn(*const u32, usize, *const u32, usize, *const u8, usize) -> CheckResult;
 
 // The functions of the linked library, for their addresses.
@@ -54,9 +65,11 @@ extern "C" {
     fn mdeh_query();
     fn mdeh_check();
     fn mdeh_range();
+    fn mdeh_save();
+    fn mdeh_load();
 }
 
-/// Their names, in the same order, but for the range.
+/// Their names, in the same order, but for the range, save and load.
 const NAMES: [&CStr; 6] =
     [c"mdeh_fresh", c"mdeh_insert", c"mdeh_delete", c"mdeh_lookup", c"mdeh_query", c"mdeh_check"];
 
@@ -64,22 +77,28 @@ impl Build {
     /// The build whose library is linked, and another one where the environment names it.
     pub fn all() -> Vec<Build> {
         let linked = [mdeh_fresh, mdeh_insert, mdeh_delete, mdeh_lookup, mdeh_query, mdeh_check];
+        let files = [mdeh_save as Address, mdeh_load as Address];
         // SAFETY: the functions are those of the store's header.
         let proved = unsafe {
-            Build::at(PROVED, linked.map(|function| function as Address), Some(mdeh_range as Address))
+            let linked = linked.map(|function| function as Address);
+            Build::at(PROVED, linked, Some(mdeh_range as Address), Some(files))
         };
         let mut all = vec![proved];
         if let Ok(path) = std::env::var(EARLIER_BUILD) {
             let name = CString::new(path.clone()).expect("no zero byte");
             let library = Library::open(&name).unwrap_or_else(|| panic!("{path} is no shared library"));
             let address = |name| library.address(name).unwrap_or_else(|| panic!("{path} lacks {name:?}"));
+            let files = library.address(c"mdeh_save").zip(library.address(c"mdeh_load"));
             // SAFETY: as above.
-            all.push(unsafe { Build::at(EARLIER, NAMES.map(address), library.address(c"mdeh_range")) });
+            all.push(unsafe {
+                let range = library.address(c"mdeh_range");
+                Build::at(EARLIER, NAMES.map(address), range, files.map(|(save, load)| [save, load]))
+            });
         }
         all
     }
 
-    /// The build with functions at these addresses, in the order of `NAMES`, and the range.
+    /// The build with functions at these addresses, in the order of `NAMES`, the range, and save and load.
     ///
     /// # Safety
     /// They have the types that the store's header gives them, and no `requires`. A build whose shape and state have no
@@ -88,6 +107,7 @@ impl Build {
         name: &'static str,
         [fresh, insert, delete, lookup, query, check]: [Address; 6],
         range: Option<Address>,
+        files: Option<[Address; 2]>,
     ) -> Build {
         // SAFETY: as above.
         unsafe {
@@ -100,6 +120,7 @@ impl Build {
                 query: function(query),
                 check: function(check),
                 range: range.map(|range| function(range)),
+                files: files.map(|[save, load]| (function(save), function(load))),
             }
         }
     }
@@ -176,6 +197,34 @@ impl Build {
         let (out, room) = (out.as_mut_ptr(), out.len());
         // SAFETY: see `fresh`.
         unsafe { call(state, words, dir, size, pages.as_ptr(), pages.len(), range, out, room) }
+    }
+
+    /// Whether the build has files.
+    pub fn has_files(&self) -> bool {
+        self.files.is_some()
+    }
+
+    /// The bytes of the store's file, which is written; 0 for a refused save.
+    #[inline]
+    pub fn save(&self, Lent { state, dir, pages }: &Lent, out: &mut [u8]) -> u64 {
+        let (call, _) = self.files.expect("the build has files");
+        let (state, words) = (state.as_ptr(), state.len());
+        let (dir, size) = (dir.as_ptr(), dir.len());
+        let (out, room) = (out.as_mut_ptr(), out.len());
+        // SAFETY: see `fresh`.
+        unsafe { call(state, words, dir, size, pages.as_ptr(), pages.len(), out, room).size }
+    }
+
+    /// 1 for an accepted load, 0 for a refused one.
+    #[inline]
+    pub fn load(&self, file: &[u8], Lent { state, dir, pages }: &mut Lent) -> u64 {
+        let (_, call) = self.files.expect("the build has files");
+        let (state, words) = (state.as_mut_ptr(), state.len());
+        let (dir, size) = (dir.as_mut_ptr(), dir.len());
+        let (pages, bytes) = (pages.as_mut_ptr(), pages.len());
+        // SAFETY: see `fresh`.
+        let number = unsafe { call(file.as_ptr(), file.len(), state, words, dir, size, pages, bytes) };
+        (number == 0).into()
     }
 
     /// Whether the store is sound.

@@ -3,7 +3,7 @@ use crate::builds::Build;
 use crate::measure::{answers, Table};
 use crate::records::{Forms, Sample};
 use crate::step::{Step, PLAIN, SQLITE};
-use crate::{changes, lookups, queries, ranges};
+use crate::{changes, files, lookups, queries, ranges};
 use mdeh_tests::random::Random;
 
 /// Adds the rows of all calls; the records, if there is a row.
@@ -13,7 +13,8 @@ pub fn rows(
     builds: &'static [Build],
     sample: Sample,
 ) -> Option<Forms> {
-    let mut names = ["lookup, hit", "lookup, miss", "check", "insert", "delete"].map(String::from).to_vec();
+    let names = ["lookup, hit", "lookup, miss", "check", "insert", "delete", "save", "load"];
+    let mut names = names.map(String::from).to_vec();
     names.extend(queries::names().chain(ranges::names()));
     if !names.iter().any(|name| table.has(name)) {
         return None;
@@ -24,6 +25,7 @@ pub fn rows(
     ranges::rows(table, random, forms);
     check(table, forms);
     changes::rows(table, random, forms);
+    files::rows(table, forms);
     Some(forms)
 }
 

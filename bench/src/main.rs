@@ -9,6 +9,7 @@ mod clock;
 mod database;
 mod directory;
 mod dynamic;
+mod files;
 mod inputs;
 mod lists;
 mod lookups;

@@ -2,6 +2,7 @@
 //! one, tables of the shape made once, and trust in its own memory. It never answers 9, and has no signed attributes.
 mod change;
 mod check;
+mod file;
 mod map;
 mod page;
 mod query;

@@ -1,7 +1,5 @@
 //! Slices lent to calls, between guards that no call may change.
-use crate::host::{
-    self, CheckResult, HostQuery, HostRange, LookupResult, QueryResult, SaveResult, Shape,
-};
+use crate::host::{self, CheckResult, HostQuery, HostRange, LookupResult, QueryResult, SaveResult, Shape};
 use crate::plain::image::{Image, Laid, DEPTH, DEPTH_LIMIT, PAGE_LIMIT, SIGNS, STATE};
 use crate::plain::kept::Change;
 use crate::plain::model::Model;

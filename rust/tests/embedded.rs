@@ -1,9 +1,10 @@
 //! The safe crate: random lists of all calls on `mdeh::Store` compared with the plain model, and on stores of any kind
 //! with the calls on lent slices.
-use mdeh::{Key, Listing, Query, Range, Record, Refusal, Shape, Store, RECORD_BYTES};
+use mdeh::{file_bytes, Key, Listing, Query, Range, Record, Refusal, Shape, Store, RECORD_BYTES};
 use mdeh_tests::compare::Comparisons;
 use mdeh_tests::host;
 use mdeh_tests::lent::{lend_bytes, lend_words, Lent};
+use mdeh_tests::plain::file::{file_of, load};
 use mdeh_tests::plain::image::{state_words, Image, Laid, STATE};
 use mdeh_tests::plain::model::Model;
 use mdeh_tests::plain::range::Intervals;
@@ -261,6 +262,10 @@ fn same_answers(
     let plain = plain.map(|plain| (plain.written, plain.total, plain.reads));
     count.same(counts.map_err(Refusal::number), plain, about);
     count.same(out, expected, about);
+    let (mut out, mut expected) = ([7; 400], [7; 400]);
+    let found = store.save(&mut out).map(|size| size as u64);
+    count.same(found.map_err(Refusal::number), host::save(state, dir, pages, &mut expected), about);
+    count.same(out, expected, about);
     let payload = random_payload(random);
     let found = store.insert(key, payload).map_err(Refusal::number);
     let inserted = host::insert(state, dir, pages, key, payload);
@@ -284,7 +289,43 @@ fn any_memory_as_the_calls_on_slices() {
     unsound::random_states(&mut random, 1000, &mut each);
     println!("{refused} refused with 11");
     assert!(refused > 100);
-    count.end(2000 * 10);
+    count.end(2000 * 12);
+}
+
+/// Files of random sets, half of them with a bit changed: the numbers and the memory of `Store` are those of the calls on
+/// slices, and the file of a loaded store has the bytes that came.
+#[test]
+fn files_as_the_calls_on_slices() {
+    let mut count = Comparisons::default();
+    let mut random = Random::new(SEED);
+    let mut met = [0; 14];
+    for _ in 0..2000 {
+        let model = random_model(&mut random);
+        let mut file = file_of(&model);
+        if random.below(2) == 0 {
+            let place = random.below(file.len());
+            file[place] ^= 1 << random.below(8);
+        }
+        let (words, bytes) = (random.below(300), random.below(6000));
+        let Image { mut state, mut dir, mut pages } = Image::random(&mut random, words, bytes);
+        let (mut directory, mut lent) = (dir.clone(), pages.clone());
+        let plain = host::load(&file, &mut state, &mut dir, &mut pages);
+        met[plain.err().unwrap_or(0) as usize] += 1;
+        let about = format_args!("{words} words, {bytes} bytes: {file:?}");
+        let found = Store::load(&file, &mut directory, &mut lent);
+        let loaded = found.as_ref().map(|store| (store.state().to_vec(), store.shape()));
+        let expected = plain.and_then(|()| Ok((state, load(&file, words, bytes)?.shape)));
+        count.same(loaded.map_err(|refusal| refusal.number()), expected, about);
+        if let Ok(store) = found {
+            let mut out = vec![7; file.len() + 9];
+            count.same(store.save(&mut out), Ok(file_bytes((file.len() - 24) / 12)), about);
+            count.same(out, [&file[..], &[7; 9]].concat(), about);
+        }
+        count.same((directory, lent), (dir, pages), about);
+    }
+    println!("answers by number: {met:?}");
+    assert!([0, 1, 2, 6, 7, 12, 13].iter().all(|&number| met[number] > 10));
+    count.end(2000 * 2 + met[0] * 2);
 }
 
 // ---- what only the crate has
@@ -398,6 +439,8 @@ fn reasons_as_in_the_header() {
         ("UNSOUND", Unsound),
         ("INTERVAL", Interval),
         ("PAYLOAD", Payload),
+        ("FILE", File),
+        ("CONTENT", Content),
     ];
     for (name, reason) in reasons {
         let numbered = format!("MDEH_REFUSED_{name} = {}", reason.number());

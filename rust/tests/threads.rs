@@ -1,5 +1,5 @@
 //! What `embed/mdeh.h` says of threads: calls that read share a store, and a call needs little stack.
-use mdeh::{Query, Range, Refusal, Shape, Store, RECORD_BYTES};
+use mdeh::{file_bytes, Query, Range, Refusal, Shape, Store, RECORD_BYTES};
 use mdeh_tests::random::Random;
 use std::thread;
 
@@ -44,6 +44,9 @@ fn threads_share_a_store() {
     let mut store = Store::fresh(SHAPE, &mut directory, &mut pages).expect("accepted");
     let keys = fill(&mut store, &mut Random::new(SEED));
     let (store, keys) = (&store, &keys);
+    let mut saved = vec![0; file_bytes(keys.len())];
+    assert_eq!(store.save(&mut saved), Ok(saved.len()));
+    let saved = &saved;
     let read = |code: i32| {
         let mut out = vec![0; keys.len() * RECORD_BYTES];
         assert!(keys
@@ -54,6 +57,8 @@ fn threads_share_a_store() {
         let found = store.range(Range::all().within(2, -code..480), &mut out).expect("accepted");
         assert_eq!(found.total, keys.iter().filter(|key| (-code..480).contains(&key[2])).count() as u64);
         assert_eq!(store.check(), Ok(true));
+        let mut file = vec![0; saved.len()];
+        assert_eq!((store.save(&mut file), &file), (Ok(saved.len()), saved));
     };
     thread::scope(|scope| (0..4).for_each(|code| drop(scope.spawn(move || read(code)))));
 }
@@ -62,6 +67,7 @@ fn threads_share_a_store() {
 fn every_call_on_a_small_stack() {
     let (mut directory, mut pages) = memory();
     let mut out = vec![0; 30_000 * RECORD_BYTES];
+    let mut file = vec![0; file_bytes(30_000)];
     let calls = move || {
         let mut store = Store::fresh(SHAPE, &mut directory, &mut pages).expect("accepted");
         let keys = fill(&mut store, &mut Random::new(SEED));
@@ -70,7 +76,11 @@ fn every_call_on_a_small_stack() {
         let range = Range::all().within(1, 1..).within(2, ..100);
         let listed = store.range(range, &mut out).expect("accepted").records().count();
         assert_eq!(listed, keys.iter().filter(|key| key[1] > 0 && key[2] < 100).count());
+        let size = store.save(&mut file).expect("accepted");
+        assert_eq!(size, file_bytes(keys.len()));
         assert!(keys.iter().all(|&key| store.lookup(key).is_ok() && store.delete(key).is_ok()));
+        let store = Store::load(&file[..size], &mut directory, &mut pages).expect("accepted");
+        assert_eq!(store.query(Query::all(), &mut []).expect("accepted").total, keys.len() as u64);
     };
     thread::Builder::new().stack_size(STACK).spawn(calls).expect("a thread").join().expect("the calls end");
 }

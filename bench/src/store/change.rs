@@ -11,8 +11,13 @@ impl Store {
         if payload == 0 {
             return Err(11);
         }
+        self.add(key, packed, record_of(packed, payload))
+    }
+
+    /// Adds a record with this key, which is within its bounds, and packed. Refused with 4, 6 or 7.
+    #[inline]
+    pub(super) fn add(&mut self, key: [i32; 4], packed: u64, record: [u8; 12]) -> Result<(), u32> {
         let word = self.dir[self.map.address(self.map.cell(key, self.depth))];
-        let record = record_of(packed, payload);
         let Some(g) = page_of(word) else {
             let g = self.free_page().ok_or(7u32)?;
             self.page_mut(g).put(0, record);

@@ -70,6 +70,12 @@ pub fn key_of(record: &[u8; 12]) -> u64 {
     u64::from_le_bytes(record[..8].try_into().expect("eight bytes"))
 }
 
+/// A record's key.
+#[inline]
+pub fn key_in(record: &[u8; 12]) -> [i32; 4] {
+    [0, 1, 2, 3].map(|j| u16::from_le_bytes([record[2 * j], record[2 * j + 1]]).into())
+}
+
 /// A record's bytes.
 pub fn record_of(key: u64, payload: u32) -> [u8; 12] {
     let mut record = [0; 12];
