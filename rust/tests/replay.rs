@@ -1,17 +1,18 @@
-//! Demand 3 on the running code: random lists of calls, encoded in words and replayed on lent memory, answer by answer
-//! and byte by byte as the plain model gives them (document 01, "The plain model of demand 3"; document 02, requests
-//! 1, 2 and 4).
+//! Demand 3 on the running code: random lists of calls, encoded in words and replayed on lent memory, from a fresh store
+//! or from a loaded one, answer by answer and byte by byte as the plain model gives them (document 01, "The plain model
+//! of demand 3"; document 02, requests 1, 2, 4 and 5).
 use mdeh_tests::cells::Cells;
 use mdeh_tests::compare::Comparisons;
 use mdeh_tests::host::{self, CheckResult, Shape};
 use mdeh_tests::lent::{lend_bytes, lend_words, Lent};
+use mdeh_tests::plain::file::{file_of, load};
 use mdeh_tests::plain::image::Image;
 use mdeh_tests::plain::model::Model;
 use mdeh_tests::plain::range::Intervals;
 use mdeh_tests::plain::refusal::page_size;
-use mdeh_tests::plain::samples::{query_of, random_key, random_payload, range_of};
+use mdeh_tests::plain::samples::{query_of, random_key, random_model, random_payload, range_of};
 use mdeh_tests::plain::shown::pages_shown;
-use mdeh_tests::probe::calls::{replay, Replayed, ANSWER_SIZE, CALL_SIZE};
+use mdeh_tests::probe::calls::{replay, replay_file, Replayed, ANSWER_SIZE, CALL_SIZE};
 use mdeh_tests::random::Random;
 use mdeh_tests::shapes::random_shape;
 
@@ -175,12 +176,42 @@ fn lend_numbers(random: &mut Random, content: &[u64]) -> Lent<u64> {
     Lent::new(guards(before), content, guards(after))
 }
 
+/// What a replay begins with: a Fresh of a shape, or a load of a file.
+enum Start {
+    Fresh(Shape),
+    Load(Vec<u8>),
+}
+
+impl Start {
+    /// The model that so many words and bytes begin with, or the number of the refusal.
+    fn model(&self, words: usize, bytes: usize) -> Result<Model, u32> {
+        match self {
+            Start::Fresh(shape) => Model::fresh(*shape, words, bytes),
+            Start::Load(file) => load(file, words, bytes),
+        }
+    }
+
+    fn replay(
+        &self,
+        dir: &mut [u32],
+        pages: &mut [u8],
+        calls: &[u32],
+        answers: &mut [u64],
+        out: &mut [u8],
+    ) -> Replayed {
+        match self {
+            Start::Fresh(shape) => replay(*shape, dir, pages, calls, answers, out),
+            Start::Load(file) => replay_file(file, dir, pages, calls, answers, out),
+        }
+    }
+}
+
 /// Replays a list of calls on random memory of these lengths and compares the number, all answers and outputs, and the
 /// store with the model's leaves. Returns the numbers of the answers.
 fn compare(
     count: &mut Comparisons,
     random: &mut Random,
-    shape: Shape,
+    start: &Start,
     lengths: (usize, usize),
     calls: usize,
     about: std::fmt::Arguments,
@@ -190,28 +221,23 @@ fn compare(
     let mut dir = lend_words(random, &content);
     let content = random.bytes(bytes);
     let mut pages = lend_bytes(random, &content);
-    let fresh = Model::fresh(shape, words, bytes);
-    let empty = fresh.clone().unwrap_or_else(|_| Model::new(Shape::new(&[1], 1), 1, 0));
-    let script = Script::new(random, empty, calls);
+    let first = start.model(words, bytes);
+    let model = first.clone().unwrap_or_else(|_| Model::new(Shape::new(&[1], 1), 1, 0));
+    let script = Script::new(random, model, calls);
     let mut answers = lend_numbers(random, &script.answers);
     let mut out = lend_bytes(random, &script.out);
-    let Replayed { number, state } = replay(
-        shape,
-        dir.slice_mut(),
-        pages.slice_mut(),
-        &script.calls,
-        answers.slice_mut(),
-        out.slice_mut(),
-    );
-    count.same(number, fresh.as_ref().err().copied().unwrap_or(0), about);
-    if let Err(number) = fresh {
+    let (words, bytes) = (dir.slice_mut(), pages.slice_mut());
+    let Replayed { number, state } =
+        start.replay(words, bytes, &script.calls, answers.slice_mut(), out.slice_mut());
+    count.same(number, first.as_ref().err().copied().unwrap_or(0), about);
+    if let Err(number) = first {
         let unchanged = dir.unchanged() && pages.unchanged() && answers.unchanged() && out.unchanged();
         count.same(unchanged, true, about);
         return vec![number.into()];
     }
     count.same(answers.slice(), &script.expected_answers[..], about);
     count.same(out.slice(), &script.expected_out[..], about);
-    let Model { page_limit, depth_limit, .. } = script.model;
+    let Model { shape, page_limit, depth_limit, .. } = script.model;
     let kept = dir.unchanged_from(1 << depth_limit) && pages.unchanged_from(page_limit * page_size(shape));
     count.same(kept && answers.guards_stay() && out.guards_stay(), true, about);
     let CheckResult { number, sound } = host::check_result(&state, dir.slice(), pages.slice());
@@ -238,13 +264,45 @@ fn random_lists_on_small_stores() {
         let bytes = random.below(20 * page_size(shape));
         let calls = random.below(121);
         let about = format_args!("seed {SEED:#x}, list {list}: {shape:?}, {words} words, {bytes} bytes");
-        let numbers = compare(&mut count, &mut random, shape, (words, bytes), calls, about);
+        let start = Start::Fresh(shape);
+        let numbers = compare(&mut count, &mut random, &start, (words, bytes), calls, about);
         expected += if Model::fresh(shape, words, bytes).is_ok() { 6 } else { 2 };
         numbers.iter().for_each(|&number| met[number as usize] += 1);
     }
     println!("answers by number: {met:?}");
     assert!(
         (0..12).all(|number| (met[number] > 0) == (number != 9)),
+        "a number is not met, or 9 is: {met:?}"
+    );
+    count.end(expected);
+}
+
+/// Lists of up to 60 calls on loaded stores, whose files may be refused, one in eight with a bit changed. Every number of
+/// a refusal but 9 is met.
+#[test]
+fn random_lists_on_loaded_stores() {
+    let mut count = Comparisons::default();
+    let mut random = Random::new(SEED + 2);
+    let mut met = [0u64; 14];
+    let mut expected = 0;
+    for list in 0..1500 {
+        let model = random_model(&mut random);
+        let mut file = file_of(&model);
+        if random.below(8) == 0 {
+            let place = random.below(file.len());
+            file[place] ^= 1 << random.below(8);
+        }
+        let (words, bytes) = (random.below(600), random.below(50 * page_size(model.shape)));
+        let calls = random.below(61);
+        let about = format_args!("seed {:#x}, list {list}: {file:?}, {words} words, {bytes} bytes", SEED + 2);
+        let start = Start::Load(file.clone());
+        let numbers = compare(&mut count, &mut random, &start, (words, bytes), calls, about);
+        expected += if start.model(words, bytes).is_ok() { 6 } else { 2 };
+        numbers.iter().for_each(|&number| met[number as usize] += 1);
+    }
+    println!("answers by number: {met:?}");
+    assert!(
+        (0..14).all(|number| (met[number] > 0) == (number != 9)),
         "a number is not met, or 9 is: {met:?}"
     );
     count.end(expected);
@@ -262,7 +320,8 @@ fn long_lists() {
         let bytes = bytes * page_size(shape);
         let about =
             format_args!("seed {:#x}, list {list}: {shape:?}, {words} words, {bytes} bytes", SEED + 1);
-        let numbers = compare(&mut count, &mut random, shape, (words, bytes), 1500, about);
+        let start = Start::Fresh(shape);
+        let numbers = compare(&mut count, &mut random, &start, (words, bytes), 1500, about);
         refused += numbers.iter().filter(|&&number| number == 11).count();
     }
     println!("{refused} refused with 11");

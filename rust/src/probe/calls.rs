@@ -1,4 +1,4 @@
-//! Lists of calls, encoded in words, replayed on a fresh store.
+//! Lists of calls, encoded in words, replayed on a fresh store or on a loaded one.
 use super::State;
 use crate::host::Shape;
 use crate::plain::image::STATE;
@@ -9,7 +9,7 @@ pub const CALL_SIZE: usize = 15;
 /// The words of an answer.
 pub const ANSWER_SIZE: usize = 4;
 
-/// The number of Fresh's refusal, 0 where it is accepted, and the words of the state after the calls.
+/// The number of Fresh's or the load's refusal, 0 where it is accepted, and the words of the state after the calls.
 #[derive(Clone, Debug)]
 pub struct Replayed {
     pub number: u32,
@@ -25,6 +25,20 @@ struct ReplayFields {
 extern "C" {
     fn probe_replay(
         shape: Shape,
+        dir: *mut u32,
+        words: usize,
+        pages: *mut u8,
+        bytes: usize,
+        calls: *const u32,
+        call_words: usize,
+        answers: *mut u64,
+        answer_words: usize,
+        out: *mut u8,
+        out_bytes: usize,
+    ) -> ReplayFields;
+    fn probe_replay_file(
+        file: *const u8,
+        file_bytes: usize,
         dir: *mut u32,
         words: usize,
         pages: *mut u8,
@@ -52,6 +66,35 @@ pub fn replay(
     let ReplayFields { number, state } = unsafe {
         probe_replay(
             shape,
+            dir.as_mut_ptr(),
+            dir.len(),
+            pages.as_mut_ptr(),
+            pages.len(),
+            calls.as_ptr(),
+            calls.len(),
+            answers.as_mut_ptr(),
+            answers.len(),
+            out.as_mut_ptr(),
+            out.len(),
+        )
+    };
+    Replayed { number, state: state.words() }
+}
+
+/// The same on a store made of a file. Refused as load is; then nothing is changed.
+pub fn replay_file(
+    file: &[u8],
+    dir: &mut [u32],
+    pages: &mut [u8],
+    calls: &[u32],
+    answers: &mut [u64],
+    out: &mut [u8],
+) -> Replayed {
+    // SAFETY: nothing is required; each pointer and length are of one slice, and no two slices overlap.
+    let ReplayFields { number, state } = unsafe {
+        probe_replay_file(
+            file.as_ptr(),
+            file.len(),
             dir.as_mut_ptr(),
             dir.len(),
             pages.as_mut_ptr(),
