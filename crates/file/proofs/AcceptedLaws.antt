@@ -1,12 +1,13 @@
 -- Laws of a load's number: it is 0 exactly if every test of the file is passed, and of an accepted load it is 0.
 -- Assumes nothing.
-use Prim.Native.Nat.{ℕ, zero, suc}
+use Prim.Native.Nat.{ℕ}
 use mathlib.Core.Path.{_≡_, refl, _∙_}
 use mathlib.Core.Bool.{true, not, _&&_}
 use mathlib.Core.List.{List, []}
 use borrow.Author.Tests.{not-false}
 use Rattle.lists.proofs.Bools.{and-split}
-use Rattle.shape.specs.Refusal.{accepted, answered, firstNumber}
+use Rattle.shape.specs.Refusal.{accepted, firstNumber}
+use Rattle.shape.proofs.RefusalLaws.{accepted-answered}
 use Rattle.shape.specs.Shape.{inBounds, shapeConditions}
 use Rattle.model.specs.Model.{changed}
 use Rattle.model.specs.Sets.{isSet}
@@ -57,8 +58,5 @@ module _ (file : List ℕ) (m : Memory) where
       }
 
   pub passed-of-accepted : (loaded : Store) → LoadPromise file m (accepted changed) loaded → Passed file m
-  passed-of-accepted loaded p = passed-of-loadNumber (none-met (loadNumber file m) (p .answered-as))
-    where
-      none-met : (n : ℕ) → accepted changed ≡ answered n changed → n ≡ 0
-      none-met zero e = refl
-      none-met (suc n) e = cc
+  passed-of-accepted loaded p =
+      passed-of-loadNumber (accepted-answered changed changed (loadNumber file m) (p .answered-as))

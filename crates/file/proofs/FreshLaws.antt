@@ -1,6 +1,6 @@
 -- Laws of a shape as Fresh holds it: the same sets, records with the same bytes, the same file. Assumes nothing.
 use Prim.Native.Nat.{ℕ, _+_, _-_, _%_, _^_, _<_}
-use mathlib.Core.Path.{_≡_, refl, sym, ap, _∙_}
+use mathlib.Core.Path.{_≡_, refl, ap, _∙_}
 use mathlib.Core.Bool.{cond, _&&_}
 use mathlib.Core.List.{List, [], _∷_, _++_}
 use native.Mathlib.Nat.{mod-eq-of-lt}
@@ -11,14 +11,13 @@ use Rattle.lists.specs.Filter.{all}
 use Rattle.shape.specs.Shape.{widthOf, total, indexFits}
 use Rattle.shape.specs.Key.{marked, bias, decode}
 use Rattle.shape.specs.declared.Shape.{Shape}
-use Rattle.shape.proofs.AttributeLaws.{getD-widthsOf}
 use Rattle.split.specs.Bits.{splitBit}
 use Rattle.region.specs.Sets.{sorted}
 use Rattle.record.specs.Record.{Record}
 use Rattle.record.specs.Bytes.{littleEndian, recordBytes, recordsBytes}
 use Rattle.model.specs.Sets.{isSet}
 use Rattle.model.specs.Limits.{freshShape}
-use Rattle.model.proofs.LimitLaws.{widthsOf-freshShape, marked-freshShape, signs-freshShape-lt}
+use Rattle.model.proofs.LimitLaws.{widthOf-freshShape, widthsOf-freshShape, marked-freshShape, signs-freshShape-lt}
 use Rattle.file.specs.File.{trailerBytes, endBytes, fileOf}
 
 module _ (s : Shape) where
@@ -30,17 +29,11 @@ module _ (s : Shape) where
 
   -- ---- bytes
 
-  width-freshShape : (j : ℕ) → j < 4 → widthOf (freshShape s) j ≡ widthOf s j
-  width-freshShape j l =
-      sym (getD-widthsOf (freshShape s) j l)
-      ∙ ap (λ ws. getD ws j 0) (widthsOf-freshShape s)
-      ∙ getD-widthsOf s j l
-
   decode-freshShape : (j e : ℕ) → j < 4 → decode (freshShape s) j e ≡ decode s j e
   unfolding decode bias
   decode-freshShape j e l =
       ap (λ w. cond (marked (freshShape s) j)
-      ((e + (2 ^ 32 - cond (marked (freshShape s) j) (2 ^ (w - 1)) 0 % 2 ^ 32)) % 2 ^ 32) e) (width-freshShape j l)
+      ((e + (2 ^ 32 - cond (marked (freshShape s) j) (2 ^ (w - 1)) 0 % 2 ^ 32)) % 2 ^ 32) e) (widthOf-freshShape s j l)
       ∙ ap (λ m. cond m ((e + (2 ^ 32 - cond m (2 ^ (widthOf s j - 1)) 0 % 2 ^ 32)) % 2 ^ 32) e) (marked-freshShape s j)
 
   recordBytes-freshShape : (r : Record) → recordBytes (freshShape s) r ≡ recordBytes s r

@@ -1,7 +1,7 @@
 -- Laws of the records of all leaves: what holds of each leaf's holds of them, and how many they can be.
 -- Assumes nothing.
 use Prim.Native.Nat.{ℕ, suc, _*_, _≤_}
-use mathlib.Core.Path.{_≡_, sym, subst, _∙_}
+use mathlib.Core.Path.{subst}
 use mathlib.Core.Bool.{Bool, true, false, cond}
 use mathlib.Core.List.{List, [], _∷_}
 use native.Mathlib.Nat.{add-mul}
@@ -10,29 +10,10 @@ use lib.ListN.{length, length-append}
 use Rattle.lists.specs.Members.{All}
 use Rattle.lists.proofs.MemberLaws.{All-append}
 use Rattle.region.specs.Strings.{withBit, emptyString}
-use Rattle.region.specs.Division.{Division, leaf, divided, leafDepth, leafRecords, nonEmptyLeaves, allRecords}
-use Rattle.region.proofs.StringLaws.{sameBits-ext, sameBits-refl, withBit-same, withBit-other}
-use Rattle.region.proofs.StringLeafLaws.{leafRecords-same}
+use Rattle.region.specs.Division.{Division, leaf, divided, leafRecords, nonEmptyLeaves, allRecords}
+use Rattle.region.proofs.DivisionLaws.{leafRecords-side}
 
 module _ {R : Type 0} where
-  -- a string of a side, in the divided region
-  leafRecords-side : (p : ℕ → Bool) (t : ℕ) (β : Bool) (l u : Division R)
-      → leafRecords (withBit p t β) t (divided l u) ≡ leafRecords p (suc t) (cond β u l)
-  leafRecords-side p t β l u = rw (withBit-same p t β) (by-bit β)
-    where
-      later : (D : Division R) (β : Bool) → leafRecords (withBit p t β) (suc t) D ≡ leafRecords p (suc t) D
-      later D β =
-          leafRecords-same p (withBit p t β) (suc t) D
-          (sameBits-ext p (withBit p t β) (withBit p t β) (leafDepth p (suc t) D) (suc t)
-          (λ s h k. sym (withBit-other p t β s (λ e. omega arith)))
-          ∙ sameBits-refl (withBit p t β) (leafDepth p (suc t) D) (suc t))
-
-      by-bit : (β : Bool)
-          → cond β (leafRecords (withBit p t β) (suc t) u) (leafRecords (withBit p t β) (suc t) l)
-          ≡ leafRecords p (suc t) (cond β u l)
-      by-bit true = later u true
-      by-bit false = later l false
-
   -- what holds of the records of each leaf, in the division of a region of depth t
   leaves-of-side : (Q : List R → Type 0) (t : ℕ) (β : Bool) (l u : Division R)
       → ((p : ℕ → Bool) → Q (leafRecords p t (divided l u))) → (p : ℕ → Bool) → Q (leafRecords p (suc t) (cond β u l))

@@ -1,5 +1,4 @@
 pub mod AcceptedLaws
-pub mod ByteLaws
 pub mod EndLaws
 pub mod Example
 pub mod FileLaws

@@ -1,6 +1,6 @@
 -- What save and load promise (document 02, request 5). Each promise is one definition, which the call's `ensures` and
 -- the theorems of crate `saved` cite. Assumes nothing.
-use Prim.Native.Nat.{ℕ, suc, _*_, _^_, _≤_}
+use Prim.Native.Nat.{ℕ, suc, _*_, _^_, _≤_, _<_}
 use mathlib.Core.Path.{_≡_}
 use mathlib.Core.Bool.{true}
 use mathlib.Core.List.{List, [], _∷_, _++_}
@@ -30,6 +30,10 @@ everyLeaf p x rs = true
 abbrev pub fitNumber : List Record → List ℕ → ℕ
 fitNumber S out = firstNumber (refusal 2 (ltb (length out) (fileSize (length S))) ∷ [])
 
+-- no store has more: 4,096 pages of 16 records
+abbrev pub mostRecords : ℕ
+mostRecords = 4096 * 16
+
 -- save on a store, with an output as it came, answered and left the output. Shut out: the trailer written before the
 -- fit is known (unchanged); bytes written behind the file, records in another order, marks written without an attribute
 -- (saved-as)
@@ -37,12 +41,13 @@ pub record SavePromise (store : Store) (out : List ℕ) (answer : Answer ℕ) (o
   -- 1, 2
   pub early-refused : (n : ℕ) → lentNumber store ≡ suc n → answer ≡ refused (suc n)
   pub unchanged : (n : ℕ) → answer ≡ refused n → out′ ≡ out
-  -- on any store 2, 9, or a file of some records that fits, with its shape and trailer; the bytes behind it stay
+  -- on any store a file of some records that fits, with its shape and trailer, the bytes behind it untouched; 2, where a
+  -- file may be longer than the output; or 9
   pub ordinary : lentNumber store ≡ 0
-      → ((n : ℕ) × (body : List ℕ) × (answer ≡ accepted (fileSize n)) × (fileSize n ≤ length out)
+      → ((n : ℕ) × (body : List ℕ) × (n ≤ mostRecords) × (answer ≡ accepted (fileSize n)) × (fileSize n ≤ length out)
       × (length body ≡ recordSize * n)
       × (out′ ≡ body ++ (endBytes (store .state .shape) n ++ drop (fileSize n) out)))
-      ⊎ ((answer ≡ refused 2) ⊎ (answer ≡ refused 9))
+      ⊎ (((answer ≡ refused 2) × (length out < fileSize mostRecords)) ⊎ (answer ≡ refused 9))
   -- on a sound store, whatever the pages hold that no leaf has: "Saving writes the file's bytes only, from the output's
   -- first byte, returns their number, and gives 2 if they don't fit."
   pub saved-as : (S : List Record) → SoundWhere store everyLeaf S

@@ -23,8 +23,8 @@ ghost use Rattle.record.specs.Packed.{unpackedKey};
 ghost use Rattle.page.specs.Page.{recordsFrom};
 ghost use Rattle.model.specs.Sets.{isSet};
 
-// Whether the first n records of a file are a set in split order; 13 is due if not. The bits that
-// any of them has are those of a key within the widths.
+// Whether the first n records of a file are a set in split order; 13 is due if not. Every value
+// fits if the union of all their bits does, so that the bounds are judged once, at the end.
 pub fn is_set(shape: Shape, file: &[u8], n: usize) -> bool
     requires { ⌜ (shapeNumber shape ≡ 0) × (recordSize * n ≤ length (now file)) ⌝ }
     ensures { λ r. ⌜ r ≡ isSet shape (recordsFrom shape n 0 (now (file .entry))) ⌝ }

@@ -5,8 +5,9 @@ use mathlib.Core.Path.{_≡_, refl, sym, _∙_}
 use mathlib.Core.Bool.{Bool}
 use mathlib.Core.List.{List, [], _∷_, _++_}
 use lib.ListN.{length}
-use Rattle.shape.specs.Refusal.{Answer, accepted, answered}
+use Rattle.shape.specs.Refusal.{Answer, accepted}
 use Rattle.shape.specs.declared.Shape.{Shape}
+use Rattle.shape.proofs.RefusalLaws.{accepted-answered}
 use Rattle.record.specs.Record.{Record}
 use Rattle.range_box.specs.Box.{boxOf}
 use Rattle.model.specs.Limits.{fixedBy}
@@ -39,7 +40,7 @@ same-outcome : {a a′ : Answer Reply} {out out′ : List ℕ} → a ≡ a′ �
     → _≡_ {A = Outcome} (record { answer = a; output = out }) (record { answer = a′; output = out′ })
 same-outcome e e′ = cc
 
-same-store : {st st′ : State} {m m′ : Memory} → st ≡ st′ → m ≡ m′
+pub same-store : {st st′ : State} {m m′ : Memory} → st ≡ st′ → m ≡ m′
     → _≡_ {A = Store} (record { state = st; memory = m }) (record { state = st′; memory = m′ })
 same-store e e′ = cc
 
@@ -151,11 +152,7 @@ run-more c o (one-more q r) p = one-more q (run-more c o r p)
 -- an accepted Fresh met no condition for refusal
 fresh-accepted : (s : Shape) (m : Memory) (fresh : Store) → FreshPromise s m (accepted changed) fresh
     → freshNumber s m ≡ 0
-fresh-accepted s m fresh p = none-met (freshNumber s m) (p .answered-as)
-  where
-    none-met : (n : ℕ) → accepted changed ≡ answered n changed → n ≡ 0
-    none-met zero e = refl
-    none-met (suc n) e = cc
+fresh-accepted s m fresh p = accepted-answered changed changed (freshNumber s m) (p .answered-as)
 
 -- the store that it leaves
 fresh-store : (s : Shape) (m : Memory) (fresh : Store) → FreshPromise s m (accepted changed) fresh

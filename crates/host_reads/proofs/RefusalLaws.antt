@@ -55,7 +55,7 @@ save-not-zero s out a out′ p z = go (lentNumber s) refl
   where
     go : (n : ℕ) → lentNumber s ≡ n → ⊥
     go zero e =
-        ⊎-elim (λ h. refused-zero-accepted _ (sym z ∙ h .2))
-        (⊎-elim (λ f. refused-zero-suc 1 (sym z ∙ f)) (λ f. refused-zero-suc 8 (sym z ∙ f)))
+        ⊎-elim (λ h. refused-zero-accepted _ (sym z ∙ h .3))
+        (⊎-elim (λ f. refused-zero-suc 1 (sym z ∙ f .0)) (λ f. refused-zero-suc 8 (sym z ∙ f)))
         (p .ordinary e)
     go (suc n) e = refused-zero-suc n (sym z ∙ p .early-refused n e)

@@ -86,8 +86,8 @@ pub fn check_result(state: &[u32], dir: &[u32], pages: &[u8]) -> CheckResult
 }
 
 // Writes the file of the store's records from the output's first byte on, and returns how many bytes
-// it has; the bytes behind it stay. Refused with 1, 2 (slices or output too short) or 9, the first
-// that holds in this order; a refused call leaves the output as it came.
+// it has; the bytes behind it stay. Refused with 1, 2 (slices), 9, or 2 (an output shorter than the
+// file), the first that holds in this order; a refused call leaves the output as it came.
 pub fn save_result(state: &[u32], dir: &[u32], pages: &[u8], out: &mut [u8]) -> SaveResult
     ensures { λ r. ⌜ Keeps (r .number) (r .size) 0
         (λ answer. SavePromise (store (stateIn (now (state .entry))) (now (dir .entry)) (now (pages .entry)))

@@ -6,7 +6,7 @@ use native.Mathlib.Omega.{arith}
 use lib.ListN.{length, length-set}
 use Rattle.shape.specs.Refusal.{Answer, accepted, refused}
 use Rattle.shape.specs.declared.Shape.{Shape}
-use Rattle.shape.proofs.RefusalLaws.{firstNumber-shape}
+use Rattle.shape.proofs.RefusalLaws.{firstNumber-shape, accepted-refused}
 use Rattle.shape.proofs.ShapeLaws.{shapeNumber-true}
 use Rattle.record.specs.Record.{Record}
 use Rattle.page.specs.Page.{pageSize, recordsFrom}
@@ -26,10 +26,6 @@ use Rattle.load.specs.Private.{Joining, Joined}
 use Rattle.load.proofs.ClearedLaws.{drop-set-first, drop-clearedCounts}
 use Rattle.load.proofs.NumberLaws.{records-read, set-read}
 
--- an accepted answer is no refused one
-accepted-refused : {C : Type 0} (n : ℕ) → _≡_ {A = Answer Reply} (accepted changed) (refused n) → C
-accepted-refused n e = let z : _≡_ {A = ℕ} 0 1 = cc in absurd (omega arith)
-
 module _ (file : List ℕ) (m : Memory) where
   pub promise-refused : (n : ℕ) (answer : Answer Reply) (after : Store) → n ≡ loadNumber file m → (n ≡ 0 → ⊥)
       → answer ≡ refused n → after .state ≡ noState → after .memory ≡ m → LoadPromise file m answer after
@@ -39,9 +35,9 @@ module _ (file : List ℕ) (m : Memory) where
         answered-as = rw (← e) a;
         no-state = λ k d. st;
         memory-kept = λ k d. kept;
-        shape-as = λ d. accepted-refused (suc n) (sym d ∙ a);
-        limits-as = λ d. accepted-refused (suc n) (sym d ∙ a);
-        shown = λ d. accepted-refused (suc n) (sym d ∙ a);
+        shape-as = λ d. accepted-refused changed (suc n) (sym d ∙ a);
+        limits-as = λ d. accepted-refused changed (suc n) (sym d ∙ a);
+        shown = λ d. accepted-refused changed (suc n) (sym d ∙ a);
         words-length = ap (λ (x : Memory). length (x .words)) kept;
         bytes-length = ap (λ (x : Memory). length (x .bytes)) kept;
         words-past = rw kept refl;
@@ -91,8 +87,8 @@ module _ (file : List ℕ) (m : Memory) where
       promise-accepted after joined =
           record {
             answered-as = rw z refl;
-            no-state = λ k d. accepted-refused k d;
-            memory-kept = λ k d. accepted-refused k d;
+            no-state = λ k d. accepted-refused changed k d;
+            memory-kept = λ k d. accepted-refused changed k d;
             shape-as = λ d. joined .shape-kept ∙ shape-fresh;
             limits-as = λ d. joined .limits-kept;
             shown = λ d. subst (λ (S : List Record). Sound after S) records-fresh (joined .shown);

@@ -209,8 +209,8 @@ pub mark-written : (out out′ : List ℕ) (k : ℕ) → SavePromise (wordPastMa
     → getD out′ (k - 18) 0 ≡ 5 → ⊥
 unfolding firstNumber inBounds shapeConditions lentConditions lentNumber endBytes widthsOf recordBytes
 mark-written out out′ k p e =
-    ⊎-elim (λ file. written (file .0) (file .1) (accepted-size (file .2)) (file .4) (file .5))
-    (⊎-elim (λ two. refused-not-accepted k 2 (sym two)) (λ nine. refused-not-accepted k 9 (sym nine)))
+    ⊎-elim (λ file. written (file .0) (file .1) (accepted-size (file .3)) (file .5) (file .6))
+    (⊎-elim (λ two. refused-not-accepted k 2 (sym (two .0))) (λ nine. refused-not-accepted k 9 (sym nine)))
     (p .ordinary refl)
   where
     accepted-size : {n : ℕ} → _≡_ {A = Answer ℕ} (accepted k) (accepted n) → k ≡ n

@@ -3,17 +3,18 @@
 use Prim.Native.Nat.{ℕ, suc, _*_}
 use mathlib.Core.Path.{_≡_, refl, sym, ap, subst, _∙_}
 use mathlib.Core.List.{List, [], _++_}
-use native.Mathlib.Omega.{arith}
 use lib.ListN.{length, drop}
 use Rattle.shape.specs.Refusal.{Answer, accepted, refused, answered}
 use Rattle.shape.specs.declared.Shape.{Shape}
+use Rattle.shape.proofs.RefusalLaws.{accepted-refused}
 use Rattle.record.specs.Record.{Record}
 use Rattle.model.specs.Model.{Fixed, Outcome, Reply, changed}
 use Rattle.store.specs.Store.{Store, Memory, fixedOf}
 use Rattle.store.specs.Sound.{Sound}
 use Rattle.store.specs.Fresh.{FreshPromise, freshNumber}
 use Rattle.history.specs.History.{WithinBounds, no-call}
-use Rattle.history.proofs.HistoryLaws.{listed-as, fixedOf-fresh, history}
+use Rattle.store.specs.Fresh.{noState}
+use Rattle.history.proofs.HistoryLaws.{same-store, listed-as, fixedOf-run, fixedOf-fresh, history}
 use Rattle.file.specs.File.{fileRecords}
 use Rattle.file.specs.Loading.{loadNumber}
 use Rattle.file.specs.Promises.{LoadPromise}
@@ -21,10 +22,6 @@ use Rattle.saved.proofs.HistoryFromLaws.{fixedOf-loaded}
 use Rattle.replay_encoding.specs.Encoding.{callCount, answerSize, answersOf, outputsOf, outputStart}
 use Rattle.replay.specs.Private.{CallsRan}
 use Rattle.replay.specs.Replayed.{modelCalls, ReplayedFrom, Replayed, ReplayedFile}
-
--- an accepted answer is no refused one
-accepted-refused : {C : Type 0} (n : ℕ) → _≡_ {A = Answer Reply} (accepted changed) (refused n) → C
-accepted-refused n e = let z : _≡_ {A = ℕ} 0 1 = cc in absurd (omega arith)
 
 -- ---- from any start
 
@@ -34,17 +31,18 @@ module _ (number : ℕ) (f : Fixed) (S : List Record) (m : Memory) (words answer
   answer-of : (k : ℕ) → number ≡ k → answer ≡ answered k changed
   answer-of k e = answered-as ∙ ap (λ k. answered k changed) e
 
-  from-refused : (n : ℕ) (after : Store) → answer ≡ refused n → ((k : ℕ) → number ≡ suc k → after .memory ≡ m)
+  from-refused : (n : ℕ) (after : Store) → answer ≡ refused n → ((k : ℕ) → number ≡ suc k → after ≡ record { state = noState; memory = m })
       → ReplayedFrom number f S m words answers out answer after answers out
   from-refused n after e-refused kept =
       let clash : number ≡ 0 → accepted changed ≡ refused n = λ e. sym (answer-of 0 e) ∙ e-refused in
       record {
         refused-as = λ k e. (answer-of (suc k) e, kept k e, refl, refl);
         accepted-as = λ e. answer-of 0 e;
-        answers-as = λ e. accepted-refused n (clash e);
-        outputs-as = λ e. accepted-refused n (clash e);
-        bounded = λ e. accepted-refused n (clash e);
-        shown = λ e. accepted-refused n (clash e);
+        fixed-as = λ e. accepted-refused changed n (clash e);
+        answers-as = λ e. accepted-refused changed n (clash e);
+        outputs-as = λ e. accepted-refused changed n (clash e);
+        bounded = λ e. accepted-refused changed n (clash e);
+        shown = λ e. accepted-refused changed n (clash e);
       }
 
   from-accepted : (start after : Store) (answers′ out′ : List ℕ) → answer ≡ accepted changed
@@ -55,8 +53,9 @@ module _ (number : ℕ) (f : Fixed) (S : List Record) (m : Memory) (words answer
       let cs = modelCalls words answers out in
       let model = listed-as f S fixed sound (r .ran) in
       record {
-        refused-as = λ n e. accepted-refused (suc n) (sym e-accepted ∙ answer-of (suc n) e);
+        refused-as = λ n e. accepted-refused changed (suc n) (sym e-accepted ∙ answer-of (suc n) e);
         accepted-as = λ e. refl;
+        fixed-as = λ e. fixedOf-run (r .ran) ∙ fixed;
         answers-as = λ e.
             r .answers-as ∙ ap (λ os. answersOf os ++ drop (answerSize * callCount words answers) answers) (model .0);
         outputs-as = λ e.
@@ -73,7 +72,7 @@ module _ (s : Shape) (m : Memory) (words answers out : List ℕ) (answer : Answe
       → Replayed s m words answers out answer after answers out
   replayed-refused n after e p =
       from-refused (freshNumber s m) _ [] m words answers out answer (p .answered-as) n after e
-      (λ k d. rw d at (p .memory-as))
+      (λ k d. same-store (rw d at (p .state-as)) (rw d at (p .memory-as)))
 
   pub replayed-accepted : (fresh after : Store) (answers′ out′ : List ℕ) → answer ≡ accepted changed
       → FreshPromise s m answer fresh → CallsRan fresh words answers out (callCount words answers) after answers′ out′
@@ -90,7 +89,7 @@ module _ (file : List ℕ) (m : Memory) (words answers out : List ℕ) (answer :
       → ReplayedFile file m words answers out answer after answers out
   replayed-file-refused n after e p =
       from-refused (loadNumber file m) _ (fileRecords file) m words answers out answer (p .answered-as) n after e
-      (λ k d. p .memory-kept n e)
+      (λ k d. same-store (p .no-state n e) (p .memory-kept n e))
 
   pub replayed-file-accepted : (loaded after : Store) (answers′ out′ : List ℕ) → answer ≡ accepted changed
       → LoadPromise file m answer loaded

@@ -8,9 +8,9 @@ use Rattle.shape.specs.declared.Shape.{Shape}
 use Rattle.record.specs.Record.{Record}
 use Rattle.model.specs.Limits.{fixedBy}
 use Rattle.model.specs.Model.{Fixed, Call, Reply, changed, Outcome, run, lastSet}
-use Rattle.store.specs.Store.{Store, Memory}
+use Rattle.store.specs.Store.{Store, Memory, fixedOf}
 use Rattle.store.specs.Sound.{Sound}
-use Rattle.store.specs.Fresh.{freshNumber}
+use Rattle.store.specs.Fresh.{freshNumber, noState}
 use Rattle.history.specs.History.{WithinBounds}
 use Rattle.file.specs.File.{fileRecords}
 use Rattle.file.specs.Loading.{loadFixed, loadNumber}
@@ -34,11 +34,13 @@ modelRun f S words answers out = run f S (modelCalls words answers out)
 -- only looks (shown)
 pub record ReplayedFrom (number : ℕ) (f : Fixed) (S : List Record) (m : Memory) (words answers out : List ℕ)
     (answer : Answer Reply) (after : Store) (answers′ out′ : List ℕ) : Type 0 where
-  -- it is refused, and nothing is changed
+  -- it is refused, and nothing is changed; there is no state to go on with
   pub refused-as : (n : ℕ) → number ≡ suc n
-      → (answer ≡ refused (suc n)) × (after .memory ≡ m) × (answers′ ≡ answers) × (out′ ≡ out)
+      → (answer ≡ refused (suc n)) × (after ≡ record { state = noState; memory = m }) × (answers′ ≡ answers)
+      × (out′ ≡ out)
   -- it is accepted, and the calls are answered as the model answers them
   pub accepted-as : number ≡ 0 → answer ≡ accepted changed
+  pub fixed-as : number ≡ 0 → fixedOf (after .state) ≡ f
   pub answers-as : number ≡ 0
       → answers′ ≡ answersOf (modelRun f S words answers out) ++ drop (answerSize * callCount words answers) answers
   pub outputs-as : number ≡ 0

@@ -62,11 +62,12 @@ module _ (s : Shape) (fs : List (List ℕ)) (whole : All IsField fs) (out : List
 
 -- ---- the file written if it fits
 
-module _ (s : Shape) (fs : List (List ℕ)) (out : List ℕ) (total : ℕ) (counted : total ≡ length fs) where
+module _ (s : Shape) (fs : List (List ℕ)) (out : List ℕ) (total : ℕ) (counted : total ≡ length fs)
+    (few : total ≤ 65536) where
   pub filed-short : length out < fileSize total → Filed s fs out (refused 2) out
   filed-short l =
       let short = lt-ltb (length out) (fileSize (length fs)) (omega (arith, l, counted)) in
-      record { replied = rw short refl; left = rw short refl }
+      record { few = omega (arith, few, counted); replied = rw short refl; left = rw short refl }
 
   pub filed-fits : fileSize total ≤ length out → (put : List ℕ) → put ≡ emit out 0 fs → (out′ : List ℕ)
       → out′ ≡ paste put (recordSize * total) (endBytes s total) endSize
@@ -75,6 +76,7 @@ module _ (s : Shape) (fs : List (List ℕ)) (out : List ℕ) (total : ℕ) (coun
   filed-fits l put e out′ d =
       let fit = le-ltb (length out) (fileSize (length fs)) (omega (arith, l, counted)) in
       record {
+        few = omega (arith, few, counted);
         replied = ap (λ n. accepted (fileSize n)) counted ∙ rw fit refl;
         left =
             d

@@ -68,7 +68,7 @@ module _ (st : State) (words bytes out : List ℕ) where
     }
 
     -- the records that are saved, as their bytes
-    module _ (fs : List (List ℕ))
+    module _ (fs : List (List ℕ)) (few : length fs ≤ 65536)
         (model : (S : List Record) → SoundWhere here everyLeaf S → map (recordOf shape) fs ≡ S) where
       same-count : (S : List Record) → SoundWhere here everyLeaf S → length S ≡ length fs
       same-count S h = ap length (sym (model S h)) ∙ length-map fs (recordOf shape)
@@ -79,7 +79,7 @@ module _ (st : State) (words bytes out : List ℕ) where
       promise-short l = record {
         early-refused = λ m d. absurd (omega (arith, none-early, d));
         unchanged = λ m d. refl;
-        ordinary = λ d. inr (inl refl);
+        ordinary = λ d. inr (inl (refl, omega (arith, l, few)));
         saved-as = λ S h.
             let none-fit = fitNumber-short S out (omega (arith, l, same-count S h)) in
             rw none-fit (refl, refl);
@@ -111,6 +111,7 @@ module _ (st : State) (words bytes out : List ℕ) where
           ordinary = λ d. inl (
             length fs,
             recordsBytes shape (map (recordOf shape) fs),
+            few,
             refl,
             fits,
             length-records shape fs whole out fits (map (recordOf shape) fs) refl,
@@ -119,22 +120,24 @@ module _ (st : State) (words bytes out : List ℕ) where
           saved-as = saved;
         }
 
-      -- ---- both
+    -- ---- both
 
-      pub promise-filed : All IsField fs → (answer : Answer ℕ) (out′ : List ℕ) → Filed shape fs out answer out′
-          → SavePromise here out answer out′
-      promise-filed whole answer out′ f = go (decLt (length out) (fileSize (length fs)))
-        where
-          as-is : (a : Answer ℕ) (o : List ℕ) → answer ≡ a → out′ ≡ o → SavePromise here out a o
-              → SavePromise here out answer out′
-          as-is a o e d p = rw (e, d) p
+    pub promise-filed : (fs : List (List ℕ))
+        → ((S : List Record) → SoundWhere here everyLeaf S → map (recordOf shape) fs ≡ S) → All IsField fs
+        → (answer : Answer ℕ) (out′ : List ℕ) → Filed shape fs out answer out′ → SavePromise here out answer out′
+    promise-filed fs model whole answer out′ f = go (decLt (length out) (fileSize (length fs)))
+      where
+        as-is : (a : Answer ℕ) (o : List ℕ) → answer ≡ a → out′ ≡ o → SavePromise here out a o
+            → SavePromise here out answer out′
+        as-is a o e d p = rw (e, d) p
 
-          go : Dec (length out < fileSize (length fs)) → SavePromise here out answer out′
-          go (yes l) =
-              let short = lt-ltb (length out) (fileSize (length fs)) l in
-              as-is (refused 2) out (f .replied ∙ rw short refl) (f .left ∙ rw short refl) (promise-short l)
-          go (no l) =
-              let long : fileSize (length fs) ≤ length out = omega arith in
-              let fit = le-ltb (length out) (fileSize (length fs)) long in
-              as-is (accepted (fileSize (length fs))) (withFile shape fs out)
-              (f .replied ∙ rw fit refl) (f .left ∙ rw fit refl) (promise-saved whole long)
+        go : Dec (length out < fileSize (length fs)) → SavePromise here out answer out′
+        go (yes l) =
+            let short = lt-ltb (length out) (fileSize (length fs)) l in
+            as-is (refused 2) out (f .replied ∙ rw short refl) (f .left ∙ rw short refl)
+            (promise-short fs (f .few) model l)
+        go (no l) =
+            let long : fileSize (length fs) ≤ length out = omega arith in
+            let fit = le-ltb (length out) (fileSize (length fs)) long in
+            as-is (accepted (fileSize (length fs))) (withFile shape fs out)
+            (f .replied ∙ rw fit refl) (f .left ∙ rw fit refl) (promise-saved fs (f .few) model whole long)

@@ -1,5 +1,5 @@
 -- What the steps of a save ask and leave. Assumes nothing.
-use Prim.Native.Nat.{ℕ, _*_}
+use Prim.Native.Nat.{ℕ, _*_, _≤_}
 use mathlib.Core.Path.{_≡_}
 use mathlib.Core.Bool.{Bool, cond}
 use mathlib.Core.List.{List}
@@ -25,7 +25,8 @@ withFile s fs out = paste (emit out 0 fs) (recordSize * length fs) (endBytes s (
 abbrev pub isShort : List (List ℕ) → List ℕ → Bool
 isShort fs out = ltb (length out) (fileSize (length fs))
 
--- the file of some records was written if it fits
+-- the file of some records, as many as pages hold at most, was written if it fits
 pub record Filed (s : Shape) (fs : List (List ℕ)) (out : List ℕ) (answer : Answer ℕ) (out′ : List ℕ) : Type 0 where
+  pub few : length fs ≤ 65536
   pub replied : answer ≡ cond (isShort fs out) (refused 2) (accepted (fileSize (length fs)))
   pub left : out′ ≡ cond (isShort fs out) out (withFile s fs out)

@@ -12,11 +12,11 @@ use Rattle.model.specs.Model.{numberFor, outputOf, replyTo, outputAfter, outcom
 use Rattle.history.proofs.HistoryLaws.{same-set}
 use Rattle.file.specs.File.{fileRecords}
 use Rattle.file.specs.Loading.{loadFixed}
-use Rattle.saved.specs.Again.{reads, LoadedAlike}
+use Rattle.saved.specs.Again.{readsOnly, LoadedAlike}
 use Rattle.saved.proofs.HistoryFromLaws.{loaded-history}
 
 module _ (f f′ : Fixed) (same : f .shape ≡ f′ .shape) (S : List Record) where
-  outcome-reads : (c : Call) → reads c ≡ true → outcome f S c ≡ outcome f′ S c
+  outcome-reads : (c : Call) → readsOnly c ≡ true → outcome f S c ≡ outcome f′ S c
   unfolding outcome numberFor replyTo outputAfter outputOf
   outcome-reads (insertCall values content) h = absurd (false≢true h)
   outcome-reads (deleteCall values) h = absurd (false≢true h)
@@ -24,7 +24,7 @@ module _ (f f′ : Fixed) (same : f .shape ≡ f′ .shape) (S : List Record) wh
   outcome-reads (queryCall q out) h = rw same
   outcome-reads (rangeCall r out) h = rw same
 
-  next-reads : (g : Fixed) (c : Call) → reads c ≡ true → next g S c ≡ S
+  next-reads : (g : Fixed) (c : Call) → readsOnly c ≡ true → next g S c ≡ S
   unfolding setAfter
   next-reads g (insertCall values content) h = absurd (false≢true h)
   next-reads g (deleteCall values) h = absurd (false≢true h)
@@ -32,11 +32,11 @@ module _ (f f′ : Fixed) (same : f .shape ≡ f′ .shape) (S : List Record) wh
   next-reads g (queryCall q out) h = same-set g S (queryCall q out) refl
   next-reads g (rangeCall r out) h = same-set g S (rangeCall r out) refl
 
-  run-reads : (calls : List Call) → all reads calls ≡ true → run f S calls ≡ run f′ S calls
+  run-reads : (calls : List Call) → all readsOnly calls ≡ true → run f S calls ≡ run f′ S calls
   unfolding run
   run-reads [] h = refl
   run-reads (c ∷ cs) h =
-      let parts = and-split (reads c) (all reads cs) h in
+      let parts = and-split (readsOnly c) (all readsOnly cs) h in
       rw (outcome-reads c (parts .0), next-reads f c (parts .0), next-reads f′ c (parts .0), run-reads cs (parts .1))
 
 pub loaded-alike : LoadedAlike

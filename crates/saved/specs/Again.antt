@@ -54,7 +54,7 @@ pub record Reloads (s : Shape) (S : List Record) (m : Memory) : Type 0 where
   -- .. and leaves a store that shows the set
   pub shown : (after : Store) → LoadPromise (fileOf s S) m (accepted changed) after → Sound after S
 
--- the set of every sound store loads again; its bytes are below 256, as those of a slice are
+-- the set of every sound store loads again; the store's page bytes are below 256, as those of a slice are
 abbrev pub LoadsAgain : Type 0
 LoadsAgain =
     (store : Store) (S : List Record) → Sound store S → ((i : ℕ) → getD (store .memory .bytes) i 0 < 256)
@@ -70,17 +70,17 @@ OwnSlicesEnough =
 -- ---- two loads of one file
 
 -- a call that writes nothing in the store
-abbrev pub reads : Call → Bool
-reads (insertCall values content) = false
-reads (deleteCall values) = false
-reads (lookupCall values) = true
-reads (queryCall q out) = true
-reads (rangeCall r out) = true
+abbrev pub readsOnly : Call → Bool
+readsOnly (insertCall values content) = false
+readsOnly (deleteCall values) = false
+readsOnly (lookupCall values) = true
+readsOnly (queryCall q out) = true
+readsOnly (rangeCall r out) = true
 
 -- into slices of any lengths: calls that read are answered alike, payloads, lists, totals and reads
 abbrev pub LoadedAlike : Type 0
 LoadedAlike =
     (file : List ℕ) (m m′ : Memory) (one other : Store) → LoadPromise file m (accepted changed) one
-    → LoadPromise file m′ (accepted changed) other → (calls : List Call) → all reads calls ≡ true
+    → LoadPromise file m′ (accepted changed) other → (calls : List Call) → all readsOnly calls ≡ true
     → (outcomes outcomes′ : List Outcome) (after after′ : Store) → Run one calls outcomes after
     → Run other calls outcomes′ after′ → outcomes ≡ outcomes′

@@ -1,3 +1,3 @@
+pub mod Actions
 pub mod Again
 pub mod Saved
-pub mod Steps

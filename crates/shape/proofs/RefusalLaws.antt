@@ -1,6 +1,6 @@
 -- Laws of refusals: the first number of a call that is given a shape. Assumes nothing.
 use Prim.Native.Nat.{ℕ, zero, suc}
-use mathlib.Core.Path.{_≡_, sym, ap, _∙_}
+use mathlib.Core.Path.{_≡_, refl, sym, ap, _∙_}
 use mathlib.Core.Bool.{Bool, true, false, cond, false≢true}
 use mathlib.Core.List.{List, [], _∷_, _++_}
 use Rattle.shape.specs.Refusal.{Condition, accepted, refused, answered, refusal, firstNumber}
@@ -18,7 +18,16 @@ module _ (s : Shape) (ds : List Condition) where
   unfolding shapeConditions firstNumber
   firstNumber-shape-out n = rw (inBounds-out s n, shapeNumber-out s n)
 
--- ---- an answer by its number
+-- ---- answers
+
+-- an accepted answer is no refused one
+pub accepted-refused : {A C : Type 0} (x : A) (n : ℕ) → accepted x ≡ refused n → C
+accepted-refused x n e = let z : false ≡ true = cc in absurd (false≢true z)
+
+-- a call that is accepted has the number 0
+pub accepted-answered : {A : Type 0} (x y : A) (n : ℕ) → accepted x ≡ answered n y → n ≡ 0
+accepted-answered x y zero e = refl
+accepted-answered x y (suc n) e = accepted-refused x (suc n) e
 
 -- no refusal has the number 0, so that the number stands for it beside any value
 pub answered-refused : {A : Type 0} (m n : ℕ) (x y : A) → refused n ≡ answered m x → answered n y ≡ answered m x

@@ -10,7 +10,6 @@ use Rattle.file.specs.File.{encodingsAt}
 use Rattle.load.specs.Private.{Joined}
 use Rattle.load.proofs.DecodedLaws.{valuesOf}
 use Rattle.load.proofs.JoinedLaws.{joined-none, joined-key, joined-more}
-use borrow.Author.Needs.{needs}
 use Rattle.load.proofs.add_records.Statement.{statement}
 use Rattle.load.proofs.add_records.Tie as tie
 

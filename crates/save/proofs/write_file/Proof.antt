@@ -27,7 +27,8 @@ returns c =
     let counted = c .before in
     let a = counted .before .before .before .before .before .args in
     filed-short (a .shape) (flatMap (pageFields (a .shape .capacity) (a .pages .now)) (take (a .n) (a .list .now)))
-    (a .out .now) _ (counted .count-records .ensures .0) (omega (arith, c .if1 .taken))
+    (a .out .now) _ (counted .count-records .ensures .0) (counted .count-records .ensures .1)
+    (omega (arith, c .if1 .taken))
 
 put-whole-requires : tie.Need-put-whole-requires
 put-whole-requires c κs = search needs
@@ -53,7 +54,8 @@ returns-2 c =
     let counted = test .before in
     let a = counted .before .before .before .before .before .args in
     filed-fits (a .shape) (flatMap (pageFields (a .shape .capacity) (a .pages .now)) (take (a .n) (a .list .now)))
-    (a .out .now) _ (counted .count-records .ensures .0) (omega (arith, test .if1 .left)) _
+    (a .out .now) _ (counted .count-records .ensures .0) (counted .count-records .ensures .1)
+    (omega (arith, test .if1 .left)) _
     (put .put-whole .ensures .bytes) _ (ended .put-end .ensures)
 
 pub write-file-spec : {M : Type 1} → statement M
