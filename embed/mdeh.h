@@ -128,9 +128,10 @@ extern "C" {
 /* The bytes of a file of n records (FILES). */
 #define MDEH_FILE_BYTES(n) (24 + MDEH_RECORD_BYTES * (size_t)(n))
 
-/* A store has use for so many directory words and pages at most. */
+/* A store has use for so many directory words and pages at most, and holds so many records. */
 #define MDEH_MOST_WORDS 4096
 #define MDEH_MOST_PAGES 4096
+#define MDEH_MOST_RECORDS 65536
 
 /* What a number says. */
 enum {
@@ -259,8 +260,8 @@ MdehCheckResult mdeh_check(const uint32_t *state, size_t state_words, const uint
                            const uint8_t *pages, size_t bytes);
 
 /* Writes the file of the store's records into the output, from its first byte on, and says how many bytes it has;
-   leaves the bytes behind it and the store as they are. Refused with 1, 2, 9: 2 also for an output that is shorter than
-   the file; the output is then as it was. */
+   leaves the bytes behind it and the store as they are. Refused with 1, 2, 9, then with 2 for an output that is shorter
+   than the file, which one of MDEH_FILE_BYTES(MDEH_MOST_RECORDS) bytes never is; the output is then as it was. */
 MdehSaveResult mdeh_save(const uint32_t *state, size_t state_words, const uint32_t *directory, size_t words,
                          const uint8_t *pages, size_t bytes, uint8_t *out, size_t out_bytes);
 

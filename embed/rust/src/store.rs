@@ -240,8 +240,9 @@ impl<'m> Store<'m> {
     /// Writes the file of the records into `out`, from its first byte on, and returns how many bytes it has; the bytes
     /// behind it are left as they are.
     ///
-    /// Refused with [`Refusal::Shape`], [`Refusal::Memory`] or [`Refusal::Unsound`]; `out` is then as it was. `Memory`
-    /// is also for an output that is shorter than the file: [`file_bytes`](crate::file_bytes) of the records has room.
+    /// Refused with [`Refusal::Shape`], [`Refusal::Memory`] or [`Refusal::Unsound`], then with [`Refusal::Memory`] for an
+    /// output that is shorter than the file; `out` is then as it was. [`file_bytes`](crate::file_bytes) of the records
+    /// has room, and [`file_bytes`](crate::file_bytes) of 65,536, the most that a store holds, always has.
     ///
     /// ```
     /// use mdeh::{file_bytes, Query, Refusal, Shape, Store};
