@@ -41,8 +41,8 @@ pub record SavePromise (store : Store) (out : List ℕ) (answer : Answer ℕ) (o
   -- 1, 2
   pub early-refused : (n : ℕ) → lentNumber store ≡ suc n → answer ≡ refused (suc n)
   pub unchanged : (n : ℕ) → answer ≡ refused n → out′ ≡ out
-  -- on any store a file of some records that fits, with its shape and trailer, the bytes behind it untouched; 2, where a
-  -- file may be longer than the output; or 9
+  -- on any store a file of some records that fits, with its shape and trailer, the bytes behind it untouched; 2, where
+  -- a file may be longer than the output; or 9
   pub ordinary : lentNumber store ≡ 0
       → ((n : ℕ) × (body : List ℕ) × (n ≤ mostRecords) × (answer ≡ accepted (fileSize n)) × (fileSize n ≤ length out)
       × (length body ≡ recordSize * n)

@@ -31,7 +31,8 @@ module _ (number : ℕ) (f : Fixed) (S : List Record) (m : Memory) (words answer
   answer-of : (k : ℕ) → number ≡ k → answer ≡ answered k changed
   answer-of k e = answered-as ∙ ap (λ k. answered k changed) e
 
-  from-refused : (n : ℕ) (after : Store) → answer ≡ refused n → ((k : ℕ) → number ≡ suc k → after ≡ record { state = noState; memory = m })
+  from-refused : (n : ℕ) (after : Store) → answer ≡ refused n
+      → ((k : ℕ) → number ≡ suc k → after ≡ record { state = noState; memory = m })
       → ReplayedFrom number f S m words answers out answer after answers out
   from-refused n after e-refused kept =
       let clash : number ≡ 0 → accepted changed ≡ refused n = λ e. sym (answer-of 0 e) ∙ e-refused in

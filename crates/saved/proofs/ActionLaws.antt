@@ -10,8 +10,9 @@ use Rattle.store.proofs.ReadLaws.{soundWhere-of-sound}
 use Rattle.history.specs.History.{Run, no-call, one-more}
 use Rattle.history.proofs.HistoryLaws.{listed-as, fixedOf-run, fixedOf-fresh, history}
 use Rattle.file.specs.Promises.{everyLeaf}
-use Rattle.saved.specs.Actions.{Action, call, save, ActionOutcome, called, saved, actionOutcome, actionNext, actionRun}
-use Rattle.saved.specs.Actions.{actionSet, ActionPromised, ActionsRan, no-action, action-more, ActionBounded, ActionsBounded}
+use Rattle.saved.specs.Actions.{Action, call, save, ActionOutcome, called, saved, actionOutcome, actionNext}
+use Rattle.saved.specs.Actions.{actionRun, actionSet, ActionPromised, ActionsRan, no-action, action-more}
+use Rattle.saved.specs.Actions.{ActionBounded, ActionsBounded}
 use Rattle.saved.specs.Actions.{SavedHistory}
 use Rattle.saved.proofs.HistoryFromLaws.{fixedOf-loaded}
 
@@ -49,8 +50,8 @@ acted f S before after (save out) (saved answer out′) e h p =
     }
 
 -- from any sound store
-pub actions-as : {store after : Store} {actions : List Action} {outcomes : List ActionOutcome} (f : Fixed) (S : List Record)
-    → fixedOf (store .state) ≡ f → Sound store S → ActionsRan store actions outcomes after
+pub actions-as : {store after : Store} {actions : List Action} {outcomes : List ActionOutcome} (f : Fixed)
+    (S : List Record) → fixedOf (store .state) ≡ f → Sound store S → ActionsRan store actions outcomes after
     → (outcomes ≡ actionRun f S actions) × ActionsBounded f S actions outcomes × Sound after (actionSet f S actions)
 unfolding actionRun
 actions-as f S e h no-action = (refl, tt, h)

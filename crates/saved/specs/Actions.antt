@@ -64,8 +64,9 @@ ActionPromised before (save out) (saved answer out′) after = SavePromise befor
 -- actions one after the other, each on the store that the one before left, and the store that the last one left
 pub data ActionsRan : Store → List Action → List ActionOutcome → Store → Type 0 where
   no-action : {store : Store} → ActionsRan store [] [] store
-  action-more : {before between after : Store} {x : Action} {xs : List Action} {o : ActionOutcome} {os : List ActionOutcome}
-      → ActionPromised before x o between → ActionsRan between xs os after → ActionsRan before (x ∷ xs) (o ∷ os) after
+  action-more : {before between after : Store} {x : Action} {xs : List Action} {o : ActionOutcome}
+      {os : List ActionOutcome} → ActionPromised before x o between → ActionsRan between xs os after
+      → ActionsRan before (x ∷ xs) (o ∷ os) after
 
 -- each accepted query's reads are within the bound of demand 3
 abbrev pub ActionBounded : Fixed → List Record → Action → ActionOutcome → Type 0
