@@ -45,11 +45,11 @@ static int gateway(const char *path) {
     uint32_t number = mdeh_fresh(shape, state, MDEH_STATE_WORDS, directory, 128, pages, sizeof pages);
     for (i = 0; number == MDEH_ACCEPTED && i < RECORDS; i++) {
         MdehKey key = {{seen[i].code, seen[i].slot, seen[i].release, 0}};
-        number = mdeh_insert(state, MDEH_STATE_WORDS, directory, 128, pages, sizeof pages, key, seen[i].count);
+        number = mdeh_insert(state, MDEH_STATE_WORDS, directory, 128, pages, sizeof pages, key, seen[i].count).number;
     }
     if (number != MDEH_ACCEPTED)
         return refused("fill", number);
-    number = mdeh_insert(state, MDEH_STATE_WORDS, directory, 128, pages, sizeof pages, more, 1);
+    number = mdeh_insert(state, MDEH_STATE_WORDS, directory, 128, pages, sizeof pages, more, 1).number;
     printf("gateway: one record more: %s\n", mdeh_reason(number));
     saved = mdeh_save(state, MDEH_STATE_WORDS, directory, 128, pages, sizeof pages, file, sizeof file);
     if (saved.number != MDEH_ACCEPTED)
@@ -86,7 +86,7 @@ static int workshop(const char *path) {
         return refused("load", number);
     found = mdeh_query(state, MDEH_STATE_WORDS, directory, MDEH_MOST_WORDS, pages, sizeof pages, all, NULL, 0);
     printf("workshop: loaded %" PRIu64 " records\n", found.total);
-    number = mdeh_insert(state, MDEH_STATE_WORDS, directory, MDEH_MOST_WORDS, pages, sizeof pages, more, 1);
+    number = mdeh_insert(state, MDEH_STATE_WORDS, directory, MDEH_MOST_WORDS, pages, sizeof pages, more, 1).number;
     printf("workshop: one record more: %s\n", mdeh_reason(number));
     found = mdeh_query(state, MDEH_STATE_WORDS, directory, MDEH_MOST_WORDS, pages, sizeof pages, code, out, sizeof out);
     if (found.number != MDEH_ACCEPTED)

@@ -1,6 +1,7 @@
 /*
  * A gateway's records: which display code came from which container slot under which image release, and how often.
- * Fills a store, checks it, asks for code 30, then for its releases from 400 to 479, and prints the slots and releases.
+ * Fills a store, says how deep its keys lie, checks it, asks for code 30, then for its releases from 400 to 479, and
+ * prints the slots and releases.
  */
 #include "mdeh.h"
 
@@ -8,7 +9,7 @@
 #include <stdio.h>
 
 #define CAPACITY 4
-#define WORDS 256
+#define WORDS 1024
 #define PAGES 24
 
 /* codes are below 2^7, slots below 2^5, releases below 2^9; none is signed */
@@ -18,6 +19,9 @@ static const MdehShape shape = {3, {7, 5, 9, 0}, CAPACITY, 0};
 static uint32_t state[MDEH_STATE_WORDS];
 static uint32_t directory[WORDS];
 static uint8_t pages[PAGES * MDEH_PAGE_BYTES(CAPACITY)];
+
+/* The greatest depth of a key. */
+static uint32_t deepest;
 
 static const struct {
     int32_t code, slot, release;
@@ -38,12 +42,15 @@ static int refused(const char *call, uint32_t number) {
 /* Stores what was seen. */
 static uint32_t fill(void) {
     size_t i;
-    uint32_t number = mdeh_fresh(shape, state, MDEH_STATE_WORDS, directory, WORDS, pages, sizeof pages);
-    for (i = 0; number == MDEH_ACCEPTED && i < sizeof seen / sizeof *seen; i++) {
+    MdehChangeResult inserted = {0, 0};
+    inserted.number = mdeh_fresh(shape, state, MDEH_STATE_WORDS, directory, WORDS, pages, sizeof pages);
+    for (i = 0; inserted.number == MDEH_ACCEPTED && i < sizeof seen / sizeof *seen; i++) {
         MdehKey key = {{seen[i].code, seen[i].slot, seen[i].release, 0}};
-        number = mdeh_insert(state, MDEH_STATE_WORDS, directory, WORDS, pages, sizeof pages, key, seen[i].count);
+        inserted = mdeh_insert(state, MDEH_STATE_WORDS, directory, WORDS, pages, sizeof pages, key, seen[i].count);
+        if (inserted.depth > deepest)
+            deepest = inserted.depth;
     }
-    return number;
+    return inserted.number;
 }
 
 /* People act on the list: check, then ask. A store whose memory was damaged is filled again from what was seen. */
@@ -79,6 +86,8 @@ int main(void) {
         number = ready();
     if (number != MDEH_ACCEPTED)
         return refused("fill", number);
+    /* whoever sizes the gateway: near L, word 7 of the state, a longer directory is due */
+    printf("filled: depths up to %" PRIu32 " of %" PRIu32 "\n", deepest, state[7]);
     found = mdeh_query(state, MDEH_STATE_WORDS, directory, WORDS, pages, sizeof pages, code, out, sizeof out);
     status = show("code 30", found, out);
     if (status != 0)

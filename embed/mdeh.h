@@ -20,8 +20,18 @@
  * the P pages and words past those of the state are never changed. The host changes none of a store itself.
  *
  * NUMBERS. Every call returns a number, alone or first in a struct: 0 for an accepted call, otherwise the reason for
- * its refusal (enum below). A refused call has changed nothing, and the values beside its number are 0. Where several
- * reasons hold, the first in the order that stands at the call is given.
+ * its refusal (enum below). A refused call has changed nothing, and the values beside its number are 0, but for the
+ * depth beside 5. Where several reasons hold, the first in the order that stands at the call is given.
+ *
+ * DEPTHS. Every key falls in one leaf, stored or not: that of all keys with its first x split bits (LAYOUTS), x being
+ * the leaf's depth, from 0 for the only leaf of a small store to L. mdeh_lookup gives the depth of the key's leaf,
+ * mdeh_insert and mdeh_delete that of its leaf afterwards, once leaves are divided or joined. With 5 lookup and delete
+ * give that of the leaf in which the absent key falls, with records or without. Beside any other number the depth is 0
+ * and says nothing. On an unsound store it is the depth in the word of the key's cell.
+ * To size a store, fill it and look at the depths. A full leaf is divided by the next insert into it, unless it lies at
+ * depth L: then the insert is refused with 6. So depths near L mean that 6 is near; it comes at lesser depths too,
+ * where keys agree in many of their first split bits. Twice the directory words make L one greater, up to 12 and to the
+ * sum of the widths; with a larger capacity leaves are divided later.
  *
  * SOUND. A store is sound if it shows a set of records as the layouts below say. mdeh_fresh and mdeh_load make sound
  * stores, and every call leaves a sound store sound. On an unsound one (memory that something else wrote) a call still
@@ -143,7 +153,8 @@ enum {
     MDEH_REFUSED_VALUE = 3,     /* value or end of an interval outside its attribute's bounds, index of 2^width or more,
                                    address past the last, unused value not 0 */
     MDEH_REFUSED_STORED = 4,    /* insert: the key is stored already */
-    MDEH_REFUSED_ABSENT = 5,    /* lookup, delete: the key is not stored */
+    MDEH_REFUSED_ABSENT = 5,    /* lookup, delete: the key is not stored; the depth of the leaf in which it falls stands
+                                   beside it (DEPTHS) */
     MDEH_REFUSED_DEPTH = 6,     /* insert: `capacity` stored keys agree with this one in their first L split bits; load:
                                    so of some record and those before it */
     MDEH_REFUSED_PAGES = 7,     /* insert, load: the records would need more than P pages */
@@ -194,8 +205,14 @@ typedef struct {
 
 typedef struct {
     uint32_t number;
+    uint32_t depth; /* of the key's leaf afterwards; with 5 of the leaf in which the absent key falls; otherwise 0 */
+} MdehChangeResult;
+
+typedef struct {
+    uint32_t number;
     uint32_t payload; /* of the key's record; 0 may be stored (PAYLOADS) */
     uint32_t reads;   /* pages read: 1 */
+    uint32_t depth;   /* of the key's leaf; with 5 of the leaf in which the absent key falls; otherwise 0 */
 } MdehLookupResult;
 
 typedef struct {
@@ -230,16 +247,18 @@ typedef struct {
 uint32_t mdeh_fresh(MdehShape shape, uint32_t *state, size_t state_words, uint32_t *directory, size_t words,
                     uint8_t *pages, size_t bytes);
 
-/* Adds a record. Refused with 1, 2, 3, 11, 4, 6, 7, 9: 11 for a payload of 0, whatever the directory and pages hold,
-   also where the key is stored already or has no room. */
-uint32_t mdeh_insert(uint32_t *state, size_t state_words, uint32_t *directory, size_t words,
-                     uint8_t *pages, size_t bytes, MdehKey key, uint32_t payload);
+/* Adds a record, and gives the depth of its leaf afterwards. Refused with 1, 2, 3, 11, 4, 6, 7, 9: 11 for a payload of 0,
+   whatever the directory and pages hold, also where the key is stored already or has no room. */
+MdehChangeResult mdeh_insert(uint32_t *state, size_t state_words, uint32_t *directory, size_t words,
+                             uint8_t *pages, size_t bytes, MdehKey key, uint32_t payload);
 
-/* Removes the record of a key. Refused with 1, 2, 3, 5, 9. */
-uint32_t mdeh_delete(uint32_t *state, size_t state_words, uint32_t *directory, size_t words,
-                     uint8_t *pages, size_t bytes, MdehKey key);
+/* Removes the record of a key, and gives the depth of the key's leaf afterwards. Refused with 1, 2, 3, 5, 9:
+   5 with a depth too. */
+MdehChangeResult mdeh_delete(uint32_t *state, size_t state_words, uint32_t *directory, size_t words,
+                             uint8_t *pages, size_t bytes, MdehKey key);
 
-/* The payload of a key's record. Writes nothing. Refused with 1, 2, 3, 5, 9. */
+/* The payload of a key's record, and the depth of its leaf. Writes nothing. Refused with 1, 2, 3, 5, 9: 5 with a depth
+   too. */
 MdehLookupResult mdeh_lookup(const uint32_t *state, size_t state_words, const uint32_t *directory, size_t words,
                              const uint8_t *pages, size_t bytes, MdehKey key);
 

@@ -3,7 +3,7 @@ use crate::dynamic::{function, Address, Library};
 use crate::packed::Intervals;
 use crate::step::{EARLIER, PROVED};
 use mdeh_tests::host::{
-    CheckResult, HostQuery, HostRange, Key, LookupResult, QueryResult, SaveResult, Shape,
+    ChangeResult, CheckResult, HostQuery, HostRange, Key, LookupResult, QueryResult, SaveResult, Shape,
 };
 use std::ffi::{CStr, CString};
 
@@ -34,8 +34,11 @@ pub struct Build {
 }
 
 type Fresh = unsafe extern "C" fn(Shape, *mut u32, usize, *mut u32, usize, *mut u8, usize) -> u32;
-type Insert = unsafe extern "C" fn(*mut u32, usize, *mut u32, usize, *mut u8, usize, Key, u32) -> u32;
-type Delete = unsafe extern "C" fn(*mut u32, usize, *mut u32, usize, *mut u8, usize, Key) -> u32;
+#[rustfmt::skip]
+type Insert = unsafe extern "C" fn(
+    *mut u32, usize, *mut u32, usize, *mut u8, usize, Key, u32,
+) -> ChangeResult;
+type Delete = unsafe extern "C" fn(*mut u32, usize, *mut u32, usize, *mut u8, usize, Key) -> ChangeResult;
 type Lookup =
     unsafe extern "C" fn(*const u32, usize, *const u32, usize, *const u8, usize, Key) -> LookupResult;
 #[rustfmt::skip]
@@ -102,7 +105,8 @@ impl Build {
     ///
     /// # Safety
     /// They have the types that the store's header gives them, and no `requires`. A build whose shape and state have no
-    /// marks of signed attributes, which come last in both, is called alike: it leaves them alone.
+    /// marks of signed attributes, which come last in both, is called alike: it leaves them alone. So is one that gives
+    /// no depths, which come last in what insert, delete and lookup return: it has the other numbers where this one has.
     unsafe fn at(
         name: &'static str,
         [fresh, insert, delete, lookup, query, check]: [Address; 6],
@@ -140,9 +144,9 @@ impl Build {
         let (state, words, key) = (state.as_mut_ptr(), state.len(), Key { values });
         let (dir, size) = (dir.as_mut_ptr(), dir.len());
         // SAFETY: see `fresh`.
-        let number =
+        let inserted =
             unsafe { (self.insert)(state, words, dir, size, pages.as_mut_ptr(), pages.len(), key, payload) };
-        (number == 0).into()
+        (inserted.number == 0).into()
     }
 
     /// 1 for an accepted delete, 0 for a refused one.
@@ -151,8 +155,8 @@ impl Build {
         let (state, words, key) = (state.as_mut_ptr(), state.len(), Key { values });
         let (dir, size) = (dir.as_mut_ptr(), dir.len());
         // SAFETY: see `fresh`.
-        let number = unsafe { (self.delete)(state, words, dir, size, pages.as_mut_ptr(), pages.len(), key) };
-        (number == 0).into()
+        let deleted = unsafe { (self.delete)(state, words, dir, size, pages.as_mut_ptr(), pages.len(), key) };
+        (deleted.number == 0).into()
     }
 
     /// The payload of a key's record, or the number of the refusal.

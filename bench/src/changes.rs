@@ -58,7 +58,7 @@ fn inserts(forms: Forms, inputs: &'static [Input]) -> Vec<Form> {
     let Forms { sample, builds, .. } = forms;
     let empty = sample.plain();
     let mut filled = empty.clone();
-    inputs.iter().for_each(|&(key, payload)| filled.insert(key, payload).expect("accepted"));
+    inputs.iter().for_each(|&(key, payload)| assert!(filled.insert(key, payload).is_ok()));
     let mut all = Vec::new();
     for build in builds {
         let mut lent = sample.proved(build);
@@ -98,7 +98,7 @@ fn inserts(forms: Forms, inputs: &'static [Input]) -> Vec<Form> {
 fn deletes(forms: Forms, parts: &'static [&'static [Input]]) -> Vec<Form> {
     let Forms { builds, lent, plain, records, .. } = forms;
     let mut store = plain.clone();
-    parts[0].iter().for_each(|input| store.delete(input.0).expect("accepted"));
+    parts[0].iter().for_each(|input| assert!(store.delete(input.0).is_ok()));
     let mut all = Vec::new();
     for build in builds {
         let mut own = lent.clone();

@@ -36,7 +36,8 @@ fn row(table: &mut Table, forms: Forms, name: &str, keys: &'static [Key]) {
         .iter()
         .map(|build| answers(build.name, move |&key: &Key, _: &mut ()| number(build.lookup(lent, key))))
         .collect();
-    all.push(answers(PLAIN, move |&key, _| number(plain.lookup(key))));
+    let payload = |key| plain.lookup(key).map(|(payload, _)| payload).map_err(|refused| refused.number);
+    all.push(answers(PLAIN, move |&key, _| number(payload(key))));
     if let Some(database) = database {
         let select = database.prepare(database::LOOKUP);
         let answer = move |&key: &Key, _: &mut ()| {

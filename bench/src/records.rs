@@ -96,13 +96,13 @@ impl Forms {
         while keys.len() < count + sample.deleted() {
             let key = sample.key(random);
             match plain.insert(key, (random.number() as u32).max(1)) {
-                Ok(()) => keys.push(key),
+                Ok(_) => keys.push(key),
                 Err(4) => {}
                 Err(_) => refused += 1,
             }
         }
         random.shuffle(&mut keys);
-        keys[count..].iter().for_each(|&key| plain.delete(key).expect("the key is stored"));
+        keys[count..].iter().for_each(|&key| assert!(plain.delete(key).is_ok()));
         let (pages, depth) = plain.extent();
         let text = format!("{}: {} on {} pages", shown(&sample.widths), sample.shown(), grouped(pages));
         println!("{text}, T = {depth}, {refused} inserts refused");

@@ -10,7 +10,8 @@ mod range;
 
 use crate::plain::Widths;
 use map::Map;
-use mdeh_tests::host::Shape;
+use mdeh_tests::host::{Refused, Shape};
+use mdeh_tests::plain::refusal::{absent, refusal};
 use page::Page;
 
 /// A directory of words and the bytes of pages, with the state beside them.
@@ -53,13 +54,14 @@ impl Store {
         }
     }
 
-    /// The payload of a key's record. Refused with 3 or 5.
+    /// The payload of a key's record and the depth of its leaf. Refused with 3 or 5.
     #[inline(never)]
-    pub fn lookup(&self, key: [i32; 4]) -> Result<u32, u32> {
-        let packed = self.map.pack(key).ok_or(3u32)?;
+    pub fn lookup(&self, key: [i32; 4]) -> Result<(u32, u32), Refused> {
+        let packed = self.map.pack(key).ok_or(refusal(3))?;
         let word = self.dir[self.map.address(self.map.cell(key, self.depth))];
-        let page = self.page(page_of(word).ok_or(5u32)?);
-        page.find(packed).map(|i| page.payload(i)).ok_or(5)
+        let depth = depth_of(word) as u32;
+        let page = self.page(page_of(word).ok_or(absent(depth))?);
+        page.find(packed).map(|i| (page.payload(i), depth)).ok_or(absent(depth))
     }
 
     /// The words of the state, the directory and the pages.

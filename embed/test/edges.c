@@ -1,5 +1,6 @@
 #include "edges.h"
 
+#include "depths.h"
 #include "layout.h"
 #include "lent.h"
 #include "model.h"
@@ -13,7 +14,9 @@ LAID(marks_laid, offsetof(MdehShape, signs) == 24);
 LAID(key_laid, sizeof(MdehKey) == 16 && sizeof(MdehIndex) == 32);
 LAID(query_laid, sizeof(MdehQuery) == 32 && offsetof(MdehQuery, values) == 16);
 LAID(range_laid, sizeof(MdehRange) == 48 && offsetof(MdehRange, low) == 16 && offsetof(MdehRange, high) == 32);
-LAID(lookup_laid, sizeof(MdehLookupResult) == 12 && offsetof(MdehLookupResult, reads) == 8);
+LAID(change_laid, sizeof(MdehChangeResult) == 8 && offsetof(MdehChangeResult, depth) == 4);
+LAID(lookup_laid, sizeof(MdehLookupResult) == 16 && offsetof(MdehLookupResult, reads) == 8);
+LAID(found_laid, offsetof(MdehLookupResult, payload) == 4 && offsetof(MdehLookupResult, depth) == 12);
 LAID(listed_laid, sizeof(MdehQueryResult) == 32 && offsetof(MdehQueryResult, written) == 8);
 LAID(counts_laid, offsetof(MdehQueryResult, total) == 16 && offsetof(MdehQueryResult, reads) == 24);
 LAID(check_laid, sizeof(MdehCheckResult) == 8 && offsetof(MdehCheckResult, sound) == 4);
@@ -43,7 +46,7 @@ static Memory filled(uint32_t count, size_t words, size_t pages) {
     memset(&memory, 0, sizeof memory);
     HOLDS(mdeh_fresh(small, LENT(memory, words, pages * MDEH_PAGE_BYTES(2))) == MDEH_ACCEPTED);
     for (i = 0; i < count; i++)
-        HOLDS(mdeh_insert(STORE(memory), keys[i], 10 + i) == MDEH_ACCEPTED);
+        HOLDS(mdeh_insert(STORE(memory), keys[i], 10 + i).number == MDEH_ACCEPTED);
     return memory;
 }
 
@@ -57,9 +60,9 @@ void empty_slices(void) {
         size_t words = gone == 1 ? 0 : 8, bytes = gone == 2 ? 0 : sizeof pages, n = gone == 0 ? 0 : MDEH_STATE_WORDS;
         HOLDS(mdeh_fresh(small, s, n, d, words, p, bytes) == MDEH_REFUSED_MEMORY);
         HOLDS(mdeh_fresh(small, state, MDEH_STATE_WORDS, directory, 8, pages, sizeof pages) == MDEH_ACCEPTED);
-        HOLDS(mdeh_insert(s, n, d, words, p, bytes, key, 13) == number);
-        HOLDS(mdeh_delete(s, n, d, words, p, bytes, key) == number);
-        HOLDS(mdeh_lookup(s, n, d, words, p, bytes, key).number == number);
+        HOLDS(gave(mdeh_insert(s, n, d, words, p, bytes, key, 13), number, 0));
+        HOLDS(gave(mdeh_delete(s, n, d, words, p, bytes, key), number, 0));
+        HOLDS(missed(mdeh_lookup(s, n, d, words, p, bytes, key), number, 0));
         HOLDS(mdeh_check(s, n, d, words, p, bytes).number == number);
         HOLDS(mdeh_query(s, n, d, words, p, bytes, all, out, sizeof out).number == number);
         HOLDS(mdeh_range(s, n, d, words, p, bytes, any, out, sizeof out).number == number);
@@ -67,7 +70,7 @@ void empty_slices(void) {
         HOLDS(mdeh_save(state, MDEH_STATE_WORDS, directory, 8, pages, sizeof pages, out, sizeof out).size == 24);
         HOLDS(mdeh_load(out, 24, s, n, d, words, p, bytes) == MDEH_REFUSED_MEMORY);
     }
-    HOLDS(mdeh_insert(state, MDEH_STATE_WORDS, directory, 8, pages, sizeof pages, key, 13) == MDEH_ACCEPTED);
+    HOLDS(gave(mdeh_insert(state, MDEH_STATE_WORDS, directory, 8, pages, sizeof pages, key, 13), MDEH_ACCEPTED, 0));
     found = mdeh_query(state, MDEH_STATE_WORDS, directory, 8, pages, sizeof pages, all, NULL, 0);
     HOLDS(found.number == MDEH_ACCEPTED && found.written == 0 && found.total == 1 && found.reads == 1);
     found = mdeh_range(state, MDEH_STATE_WORDS, directory, 8, pages, sizeof pages, any, NULL, 0);
@@ -138,19 +141,19 @@ static void payload_zero(size_t i) {
     size_t words = inserted[i].words, bytes = inserted[i].pages * MDEH_PAGE_BYTES(2);
     MdehKey added = inserted[i].key;
     Memory memory = filled(inserted[i].stored, words, inserted[i].pages), before = memory;
-    HOLDS(mdeh_insert(LENT(memory, words, bytes), added, 0) == inserted[i].zero);
-    HOLDS(mdeh_insert(LENT(memory, words - 1, bytes), added, 0) == MDEH_REFUSED_MEMORY);
-    HOLDS(mdeh_insert(LENT(memory, words, bytes - 1), added, 0) == MDEH_REFUSED_MEMORY);
-    HOLDS(mdeh_insert(memory.state, MDEH_STATE_WORDS - 1, memory.directory, words, memory.pages, bytes, added, 0)
-          == MDEH_REFUSED_SHAPE);
+    HOLDS(gave(mdeh_insert(LENT(memory, words, bytes), added, 0), inserted[i].zero, 0));
+    HOLDS(gave(mdeh_insert(LENT(memory, words - 1, bytes), added, 0), MDEH_REFUSED_MEMORY, 0));
+    HOLDS(gave(mdeh_insert(LENT(memory, words, bytes - 1), added, 0), MDEH_REFUSED_MEMORY, 0));
+    HOLDS(gave(mdeh_insert(memory.state, MDEH_STATE_WORDS - 1, memory.directory, words, memory.pages, bytes, added, 0),
+               MDEH_REFUSED_SHAPE, 0));
     HOLDS(memcmp(&memory, &before, sizeof memory) == 0);
     memset(memory.directory, 0xff, sizeof memory.directory);
     memset(memory.pages, 0xff, sizeof memory.pages);
     before = memory;
-    HOLDS(mdeh_insert(LENT(memory, words, bytes), added, 0) == inserted[i].zero);
+    HOLDS(gave(mdeh_insert(LENT(memory, words, bytes), added, 0), inserted[i].zero, 0));
     HOLDS(memcmp(&memory, &before, sizeof memory) == 0);
     memory.state[0] = before.state[0] = 0;
-    HOLDS(mdeh_insert(LENT(memory, words, bytes), added, 0) == MDEH_REFUSED_SHAPE);
+    HOLDS(gave(mdeh_insert(LENT(memory, words, bytes), added, 0), MDEH_REFUSED_SHAPE, 0));
     HOLDS(memcmp(&memory, &before, sizeof memory) == 0);
 }
 
@@ -161,7 +164,7 @@ void payloads(void) {
         payload_zero(i);
         for (n = 0; n < 5; n++) {
             Memory memory = filled(inserted[i].stored, inserted[i].words, inserted[i].pages);
-            uint32_t number = mdeh_insert(STORE(memory), inserted[i].key, others[n]);
+            uint32_t number = mdeh_insert(STORE(memory), inserted[i].key, others[n]).number;
             HOLDS(number == inserted[i].other);
             HOLDS(number != MDEH_ACCEPTED || mdeh_lookup(STORE(memory), inserted[i].key).payload == others[n]);
         }
@@ -189,9 +192,9 @@ void stored_zero(void) {
     for (i = 0; i < 4; i++) {
         MdehLookupResult found = mdeh_lookup(STORE(memory), keys[i]);
         HOLDS(found.number == MDEH_ACCEPTED && found.payload == (i < 2 ? 0 : 10 + i) && found.reads == 1);
-        HOLDS(mdeh_insert(STORE(memory), keys[i], 0) == MDEH_REFUSED_PAYLOAD);
-        HOLDS(mdeh_insert(STORE(memory), keys[i], 1) == MDEH_REFUSED_STORED);
-        HOLDS(mdeh_delete(STORE(memory), keys[i]) == MDEH_ACCEPTED);
+        HOLDS(gave(mdeh_insert(STORE(memory), keys[i], 0), MDEH_REFUSED_PAYLOAD, 0));
+        HOLDS(gave(mdeh_insert(STORE(memory), keys[i], 1), MDEH_REFUSED_STORED, 0));
+        HOLDS(mdeh_delete(STORE(memory), keys[i]).number == MDEH_ACCEPTED);
         HOLDS(mdeh_lookup(STORE(memory), keys[i]).number == MDEH_REFUSED_ABSENT);
         HOLDS(mdeh_check(STORE(memory)).sound == 1);
     }

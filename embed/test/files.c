@@ -163,7 +163,7 @@ void file_layout(void) {
     HOLDS(mdeh_fresh(drives, STORE(slices)) == MDEH_ACCEPTED);
     lend_slices_again(&slices);
     compare_save(&slices, 100, empty, 24);
-    HOLDS(mdeh_insert(STORE(slices), drive, 0x11223344) == MDEH_ACCEPTED);
+    HOLDS(mdeh_insert(STORE(slices), drive, 0x11223344).number == MDEH_ACCEPTED);
     /* widths and marks without an attribute, which calls ignore, are written as 0 */
     words_of(&slices.state)[3] = 9;
     words_of(&slices.state)[MDEH_STATE_WORDS - 1] |= 0xfffffffc;
@@ -171,7 +171,7 @@ void file_layout(void) {
     compare_save(&slices, 100, one, 36);
     HOLDS(mdeh_fresh(small, STORE(slices)) == MDEH_ACCEPTED);
     for (i = 0; i < 4; i++)
-        HOLDS(mdeh_insert(STORE(slices), keys[i], 10 + i) == MDEH_ACCEPTED);
+        HOLDS(mdeh_insert(STORE(slices), keys[i], 10 + i).number == MDEH_ACCEPTED);
     lend_slices_again(&slices);
     compare_save(&slices, 100, four, 72);
     take_slices_back(&slices);
@@ -191,9 +191,9 @@ static Slices filled(const Model *model, size_t words, size_t bytes) {
         const MdehRecord *record = &model->records[order[i]].record;
         MdehKey key, other = random_key(&model->shape);
         memcpy(key.values, record->values, sizeof key.values);
-        if (mdeh_insert(STORE(slices), other, 7) == MDEH_ACCEPTED)
-            HOLDS(mdeh_delete(STORE(slices), other) == MDEH_ACCEPTED);
-        HOLDS(mdeh_insert(STORE(slices), key, record->payload) == MDEH_ACCEPTED);
+        if (mdeh_insert(STORE(slices), other, 7).number == MDEH_ACCEPTED)
+            HOLDS(mdeh_delete(STORE(slices), other).number == MDEH_ACCEPTED);
+        HOLDS(mdeh_insert(STORE(slices), key, record->payload).number == MDEH_ACCEPTED);
     }
     lend_slices_again(&slices);
     return slices;

@@ -151,13 +151,21 @@ uint32_t model_fresh(Model *model, MdehShape shape, size_t words, size_t bytes) 
     return MDEH_ACCEPTED;
 }
 
-/* How many stored keys share their first L split bits with a code. */
-static uint32_t sharing(const Model *model, uint64_t code) {
+/* How many stored keys share their first x split bits with a code. */
+static uint32_t sharing(const Model *model, uint64_t code, uint32_t x) {
     size_t i;
     uint32_t found = 0;
     for (i = 0; i < model->count; i++)
-        found += model->depth_limit == 0 || (model->records[i].code ^ code) >> (64 - model->depth_limit) == 0;
+        found += x == 0 || (model->records[i].code ^ code) >> (64 - x) == 0;
     return found;
+}
+
+uint32_t model_depth(const Model *model, MdehKey key) {
+    uint64_t code = model_code(&model->shape, key);
+    uint32_t x = 0;
+    while (sharing(model, code, x) > model->shape.capacity)
+        x++;
+    return x;
 }
 
 static void add(Model *model, uint64_t code, MdehKey key, uint32_t payload) {
@@ -175,12 +183,17 @@ static void drop(Model *model, uint64_t code) {
     memmove(place, place + 1, (size_t)(model->records + model->count - place) * sizeof *place);
 }
 
-uint32_t model_insert(Model *model, MdehKey key, uint32_t payload) {
+MdehChangeResult model_insert(Model *model, MdehKey key, uint32_t payload) {
+    MdehChangeResult result = {0, 0};
     if (!model_fits(&model->shape, key))
-        return MDEH_REFUSED_VALUE;
-    if (payload == 0)
-        return MDEH_REFUSED_PAYLOAD;
-    return model_join(model, key, payload);
+        result.number = MDEH_REFUSED_VALUE;
+    else if (payload == 0)
+        result.number = MDEH_REFUSED_PAYLOAD;
+    else
+        result.number = model_join(model, key, payload);
+    if (result.number == MDEH_ACCEPTED)
+        result.depth = model_depth(model, key);
+    return result;
 }
 
 uint32_t model_join(Model *model, MdehKey key, uint32_t payload) {
@@ -188,7 +201,7 @@ uint32_t model_join(Model *model, MdehKey key, uint32_t payload) {
     Leaf found[MOST_RECORDS];
     if (is_stored(model, code))
         return MDEH_REFUSED_STORED;
-    if (sharing(model, code) >= model->shape.capacity)
+    if (sharing(model, code, model->depth_limit) >= model->shape.capacity)
         return MDEH_REFUSED_DEPTH;
     add(model, code, key, payload);
     if (leaves(model, found) <= model->page_limit)
@@ -197,24 +210,26 @@ uint32_t model_join(Model *model, MdehKey key, uint32_t payload) {
     return MDEH_REFUSED_PAGES;
 }
 
-uint32_t model_delete(Model *model, MdehKey key) {
+MdehChangeResult model_delete(Model *model, MdehKey key) {
+    MdehChangeResult result = {MDEH_REFUSED_VALUE, 0};
     uint64_t code = model_code(&model->shape, key);
     if (!model_fits(&model->shape, key))
-        return MDEH_REFUSED_VALUE;
-    if (!is_stored(model, code))
-        return MDEH_REFUSED_ABSENT;
-    drop(model, code);
-    return MDEH_ACCEPTED;
+        return result;
+    result.number = is_stored(model, code) ? MDEH_ACCEPTED : MDEH_REFUSED_ABSENT;
+    if (result.number == MDEH_ACCEPTED)
+        drop(model, code);
+    result.depth = model_depth(model, key);
+    return result;
 }
 
 MdehLookupResult model_lookup(const Model *model, MdehKey key) {
-    MdehLookupResult result = {0, 0, 0};
+    MdehLookupResult result = {MDEH_REFUSED_VALUE, 0, 0, 0};
     uint64_t code = model_code(&model->shape, key);
-    if (!model_fits(&model->shape, key)) {
-        result.number = MDEH_REFUSED_VALUE;
-    } else if (!is_stored(model, code)) {
-        result.number = MDEH_REFUSED_ABSENT;
-    } else {
+    if (!model_fits(&model->shape, key))
+        return result;
+    result.number = is_stored(model, code) ? MDEH_ACCEPTED : MDEH_REFUSED_ABSENT;
+    result.depth = model_depth(model, key);
+    if (result.number == MDEH_ACCEPTED) {
         result.payload = model->records[place_of(model, code)].record.payload;
         result.reads = 1;
     }

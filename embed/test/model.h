@@ -46,12 +46,16 @@ void model_put(uint8_t *place, const MdehRecord *record);
 /* The number of Fresh; where it is 0, the model has no records, and its shape no marks but those of attributes. */
 uint32_t model_fresh(Model *model, MdehShape shape, size_t words, size_t bytes);
 
-uint32_t model_insert(Model *model, MdehKey key, uint32_t payload);
+/* How deep a key that fits lies: the least x such that at most as many stored keys as the capacity says begin with its
+   first x split bits. */
+uint32_t model_depth(const Model *model, MdehKey key);
+
+MdehChangeResult model_insert(Model *model, MdehKey key, uint32_t payload);
 
 /* An insert of a key that fits, with any payload. */
 uint32_t model_join(Model *model, MdehKey key, uint32_t payload);
 
-uint32_t model_delete(Model *model, MdehKey key);
+MdehChangeResult model_delete(Model *model, MdehKey key);
 MdehLookupResult model_lookup(const Model *model, MdehKey key);
 MdehQueryResult model_query(const Model *model, MdehQuery query, uint8_t *out, size_t out_bytes);
 MdehQueryResult model_range(const Model *model, MdehRange range, uint8_t *out, size_t out_bytes);

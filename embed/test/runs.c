@@ -3,6 +3,7 @@
  * store damaged. Guards stand round every lent slice. Every number has to come. A failure prints what does not hold and
  * the seed of its list; given as an argument, that seed runs its list alone.
  */
+#include "depths.h"
 #include "edges.h"
 #include "files.h"
 #include "layout.h"
@@ -165,14 +166,21 @@ static size_t record_of(const Run *run, MdehKey key) {
     return layout_record(words_of(&run->state), words_of(&run->directory), bytes_of(&run->pages), key);
 }
 
-/* A lookup, and the record found by the layouts. */
+/* The depth that stands beside a number, by the layouts. */
+static uint32_t depth_of(const Run *run, MdehKey key, uint32_t number) {
+    return layout_depth(words_of(&run->state), words_of(&run->directory), key, number);
+}
+
+/* A lookup, and the record and the depth found by the layouts. */
 static void compare_lookup(Run *run, MdehKey key) {
     MdehLookupResult found = mdeh_lookup(STORE(run), key), model = model_lookup(&run->model, key);
     HOLDS(found.number == model.number && found.payload == model.payload && found.reads == model.reads);
+    HOLDS(found.depth == model.depth);
     came[found.number]++;
     HOLDS(unchanged(run));
     if (model.number != MDEH_REFUSED_VALUE) {
         size_t place = record_of(run, key);
+        HOLDS(found.depth == depth_of(run, key, found.number));
         HOLDS((place > 0) == (model.number == MDEH_ACCEPTED));
         HOLDS(place == 0 || mdeh_record(run->model.shape, bytes_of(&run->pages) + place, 0).payload == model.payload);
     }
@@ -195,6 +203,12 @@ static void compare_change(Run *run, uint32_t number, uint32_t wanted) {
     check = mdeh_check(STORE(run));
     HOLDS(check.number == MDEH_ACCEPTED && check.sound == 1);
     compare_query(run, all, MDEH_RECORD_BYTES * (uint32_t)run->model.count + 5);
+}
+
+/* The same of an insert or a delete of a key, with its depth. */
+static void compare_changed(Run *run, MdehKey key, MdehChangeResult found, MdehChangeResult model) {
+    HOLDS(found.depth == model.depth && found.depth == depth_of(run, key, found.number));
+    compare_change(run, found.number, model.number);
 }
 
 /* Moves the store into other memory, some words and bytes longer, as from a file, and gives it any marks past d. */
@@ -275,9 +289,9 @@ static void call(Run *run) {
     uint32_t kind = below(&run->seed, 25), payload = random_payload(run);
     MdehKey key = random_key(run);
     if (kind < 9) {
-        compare_change(run, mdeh_insert(STORE(run), key, payload), model_insert(&run->model, key, payload));
+        compare_changed(run, key, mdeh_insert(STORE(run), key, payload), model_insert(&run->model, key, payload));
     } else if (kind < 14) {
-        compare_change(run, mdeh_delete(STORE(run), key), model_delete(&run->model, key));
+        compare_changed(run, key, mdeh_delete(STORE(run), key), model_delete(&run->model, key));
     } else if (kind < 16) {
         compare_lookup(run, key);
     } else if (kind < 19) {
@@ -295,11 +309,13 @@ static void call(Run *run) {
     }
 }
 
-/* After a call on a damaged store: a number of the table, a refused call changes nothing, the guards stay. */
-static void compare_damaged(Run *run, uint32_t number) {
-    HOLDS(number <= MDEH_REFUSED_PAYLOAD);
-    came[number]++;
-    HOLDS(number == MDEH_ACCEPTED || unchanged(run));
+/* After a change on a damaged store: a number of the table, the depth in the word of the key's cell, a refused call
+   changes nothing, the guards stay. */
+static void compare_damaged(Run *run, MdehKey key, MdehChangeResult found) {
+    HOLDS(found.number <= MDEH_REFUSED_PAYLOAD);
+    came[found.number]++;
+    HOLDS(found.depth == depth_of(run, key, found.number));
+    HOLDS(found.number == MDEH_ACCEPTED || unchanged(run));
     HOLDS(unchanged_from(&run->state, 4 * MDEH_STATE_WORDS) && unchanged_from(&run->directory, run->directory.bytes));
     HOLDS(unchanged_from(&run->pages, run->pages.bytes));
     keep(run);
@@ -312,8 +328,10 @@ static void calls_on_damage(Run *run) {
     MdehRange range = random_range(run);
     uint8_t out[100];
     MdehQueryResult found;
+    MdehLookupResult looked;
+    MdehChangeResult inserted;
     MdehSaveResult saved;
-    uint32_t payload = random_payload(run), early, number;
+    uint32_t payload = random_payload(run), early;
     uint32_t small = below(&run->seed, 5), word = below(&run->seed, 2) ? small : (uint32_t)number64(&run->seed);
     switch (below(&run->seed, 3)) {
     case 0: words_of(&run->state)[below(&run->seed, MDEH_STATE_WORDS)] = word; break;
@@ -328,17 +346,18 @@ static void calls_on_damage(Run *run) {
     saved = mdeh_save(STORE(run), out, sizeof out);
     HOLDS(saved.number <= MDEH_REFUSED_UNSOUND && saved.size <= sizeof out);
     HOLDS(saved.number == MDEH_ACCEPTED ? saved.size >= 24 : saved.size == 0);
-    early = mdeh_lookup(STORE(run), key).number;
-    HOLDS(early <= MDEH_REFUSED_UNSOUND);
+    looked = mdeh_lookup(STORE(run), key);
+    HOLDS(looked.number <= MDEH_REFUSED_UNSOUND && looked.depth == depth_of(run, key, looked.number));
     HOLDS(mdeh_check(STORE(run)).number <= MDEH_REFUSED_MEMORY);
     HOLDS(unchanged(run));
-    number = mdeh_insert(STORE(run), key, payload);
-    compare_damaged(run, number);
+    inserted = mdeh_insert(STORE(run), key, payload);
+    compare_damaged(run, key, inserted);
     /* 1, 2 and 3 are those of lookup; then a payload of 0 gives 11 whatever the store holds, and no other does */
+    early = looked.number;
     if (payload == 0 && (early == MDEH_ACCEPTED || early > MDEH_REFUSED_VALUE))
         early = MDEH_REFUSED_PAYLOAD;
-    HOLDS(payload == 0 ? number == early : number <= MDEH_REFUSED_UNSOUND);
-    compare_damaged(run, mdeh_delete(STORE(run), key));
+    HOLDS(payload == 0 ? inserted.number == early : inserted.number <= MDEH_REFUSED_UNSOUND);
+    compare_damaged(run, key, mdeh_delete(STORE(run), key));
 }
 
 /* Fresh in random memory, and the list of calls. */
@@ -375,6 +394,13 @@ int main(int count, char **arguments) {
     payloads();
     stored_zero();
     addresses();
+    depths_of_the_table();
+    divided_levels();
+    joined_levels();
+    absent_keys();
+    empty_stores();
+    numbers_without_depths();
+    damaged_depths();
     signed_bounds();
     signed_order();
     signed_records();

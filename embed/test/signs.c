@@ -1,5 +1,6 @@
 #include "signs.h"
 
+#include "depths.h"
 #include "lent.h"
 #include "model.h"
 
@@ -35,15 +36,15 @@ static void compare_value(MdehShape shape, int32_t value, uint32_t wanted) {
     low.high[0] = model_greatest(&shape, 0);
     high.low[0] = model_least(&shape, 0);
     fresh(&memory, shape);
-    HOLDS(mdeh_lookup(STORE(&memory), key).number == (wanted ? wanted : MDEH_REFUSED_ABSENT));
-    HOLDS(mdeh_insert(STORE(&memory), key, 7) == wanted);
+    HOLDS(missed(mdeh_lookup(STORE(&memory), key), wanted ? wanted : MDEH_REFUSED_ABSENT, 0));
+    HOLDS(gave(mdeh_insert(STORE(&memory), key, 7), wanted, 0));
     HOLDS(mdeh_lookup(STORE(&memory), key).number == wanted);
     HOLDS(mdeh_query(STORE(&memory), query, out, sizeof out).number == wanted);
     HOLDS(wanted || mdeh_record(shape, out, 0).values[0] == value);
     HOLDS(mdeh_range(STORE(&memory), low, out, sizeof out).number == wanted);
     HOLDS(mdeh_range(STORE(&memory), high, out, sizeof out).number == wanted);
     HOLDS(mdeh_check(STORE(&memory)).sound == 1);
-    HOLDS(mdeh_delete(STORE(&memory), key) == wanted);
+    HOLDS(gave(mdeh_delete(STORE(&memory), key), wanted, 0));
 }
 
 void signed_bounds(void) {
@@ -98,7 +99,7 @@ void signed_order(void) {
     fresh(&memory, drives);
     for (i = 0; i < 6; i++) {
         key.values[1] = inserted[i];
-        HOLDS(mdeh_insert(STORE(&memory), key, (uint32_t)(inserted[i] + 1000)) == MDEH_ACCEPTED);
+        HOLDS(mdeh_insert(STORE(&memory), key, (uint32_t)(inserted[i] + 1000)).number == MDEH_ACCEPTED);
     }
     HOLDS(mdeh_query(STORE(&memory), query, out, sizeof out).written == 6);
     for (i = 0; i < 6; i++) {
@@ -115,10 +116,10 @@ void signed_order(void) {
         HOLDS(found.number == ranged[i].number && found.total == ranged[i].total);
     }
     key.values[1] = -513; /* 3 beside 11, 11 beside 4 */
-    HOLDS(mdeh_insert(STORE(&memory), key, 0) == MDEH_REFUSED_VALUE);
+    HOLDS(gave(mdeh_insert(STORE(&memory), key, 0), MDEH_REFUSED_VALUE, 0));
     key.values[1] = -512;
-    HOLDS(mdeh_insert(STORE(&memory), key, 0) == MDEH_REFUSED_PAYLOAD);
-    HOLDS(mdeh_insert(STORE(&memory), key, 1) == MDEH_REFUSED_STORED);
+    HOLDS(gave(mdeh_insert(STORE(&memory), key, 0), MDEH_REFUSED_PAYLOAD, 0));
+    HOLDS(gave(mdeh_insert(STORE(&memory), key, 1), MDEH_REFUSED_STORED, 0));
 }
 
 void signed_records(void) {
@@ -218,6 +219,7 @@ static void twin_calls(Twins *twins) {
     MdehQuery query, plain_query;
     MdehRange range, plain_range;
     MdehLookupResult found, plain_found;
+    MdehChangeResult change, plain_change;
     uint8_t out[5 * MDEH_RECORD_BYTES], plain_out[5 * MDEH_RECORD_BYTES];
     uint32_t j, payload = below(&twins->seed, 9);
     for (j = 0; j < 4; j++) {
@@ -239,10 +241,14 @@ static void twin_calls(Twins *twins) {
     found = mdeh_lookup(STORE(&twins->marked), key);
     plain_found = mdeh_lookup(STORE(&twins->plain), code);
     HOLDS(memcmp(&found, &plain_found, sizeof found) == 0);
-    if (below(&twins->seed, 3))
-        HOLDS(mdeh_insert(STORE(&twins->marked), key, payload) == mdeh_insert(STORE(&twins->plain), code, payload));
-    else
-        HOLDS(mdeh_delete(STORE(&twins->marked), key) == mdeh_delete(STORE(&twins->plain), code));
+    if (below(&twins->seed, 3)) {
+        change = mdeh_insert(STORE(&twins->marked), key, payload);
+        plain_change = mdeh_insert(STORE(&twins->plain), code, payload);
+    } else {
+        change = mdeh_delete(STORE(&twins->marked), key);
+        plain_change = mdeh_delete(STORE(&twins->plain), code);
+    }
+    HOLDS(gave(change, plain_change.number, plain_change.depth));
     compare_twins(twins);
 }
 
@@ -286,16 +292,16 @@ void marks_past(void) {
                 wrong.values[d] = -1;
             else
                 wrong.values[3] = 8;
-            HOLDS(mdeh_insert(STORE(&memory), wrong, 7) == MDEH_REFUSED_VALUE);
-            HOLDS(mdeh_insert(STORE(&memory), key, 7) == MDEH_ACCEPTED);
-            HOLDS(mdeh_insert(STORE(&other), key, 7) == MDEH_ACCEPTED);
+            HOLDS(gave(mdeh_insert(STORE(&memory), wrong, 7), MDEH_REFUSED_VALUE, 0));
+            HOLDS(gave(mdeh_insert(STORE(&memory), key, 7), MDEH_ACCEPTED, 0));
+            HOLDS(gave(mdeh_insert(STORE(&other), key, 7), MDEH_ACCEPTED, 0));
             HOLDS(memory.state[MDEH_STATE_WORDS - 1] == shape.signs && other.state[MDEH_STATE_WORDS - 1] == 1);
             other.state[MDEH_STATE_WORDS - 1] = shape.signs;
             HOLDS(memcmp(&memory, &other, sizeof memory) == 0);
             HOLDS(mdeh_check(STORE(&memory)).sound == 1);
             found = mdeh_query(STORE(&memory), all, NULL, 0);
             HOLDS(found.number == MDEH_ACCEPTED && found.total == 1 && found.reads == 1);
-            HOLDS(mdeh_delete(STORE(&memory), key) == MDEH_ACCEPTED);
+            HOLDS(gave(mdeh_delete(STORE(&memory), key), MDEH_ACCEPTED, 0));
             HOLDS(memory.state[MDEH_STATE_WORDS - 1] == shape.signs);
         }
 }
@@ -308,7 +314,7 @@ void signed_fields(void) {
     Memory memory;
     uint32_t field;
     fresh(&memory, drives);
-    HOLDS(mdeh_insert(STORE(&memory), key, 7) == MDEH_ACCEPTED);
+    HOLDS(gave(mdeh_insert(STORE(&memory), key, 7), MDEH_ACCEPTED, 0));
     for (field = 0; field < 0x10000; field++) {
         int sound = field < 0x200 || field >= 0xfe00;
         MdehQueryResult found;

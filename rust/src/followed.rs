@@ -1,7 +1,7 @@
 //! A store whose calls are made on a plain model too, and all that it shows compared after each.
 use crate::cells::Cells;
 use crate::compare::Comparisons;
-use crate::host::Shape;
+use crate::host::{Refused, Shape};
 use crate::lent::LentStore;
 use crate::plain::image::{Image, STATE};
 use crate::plain::model::Model;
@@ -48,18 +48,19 @@ impl Followed {
         Followed { store, model, cells, pages }
     }
 
-    /// Inserts a record, and compares. Returns the answer.
+    /// Inserts a record, and compares. Returns the answer: the depth of the key's leaf afterwards, or the refusal.
     #[track_caller]
-    pub fn insert(&mut self, count: &mut Comparisons, key: [i32; 4], payload: u32) -> Result<(), u32> {
+    pub fn insert(&mut self, count: &mut Comparisons, key: [i32; 4], payload: u32) -> Result<u32, Refused> {
         let answer = self.store.insert(key, payload);
         let expected = self.model.insert(key, payload);
         self.compare(count, answer, expected, format_args!("insert {key:?}, {payload}"));
         answer
     }
 
-    /// Deletes the record of a key, and compares. Returns the answer.
+    /// Deletes the record of a key, and compares. Returns the answer: the depth of the key's leaf afterwards, or the
+    /// refusal.
     #[track_caller]
-    pub fn delete(&mut self, count: &mut Comparisons, key: [i32; 4]) -> Result<(), u32> {
+    pub fn delete(&mut self, count: &mut Comparisons, key: [i32; 4]) -> Result<u32, Refused> {
         let answer = self.store.delete(key);
         let expected = self.model.delete(key);
         self.compare(count, answer, expected, format_args!("delete {key:?}"));
@@ -94,8 +95,8 @@ impl Followed {
     fn compare(
         &mut self,
         count: &mut Comparisons,
-        answer: Result<(), u32>,
-        expected: Result<(), u32>,
+        answer: Result<u32, Refused>,
+        expected: Result<u32, Refused>,
         call: Arguments,
     ) {
         let Model { shape, page_limit, depth_limit, records, .. } = &self.model;

@@ -1,9 +1,11 @@
 //! Slices lent to calls, between guards that no call may change.
-use crate::host::{self, CheckResult, HostQuery, HostRange, LookupResult, QueryResult, SaveResult, Shape};
+use crate::host::{self, CheckResult, HostQuery, HostRange, QueryResult, Refused, SaveResult, Shape};
+use crate::host::{ChangeResult, LookupResult};
 use crate::plain::image::{Image, Laid, DEPTH, DEPTH_LIMIT, PAGE_LIMIT, SIGNS, STATE};
 use crate::plain::kept::Change;
 use crate::plain::model::Model;
 use crate::plain::range::Intervals;
+use crate::plain::refusal::refusal;
 use crate::random::Random;
 use std::fmt::Debug;
 use std::hint::black_box;
@@ -140,12 +142,14 @@ impl LentStore {
         answer(number, size, 0)
     }
 
-    /// The payload and the reads, or the number of the refusal.
-    pub fn lookup(&self, key: [i32; 4]) -> Result<(u32, u32), u32> {
-        let LookupResult { number, payload, reads } =
+    /// The payload, the reads and the depth, or the refusal.
+    pub fn lookup(&self, key: [i32; 4]) -> Result<(u32, u32, u32), Refused> {
+        let LookupResult { number, payload, reads, depth } =
             host::lookup_result(self.state.slice(), self.dir.slice(), self.pages.slice(), key);
         self.assert_unchanged();
-        answer(number, (payload, reads), (0, 0))
+        let (payload, reads) =
+            answer(number, (payload, reads), (0, 0)).map_err(|number| with_depth(number, depth))?;
+        Ok((payload, reads, depth))
     }
 
     /// Written, total and reads, or the number of the refusal. Attributes are given by any number but 0, and have
@@ -188,18 +192,18 @@ impl LentStore {
         answer(number, sound == 1, false)
     }
 
-    /// Adds a record, or returns the number of the refusal.
-    pub fn insert(&mut self, key: [i32; 4], payload: u32) -> Result<(), u32> {
+    /// Adds a record: the depth of the key's leaf afterwards, or the refusal.
+    pub fn insert(&mut self, key: [i32; 4], payload: u32) -> Result<u32, Refused> {
         let (state, dir, pages) = (self.state.slice_mut(), self.dir.slice_mut(), self.pages.slice_mut());
-        let answer = host::insert(state, dir, pages, key, payload);
-        self.settle(answer)
+        let result = host::insert_result(state, dir, pages, key, payload);
+        self.settle(result)
     }
 
-    /// Removes the record of a key, or returns the number of the refusal.
-    pub fn delete(&mut self, key: [i32; 4]) -> Result<(), u32> {
+    /// Removes the record of a key: the depth of the key's leaf afterwards, or the refusal.
+    pub fn delete(&mut self, key: [i32; 4]) -> Result<u32, Refused> {
         let (state, dir, pages) = (self.state.slice_mut(), self.dir.slice_mut(), self.pages.slice_mut());
-        let answer = host::delete(state, dir, pages, key);
-        self.settle(answer)
+        let result = host::delete_result(state, dir, pages, key);
+        self.settle(result)
     }
 
     /// The lent store as it is now.
@@ -213,10 +217,10 @@ impl LentStore {
 
     /// After a change: "All of them return the number and change nothing"; "Words past the first 2^L and bytes past the
     /// P pages are never changed", and neither are shape, P, L and what lies past the state.
-    fn settle(&mut self, answer: Result<(), u32>) -> Result<(), u32> {
-        if answer.is_err() {
+    fn settle(&mut self, ChangeResult { number, depth }: ChangeResult) -> Result<u32, Refused> {
+        if number != 0 {
             self.assert_unchanged();
-            return answer;
+            return Err(with_depth(number, depth));
         }
         let state = self.state.before();
         let (p, l) = (state[PAGE_LIMIT] as usize, state[DEPTH_LIMIT]);
@@ -229,7 +233,7 @@ impl LentStore {
         self.state.lend_again();
         self.dir.lend_again();
         self.pages.lend_again();
-        answer
+        Ok(depth)
     }
 
     /// "Query, lookup and check write nothing in the store, sound or not", nor does a range, and no refused call does.
@@ -249,8 +253,14 @@ fn answer<T: PartialEq + Debug>(number: u32, values: T, zeros: T) -> Result<T, u
     Err(number)
 }
 
+/// A refusal with a depth beside its number: "no other number carries a depth" than 5.
+fn with_depth(number: u32, depth: u32) -> Refused {
+    assert!(number == 5 || depth == 0, "depth {depth} beside number {number}");
+    Refused { number, depth }
+}
+
 /// A record that a lookup found in another leaf before an accepted change, and that it does not find with the same
-/// payload after it. A leaf of a depth that a wrong tally does not have any more is told, and not lost.
+/// payload and depth after it. A leaf of a depth that a wrong tally does not have any more is told, and not lost.
 pub fn record_lost(change: &Change) -> Option<String> {
     change.before.keys().into_iter().find_map(|key| {
         let [found, now] = [&change.before, &change.after].map(|reading| {
@@ -258,7 +268,7 @@ pub fn record_lost(change: &Change) -> Option<String> {
             host::lookup(state, dir, pages, key)
         });
         let bits = change.before.model.split_bits(key);
-        let told = now == Err(9) && !change.after.word_fair(change.before.word(&bits));
+        let told = now == Err(refusal(9)) && !change.after.word_fair(change.before.word(&bits));
         let lost = found.is_ok() && !bits.starts_with(change.region()) && now != found && !told;
         lost.then(|| format!("record {key:?}: {found:?}, then {now:?}"))
     })

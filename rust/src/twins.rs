@@ -1,7 +1,7 @@
 //! A store with marks of signed attributes beside the store of its encodings, which has none: after the same calls they
 //! differ in the marks and in the fields of marked attributes alone (document 02, request 4).
 use crate::compare::Comparisons;
-use crate::host::Shape;
+use crate::host::{Refused, Shape};
 use crate::lent::{lend_bytes, Lent, LentStore};
 use crate::plain::image::{Image, DEPTH, PAGE_LIMIT, SIGNS};
 use crate::plain::model::Model;
@@ -38,7 +38,7 @@ impl Twins {
     }
 
     /// An insert or a delete on both: equal answers, and stores that differ by the encoding alone. Returns the answer.
-    pub fn change(&mut self, count: &mut Comparisons, random: &mut Random) -> Result<(), u32> {
+    pub fn change(&mut self, count: &mut Comparisons, random: &mut Random) -> Result<u32, Refused> {
         let (key, payload) = (self.key(random), random_payload(random));
         let code = self.encoded_key(key);
         let insert = random.below(3) > 0;
@@ -50,8 +50,8 @@ impl Twins {
         count.same(found, expected, about);
         self.compare(count, about);
         match (found, insert) {
-            (Ok(()), true) => self.model.records.push(self.model.record(key, payload)),
-            (Ok(()), false) => self.model.records.retain(|record| record.key != key),
+            (Ok(_), true) => self.model.records.push(self.model.record(key, payload)),
+            (Ok(_), false) => self.model.records.retain(|record| record.key != key),
             (Err(_), _) => {}
         }
         found

@@ -1,8 +1,10 @@
 //! Insert and delete where they are refused early, on unsound stores and on random memory: they end, answer 9 where
 //! they meet damage that they have to tell, otherwise 9 or what is ordinary for the call; with any number nothing is
-//! changed (`LentStore` compares it, and the guards), and with none no word, page or record of another leaf is.
+//! changed (`LentStore` compares it, and the guards), and with none no word, page or record of another leaf is. A depth
+//! is that in the word of the key's cell.
 use mdeh_tests::cells::Cells;
 use mdeh_tests::compare::Comparisons;
+use mdeh_tests::host::Refused;
 use mdeh_tests::lent::{record_lost, LentStore};
 use mdeh_tests::plain::image::{Image, Laid};
 use mdeh_tests::plain::judge::{early_number, limits_hold};
@@ -10,15 +12,18 @@ use mdeh_tests::plain::kept::Change;
 use mdeh_tests::plain::met::{each_damaged_count, each_damaged_word, DAMAGED_COUNTS, DAMAGED_WORDS};
 use mdeh_tests::plain::model::Model;
 use mdeh_tests::plain::reading::Reading;
-use mdeh_tests::plain::refusal::key_refused;
+use mdeh_tests::plain::refusal::{absent, key_refused, refusal};
 use mdeh_tests::plain::samples::{early_refused, outside, random_key, random_model};
 use mdeh_tests::plain::unsound;
 use mdeh_tests::random::Random;
 
 const SEED: u64 = 0x6d64_6568_2d30_3132;
 
+/// A change of a key, and its answer.
+type Call = fn(&mut LentStore, [i32; 4]) -> Result<u32, Refused>;
+
 /// An insert and a delete, each by its name.
-const CALLS: [(&str, fn(&mut LentStore, [i32; 4]) -> Result<(), u32>); 2] =
+const CALLS: [(&str, Call); 2] =
     [("insert", |store, key| store.insert(key, 0x1234_5678)), ("delete", |store, key| store.delete(key))];
 
 // ---- 1, 2, 3
@@ -36,7 +41,7 @@ fn values_out_of_range_are_refused_with_3() {
                 key[j] = value;
                 for (name, call) in CALLS {
                     let about = format_args!("{name}: {:?}, {key:?}", model.shape);
-                    count.same(call(&mut store, key), Err(3), about);
+                    count.same(call(&mut store, key), Err(refusal(3)), about);
                 }
             }
         }
@@ -55,7 +60,8 @@ fn refusals_1_and_2_come_before_3() {
             let mut store = LentStore::new(&mut random, &image);
             for key in [random_key(&mut random, &model), [i32::MIN; 4]] {
                 for (name, call) in CALLS {
-                    count.same(call(&mut store, key), Err(number), format_args!("{name}: {:?}", image.state));
+                    let about = format_args!("{name}: {:?}", image.state);
+                    count.same(call(&mut store, key), Err(refusal(number)), about);
                 }
             }
         }
@@ -74,7 +80,7 @@ fn all_damaged(count: &mut Comparisons, random: &mut Random, model: &Model, bits
         let key = model.key_of(&all);
         for (name, call) in CALLS {
             let about = format_args!("{name}: {:?}, {key:?} in leaf {bits:?}", image.state);
-            count.same(call(&mut store, key), Err(9), about);
+            count.same(call(&mut store, key), Err(refusal(9)), about);
         }
     }
 }
@@ -114,8 +120,8 @@ fn ordinary_calls(count: &mut Comparisons, random: &mut Random, model: &Model, i
         let before = store.image();
         let found = call(&mut store, key);
         let right = match (early.or_else(|| key_refused(image.shape(), key).then_some(3)), &cells) {
-            (Some(number), _) => found == Err(number),
-            (None, None) => found == Err(9),
+            (Some(number), _) => found == Err(refusal(number)),
+            (None, None) => found == Err(refusal(9)),
             (None, Some(cells)) => is_ordinary(name, key, found, cells, &before, &store.image()),
         };
         let about = format_args!("{name} {key:?}, turn {turn}: {model:?}, state {:?}", image.state);
@@ -127,22 +133,23 @@ fn ordinary_calls(count: &mut Comparisons, random: &mut Random, model: &Model, i
 fn is_ordinary(
     name: &str,
     key: [i32; 4],
-    found: Result<(), u32>,
+    found: Result<u32, Refused>,
     cells: &Cells,
     before: &Image,
     after: &Image,
 ) -> bool {
     let before = Reading::new(before, cells);
     match (name, found) {
-        (_, Err(9)) => true,
+        (_, Err(Refused { number: 9, .. })) => true,
         ("insert", _) if before.insert_told(key) => false,
         ("delete", _) if before.delete_told(key) => false,
-        ("insert", Err(number)) => matches!(number, 4 | 6 | 7),
-        (_, Err(number)) => number == 5,
-        (_, Ok(())) => {
+        ("insert", Err(Refused { number, .. })) => matches!(number, 4 | 6 | 7),
+        (_, Err(refused)) => refused == absent(before.depth_at(key)),
+        (_, Ok(depth)) => {
             let bits = before.model.split_bits(key);
             let change = Change { before, after: Reading::new(after, cells), bits };
-            change.others_kept().is_ok() && record_lost(&change).is_none()
+            let right = depth == change.after.depth_at(key);
+            right && change.others_kept().is_ok() && record_lost(&change).is_none()
         }
     }
 }

@@ -1,5 +1,6 @@
 //! Lookup, query and range on unsound stores and on random memory: they end, write nothing but what they answer, and
-//! answer 9 where they meet damage that they have to tell, otherwise 9 or what is ordinary for the call.
+//! answer 9 where they meet damage that they have to tell, otherwise 9 or what is ordinary for the call. A lookup's
+//! depth is that in the word of the key's cell.
 use mdeh_tests::cells::Cells;
 use mdeh_tests::compare::Comparisons;
 use mdeh_tests::lent::{lend_bytes, Lent, LentStore};
@@ -8,7 +9,7 @@ use mdeh_tests::plain::judge::{early_number, judge, limits_hold};
 use mdeh_tests::plain::model::Model;
 use mdeh_tests::plain::range::range_refused;
 use mdeh_tests::plain::reading::Reading;
-use mdeh_tests::plain::refusal::{key_refused, query_refused};
+use mdeh_tests::plain::refusal::{absent, key_refused, query_refused, refusal};
 use mdeh_tests::plain::samples::{query_of, random_key, range_of};
 use mdeh_tests::plain::unsound;
 use mdeh_tests::random::Random;
@@ -31,10 +32,14 @@ fn all_calls(count: &mut Comparisons, random: &mut Random, model: &Model, image:
     for _ in 0..4 {
         let key = random_key(random, model);
         let found = store.lookup(key);
-        let right = match early.or_else(|| key_refused(image.shape(), key).then_some(3)) {
-            Some(number) => found == Err(number),
-            None if reading.as_ref().is_none_or(|reading| reading.lookup_told(key)) => found == Err(9),
-            None => matches!(found, Ok((_, 1)) | Err(5) | Err(9)),
+        let right = match (early.or_else(|| key_refused(image.shape(), key).then_some(3)), &reading) {
+            (Some(number), _) => found == Err(refusal(number)),
+            (None, Some(reading)) if !reading.lookup_told(key) => {
+                let depth = reading.depth_at(key);
+                found.is_ok_and(|(_, reads, found)| (reads, found) == (1, depth))
+                    || [absent(depth), refusal(9)].map(Err).contains(&found)
+            }
+            _ => found == Err(refusal(9)),
         };
         count.same((right, found), (true, found), about);
         let query = query_of(random.below(16), key);

@@ -4,6 +4,7 @@ use mdeh_tests::compare::Comparisons;
 use mdeh_tests::followed::{Followed, COMPARED};
 use mdeh_tests::host::Shape;
 use mdeh_tests::plain::model::Model;
+use mdeh_tests::plain::refusal::absent;
 use mdeh_tests::plain::samples::{given_payload, random_key, random_model, random_payload};
 use mdeh_tests::random::Random;
 use mdeh_tests::shapes::marked;
@@ -51,7 +52,7 @@ fn all_records_in_turn() {
             let mut followed = Followed::of(&mut random, model);
             while !followed.model.records.is_empty() {
                 let key = stored_key(&mut random, &followed.model);
-                assert_eq!(followed.delete(&mut count, key), Ok(()));
+                assert!(followed.delete(&mut count, key).is_ok());
                 calls += 1;
             }
             assert_eq!(followed.extent(), (0, 0));
@@ -144,9 +145,10 @@ fn the_run_of_the_proof_table() {
     }
     let mut followed = Followed::of(&mut random, model);
     count.same(followed.extent(), (3, 3), format_args!("(a)"));
-    let _ = followed.delete(&mut count, [2, 1, 0, 0]);
+    let answer = followed.delete(&mut count, [2, 1, 0, 0]);
+    count.same(answer, Ok(1), format_args!("(c)"));
     count.same(followed.extent(), (2, 1), format_args!("(c)"));
-    count.end(COMPARED + 2);
+    count.end(COMPARED + 3);
 }
 
 // ---- 5
@@ -162,7 +164,7 @@ fn an_absent_key_is_refused_with_5() {
         let mut followed = Followed::of(&mut random, model);
         for key in keys {
             let answer = followed.delete(&mut count, key);
-            count.same(answer, Err(5), format_args!("{key:?}"));
+            count.same(answer, Err(absent(followed.model.depth(key))), format_args!("{key:?}"));
         }
     }
     count.end(100 * 10 * (COMPARED + 1));

@@ -2,12 +2,13 @@
 //! with the calls on lent slices.
 use mdeh::{file_bytes, Key, Listing, Query, Range, Record, Refusal, Shape, Store, RECORD_BYTES};
 use mdeh_tests::compare::Comparisons;
-use mdeh_tests::host;
+use mdeh_tests::host::{self, Refused};
 use mdeh_tests::lent::{lend_bytes, lend_words, Lent};
 use mdeh_tests::plain::file::{file_of, load};
 use mdeh_tests::plain::image::{state_words, Image, Laid, STATE};
 use mdeh_tests::plain::model::Model;
 use mdeh_tests::plain::range::Intervals;
+use mdeh_tests::plain::refusal::{absent, refusal};
 use mdeh_tests::plain::samples::{
     early_refused, query_of, random_key, random_model, random_payload, range_of,
 };
@@ -141,24 +142,34 @@ fn read(shape: Shape, bytes: &[u8]) -> Record {
 /// The comparisons of one turn.
 const COMPARED: u64 = 1 + 1 + 4 + 3 + 2;
 
+/// A refusal of a call on a key: its number, and the depth that it carries.
+fn refused(refusal: Refusal) -> Refused {
+    match refusal {
+        Refusal::Absent { depth } => absent(depth),
+        other => Refused { number: other.number(), depth: 0 },
+    }
+}
+
 /// One change, one lookup, one query, one range, check and state. Returns the model's answer to the change.
 fn turn(
     count: &mut Comparisons,
     random: &mut Random,
     store: &mut Store,
     model: &mut Model,
-) -> Result<(), u32> {
+) -> Result<u32, Refused> {
     let key = any_key(random, model);
     let payload = random_payload(random);
     let (found, expected) = match random.below(3) {
-        0 => (store.delete(key_from(key)), model.delete(key)),
-        _ => (store.insert(key_from(key), payload), model.insert(key, payload)),
+        0 => (store.delete(key_from(key)).map(|deleted| deleted.depth), model.delete(key)),
+        _ => {
+            (store.insert(key_from(key), payload).map(|inserted| inserted.depth), model.insert(key, payload))
+        }
     };
-    count.same(found.map_err(Refusal::number), expected, format_args!("{key:?}, {payload}: {model:?}"));
+    count.same(found.map_err(refused), expected, format_args!("{key:?}, {payload}: {model:?}"));
     let key = any_key(random, model);
     let about = format_args!("{key:?}: {model:?}");
-    let found = store.lookup(key).map(|found| (found.payload, found.reads));
-    count.same(found.map_err(Refusal::number), model.lookup(key), about);
+    let found = store.lookup(key).map(|found| (found.payload, found.reads, found.depth));
+    count.same(found.map_err(refused), model.lookup(key), about);
     compare_query(count, random, store, model);
     compare_range(count, random, store, model);
     count.same(store.check(), Ok(true), about);
@@ -214,7 +225,7 @@ fn sessions(
     for _ in 0..SESSIONS {
         let mut store = Store::reopen(state, memory.0.slice_mut(), memory.1.slice_mut());
         for _ in 0..TURNS {
-            refused += u64::from(turn(count, random, &mut store, model) == Err(11));
+            refused += u64::from(turn(count, random, &mut store, model) == Err(refusal(11)));
         }
         assert_eq!(store.shape(), model.shape);
         state = *store.state();
@@ -230,7 +241,7 @@ fn same_answers(
     random: &mut Random,
     model: &Model,
     image: &Image,
-) -> Result<(), u32> {
+) -> Result<u32, Refused> {
     let state = image.state[..].try_into().expect("the words of a state");
     let (mut dir, mut pages) = (image.dir.clone(), image.pages.clone());
     let mut store = Store::reopen(state, &mut dir, &mut pages);
@@ -238,8 +249,8 @@ fn same_answers(
     let about = format_args!("{:?}, {model:?}", image.state);
     count.same(store.check().map_err(Refusal::number), host::check(state, dir, pages), about);
     let key = any_key(random, model);
-    let found = store.lookup(key).map(|found| (found.payload, found.reads));
-    count.same(found.map_err(Refusal::number), host::lookup(state, dir, pages, key), about);
+    let found = store.lookup(key).map(|found| (found.payload, found.reads, found.depth));
+    count.same(found.map_err(refused), host::lookup(state, dir, pages, key), about);
     let wanted = query_of(random.below(16), key);
     let (mut out, mut expected) = ([7; 100], [7; 100]);
     let found = store.query(wanted, &mut out);
@@ -267,10 +278,11 @@ fn same_answers(
     count.same(found.map_err(Refusal::number), host::save(state, dir, pages, &mut expected), about);
     count.same(out, expected, about);
     let payload = random_payload(random);
-    let found = store.insert(key, payload).map_err(Refusal::number);
+    let found = store.insert(key, payload).map(|inserted| inserted.depth);
     let inserted = host::insert(state, dir, pages, key, payload);
-    count.same(found, inserted, about);
-    count.same(store.delete(key).map_err(Refusal::number), host::delete(state, dir, pages, key), about);
+    count.same(found.map_err(refused), inserted, about);
+    let found = store.delete(key).map(|deleted| deleted.depth);
+    count.same(found.map_err(refused), host::delete(state, dir, pages, key), about);
     let after = Image { state: state.to_vec(), dir: dir.to_vec(), pages: pages.to_vec() };
     let Image { state, dir, pages } = &after;
     count.same((&store.state()[..], store.directory(), store.pages()), (state, dir, pages), about);
@@ -283,7 +295,7 @@ fn any_memory_as_the_calls_on_slices() {
     let mut random = Random::new(SEED);
     let mut refused = 0;
     let mut each = |random: &mut Random, model: &Model, image: &Image| {
-        refused += u64::from(same_answers(&mut count, random, model, image) == Err(11));
+        refused += u64::from(same_answers(&mut count, random, model, image) == Err(refusal(11)));
     };
     unsound::random_memory(&mut random, 1000, 0x0003_000f, &mut each);
     unsound::random_states(&mut random, 1000, &mut each);
@@ -363,7 +375,7 @@ fn ranges_of_every_form() {
         let (mut directory, mut pages) = ([0; 16], [0; 16 * 26]);
         let mut store = Store::fresh(shape, &mut directory, &mut pages).expect("accepted");
         let (least, greatest) = bounds(shape, 0);
-        (least..=greatest).for_each(|value| store.insert([value], 1).expect("accepted"));
+        (least..=greatest).for_each(|value| assert!(store.insert([value], 1).is_ok()));
         let ends = || {
             (-10..20)
                 .chain([i32::MIN, i32::MIN + 1, i32::MAX - 1, i32::MAX])
@@ -432,7 +444,7 @@ fn reasons_as_in_the_header() {
         ("MEMORY", Memory),
         ("VALUE", Value),
         ("STORED", Stored),
-        ("ABSENT", Absent),
+        ("ABSENT", Absent { depth: 3 }),
         ("DEPTH", Depth),
         ("PAGES", Pages),
         ("ATTRIBUTE", Attribute),

@@ -5,7 +5,7 @@ use mdeh_tests::host::{self, Shape};
 use mdeh_tests::lent::{lend_bytes, lend_words, LentStore};
 use mdeh_tests::plain::image::{Image, SIGNS, STATE, TALLY};
 use mdeh_tests::plain::model::Model;
-use mdeh_tests::plain::refusal::page_size;
+use mdeh_tests::plain::refusal::{absent, page_size};
 use mdeh_tests::plain::value::bounds;
 use mdeh_tests::random::Random;
 use mdeh_tests::shapes::{marked, random_widths};
@@ -130,7 +130,7 @@ fn a_fresh_store_is_sound_and_without_records() {
         let mut out = lend_bytes(&mut random, &out);
         let key = [0, 1, 2, 3].map(|j| bounds(shape, j).1);
         count.same(store.check(), Ok(true), format_args!("{shape:?}"));
-        count.same(store.lookup(key), Err(5), format_args!("{shape:?}"));
+        count.same(store.lookup(key), Err(absent(0)), format_args!("{shape:?}"));
         count.same(store.query([None; 4], &mut out), Ok((0, 0, 0)), format_args!("{shape:?}"));
         count.same(out.unchanged(), true, format_args!("{shape:?}"));
     }

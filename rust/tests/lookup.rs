@@ -5,6 +5,7 @@ use mdeh_tests::lent::LentStore;
 use mdeh_tests::plain::image::{Image, Laid};
 use mdeh_tests::plain::met::{each_damaged_count, each_damaged_word, DAMAGED_COUNTS, DAMAGED_WORDS};
 use mdeh_tests::plain::model::Model;
+use mdeh_tests::plain::refusal::refusal;
 use mdeh_tests::plain::samples::{early_refused, outside, random_key, random_model, random_payload};
 use mdeh_tests::random::Random;
 
@@ -43,7 +44,8 @@ fn every_key_of_a_large_store() {
         for i in 0..500 {
             let record = &model.records[i * model.records.len() / 500];
             let about = format_args!("{record:?}");
-            count.same(store.lookup(record.key), Ok((record.payload, 1)), about);
+            let expected = Ok((record.payload, 1, model.depth(record.key)));
+            count.same(store.lookup(record.key), expected, about);
             let key = random_key(&mut random, &model);
             count.same(store.lookup(key), model.lookup(key), format_args!("{key:?}"));
         }
@@ -88,8 +90,8 @@ fn values_out_of_range_are_refused_with_3() {
                 let mut key = random_key(&mut random, &model);
                 key[j] = value;
                 let about = format_args!("{:?}, {key:?}", model.shape);
-                count.same(model.lookup(key), Err(3), about);
-                count.same(store.lookup(key), Err(3), about);
+                count.same(model.lookup(key), Err(refusal(3)), about);
+                count.same(store.lookup(key), Err(refusal(3)), about);
             }
         }
     }
@@ -107,7 +109,7 @@ fn refusals_1_and_2_come_before_3() {
         for (image, number) in early_refused(&laid.image, &model) {
             let store = LentStore::new(&mut random, &image);
             for key in [random_key(&mut random, &model), bad_key] {
-                count.same(store.lookup(key), Err(number), format_args!("{:?}", image.state));
+                count.same(store.lookup(key), Err(refusal(number)), format_args!("{:?}", image.state));
             }
         }
     }
@@ -124,7 +126,7 @@ fn all_damaged(count: &mut Comparisons, random: &mut Random, model: &Model, bits
         all[..bits.len()].copy_from_slice(bits);
         let key = model.key_of(&all);
         let about = format_args!("{:?}, {key:?} in leaf {bits:?}", image.state);
-        count.same(store.lookup(key), Err(9), about);
+        count.same(store.lookup(key), Err(refusal(9)), about);
     }
 }
 

@@ -4,7 +4,7 @@ use mdeh_tests::compare::Comparisons;
 use mdeh_tests::host::{self, HostQuery, HostRange, Shape};
 use mdeh_tests::lent::{lend_bytes, LentStore};
 use mdeh_tests::plain::image::{Image, Laid, SIGNS};
-use mdeh_tests::plain::refusal::page_size;
+use mdeh_tests::plain::refusal::{page_size, refusal};
 use mdeh_tests::plain::samples::{
     early_refused, query_of, random_key, random_model, random_payload, range_of,
 };
@@ -112,9 +112,9 @@ fn unused_values_other_than_0_are_refused() {
                 let mut key = [0; 4];
                 key[j] = number;
                 let about = format_args!("{shape:?}, {key:?}");
-                count.same(store.insert(key, 7), Err(3), about);
-                count.same(store.lookup(key), Err(3), about);
-                count.same(store.delete(key), Err(3), about);
+                count.same(store.insert(key, 7), Err(refusal(3)), about);
+                count.same(store.lookup(key), Err(refusal(3)), about);
+                count.same(store.delete(key), Err(refusal(3)), about);
             }
         }
     }
@@ -136,9 +136,9 @@ fn refusals_1_and_2_come_first() {
             let about = format_args!("{:?}", image.state);
             let mut out = lend_bytes(&mut random, &[5; 20]);
             for key in [[-1; 4], [i32::MIN; 4], [i32::MAX; 4]] {
-                count.same(store.lookup(key), Err(number), about);
-                count.same(store.insert(key, 0), Err(number), about);
-                count.same(store.delete(key), Err(number), about);
+                count.same(store.lookup(key), Err(refusal(number)), about);
+                count.same(store.insert(key, 0), Err(refusal(number)), about);
+                count.same(store.delete(key), Err(refusal(number)), about);
                 count.same(store.query(key.map(Some), &mut out), Err(number), about);
                 count.same(store.range(key.map(|value| Some((value, -2))), &mut out), Err(number), about);
             }

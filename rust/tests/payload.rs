@@ -8,7 +8,7 @@ use mdeh_tests::plain::image::{Image, Laid, STATE};
 use mdeh_tests::plain::judge::early_number;
 use mdeh_tests::plain::met::{each_damaged_count, each_damaged_word, DAMAGED_COUNTS, DAMAGED_WORDS};
 use mdeh_tests::plain::model::Model;
-use mdeh_tests::plain::refusal::{insert_refused, page_size};
+use mdeh_tests::plain::refusal::{insert_refused, page_size, refusal};
 use mdeh_tests::plain::samples::{given_payload, random_key, random_model};
 use mdeh_tests::plain::unsound;
 use mdeh_tests::random::Random;
@@ -115,19 +115,21 @@ fn each_combination(
         let early = [0, 1, 2, 3].map(|condition| turn >> condition & 1 == 1);
         let holds = [&early[..], &late].concat();
         let first = ORDER.into_iter().zip(&holds).find(|(_, &holds)| holds);
-        let expected = first.map_or(Ok(()), |(number, _)| Err(number));
         let (image, key, payload) = spoiled(random, model, &laid.image, key, early);
+        let mut after = model.clone();
+        let answer = after.insert(key, payload);
+        let expected = first.map_or_else(|| Ok(after.depth(key)), |(number, _)| Err(refusal(number)));
         let mut store = LentStore::new(random, &image);
         let found = store.insert(key, payload);
         let about = format_args!("{holds:?}: {key:?}, {payload}, state {:?}, {model:?}", image.state);
         count.same(found, expected, about);
         if early[..2] == [false; 2] {
-            count.same(model.clone().insert(key, payload), expected, about);
+            count.same(answer, expected, about);
         }
         if found.is_ok() {
-            count.same(store.lookup(key), Ok((payload, 1)), about);
+            count.same(store.lookup(key), Ok((payload, 1, after.depth(key))), about);
         }
-        numbers.push(found.err().unwrap_or(0));
+        numbers.push(found.map_or_else(|refused| refused.number, |_| 0));
     }
     numbers
 }
@@ -174,7 +176,7 @@ fn refused(count: &mut Comparisons, random: &mut Random, model: &Model, image: &
         }
         let number = early_number(image).or_else(|| insert_refused(image.shape(), key, 0));
         let about = format_args!("{key:?}: {model:?}, state {:?}", image.state);
-        count.same(store.insert(key, 0).err(), number, about);
+        count.same(store.insert(key, 0).err(), number.map(refusal), about);
         elevens += u64::from(number == Some(11));
     }
     elevens
@@ -212,7 +214,7 @@ fn eleven_before_nine(
     let mut store = LentStore::new(random, image);
     for (payload, number) in [(0, 11), (edge_payload(random), 9)] {
         let about = format_args!("{key:?}, {payload}, in leaf {leaf:?}: state {:?}", image.state);
-        count.same(store.insert(key, payload), Err(number), about);
+        count.same(store.insert(key, payload), Err(refusal(number)), about);
     }
 }
 
@@ -250,10 +252,10 @@ fn every_other_payload_is_accepted() {
             let key = [i % 16 - 8, i / 16, 0, 0];
             let about = format_args!("b = {capacity}, {payload:#x}");
             let answer = followed.insert(&mut count, key, 0);
-            count.same(answer, Err(11), about);
+            count.same(answer, Err(refusal(11)), about);
             let answer = followed.insert(&mut count, key, payload);
-            count.same(answer, Ok(()), about);
-            count.same(followed.store.lookup(key), Ok((payload, 1)), about);
+            count.same(answer, Ok(followed.model.depth(key)), about);
+            count.same(followed.store.lookup(key), answer.map(|depth| (payload, 1, depth)), about);
         }
     }
     count.end(3 * 67 * (2 * COMPARED + 3));

@@ -1,15 +1,15 @@
 //! Demand 3 on the running code: random lists of calls, encoded in words and replayed on lent memory, from a fresh store
 //! or from a loaded one, answer by answer and byte by byte as the plain model gives them (document 01, "The plain model
-//! of demand 3"; document 02, requests 1, 2, 4 and 5).
+//! of demand 3"; document 02, requests 1, 2, 4, 5 and 6).
 use mdeh_tests::cells::Cells;
 use mdeh_tests::compare::Comparisons;
-use mdeh_tests::host::{self, CheckResult, Shape};
+use mdeh_tests::host::{self, CheckResult, Refused, Shape};
 use mdeh_tests::lent::{lend_bytes, lend_words, Lent};
 use mdeh_tests::plain::file::{file_of, load};
 use mdeh_tests::plain::image::Image;
 use mdeh_tests::plain::model::Model;
 use mdeh_tests::plain::range::Intervals;
-use mdeh_tests::plain::refusal::page_size;
+use mdeh_tests::plain::refusal::{page_size, refusal};
 use mdeh_tests::plain::samples::{query_of, random_key, random_model, random_payload, range_of};
 use mdeh_tests::plain::shown::pages_shown;
 use mdeh_tests::probe::calls::{replay, replay_file, Replayed, ANSWER_SIZE, CALL_SIZE};
@@ -111,17 +111,20 @@ fn random_range(random: &mut Random, model: &Model) -> Intervals {
 /// The model's answer to a call as words; the output is changed as the model changes it.
 fn answer(model: &mut Model, call: Call, out: &mut [u8]) -> [u64; ANSWER_SIZE] {
     let words = match call {
-        Call::Insert(key, payload) => model.insert(key, payload).map(|()| [0; 4]),
-        Call::Delete(key) => model.delete(key).map(|()| [0; 4]),
-        Call::Lookup(key) => model.lookup(key).map(|(payload, reads)| [0, payload.into(), reads.into(), 0]),
-        Call::Query(query, _) => {
-            model.query(query, out).map(|(written, total, reads)| [0, written, total, reads])
+        Call::Insert(key, payload) => model.insert(key, payload).map(|depth| [0, 0, 0, depth.into()]),
+        Call::Delete(key) => model.delete(key).map(|depth| [0, 0, 0, depth.into()]),
+        Call::Lookup(key) => {
+            model.lookup(key).map(|(payload, reads, depth)| [0, payload.into(), reads.into(), depth.into()])
         }
-        Call::Range(range, _) => {
-            model.range(range, out).map(|(written, total, reads)| [0, written, total, reads])
-        }
+        Call::Query(query, _) => listed(model.query(query, out)),
+        Call::Range(range, _) => listed(model.range(range, out)),
     };
-    words.unwrap_or_else(|number| [number.into(), 0, 0, 0])
+    words.unwrap_or_else(|Refused { number, depth }| [number.into(), 0, 0, depth.into()])
+}
+
+/// The words of an accepted query or range.
+fn listed(answer: Result<(u64, u64, u64), u32>) -> Result<[u64; ANSWER_SIZE], Refused> {
+    answer.map(|(written, total, reads)| [0, written, total, reads]).map_err(refusal)
 }
 
 /// What a replay is lent beside the store, and what the model leaves of it.

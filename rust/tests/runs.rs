@@ -7,7 +7,7 @@ use mdeh_tests::lent::{lend_bytes, LentStore};
 use mdeh_tests::plain::image::Image;
 use mdeh_tests::plain::model::Model;
 use mdeh_tests::plain::ordered::Ordered;
-use mdeh_tests::plain::refusal::page_size;
+use mdeh_tests::plain::refusal::{page_size, refusal};
 use mdeh_tests::plain::samples::{query_of, random_key, random_payload, range_of};
 use mdeh_tests::random::Random;
 use mdeh_tests::shapes::random_shape;
@@ -31,7 +31,7 @@ fn every_word_and_page_of_small_stores() {
             // more inserts at first, more deletes at last
             if random.below(300) > turn {
                 let answer = followed.insert(&mut count, key, random_payload(&mut random));
-                refused += u64::from(answer == Err(11));
+                refused += u64::from(answer == Err(refusal(11)));
             } else {
                 let _ = followed.delete(&mut count, key);
             }
@@ -112,7 +112,7 @@ impl Run {
             format_args!("call {}: insert {insert}, {key:?}, {payload}, {:?}", self.calls, self.list.model);
         count.same(found, expected, about);
         count.same(self.store.state.slice(), &self.list.state()[..], about);
-        self.refused += u64::from(found == Err(11));
+        self.refused += u64::from(found == Err(refusal(11)));
         self.calls += 1;
     }
 
@@ -161,8 +161,10 @@ impl Run {
         let mut deletes = 0;
         while !self.list.is_empty() {
             let key = self.list.key(self.random.below(self.list.len()));
-            assert_eq!(self.list.delete(key), Ok(()));
-            count.same(self.store.delete(key), Ok(()), format_args!("delete {key:?}, {:?}", self.list.model));
+            let expected = self.list.delete(key);
+            assert!(expected.is_ok());
+            let about = format_args!("delete {key:?}, {:?}", self.list.model);
+            count.same(self.store.delete(key), expected, about);
             deletes += 1;
         }
         assert_eq!(self.store.state.slice()[8..11], [0, 1, 0]);

@@ -563,7 +563,8 @@ fn payloads_of_0() {
         let memory = Image::random(&mut random, 256, 40 * size);
         let store = LentStore::load(&mut random, &file_of(&model), &memory).expect("accepted");
         for record in &model.records {
-            count.same(store.lookup(record.key), Ok((0, 1)), format_args!("{model:?}"));
+            let expected = Ok((0, 1, model.depth(record.key)));
+            count.same(store.lookup(record.key), expected, format_args!("{model:?}"));
             records += 1;
         }
     }

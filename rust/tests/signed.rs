@@ -6,8 +6,10 @@ use mdeh_tests::host::Shape;
 use mdeh_tests::lent::{lend_bytes, Lent, LentStore};
 use mdeh_tests::plain::image::{Image, Laid, DEPTH, PAGE_LIMIT};
 use mdeh_tests::plain::judge::judge;
+use mdeh_tests::plain::model::Model;
+use mdeh_tests::plain::ordered::Ordered;
 use mdeh_tests::plain::range::Intervals;
-use mdeh_tests::plain::refusal::page_size;
+use mdeh_tests::plain::refusal::{absent, page_size, refusal};
 use mdeh_tests::plain::samples::{given_payload, query_of, random_key, random_model};
 use mdeh_tests::random::Random;
 use mdeh_tests::shapes::random_shape;
@@ -53,7 +55,7 @@ fn a_store_and_that_of_its_encodings() {
         shape.signs |= 1 << random.below(shape.attributes as usize);
         let mut twins = Twins::new(&mut random, shape);
         for _ in 0..150 {
-            let change = twins.change(&mut count, &mut random).err().unwrap_or(0);
+            let change = twins.change(&mut count, &mut random).map_or_else(|refused| refused.number, |_| 0);
             let [query, range] = twins.ask(&mut count, &mut random);
             [change, query, range].iter().for_each(|&number| met[number as usize] += 1);
         }
@@ -80,9 +82,9 @@ impl Attribute {
         let Attribute { shape, store, j, least, greatest } = self;
         let key = key_with(*j, number);
         let about = format_args!("{shape:?}, {key:?}");
-        count.same(store.lookup(key), Err(3), about);
-        count.same(store.insert(key, 7), Err(3), about);
-        count.same(store.delete(key), Err(3), about);
+        count.same(store.lookup(key), Err(refusal(3)), about);
+        count.same(store.insert(key, 7), Err(refusal(3)), about);
+        count.same(store.delete(key), Err(refusal(3)), about);
         let mut out = Lent::new(vec![1], &[2; 40], vec![3]);
         count.same(store.query(query_of(1 << *j, key), &mut out), Err(3), about);
         for ends in [(number, *greatest), (*least, number), (number, number)] {
@@ -96,10 +98,10 @@ impl Attribute {
         let Attribute { shape, store, j, least, greatest } = self;
         let key = key_with(*j, value);
         let about = format_args!("{shape:?}, {key:?}");
-        count.same(store.lookup(key), Err(5), about);
-        count.same(store.delete(key), Err(5), about);
-        count.same(store.insert(key, 7), Ok(()), about);
-        count.same(store.lookup(key), Ok((7, 1)), about);
+        count.same(store.lookup(key), Err(absent(0)), about);
+        count.same(store.delete(key), Err(absent(0)), about);
+        count.same(store.insert(key, 7), Ok(0), about);
+        count.same(store.lookup(key), Ok((7, 1, 0)), about);
         count.same(store.check(), Ok(true), about);
         let mut record = [0; RECORD_BYTES];
         record[2 * *j..2 * *j + 2].copy_from_slice(&value.to_le_bytes()[..2]);
@@ -113,7 +115,7 @@ impl Attribute {
             count.same(store.range(range_with(*j, ends), &mut out), Ok((1, 1, 1)), about);
         }
         count.same(out.slice(), &[&record[..], &[2]].concat()[..], about);
-        count.same(store.delete(key), Ok(()), about);
+        count.same(store.delete(key), Ok(0), about);
     }
 }
 
@@ -221,7 +223,7 @@ fn the_numbers_of_queries_and_inserts_in_their_order() {
         ([512, 0], 0, Err(3)),
         ([-1, -1], 0, Err(3)),
         ([-512, 0], 0, Err(11)),
-        ([-512, 0], 7, Ok(())),
+        ([-512, 0], 7, Ok(0)),
         ([-512, 0], 0, Err(11)),
         ([-512, 0], 7, Err(4)),
         ([511, 0], 0, Err(11)),
@@ -230,6 +232,7 @@ fn the_numbers_of_queries_and_inserts_in_their_order() {
         ([512, 0], 7, Err(3)),
     ] {
         let [a, b] = key;
+        let expected = expected.map_err(refusal);
         count.same(store.insert([a, b, 0, 0], payload), expected, format_args!("{key:?}, {payload}"));
     }
     count.end(6 * 2 + 10);
@@ -263,14 +266,14 @@ fn every_field_of_a_page() {
                 let about = format_args!("{shape:?}, field {field:#x} of attribute {j}");
                 count.same(store.check(), Ok(is_value), about);
                 let key = key_with(j, if is_value { number } else { 0 });
-                count.same(store.lookup(key), if is_value { Ok((7, 1)) } else { Err(9) }, about);
+                count.same(store.lookup(key), if is_value { Ok((7, 1, 0)) } else { Err(refusal(9)) }, about);
                 let mut out = Lent::new(vec![1, 2], &[3; 12], vec![4]);
                 let expected = if is_value { Ok((1, 1, 1)) } else { Err(9) };
                 count.same(store.query(query_of(1 << j, key), &mut out), expected, about);
                 count.same(store.range(range_with(j, (least, greatest)), &mut out), expected, about);
                 count.same(out.unchanged(), !is_value, about);
                 if !is_value {
-                    count.same([store.insert(key, 5), store.delete(key)], [Err(9); 2], about);
+                    count.same([store.insert(key, 5), store.delete(key)], [Err(refusal(9)); 2], about);
                 }
             }
         }
@@ -392,7 +395,7 @@ fn every_key_of_two_marked_attributes_in_split_order() {
         let mut store = Store::fresh(shape, &mut directory, &mut pages).expect("accepted");
         let mut keys = order;
         random.shuffle(&mut keys);
-        keys.iter().for_each(|&key| store.insert(key, 1).expect("accepted"));
+        keys.iter().for_each(|&key| assert!(store.insert(key, 1).is_ok()));
         let records = listed(&store, Query::all());
         let found: Vec<[i32; 2]> =
             records.iter().map(|record| [record.values[0], record.values[1]]).collect();
@@ -412,12 +415,16 @@ fn every_value_of_an_attribute() {
         let shape = Shape::new(&[width], 8).signed(0);
         let (least, greatest) = (-(1 << (width - 1)), (1 << (width - 1)) - 1);
         let mut store = fresh_store(&mut random, shape, 1024, 400);
+        let mut list = Ordered::new(Model::new(shape, 400, width as usize));
         let mut order: Vec<i32> = (least..=greatest).collect();
         random.shuffle(&mut order);
         for &value in &order {
             values += 1;
             let about = format_args!("width {width}, {value}");
-            count.same(store.insert([value, 0, 0, 0], given_payload(&mut random)), Ok(()), about);
+            let (key, payload) = ([value, 0, 0, 0], given_payload(&mut random));
+            let expected = list.insert(key, payload);
+            assert!(expected.is_ok());
+            count.same(store.insert(key, payload), expected, about);
         }
         let mut out = lend_bytes(&mut random, &vec![0; 12 << width]);
         let answer = store.range(range_with(0, (least, greatest)), &mut out);
@@ -427,8 +434,11 @@ fn every_value_of_an_attribute() {
         count.same(fields.collect::<Vec<i32>>(), (least..=greatest).collect(), about);
         for &value in &order {
             let about = format_args!("width {width}, {value}");
-            count.same(store.lookup([value, 0, 0, 0]).map(|(_, reads)| reads), Ok(1), about);
-            count.same(store.delete([value, 0, 0, 0]), Ok(()), about);
+            let key = [value, 0, 0, 0];
+            count.same(store.lookup(key), list.lookup(key), about);
+            let expected = list.delete(key);
+            assert!(expected.is_ok());
+            count.same(store.delete(key), expected, about);
         }
         count.same(&store.state.slice()[DEPTH..DEPTH + 3], &[0, 1, 0][..], about);
     }

@@ -4,7 +4,7 @@
 //! leaves every slice and every guard as it came (`LentStore` compares them).
 use mdeh_tests::cells::{Cell, Cells};
 use mdeh_tests::compare::Comparisons;
-use mdeh_tests::host::Shape;
+use mdeh_tests::host::{Refused, Shape};
 use mdeh_tests::lent::{lend_bytes, record_lost, LentStore};
 use mdeh_tests::plain::damage::memory::{Aged, Kind, CALLS, KINDS};
 use mdeh_tests::plain::image::{page_of, word_of, Image, Laid, Placed, DEPTH};
@@ -13,6 +13,7 @@ use mdeh_tests::plain::kept::Change;
 use mdeh_tests::plain::leaves::{greatest_depth, Record};
 use mdeh_tests::plain::model::Model;
 use mdeh_tests::plain::reading::{sibling, Reading};
+use mdeh_tests::plain::refusal::refusal;
 use mdeh_tests::plain::samples::{given_payload, query_of, random_key, random_model, range_of};
 use mdeh_tests::random::Random;
 
@@ -93,8 +94,8 @@ struct Answer {
 }
 
 /// The answer to a call that has to tell damage, or need not.
-fn answer<T: PartialEq>(found: Result<T, u32>, expected: Result<T, u32>, told: bool) -> Answer {
-    let nine = found == Err(9);
+fn answer<T: PartialEq>(found: Result<T, Refused>, expected: Result<T, Refused>, told: bool) -> Answer {
+    let nine = found == Err(refusal(9));
     Answer { right: found == expected, nine, untold: told && !nine, lost: None }
 }
 
@@ -171,7 +172,8 @@ impl Damaged<'_> {
         let found = store.query(query, &mut out);
         assert!(found.is_ok() || out.unchanged(), "a refused query writes: {query:?}, {:?}", self.image);
         let told = Reading::new(self.image, self.cells).query_told(query);
-        let answer = answer(found, self.model.query(query, &mut expected), told);
+        let right = self.model.query(query, &mut expected);
+        let answer = answer(found.map_err(refusal), right.map_err(refusal), told);
         Answer { right: answer.right && out.slice() == expected, ..answer }
     }
 
@@ -188,7 +190,7 @@ impl Damaged<'_> {
         let expected_answer = self.model.range(range, &mut expected);
         // 3 and 10 come first
         let told = expected_answer.is_ok() && Reading::new(self.image, self.cells).range_told(range);
-        let answer = answer(found, expected_answer, told);
+        let answer = answer(found.map_err(refusal), expected_answer.map_err(refusal), told);
         Answer { right: answer.right && out.slice() == expected, ..answer }
     }
 
@@ -258,7 +260,7 @@ fn sound_stores() {
 fn table_store(random: &mut Random) -> (Model, Image) {
     let mut model = Model::new(Shape::new(&[2, 2], 2), 4, 4);
     for (i, key) in [[0, 0, 0, 0], [2, 0, 0, 0], [3, 1, 0, 0], [2, 1, 0, 0]].into_iter().enumerate() {
-        assert_eq!(model.insert(key, 10 + i as u32), Ok(()));
+        model.insert(key, 10 + i as u32).expect("accepted");
     }
     let image = Laid::new(random, &model).image;
     assert_eq!((image.state[DEPTH], image.dir[3], image.dir[7]), (3, 0x2_0000, 0x2_0000));
@@ -280,10 +282,10 @@ fn word_0_zeroed_is_told_by_every_query_and_range() {
     for key in all_keys() {
         let about = format_args!("{key:?}");
         let met = model.split_bits(key).starts_with(&[false; 3]);
-        count.same(store.lookup(key), if met { Err(9) } else { model.lookup(key) }, about);
+        count.same(store.lookup(key), if met { Err(refusal(9)) } else { model.lookup(key) }, about);
         if met {
-            count.same(store.insert(key, 1), Err(9), about);
-            count.same(store.delete(key), Err(9), about);
+            count.same(store.insert(key, 1), Err(refusal(9)), about);
+            count.same(store.delete(key), Err(refusal(9)), about);
         }
         for subset in 0..4 {
             let content = random.bytes(60);
@@ -307,10 +309,10 @@ fn an_empty_leaf_with_a_word_zeroed_takes_no_record() {
         image.dir[a] = 0;
         let mut store = LentStore::new(&mut random, &image);
         for key in all_keys().filter(|&key| model.split_bits(key).starts_with(&[true; 2])) {
-            count.same(store.insert(key, 1), Err(9), format_args!("{key:?}, word {a}"));
+            count.same(store.insert(key, 1), Err(refusal(9)), format_args!("{key:?}, word {a}"));
         }
-        for Record { key, payload, .. } in &model.records {
-            count.same(store.lookup(*key), Ok((*payload, 1)), format_args!("{key:?}, word {a}"));
+        for Record { key, .. } in &model.records {
+            count.same(store.lookup(*key), model.lookup(*key), format_args!("{key:?}, word {a}"));
         }
     }
     count.end(2 * (4 + 4));
@@ -339,10 +341,10 @@ fn a_sibling_with_another_leafs_page_is_not_joined() {
         other.cells.iter().for_each(|&a| image.dir[a] = word_of(Some(page), other.leaf.depth()));
         let mut store = LentStore::new(&mut random, &image);
         for Record { key, .. } in &leaf.leaf.records {
-            count.same(store.delete(*key), Err(9), format_args!("{key:?}: {image:?}"));
+            count.same(store.delete(*key), Err(refusal(9)), format_args!("{key:?}: {image:?}"));
         }
-        for Record { key, payload, .. } in &third.leaf.records {
-            count.same(store.lookup(*key), Ok((*payload, 1)), format_args!("{key:?}: {image:?}"));
+        for Record { key, .. } in &third.leaf.records {
+            count.same(store.lookup(*key), model.lookup(*key), format_args!("{key:?}: {image:?}"));
         }
         records += leaf.leaf.records.len() + third.leaf.records.len();
     }

@@ -48,7 +48,7 @@ impl Session {
             Command::Put(key, payload) => self.call(|store| store.insert(key, payload)),
             Command::Cut(key) => self.call(|store| store.delete(key)),
             // asked for its refusal alone, with no room for records
-            Command::List(query) => self.call(|store| store.query(query, &mut []).map(|_| ())),
+            Command::List(query) => self.call(|store| store.query(query, &mut []).map(drop)),
         }
     }
 
@@ -57,8 +57,8 @@ impl Session {
         self.lent.as_mut().map(Lent::store)
     }
 
-    /// A call on the store; a line "before an accepted `shape`" is bad.
-    fn call(&mut self, call: impl FnOnce(&mut Store) -> Result<(), Refusal>) -> Result<(), Fault> {
+    /// A call on the store, whose answer is left aside; a line "before an accepted `shape`" is bad.
+    fn call<T>(&mut self, call: impl FnOnce(&mut Store) -> Result<T, Refusal>) -> Result<(), Fault> {
         let lent = self.lent.as_mut().ok_or(Fault::Bad)?;
         let mut store = lent.store();
         call(&mut store).map_err(Fault::Refused)?;

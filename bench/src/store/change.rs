@@ -2,11 +2,13 @@
 use super::page::{key_of, record_of};
 use super::{depth_of, page_of, word_of, Store};
 use crate::plain::{double, fill};
+use mdeh_tests::host::Refused;
+use mdeh_tests::plain::refusal::{absent, refusal};
 
 impl Store {
-    /// Adds a record. Refused with 3, 11, 4, 6 or 7.
+    /// Adds a record, and returns the depth of its leaf then. Refused with 3, 11, 4, 6 or 7.
     #[inline(never)]
-    pub fn insert(&mut self, key: [i32; 4], payload: u32) -> Result<(), u32> {
+    pub fn insert(&mut self, key: [i32; 4], payload: u32) -> Result<u32, u32> {
         let packed = self.map.pack(key).ok_or(3u32)?;
         if payload == 0 {
             return Err(11);
@@ -16,13 +18,14 @@ impl Store {
 
     /// Adds a record with this key, which is within its bounds, and packed. Refused with 4, 6 or 7.
     #[inline]
-    pub(super) fn add(&mut self, key: [i32; 4], packed: u64, record: [u8; 12]) -> Result<(), u32> {
+    pub(super) fn add(&mut self, key: [i32; 4], packed: u64, record: [u8; 12]) -> Result<u32, u32> {
         let word = self.dir[self.map.address(self.map.cell(key, self.depth))];
+        let x = depth_of(word);
         let Some(g) = page_of(word) else {
             let g = self.free_page().ok_or(7u32)?;
             self.page_mut(g).put(0, record);
-            self.set_region(key, depth_of(word), word_of(Some(g), depth_of(word)));
-            return Ok(());
+            self.set_region(key, x, word_of(Some(g), x));
+            return Ok(x as u32);
         };
         let page = self.page(g);
         let records = page.records();
@@ -32,15 +35,16 @@ impl Store {
         }
         if records.len() < self.capacity() {
             self.page_mut(g).put(place, record);
-            return Ok(());
+            return Ok(x as u32);
         }
         let mut all = records.to_vec();
         all.insert(place, record);
-        self.divide(key, depth_of(word), g, &all)
+        self.divide(key, x, g, &all)
     }
 
-    /// Divides the leaf of a key, of depth x and with page g, that has one record too many.
-    fn divide(&mut self, key: [i32; 4], x: usize, g: usize, all: &[[u8; 12]]) -> Result<(), u32> {
+    /// Divides the leaf of a key, of depth x and with page g, that has one record too many. The depth of the key's leaf
+    /// then.
+    fn divide(&mut self, key: [i32; 4], x: usize, g: usize, all: &[[u8; 12]]) -> Result<u32, u32> {
         let (least, greatest) = (key_of(&all[0]), key_of(&all[all.len() - 1]));
         let bit = self.map.first_difference(least, greatest).expect("no key stands twice");
         if bit >= self.depth_limit {
@@ -64,16 +68,17 @@ impl Store {
         let (own, far) = if self.split_bit(key, bit) { (other, g) } else { (g, other) };
         self.set_region(key, bit + 1, word_of(Some(own), bit + 1));
         self.set_region(self.flipped(key, bit), bit + 1, word_of(Some(far), bit + 1));
-        Ok(())
+        Ok(bit as u32 + 1)
     }
 
-    /// Takes a key's record out. Refused with 3 or 5.
+    /// Takes a key's record out, and returns the depth of the key's leaf then. Refused with 3 or 5.
     #[inline(never)]
-    pub fn delete(&mut self, key: [i32; 4]) -> Result<(), u32> {
-        let packed = self.map.pack(key).ok_or(3u32)?;
+    pub fn delete(&mut self, key: [i32; 4]) -> Result<u32, Refused> {
+        let packed = self.map.pack(key).ok_or(refusal(3))?;
         let word = self.dir[self.map.address(self.map.cell(key, self.depth))];
-        let g = page_of(word).ok_or(5u32)?;
-        let place = self.page(g).find(packed).ok_or(5u32)?;
+        let absent = absent(depth_of(word) as u32);
+        let g = page_of(word).ok_or(absent)?;
+        let place = self.page(g).find(packed).ok_or(absent)?;
         self.page_mut(g).take(place);
         let (x, page) = self.join(key, depth_of(word), g);
         let joined = word_of(page, x);
@@ -83,7 +88,7 @@ impl Store {
             }
             self.set_region(key, x, joined);
         }
-        Ok(())
+        Ok(x as u32)
     }
 
     /// Joins the leaf of a key, of depth x and with page g, with its sibling while both fit one page. The depth of the

@@ -79,6 +79,6 @@ impl Store {
         (0..self.page_limit).for_each(|g| self.page_mut(g).set_count(0));
         (self.dir[0], self.depth, self.tally, self.first_free) = (0, 0, [0; 13], 0);
         self.tally[0] = 1;
-        records.iter().try_for_each(|&record| self.add(key_in(&record), key_of(&record), record))
+        records.iter().try_for_each(|&record| self.add(key_in(&record), key_of(&record), record).map(drop))
     }
 }

@@ -6,7 +6,7 @@ use mdeh_tests::plain::file::{file_of, load};
 use mdeh_tests::plain::image::Image;
 use mdeh_tests::plain::judge::judge;
 use mdeh_tests::plain::model::Model;
-use mdeh_tests::plain::refusal::page_size;
+use mdeh_tests::plain::refusal::{page_size, refusal};
 use mdeh_tests::plain::samples::{query_of, random_key, random_payload, range_of};
 use mdeh_tests::random::Random;
 use mdeh_tests::shapes::random_shape;
@@ -30,7 +30,8 @@ fn random_calls_are_answered_as_the_list_answers_them() {
             // more inserts at first, more deletes at last
             if random.below(200) > turn {
                 let payload = random_payload(&mut random);
-                count.same(store.insert(key, payload), model.insert(key, payload), about);
+                let found = store.insert(key, payload).map_err(refusal);
+                count.same(found, model.insert(key, payload), about);
             } else {
                 count.same(store.delete(key), model.delete(key), about);
             }
@@ -38,7 +39,8 @@ fn random_calls_are_answered_as_the_list_answers_them() {
             count.same(judge(&Image { state, dir, pages }), Ok(true), about);
             count.same(store.check(), true, about);
             let key = random_key(&mut random, &model);
-            count.same(store.lookup(key), model.lookup(key).map(|(payload, _)| payload), about);
+            let expected = model.lookup(key).map(|(payload, _, depth)| (payload, depth));
+            count.same(store.lookup(key), expected, about);
             let query = query_of(random.below(16), key);
             let length = random.below(200);
             let mut out = [random.bytes(length), vec![]];

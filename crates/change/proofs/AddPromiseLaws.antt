@@ -4,12 +4,12 @@
 use Prim.Native.Nat.{ℕ, suc, _<_, _≤_}
 use mathlib.Core.Path.{_≡_, refl}
 use mathlib.Core.Bool.{true, false}
-use mathlib.Core.List.{List, [], _∷_}
+use mathlib.Core.List.{List}
 use mathlib.Core.Logic.{inl, inr}
 use lib.ListN.{length}
 use Rattle.lists.specs.Filter.{nonEmpty}
 use Rattle.lists.specs.Members.{Member}
-use Rattle.shape.specs.Refusal.{accepted, refused}
+use Rattle.shape.specs.Refusal.{Answer, accepted, refused}
 use Rattle.shape.specs.Key.{keyFits}
 use Rattle.shape.specs.declared.Shape.{Shape}
 use Rattle.record.specs.declared.Content.{Content}
@@ -17,17 +17,17 @@ use Rattle.record.specs.Record.{Record, recordBit}
 use Rattle.directory_word.specs.Word.{wordOf}
 use Rattle.directory_word.specs.declared.Leaf.the-variants.{Empty}
 use Rattle.model.specs.Sets.{inShape, stored, withRecord}
-use Rattle.model.specs.Model.{recordFor, changed}
-use Rattle.model.specs.Add.{addNumber}
+use Rattle.model.specs.Model.{Reply, recordFor, changed}
+use Rattle.model.specs.Add.{addNumber, addAnswer}
 use Rattle.model.proofs.SetLaws.{inShape-recordFor}
 use Rattle.store.specs.Store.{Store, Memory, memory, store, fixedOf}
 use Rattle.store.specs.Sound.{Sound}
-use Rattle.store.specs.Promises.{keyNumber, AddPromise}
+use Rattle.store.specs.Promises.{keyNumber, depthAt, insertAnswers, AddPromise}
 use Rattle.store.specs.declared.Tally.{Tally}
 use Rattle.store.proofs.ShownLaws.{wordOn}
 use Rattle.change.proofs.RegionLaws.{changedStore}
 use Rattle.change.proofs.PromiseLaws.{keyFits-of-keyNumber, KeepsPast, KeepsOthers}
-use Rattle.change.proofs.PromiseLaws.{ShowsNext, ModelNumber}
+use Rattle.change.proofs.PromiseLaws.{ShowsNext}
 use Rattle.change.proofs.PromiseLaws.{promise-refused, promise-accepted}
 use Rattle.change.proofs.MeetLaws.{allHave, recordsOn, MeetsPage}
 use Rattle.change.proofs.NumberLaws.{NoFreePage, new-of-empty, room-of-empty, number-empty-none}
@@ -47,16 +47,15 @@ module _ (before : Store) (values : List ℕ) (content : Content) where
   abbrev r : Record
   r = recordFor s values content
 
-  -- the model's number, and its set if there is none
+  -- the model's answer and number, and its set if there is none
+  abbrev modelAnswer : List Record → Answer Reply
+  modelAnswer S = addAnswer (fixedOf (before .state)) S values content
+
   abbrev modelNumber : List Record → ℕ
   modelNumber S = addNumber (fixedOf (before .state)) S values content
 
   abbrev modelSet : List Record → List Record
   modelSet S = withRecord s r S
-
-  -- those after the early ones
-  abbrev numbers : List ℕ
-  numbers = 4 ∷ 6 ∷ 7 ∷ 9 ∷ []
 
   module _ (early : keyNumber before values ≡ 0) where
     fits : keyFits s values ≡ true
@@ -67,15 +66,16 @@ module _ (before : Store) (values : List ℕ) (content : Content) where
 
     -- ---- refused
 
-    refuse : (n : ℕ) → ModelNumber false values (keyNumber before values) numbers modelNumber modelSet before (suc n)
-        → Member (suc n) numbers
+    refuse : (n : ℕ) → ((S : List Record) → Sound before S → modelNumber S ≡ suc n)
+        → Member (refused (suc n)) (insertAnswers (depthAt before values))
         → AddPromise before values content (refused (suc n)) before
     refuse n number member =
-        promise-refused false values (keyNumber before values) numbers modelNumber modelSet before n number early member
+        promise-refused false values (keyNumber before values) insertAnswers modelAnswer modelNumber modelSet before
+        (refused (suc n)) n (λ S sound. (rw (number S sound), number S sound)) early member
 
     -- 9: the store is not sound
     pub add-unsound : OnSound before ⊥ → AddPromise before values content (refused 9) before
-    add-unsound none = refuse 8 (λ S sound. absurd (none S sound)) (inr (inr (inr (inl refl))))
+    add-unsound none = refuse 8 (λ S sound. absurd (none S sound)) (inr (inr (inr (inr (inl refl)))))
 
     -- 4: the key is on the page of its leaf
     pub add-stored : (g x : ℕ) → OnSound before (MeetsPage before r g x)
@@ -84,7 +84,7 @@ module _ (before : Store) (values : List ℕ) (content : Content) where
     add-stored g x meets found =
         refuse 3
         (λ S sound. number-stored before values content fits S sound g x (meets S sound) (found S sound))
-        (inl refl)
+        (inr (inl refl))
 
     -- 6: that page is full, and all keys on it have the key's bits below L
     pub add-alike : (g x : ℕ) → OnSound before (MeetsPage before r g x)
@@ -98,7 +98,7 @@ module _ (before : Store) (values : List ℕ) (content : Content) where
         (λ S sound.
         number-alike before values content fits S sound g x (meets S sound) (absent S sound) (full S sound)
         (alike S sound))
-        (inr (inl refl))
+        (inr (inr (inl refl)))
 
     -- 7: the leaf is empty, or full and to be divided, and no page is free
     pub add-empty-none : (x : ℕ) → OnSound before (wordOn before (recordBit s r) ≡ wordOf (Empty x))
@@ -106,7 +106,7 @@ module _ (before : Store) (values : List ℕ) (content : Content) where
     add-empty-none x word none =
         refuse 6
         (λ S sound. number-empty-none before values content fits S sound x (word S sound) (none S sound))
-        (inr (inr (inl refl)))
+        (inr (inr (inr (inl refl))))
 
     pub add-full-none : (g x m : ℕ) → OnSound before (MeetsFull before r g x m) → OnSound before (NoFreePage before)
         → AddPromise before values content (refused 7) before
@@ -115,27 +115,30 @@ module _ (before : Store) (values : List ℕ) (content : Content) where
         (λ S sound. let k = met S sound in
         number-full-none before values content fits S sound g x (k .meets) (k .absent) (k .full) m (k .below)
         (k .alike) (k .differ) (k .deep) (none S sound))
-        (inr (inr (inl refl)))
+        (inr (inr (inr (inl refl))))
 
     -- ---- accepted
 
-    accept : (T′ : ℕ) (tally′ : Tally) (m′ : Memory) → KeepsPast before m′
+    accept : (T′ : ℕ) (tally′ : Tally) (m′ : Memory) (x : ℕ) → KeepsPast before m′
         → KeepsOthers false before values (changedStore before T′ tally′ m′)
-        → ModelNumber false values (keyNumber before values) numbers modelNumber modelSet before 0
+        → depthAt (changedStore before T′ tally′ m′) values ≡ x
+        → ((S : List Record) → Sound before S → modelNumber S ≡ 0)
         → ((S : List Record) → Sound before S
         → ShowsNext before (changedStore before T′ tally′ m′) S (withRecord s r S))
-        → AddPromise before values content (accepted changed) (changedStore before T′ tally′ m′)
-    accept T′ tally′ m′ past others number shows =
-        promise-accepted false values (keyNumber before values) numbers modelNumber modelSet before T′ tally′ m′ early
-        past others number shows
+        → AddPromise before values content (accepted (changed x)) (changedStore before T′ tally′ m′)
+    accept T′ tally′ m′ x past others depth number shows =
+        promise-accepted false values (keyNumber before values) insertAnswers modelAnswer modelNumber modelSet before T′
+        tally′ m′ x early past others depth (inl refl) (λ S sound. (rw (number S sound), number S sound)) shows
 
     -- the leaf's page takes the record
     pub add-taken : (g x : ℕ) (bytes′ : List ℕ) → OnSound before (TookRecord before r g x bytes′)
         → KeepsPast before (memory (before .memory .words) bytes′)
         → KeepsOthers false before values (store (before .state) (before .memory .words) bytes′)
-        → AddPromise before values content (accepted changed) (store (before .state) (before .memory .words) bytes′)
-    add-taken g x bytes′ took past others =
-        accept (before .state .deepest) (before .state .tally) (memory (before .memory .words) bytes′) past others
+        → depthAt (store (before .state) (before .memory .words) bytes′) values ≡ x
+        → AddPromise before values content (accepted (changed x)) (store (before .state) (before .memory .words) bytes′)
+    add-taken g x bytes′ took past others depth =
+        accept (before .state .deepest) (before .state .tally) (memory (before .memory .words) bytes′) x past others
+        depth
         (λ S sound. let k = took S sound in
         number-page before values content fits S sound g x (k .meets) (k .absent) (k .room))
         (λ S sound. let k = took S sound in
@@ -146,9 +149,10 @@ module _ (before : Store) (values : List ℕ) (content : Content) where
     pub add-got : (g x : ℕ) (words′ bytes′ : List ℕ) → OnSound before (GotPage before r g x words′ bytes′)
         → KeepsPast before (memory words′ bytes′)
         → KeepsOthers false before values (store (before .state) words′ bytes′)
-        → AddPromise before values content (accepted changed) (store (before .state) words′ bytes′)
-    add-got g x words′ bytes′ got past others =
-        accept (before .state .deepest) (before .state .tally) (memory words′ bytes′) past others
+        → depthAt (store (before .state) words′ bytes′) values ≡ x
+        → AddPromise before values content (accepted (changed x)) (store (before .state) words′ bytes′)
+    add-got g x words′ bytes′ got past others depth =
+        accept (before .state .deepest) (before .state .tally) (memory words′ bytes′) x past others depth
         (λ S sound. let k = got S sound in
         number-empty-free before values content fits S sound x (k .word) g (k .within) (k .free))
         (λ S sound. let k = got S sound in
@@ -160,9 +164,11 @@ module _ (before : Store) (values : List ℕ) (content : Content) where
         → OnSound before (DividedLeaf before r g h x m T′ tally′ words₁ words′ bytes′)
         → KeepsPast before (memory words′ bytes′)
         → KeepsOthers false before values (changedStore before T′ tally′ (memory words′ bytes′))
-        → AddPromise before values content (accepted changed) (changedStore before T′ tally′ (memory words′ bytes′))
-    add-divided g h x m T′ tally′ words₁ words′ bytes′ divided past others =
-        accept T′ tally′ (memory words′ bytes′) past others
+        → depthAt (changedStore before T′ tally′ (memory words′ bytes′)) values ≡ suc m
+        → AddPromise before values content (accepted (changed (suc m)))
+        (changedStore before T′ tally′ (memory words′ bytes′))
+    add-divided g h x m T′ tally′ words₁ words′ bytes′ divided past others depth =
+        accept T′ tally′ (memory words′ bytes′) (suc m) past others depth
         (λ S sound. let d = divided S sound in let k = d .met in
         number-full-free before values content fits S sound g x (k .meets) (k .absent) (k .full) m (k .below)
         (k .alike) (k .differ) (k .deep) h (d .within) (d .free))

@@ -2,20 +2,21 @@
 use Prim.Native.Nat.{ℕ, suc}
 use mathlib.Core.Path.{_≡_, sym, _∙_}
 use mathlib.Core.Bool.{false}
-use mathlib.Core.List.{List, [], _∷_, _++_}
+use mathlib.Core.List.{List, _++_}
 use native.Mathlib.Omega.{arith}
 use Rattle.shape.specs.Refusal.{Condition, Answer, refused}
 use Rattle.shape.specs.Shape.{shapeConditions}
 use Rattle.record.specs.declared.Content.{Content}
 use Rattle.record.specs.Record.{Record}
 use Rattle.model.specs.Model.{Fixed, Reply, insertCall, recordFor, keyConditions, payloadConditions, addConditions}
-use Rattle.model.specs.Model.{numberFor, replyTo, setAfter, outcome, next}
+use Rattle.model.specs.Model.{numberFor, setAfter, outcome, next}
 use Rattle.model.specs.Sets.{withRecord}
 use Rattle.model.proofs.ConditionLaws.{firstNumber-first, firstNumber-rest}
+use Rattle.model.proofs.AnswerLaws.{answer-insert}
 use Rattle.model.proofs.InsertLaws.{outcome-insert-other, next-insert-other}
 use Rattle.store.specs.Store.{Store, fixedOf, lentConditions}
 use Rattle.store.specs.Sound.{Sound}
-use Rattle.store.specs.Promises.{keyNumber, insertNumber, AddPromise, InsertPromise}
+use Rattle.store.specs.Promises.{keyNumber, insertNumber, insertAnswers, AddPromise, InsertPromise}
 use Rattle.store.proofs.InsertNumberLaws.{insertNumber-key, insertNumber-zero, insertNumber-other}
 use Rattle.change.proofs.PromiseLaws.{numbered-lent, lent-of-sound, promise-early}
 
@@ -37,12 +38,15 @@ module _ (before : Store) (values : List ℕ) (content : Content) where
 
   early : (n : ℕ) → insertNumber before values content ≡ suc n
       → InsertPromise before values content (refused (suc n)) before
-  unfolding outcome replyTo next setAfter
+  unfolding next setAfter
   early n e =
-      promise-early false values (insertNumber before values content) (4 ∷ 6 ∷ 7 ∷ 9 ∷ [])
-      (λ S. numberFor f S (insertCall values content))
+      promise-early false values (insertNumber before values content) insertAnswers
+      (λ S. outcome f S (insertCall values content) .answer) (λ S. numberFor f S (insertCall values content))
       (λ S. withRecord (f .shape) (recordFor (f .shape) values content) S) before n
-      (λ S sound. model-number S sound n e) e
+      (λ S sound. let number = model-number S sound n e in (
+        rw (answer-insert f S values content, number),
+        number,
+      )) e
 
   -- refused with 1, 2 or 3
   pub insert-early : (n : ℕ) → keyNumber before values ≡ suc n

@@ -2,28 +2,31 @@
 -- record that is added and for delete alike. Assumes nothing.
 use Prim.Native.Nat.{ℕ, suc, _+_, _^_, _≤_}
 use mathlib.Core.Path.{_≡_, refl, sym, ap, _∙_, subst}
-use mathlib.Core.Bool.{Bool, true, false, not, cond}
+use mathlib.Core.Bool.{Bool, true, false, not, cond, false≢true}
 use mathlib.Core.List.{List, []}
-use mathlib.Core.Logic.{inl, inr}
+use mathlib.Core.Logic.{inl}
 use native.Mathlib.Omega.{arith}
 use lib.ListN.{length, getD, drop, length-drop}
 use lib.Pow.{pow-mono}
 use lib.Seq.{getD-drop, ext-getD}
 use borrow.Author.Tests.{le-ltb, not-false}
 use Rattle.lists.specs.Members.{Member}
-use Rattle.shape.specs.Refusal.{Answer, accepted, refused, answered, firstNumber}
+use Rattle.shape.specs.Refusal.{Answer, accepted, refused, firstNumber}
 use Rattle.shape.specs.Shape.{widthsOf, shapeConditions}
 use Rattle.shape.specs.Key.{keyFits, encodings}
 use Rattle.split.specs.Bits.{splitBit}
 use Rattle.record.specs.Record.{Record}
+use Rattle.directory_word.specs.Word.{depthField}
 use Rattle.model.specs.Model.{Reply, changed, keyConditions, ifAccepted}
+use Rattle.model.specs.Sets.{keyDepth}
 use Rattle.model.proofs.ConditionLaws.{firstNumber-zero, numbered, firstNumber-rest, firstNumber-none}
 use Rattle.store.specs.Store.{Store, Memory, pagesSize, lentConditions}
 use Rattle.store.specs.Sound.{Sound}
 use Rattle.store.specs.Contained.{Contained}
-use Rattle.store.specs.Promises.{keyNumber, KeepsPages, TakesPages, ChangePromise}
+use Rattle.store.specs.Promises.{keyNumber, KeepsPages, TakesPages, depthAt, ChangePromise}
 use Rattle.store.specs.declared.Tally.{Tally}
-use Rattle.store.proofs.ShownLaws.{divisionOn}
+use Rattle.store.proofs.KeyLaws.{depthAt-sound}
+use Rattle.store.proofs.ShownLaws.{wordOn, divisionOn}
 use Rattle.change.proofs.RegionLaws.{changedStore, RegionChanged, keeps-of-region, takes-of-region}
 
 -- ---- early numbers
@@ -106,6 +109,12 @@ pub keeps-others : (joins : Bool) (before : Store) (encoded values : List ℕ)
 keeps-others joins before encoded values same after c =
     subst (λ k. Contained joins before after (splitBit (widthsOf (before .state .shape)) k)) (sym same) c
 
+pub depthAt-encoded : (after : Store) (encoded values : List ℕ) → encodings (after .state .shape) values ≡ encoded
+    → (x : ℕ) → depthField (wordOn after (splitBit (widthsOf (after .state .shape)) encoded)) ≡ x
+    → depthAt after values ≡ x
+depthAt-encoded after encoded values same x e =
+    ap (λ k. depthField (wordOn after (splitBit (widthsOf (after .state .shape)) k))) same ∙ e
+
 -- ---- a sound store after an accepted call
 
 pub record ShowsNext (before after : Store) (S S′ : List Record) : Type 0 where
@@ -125,33 +134,29 @@ showsNext-of-region before S S′ T′ tally′ m′ p₀ x sound change after =
 
 -- ---- the promise
 
--- `number S` is the model's number, `set S` its set after an accepted call
-module _ (joins : Bool) (values : List ℕ) (early : ℕ) (numbers : List ℕ) (number : List Record → ℕ)
-    (set : List Record → List Record) (before : Store) where
+-- `modelAnswer S` is the model's answer, `number S` its number, `set S` its set after an accepted call
+module _ (joins : Bool) (values : List ℕ) (early : ℕ) (answers : ℕ → List (Answer Reply))
+    (modelAnswer : List Record → Answer Reply) (number : List Record → ℕ) (set : List Record → List Record)
+    (before : Store) where
   abbrev pub Promise : Answer Reply → Store → Type 0
   Promise answer after =
-      ChangePromise joins values early numbers (λ S. answered (number S) changed)
-      (λ S. ifAccepted (number S) (set S) S) before answer after
+      ChangePromise joins values early answers modelAnswer (λ S. ifAccepted (number S) (set S) S) before answer after
 
-  -- on a sound store it is the model's number
-  abbrev pub ModelNumber : ℕ → Type 0
-  ModelNumber n = (S : List Record) → Sound before S → number S ≡ n
+  -- on a sound store it is the model's answer, with its number
+  abbrev pub ModelRefuses : Answer Reply → ℕ → Type 0
+  ModelRefuses answer n = (S : List Record) → Sound before S → (answer ≡ modelAnswer S) × (number S ≡ n)
 
-  module _ (n : ℕ) (same : ModelNumber (suc n)) where
-    answer-refused : (S : List Record) → Sound before S
-        → _≡_ {A = Answer Reply} (refused (suc n)) (answered (number S) changed)
-    answer-refused S sound = rw (same S sound)
-
+  module _ (answer : Answer Reply) (n : ℕ) (same : ModelRefuses answer (suc n)) where
     next-refused : (S : List Record) → Sound before S → ifAccepted (number S) (set S) S ≡ S
-    next-refused S sound = rw (same S sound)
+    next-refused S sound = rw (same S sound .1)
 
-    promise-unchanged : ((k : ℕ) → early ≡ suc k → _≡_ {A = Answer Reply} (refused (suc n)) (refused (suc k)))
-        → (early ≡ 0 → Member (suc n) numbers) → Promise (refused (suc n)) before
+    promise-unchanged : ((k : ℕ) → early ≡ suc k → answer ≡ refused (suc k))
+        → (early ≡ 0 → Member answer (answers (depthAt before values))) → Promise answer before
     promise-unchanged first later =
         record {
           early-refused = first;
-          unchanged = λ k e. refl;
-          ordinary = λ e. inr (suc n, refl, later e);
+          unchanged = λ e. refl;
+          ordinary = later;
           shape-kept = refl;
           limits-kept = refl;
           words-length = refl;
@@ -159,31 +164,41 @@ module _ (joins : Bool) (values : List ℕ) (early : ℕ) (numbers : List ℕ) (
           words-past = refl;
           bytes-past = refl;
           contained = record { words-kept = λ p. inl refl; bytes-kept = λ g l. inl refl };
-          answered-as = answer-refused;
+          answered-as = λ S sound. same S sound .0;
           shown = λ S sound. rw (next-refused S sound) sound;
           pages-kept = λ S sound. rw (next-refused S sound) (λ p e h g x l d. d);
           pages-taken = λ S sound. rw (next-refused S sound) (λ p g x l d. inl d);
         }
 
-    pub promise-early : early ≡ suc n → Promise (refused (suc n)) before
-    promise-early e =
-        promise-unchanged (λ k d. ap refused (sym e ∙ d))
-        (λ d. let z : suc n ≡ 0 = sym e ∙ d in absurd (omega arith))
-
-    pub promise-refused : early ≡ 0 → Member (suc n) numbers → Promise (refused (suc n)) before
+    pub promise-refused : early ≡ 0 → Member answer (answers (depthAt before values)) → Promise answer before
     promise-refused e member =
         promise-unchanged (λ k d. let z : suc k ≡ 0 = sym d ∙ e in absurd (omega arith)) (λ d. member)
 
-  -- on a sound store the call is accepted, and its set shown
-  pub promise-accepted : (T′ : ℕ) (tally′ : Tally) (m′ : Memory) → early ≡ 0 → KeepsPast before m′
-      → KeepsOthers joins before values (changedStore before T′ tally′ m′) → ModelNumber 0
+  pub promise-early : (n : ℕ) → ModelRefuses (refused (suc n)) (suc n) → early ≡ suc n
+      → Promise (refused (suc n)) before
+  promise-early n same e =
+      promise-unchanged (refused (suc n)) n same (λ k d. ap refused (sym e ∙ d))
+      (λ d. let z : suc n ≡ 0 = sym e ∙ d in absurd (omega arith))
+
+  -- on a sound store the model accepts, with the depth of the key's leaf afterwards
+  abbrev pub ModelAccepts : Type 0
+  ModelAccepts = (S : List Record) → Sound before S
+      → (modelAnswer S
+      ≡ accepted (changed (keyDepth (before .state .shape) (encodings (before .state .shape) values) (set S))))
+      × (number S ≡ 0)
+
+  -- the call is accepted with the depth x of the word at the key's cell, and on a sound store its set shown
+  pub promise-accepted : (T′ : ℕ) (tally′ : Tally) (m′ : Memory) (x : ℕ) → early ≡ 0 → KeepsPast before m′
+      → KeepsOthers joins before values (changedStore before T′ tally′ m′)
+      → depthAt (changedStore before T′ tally′ m′) values ≡ x → Member (accepted (changed x)) (answers x)
+      → ModelAccepts
       → ((S : List Record) → Sound before S → ShowsNext before (changedStore before T′ tally′ m′) S (set S))
-      → Promise (accepted changed) (changedStore before T′ tally′ m′)
-  promise-accepted T′ tally′ m′ e past others same shows =
+      → Promise (accepted (changed x)) (changedStore before T′ tally′ m′)
+  promise-accepted T′ tally′ m′ x e past others depth member same shows =
       record {
         early-refused = λ k d. let z : suc k ≡ 0 = sym d ∙ e in absurd (omega arith);
-        unchanged = λ k d. let z : _≡_ {A = ℕ} 0 1 = cc in absurd (omega arith);
-        ordinary = λ d. inl refl;
+        unchanged = λ d. absurd (false≢true d);
+        ordinary = λ d. subst (λ y. Member (accepted (changed x)) (answers y)) (sym depth) member;
         shape-kept = refl;
         limits-kept = refl;
         words-length = past .words-length;
@@ -197,9 +212,11 @@ module _ (joins : Bool) (values : List ℕ) (early : ℕ) (numbers : List ℕ) (
         pages-taken = λ S sound. rw (set-after S sound) (shows S sound .takes);
       }
     where
-      answer : (S : List Record) → Sound before S
-          → _≡_ {A = Answer Reply} (accepted changed) (answered (number S) changed)
-      answer S sound = rw (same S sound)
+      answer : (S : List Record) → Sound before S → accepted (changed x) ≡ modelAnswer S
+      answer S sound =
+          ap (λ y. accepted (changed y))
+          (sym depth ∙ depthAt-sound (changedStore before T′ tally′ m′) (set S) (shows S sound .sound) values)
+          ∙ sym (same S sound .0)
 
       set-after : (S : List Record) → Sound before S → ifAccepted (number S) (set S) S ≡ set S
-      set-after S sound = rw (same S sound)
+      set-after S sound = rw (same S sound .1)

@@ -62,6 +62,7 @@ pub record KeyHeld (encoded : List ℕ) (S : List Record) : Type 0 where
 module _ (st : State) (words encoded : List ℕ) where
   abbrev pub DeleteGuarded : delete-plan.Plan → Type 0
   DeleteGuarded (delete-plans.Refused n) = Unit
+  DeleteGuarded (delete-plans.Absent x) = Unit
   DeleteGuarded (delete-plans.Keep r) =
       r .count ≡ 1 → LeafTested st words encoded (r .depth) (wordOf (Page (r .page) (r .depth)))
   DeleteGuarded (delete-plans.Join r j) = JoinTested st words encoded r j

@@ -25,7 +25,6 @@ use Rattle.store.specs.Store.{Store, store, wordAt}
 use Rattle.store.specs.Contained.{Whole, JoinedWith, Contained}
 use Rattle.store.specs.declared.State.{State}
 use Rattle.change.specs.Delete.{keyString}
-use Rattle.refusals.proofs.LimitsLaws.{limits-parts}
 use Rattle.insert_planned.specs.declared.Split.{Split}
 use Rattle.insert_cut.specs.declared.Cut.{Cut}
 use Rattle.insert_planned.specs.Planned.{RoomFound, GetPlanned, DividePlanned}
@@ -38,13 +37,12 @@ use Rattle.delete_plan.specs.Plan.{RecordFound, JoinPlanned}
 use Rattle.delete_pages.specs.PageBytes.{RecordLent, PairLent, removedBytes, keptPage, joinedBytes}
 use Rattle.delete_steps.specs.Steps.{LeavesLent, LeafWords, JoinWords}
 use Rattle.delete_pages.proofs.PageLaws.{pageAt-removedBytes-other, pageAt-joinedBytes-other}
-use Rattle.delete_steps.proofs.StepLaws.{keptPage-lt}
 use Rattle.change_kept.specs.Tested.{LeafTested, JoinTested}
 use Rattle.change_kept.proofs.WordLaws.{leaves-sibling, sibling-joined}
 use Rattle.change_kept.proofs.PageLaws.{pageAt-dividedPages-other, one-written, two-written}
 use Rattle.change_kept.proofs.RegionLaws.{filled-whole}
 use Rattle.change_kept.proofs.StepLaws.{same-kept, get-kept, divide-kept, keep-kept, join-kept, depth-is}
-use Rattle.change_kept.proofs.StepLaws.{joined-siblings}
+use Rattle.change_kept.proofs.StepLaws.{joined-siblings, kept-lt, depth-joined}
 
 module _ (before : Store) (encoded : List ℕ) where
   abbrev st : State
@@ -74,17 +72,18 @@ module _ (before : Store) (encoded : List ℕ) where
 
   module _ (code : ℕ) (content : Content) where
     -- a page takes the record
-    pub contained-taken : (g i n : ℕ) → RoomFound before encoded g i n → PageLent b g bytes × (i ≤ n) × (n < b)
-        → (bytes′ : List ℕ) → bytes′ ≡ insertedPages b g i n (packedBytes code content) bytes
+    pub contained-taken : (g x i n : ℕ) → RoomFound before encoded g x i n
+        → PageLent b g bytes × (i ≤ n) × (n < b) → (bytes′ : List ℕ)
+        → bytes′ ≡ insertedPages b g i n (packedBytes code content) bytes
         → Contained false before (store st words bytes′) key
-    contained-taken g i n planned lent bytes′ e = record {
+    contained-taken g x i n planned lent bytes′ e = record {
       words-kept = same-kept before encoded false words refl;
       bytes-kept =
           one-written false before (store st words bytes′) key g
           (λ k o. page-of bytes′ _ e k
           (pageAt-insertedPages-other b g i n (packedBytes code content) bytes (lent .0) (lent .1) (lent .2)
           (length-packedBytes code content) k o))
-          (inl (planned .depth, planned .met .own));
+          (inl (x, planned .met .own));
     }
 
     -- an empty leaf gets a page
@@ -188,35 +187,22 @@ module _ (before : Store) (encoded : List ℕ) where
         m : ℕ
         m = j .step
 
-        few : st .limits .pages ≤ 4096
-        few = limits-parts st (found .leaf .limits) .1
-
         beside : ℕ → Bool
         beside = sibling key m
 
         beside-word : wordAt s (st .deepest) words beside ≡ wordOf (Page (j .other) (suc m))
         beside-word = tested .other beside (λ i l. refl)
 
-        kept : ℕ
-        kept = keptPage (j .bit) (r .page) (j .other)
-
-        kept-lt : kept < 2 ^ 16 - 1
-        kept-lt =
-            let l = keptPage-lt (j .bit) (r .page) (j .other) (st .limits .pages) (planned .met .own-within)
-            (planned .met .other-within) in
-            omega (arith, l, few)
-
         top : depthField (wordAt (st′ .shape) (st′ .deepest) words′ key) ≡ j .top
         top =
             ap (λ t. depthField (wordAt (t .shape) (st′ .deepest) words′ key)) (w .state)
-            ∙ ap depthField (w .new-leaf .inside key (λ i l. refl))
-            ∙ wordOf-depth kept (j .top) kept-lt
+            ∙ depth-joined before encoded r found j planned st′ words′ w
 
         one-leaf : Whole (wordAt (st′ .shape) (st′ .deepest) words′) key
         one-leaf =
             subst (λ v. Whole (wordAt v (st′ .deepest) words′) key) (sym (ap (λ t. t .shape) (w .state)))
-            (filled-whole (widthsOf s) (st .deepest) key words (st′ .deepest) (j .top) kept kept-lt words′
-            (w .new-leaf))
+            (filled-whole (widthsOf s) (st .deepest) key words (st′ .deepest) (j .top)
+            (keptPage (j .bit) (r .page) (j .other)) (kept-lt before encoded r found j planned) words′ (w .new-leaf))
 
         joined : Whole (wordAt s (st .deepest) words) beside
             × JoinedWith true (wordAt s (st .deepest) words) (wordAt (st′ .shape) (st′ .deepest) words′) key beside

@@ -125,6 +125,16 @@ module _ (before : Store) (encoded : List ℕ) where
             (tested (r .depth) _ (found .leaf .own) (h e)) true (wordOf (Empty (r .depth))) words′ (w .emptied e)
         by-count (inr n) = same-kept true words′ (w .same n)
 
+    -- the word at the key's cell names the same depth then
+    pub depth-kept : (words′ : List ℕ) → LeafWords st encoded r words words′
+        → depthField (wordAt s (st .deepest) words′ key) ≡ r .depth
+    depth-kept words′ w = by-count (eq-or-ne (r .count) 1)
+      where
+        by-count : (r .count ≡ 1) ⊎ (r .count ≡ 1 → ⊥) → depthField (wordAt s (st .deepest) words′ key) ≡ r .depth
+        by-count (inl e) =
+            ap depthField (w .emptied e .inside key (λ i l. refl)) ∙ wordOf-depth-empty (r .depth)
+        by-count (inr n) = ap (λ ws. depthField (wordAt s (st .deepest) ws key)) (w .same n) ∙ depth-is
+
     -- the siblings that are joined with it: its own, and empty ones above
     pub joined-siblings : (j : Join) → JoinPlanned before encoded r j → JoinTested st words encoded r j → (z : ℕ)
         → j .top ≤ z → z ≤ j .step → SiblingLeaf (wordAt s (st .deepest) words) key z
@@ -145,6 +155,20 @@ module _ (before : Store) (encoded : List ℕ) where
           holds = h .empty z l (omega arith);
         }
 
+    -- the page that a join keeps
+    pub kept-lt : (j : Join) → JoinPlanned before encoded r j → keptPage (j .bit) (r .page) (j .other) < 2 ^ 16 - 1
+    kept-lt j planned =
+        let l = keptPage-lt (j .bit) (r .page) (j .other) (st .limits .pages) (planned .met .own-within)
+        (planned .met .other-within) in
+        omega (arith, l, few)
+
+    -- the word at the key's cell names the new leaf's depth then
+    pub depth-joined : (j : Join) → JoinPlanned before encoded r j → (st′ : State) (words′ : List ℕ)
+        → JoinWords st encoded r j st′ words words′ → depthField (wordAt s (st′ .deepest) words′ key) ≡ j .top
+    depth-joined j planned st′ words′ w =
+        ap depthField (w .new-leaf .inside key (λ i l. refl))
+        ∙ wordOf-depth (keptPage (j .bit) (r .page) (j .other)) (j .top) (kept-lt j planned)
+
     -- the key's leaf is joined
     pub join-kept : (j : Join) (st′ : State) (words′ : List ℕ) → JoinPlanned before encoded r j → LeavesLent st r j
         → JoinTested st words encoded r j → JoinWords st encoded r j st′ words words′ → KeptIn true st′ words′
@@ -154,11 +178,8 @@ module _ (before : Store) (encoded : List ℕ) where
         let met = planned .met in
         let depth : joinedDepth st j ≡ st′ .deepest = sym (w .depth ∙ ap (tallyDepth (st .deepest)) (w .tally)) in
         let low : y ≤ st′ .deepest = subst (λ n. y ≤ n) (sym (w .depth)) (top-le st r j lent short _ (w .tally)) in
-        let page = keptPage-lt (j .bit) (r .page) (j .other) (st .limits .pages) (met .own-within)
-        (met .other-within) in
-        let within : keptPage (j .bit) (r .page) (j .other) < 2 ^ 16 - 1 = omega (arith, page, few) in
         with-shape true st′ words′ (w .state)
         (joined-kept (widthsOf s) (st .deepest) key words m y (st′ .deepest) (keptPage (j .bit) (r .page) (j .other))
         (met .above) low (depth-is ∙ planned .depth-step) (tested (suc m) _ (met .own) (h .own))
-        (joined-siblings j planned h) within
+        (joined-siblings j planned h) (kept-lt j planned)
         (subst (λ n. Folds (widthsOf s) n (st .deepest) key words) depth (h .halved)) words′ (w .new-leaf))

@@ -17,9 +17,10 @@ ghost use Rattle.store.specs.Answers.{changedAnswer};
 ghost use Rattle.store.specs.Promises.{DeletePromise};
 ghost use Rattle.store.specs.Store.{store};
 
-// Removes the record with a key, and joins leaves until the leaves of the set without it stand.
-// Refused with 1, 2, 3, 5 or 9, the first that holds in this order; a refused call changes nothing.
-// On any store no word and no page of a leaf that is not joined is lost.
+// Removes the record with a key, joins leaves until the leaves of the set without it stand, and
+// returns the depth of the key's leaf afterwards. Refused with 1, 2, 3, 5 or 9, the first that holds
+// in this order; 5 carries the depth of the leaf in which the absent key falls; a refused call
+// changes nothing. On any store no word and no page of a leaf that is not joined is lost.
 pub fn delete(state: State, dir: &mut [u32], pages: &mut [u8], key: Key) -> Change
     ensures { λ r. ⌜ DeletePromise (store state (now (dir .entry)) (now (pages .entry))) (key .values)
         (changedAnswer (r .answer)) (store (r .state) (now (dir .exit)) (now (pages .exit))) ⌝ }
@@ -45,6 +46,10 @@ pub fn delete(state: State, dir: &mut [u32], pages: &mut [u8], key: Key) -> Chan
             answer: Changed::Refused(n),
             state,
         },
+        Plan::Absent(depth) => Change {
+            answer: Changed::Absent(depth),
+            state,
+        },
         Plan::Keep(found) => {
             if !removal_keeps(state, dir, encodings, found) {
                 return Change {
@@ -54,7 +59,7 @@ pub fn delete(state: State, dir: &mut [u32], pages: &mut [u8], key: Key) -> Chan
             }
             keep_leaf(state, dir, pages, encodings, found);
             Change {
-                answer: Changed::Done,
+                answer: Changed::Done(found.depth),
                 state,
             }
         }
@@ -67,7 +72,7 @@ pub fn delete(state: State, dir: &mut [u32], pages: &mut [u8], key: Key) -> Chan
             }
             let joined = join_leaves(state, dir, pages, encodings, found, join);
             Change {
-                answer: Changed::Done,
+                answer: Changed::Done(join.top),
                 state: joined,
             }
         }

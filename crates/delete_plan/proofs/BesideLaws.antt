@@ -8,6 +8,7 @@ use native.Mathlib.Omega.{arith}
 use lib.Dec.{ltb}
 use borrow.Author.Tests.{ltb-false}
 use Rattle.lists.proofs.Bools.{and-split}
+use Rattle.shape.specs.Refusal.{refused}
 use Rattle.shape.specs.Shape.{widthsOf}
 use Rattle.cell.specs.Cell.{Agree}
 use Rattle.region.specs.Strings.{sibling}
@@ -61,12 +62,12 @@ module _ (before : Store) (encoded : List ℕ) (r : Stored) (f : RecordFound bef
   -- ---- the word of a cell of the sibling
 
   module _ (divided : 0 < x) (word : ℕ) (c : AtSibling before encoded (x - 1) (λ w. word ≡ w)) where
-    refused-word-there : wordHolds (before .state) word ≡ false → RefusalMet before encoded 9
+    refused-word-there : wordHolds (before .state) word ≡ false → RefusalMet before encoded (refused 9)
     refused-word-there e =
         refused-word before encoded (c .0) (ap (wordHolds (before .state)) (sym (c .2)) ∙ e)
 
     -- a leaf above the key's leaf, or an empty one beside it
-    refused-shallow : word ≤ wordOf (Empty x) → RefusalMet before encoded 9
+    refused-shallow : word ≤ wordOf (Empty x) → RefusalMet before encoded (refused 9)
     refused-shallow l =
         let step : suc (x - 1) ≡ x = omega arith in
         refused-unsound before encoded
@@ -75,11 +76,11 @@ module _ (before : Store) (encoded : List ℕ) (r : Stored) (f : RecordFound bef
         (f .leaf .own ∙ ap (λ y. wordOf (Page g y)) (sym step))
         (c .0, c .1, rw (step, sym (c .2)) l))
 
-    pub refused-sibling : siblingHolds (before .state) x word ≡ false → RefusalMet before encoded 9
+    pub refused-sibling : siblingHolds (before .state) x word ≡ false → RefusalMet before encoded (refused 9)
     unfolding siblingHolds
     refused-sibling e = by-word (wordHolds (before .state) word) refl
       where
-        by-word : (β : Bool) → wordHolds (before .state) word ≡ β → RefusalMet before encoded 9
+        by-word : (β : Bool) → wordHolds (before .state) word ≡ β → RefusalMet before encoded (refused 9)
         by-word false h = refused-word-there h
         by-word true h =
             refused-shallow (ltb-false (wordOf (Empty x)) word

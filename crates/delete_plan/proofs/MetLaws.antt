@@ -11,6 +11,7 @@ use lib.ListN.{length}
 use lib.Pow.{pow-mono}
 use borrow.Author.Tests.{eqb-true}
 use Rattle.lists.specs.Filter.{nonEmpty}
+use Rattle.shape.specs.Refusal.{refused, refusedWith}
 use Rattle.shape.specs.Shape.{widthsOf, total, indexFits}
 use Rattle.shape.specs.declared.Shape.{Shape}
 use Rattle.shape.proofs.ShapeLaws.{capacity-bounds}
@@ -26,14 +27,15 @@ use Rattle.page.proofs.PartLaws.{page-end-le}
 use Rattle.page_matches.specs.KeyPlace.{keyPlace}
 use Rattle.page_matches.proofs.PlaceLaws.{keyPlace-le}
 use Rattle.page_matches.proofs.StoredLaws.{sameKey-absent}
-use Rattle.directory_word.specs.Word.{leafOf}
+use Rattle.directory_word.specs.Word.{depthField, leafOf}
 use Rattle.directory_word.specs.declared.Leaf.the-variants.{Empty, Page}
-use Rattle.directory_word.proofs.WordLaws.{wordOf-page, wordOf-page-empty}
+use Rattle.directory_word.proofs.WordLaws.{wordOf-depth, wordOf-page, wordOf-page-empty}
 use Rattle.model.specs.Sets.{stored}
 use Rattle.store.specs.Store.{Store}
 use Rattle.store.specs.Sound.{Sound}
 use Rattle.store.proofs.ShownLaws.{wordOn}
 use Rattle.change.specs.Delete.{keyString}
+use Rattle.change.proofs.PromiseLaws.{depthAt-encoded}
 use Rattle.change.proofs.DeletePromiseLaws.{delete-unsound, delete-empty, delete-absent}
 use Rattle.refusals.specs.Limits.{limitsHold}
 use Rattle.refusals.proofs.LimitsLaws.{limits-of-sound, limits-parts}
@@ -77,23 +79,25 @@ module _ (before : Store) (encoded : List ℕ) where
   abbrev p : ℕ → Bool
   p = keyString before encoded
 
-  pub refused-unsound : ((S : List Record) → Sound before S → ⊥) → RefusalMet before encoded 9
+  pub refused-unsound : ((S : List Record) → Sound before S → ⊥) → RefusalMet before encoded (refused 9)
   refused-unsound none values early same = delete-unsound before values early none
 
   -- ---- before the key's leaf
 
-  pub refused-limits : limitsHold (before .state) ≡ false → RefusalMet before encoded 9
+  pub refused-limits : limitsHold (before .state) ≡ false → RefusalMet before encoded (refused 9)
   refused-limits e = refused-unsound (λ S sound. true≢false (sym (limits-of-sound before S sound) ∙ e))
 
   -- a word at any cell that does not hold
-  pub refused-word : (q : ℕ → Bool) → wordHolds (before .state) (wordOn before q) ≡ false → RefusalMet before encoded 9
+  pub refused-word : (q : ℕ → Bool) → wordHolds (before .state) (wordOn before q) ≡ false
+      → RefusalMet before encoded (refused 9)
   refused-word q e = refused-unsound (λ S sound. true≢false (sym (word-of-sound before S sound q) ∙ e))
 
-  -- the key's leaf is empty
-  pub refused-empty : (x : ℕ) → leafOf (wordOn before p) ≡ Empty x
-      → wordHolds (before .state) (wordOn before p) ≡ true → RefusalMet before encoded 5
-  refused-empty x e h values early same =
-      delete-empty before values early
+  -- the key's leaf is empty, of depth y
+  pub refused-empty : (x y : ℕ) → leafOf (wordOn before p) ≡ Empty x
+      → wordHolds (before .state) (wordOn before p) ≡ true → y ≡ depthField (wordOn before p)
+      → RefusalMet before encoded (refusedWith 5 y)
+  refused-empty x y e h d values early same =
+      delete-empty before values early y (depthAt-encoded before encoded values same y (sym d))
       (λ S sound. rw same
       (ap (λ w. w % 2 ^ 16) (held-empty (before .state) (wordOn before p) h x e .1) ∙ wordOf-page-empty x))
 
@@ -131,6 +135,9 @@ module _ (before : Store) (encoded : List ℕ) where
 
     field : wordOn before p % 2 ^ 16 ≡ g + 1
     field = ap (λ w. w % 2 ^ 16) (m .own) ∙ wordOf-page g x g-lt
+
+    depth : depthField (wordOn before p) ≡ x
+    depth = ap depthField (m .own) ∙ wordOf-depth g x g-lt
 
     -- ---- bounds
 
@@ -170,7 +177,7 @@ module _ (before : Store) (encoded : List ℕ) where
     -- a leaf's page has 1 to b records, the first and the last of which begin with the leaf's string
     pub refused-page : (mask n : ℕ) → mask ≡ fixedBits (widthsOf s) x
         → n ≡ fairCount (s .capacity) (endsAgree (biasKey s) mask (packedKey encoded) page (countOf page)) page → n ≡ 0
-        → RefusalMet before encoded 9
+        → RefusalMet before encoded (refused 9)
     refused-page mask n fixed e none =
         refused-unsound
         (λ S sound.
@@ -189,9 +196,10 @@ module _ (before : Store) (encoded : List ℕ) where
 
       -- no record of the page has the key
       pub refused-absent : (i : ℕ) → i ≡ keyPlace (fieldsKey s (packedKey encoded)) page n 0 → i ≡ n
-          → RefusalMet before encoded 5
+          → RefusalMet before encoded (refusedWith 5 x)
       refused-absent i q h values early same =
-          delete-absent before values early g (λ S sound. rw same field)
+          delete-absent before values early g x (depthAt-encoded before encoded values same x depth)
+          (λ S sound. rw same field)
           (λ S sound. rw same
           (ap nonEmpty (ap (stored encoded) (sym counted) ∙ sameKey-absent s (m .passed .shape) encoded six page page-are n (sym q ∙ h))))
 

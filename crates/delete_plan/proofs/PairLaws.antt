@@ -5,6 +5,7 @@ use mathlib.Core.Path.{_≡_, refl, sym, ap, _∙_, subst}
 use mathlib.Core.Bool.{Bool, true, false, true≢false}
 use mathlib.Core.List.{List}
 use native.Mathlib.Omega.{arith}
+use Rattle.shape.specs.Refusal.{refused}
 use Rattle.shape.specs.Shape.{widthsOf, total, shapeNumber}
 use Rattle.split.specs.Bits.{splitBit}
 use Rattle.cell.specs.Cell.{Agree}
@@ -82,7 +83,7 @@ module _ (before : Store) (encoded : List ℕ) (r : Stored) (mask h beside : ℕ
   -- its page has 1 to b records, the first and the last of which begin with the sibling's string
   pub refused-other : (k : ℕ) → k ≡ fairCount b (endsAgree bias mask beside (pageOf h) (countOf (pageOf h))) (pageOf h)
       → k ≡ 0
-      → RefusalMet before encoded 9
+      → RefusalMet before encoded (refused 9)
   refused-other k e none =
       refused-unsound before encoded
       (λ S sound.
@@ -91,7 +92,7 @@ module _ (before : Store) (encoded : List ℕ) (r : Stored) (mask h beside : ℕ
       (λ t l. sym (there t (omega (arith, s .leaf .divided))) ∙ c .1 t (omega (arith, s .leaf .divided)))
       (sym e ∙ none))
 
-  pub refused-tally : tallyHolds (before .state .tally .leaves) ≡ false → RefusalMet before encoded 9
+  pub refused-tally : tallyHolds (before .state .tally .leaves) ≡ false → RefusalMet before encoded (refused 9)
   refused-tally e =
       refused-unsound before encoded (λ S sound. true≢false (sym (tallyHolds-of-sound before S sound) ∙ e))
 

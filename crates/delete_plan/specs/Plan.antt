@@ -4,7 +4,7 @@ use Prim.Native.Nat.{ℕ, suc, _+_, _≤_, _<_}
 use mathlib.Core.Path.{_≡_}
 use mathlib.Core.Bool.{true}
 use mathlib.Core.List.{List}
-use Rattle.shape.specs.Refusal.{refused}
+use Rattle.shape.specs.Refusal.{Answer, refused, refusedWith}
 use Rattle.shape.specs.Shape.{widthsOf}
 use Rattle.region.specs.Strings.{sibling}
 use Rattle.record.specs.Lanes.{biasKey, fieldsKey}
@@ -13,6 +13,7 @@ use Rattle.page.specs.Page.{countOf, pageAt}
 use Rattle.page.specs.Fields.{keyAt}
 use Rattle.directory_word.specs.Word.{wordOf}
 use Rattle.directory_word.specs.declared.Leaf.the-variants.{Page}
+use Rattle.model.specs.Model.{Reply}
 use Rattle.store.specs.Store.{Store, wordAt}
 use Rattle.store.specs.Promises.{DeletePromise}
 use Rattle.change.specs.Delete.{keyString, AtSibling, JoinFound}
@@ -87,10 +88,11 @@ module _ (before : Store) (encoded : List ℕ) where
     pub tally : tallyHolds (before .state .tally .leaves) ≡ true
 
   -- a refusal is what delete promises of the call's values
-  abbrev pub RefusalMet : ℕ → Type 0
-  RefusalMet n = OfValues before encoded (λ values. DeletePromise before values (refused n) before)
+  abbrev pub RefusalMet : Answer Reply → Type 0
+  RefusalMet answer = OfValues before encoded (λ values. DeletePromise before values answer before)
 
   abbrev pub DeletePlanned : Plan → Type 0
-  DeletePlanned (plan.Refused n) = RefusalMet n
+  DeletePlanned (plan.Refused n) = RefusalMet (refused n)
+  DeletePlanned (plan.Absent x) = RefusalMet (refusedWith 5 x)
   DeletePlanned (plan.Keep r) = KeepPlanned r
   DeletePlanned (plan.Join r j) = JoinPlanned r j

@@ -52,10 +52,11 @@ pub struct Join {
     pub top: u32,
 }
 
-// What a delete is to do: refuse, or take the record out of a leaf that stays, or of one that is
-// joined.
+// What a delete is to do: refuse, with the leaf's depth where the key is absent; or take the record
+// out of a leaf that stays, or of one that is joined.
 pub enum Plan {
     Refused(u32),
+    Absent(u32),
     Keep(Stored),
     Join(Stored, Join),
 }
@@ -70,13 +71,13 @@ pub fn plan_delete(state: State, dir: &[u32], pages: &[u8], encoded: Key) -> Pla
         return Plan::Refused(9);
     }
     let widths = widths_of(state.shape);
-    let word = key_word(widths, state.deepest as u64, dir, pack_key(encoded));
-    if !word_holds(state, word) {
+    let at = key_word(widths, state.deepest as u64, dir, pack_key(encoded));
+    if !word_holds(state, at.word) {
         return Plan::Refused(9);
     }
-    let found = unpack(word);
+    let found = unpack(at.word);
     let Leaf::Page(page, depth) = found else {
-        return Plan::Refused(5);
+        return Plan::Absent(at.depth);
     };
     plan_leaf(state, dir, pages, encoded, page, depth)
 }
@@ -105,7 +106,7 @@ fn plan_leaf(state: State, dir: &[u32], pages: &[u8], encoded: Key, page: u32, d
         return Plan::Refused(9);
     }
     if found.place == found.count {
-        return Plan::Refused(5);
+        return Plan::Absent(depth);
     }
     if depth == 0 {
         return Plan::Keep(found);

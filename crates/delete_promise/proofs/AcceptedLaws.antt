@@ -25,7 +25,8 @@ use Rattle.store.proofs.ShownLaws.{pageRecords}
 use Rattle.store.specs.declared.State.{State}
 use Rattle.refusals.specs.Passed.{OfValues}
 use Rattle.change.specs.Delete.{keyString, LeafDeleted, LeafJoined}
-use Rattle.change.proofs.PromiseLaws.{KeepsPast, KeepsOthers, keeps-others}
+use Rattle.change.proofs.RegionLaws.{changedStore}
+use Rattle.change.proofs.PromiseLaws.{KeepsPast, KeepsOthers, keeps-others, depthAt-encoded}
 use Rattle.change.proofs.DeletePromiseLaws.{delete-kept, delete-joined}
 use Rattle.change.proofs.DeleteTallyLaws.{tallyDepth-le}
 use Rattle.delete_plan.specs.Plan.{RecordFound, StaysAlone, JoinPlanned}
@@ -36,16 +37,17 @@ use Rattle.delete_pages.specs.PageBytes.{removedBytes, PairLent, keptPage, free
 use Rattle.delete_pages.proofs.PageLaws.{length-removedBytes, drop-removedBytes, some-left, none-left}
 use Rattle.delete_pages.proofs.PageLaws.{kept-or-freed, length-joinedBytes, drop-joinedBytes}
 use Rattle.delete_steps.specs.Steps.{LeafWords, LeavesLent, JoinWords}
+use Rattle.change_kept.proofs.StepLaws.{depth-kept, depth-joined}
 use Rattle.change_kept.proofs.ContainedLaws.{contained-removed, contained-joined}
 use Rattle.change_guard.specs.Guard.{DeleteGuarded}
 use Rattle.delete_promise.proofs.SoundPageLaws.{records-removed, records-removed-other}
 use Rattle.delete_promise.proofs.SoundPageLaws.{records-joined, count-freed, records-joined-other}
 use Rattle.delete_promise.proofs.FoundLaws.{RecordFacts, recordFacts, recordLent}
 
--- what delete promises of a key that it accepts, of the call's values
-abbrev AcceptedMet : Store → List ℕ → Store → Type 0
-AcceptedMet before encoded after =
-    OfValues before encoded (λ values. DeletePromise before values (accepted changed) after)
+-- what delete promises of a key that it accepts with the depth x, of the call's values
+abbrev AcceptedMet : Store → List ℕ → ℕ → Store → Type 0
+AcceptedMet before encoded x after =
+    OfValues before encoded (λ values. DeletePromise before values (accepted (changed x)) after)
 
 module _ (before : Store) (encoded : List ℕ) (r : Stored) (f : RecordFound before encoded r) where
   abbrev s : Shape
@@ -139,12 +141,14 @@ module _ (before : Store) (encoded : List ℕ) (r : Stored) (f : RecordFound bef
 
     pub promise-kept : StaysAlone before encoded (r .page) (r .depth)
         → DeleteGuarded (before .state) words encoded (plan.Keep r)
-        → AcceptedMet before encoded (store (before .state) words′ bytes′)
+        → AcceptedMet before encoded (r .depth) (store (before .state) words′ bytes′)
     promise-kept alone guarded values early same =
         delete-kept before values early (r .page) (r .depth) words′ bytes′
         (λ S sound. rw same (deleted alone S sound)) (λ S sound. rw same (k .found S sound)) past
         (keeps-others true before encoded values same _
         (contained-removed before encoded r f (recordLent before encoded r f) guarded words′ w bytes′ e))
+        (depthAt-encoded (store (before .state) words′ bytes′) encoded values same (r .depth)
+        (depth-kept before encoded r f words′ w))
 
   -- ---- it is joined
 
@@ -238,12 +242,15 @@ module _ (before : Store) (encoded : List ℕ) (r : Stored) (f : RecordFound bef
 
       pub promise-joined : length (before .state .tally .leaves) ≡ 13
           → DeleteGuarded (before .state) words encoded (plan.Join r j)
-          → AcceptedMet before encoded (store state′ words′ bytes′)
+          → AcceptedMet before encoded (j .top) (store state′ words′ bytes′)
       promise-joined thirteen guarded values early same =
-          subst (λ st. DeletePromise before values (accepted changed) (store st words′ bytes′)) (sym (w .state))
+          subst (λ st. DeletePromise before values (accepted (changed (j .top))) (store st words′ bytes′))
+          (sym (w .state))
           (delete-joined before values early (r .page) (j .other) (j .step) (j .top) kept freed
           (state′ .deepest) (state′ .tally) words′ bytes′ (λ S sound. rw same (p .met))
           (λ S sound. rw same (joined S sound)) (λ S sound. rw same (k .found S sound)) past-joined
           (subst (λ st. KeepsOthers true before values (store st words′ bytes′)) (w .state)
           (keeps-others true before encoded values same _
-          (contained-joined before encoded r f j p (leavesLent thirteen) pairLent guarded state′ words′ w bytes′ e))))
+          (contained-joined before encoded r f j p (leavesLent thirteen) pairLent guarded state′ words′ w bytes′ e)))
+          (depthAt-encoded (changedStore before (state′ .deepest) (state′ .tally) (memory words′ bytes′)) encoded values
+          same (j .top) (depth-joined before encoded r f j p state′ words′ w)))

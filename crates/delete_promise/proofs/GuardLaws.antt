@@ -5,6 +5,7 @@ use mathlib.Core.Bool.{Bool, false}
 use mathlib.Core.List.{List}
 use native.Mathlib.Omega.{arith}
 use Rattle.lists.specs.Filter.{nonEmpty}
+use Rattle.shape.specs.Refusal.{refused}
 use Rattle.record.specs.Record.{Record}
 use Rattle.directory_word.proofs.WordLaws.{wordOf-page}
 use Rattle.model.specs.Sets.{stored}
@@ -43,6 +44,6 @@ module _ (before : Store) (encoded : List ℕ) where
 
   -- 9: a leaf whose words the plan sets is not whole, or a word is lost at the new T
   pub promise-not-whole : (plan : Plan) → DeletePlanned before encoded plan → (held : Bool)
-      → DeleteTold st words encoded plan held → held ≡ false → RefusalMet before encoded 9
+      → DeleteTold st words encoded plan held → held ≡ false → RefusalMet before encoded (refused 9)
   promise-not-whole plan planned held told e =
       refused-unsound before encoded (λ S sound. told .no e bytes planned S sound (key-stored S sound))

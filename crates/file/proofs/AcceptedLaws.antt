@@ -9,7 +9,6 @@ use Rattle.lists.proofs.Bools.{and-split}
 use Rattle.shape.specs.Refusal.{accepted, firstNumber}
 use Rattle.shape.proofs.RefusalLaws.{accepted-answered}
 use Rattle.shape.specs.Shape.{inBounds, shapeConditions}
-use Rattle.model.specs.Model.{changed}
 use Rattle.model.specs.Sets.{isSet}
 use Rattle.model.proofs.ConditionLaws.{firstNumber-zero, firstNumber-none, firstNumber-rest}
 use Rattle.store.specs.Store.{Store, Memory}
@@ -57,6 +56,6 @@ module _ (file : List ℕ) (m : Memory) where
         joined = room .1;
       }
 
-  pub passed-of-accepted : (loaded : Store) → LoadPromise file m (accepted changed) loaded → Passed file m
+  pub passed-of-accepted : (loaded : Store) → LoadPromise file m (accepted tt) loaded → Passed file m
   passed-of-accepted loaded p =
-      passed-of-loadNumber (accepted-answered changed changed (loadNumber file m) (p .answered-as))
+      passed-of-loadNumber (accepted-answered tt tt (loadNumber file m) (p .answered-as))

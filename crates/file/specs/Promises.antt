@@ -12,7 +12,7 @@ use Rattle.region.specs.Query.{LeafTest}
 use Rattle.record.specs.Record.{Record}
 use Rattle.record.specs.Bytes.{recordSize}
 use Rattle.page.specs.Page.{pageSize}
-use Rattle.model.specs.Model.{Reply, changed, ifAccepted}
+use Rattle.model.specs.Model.{ifAccepted}
 use Rattle.store.specs.Store.{Store, Memory}
 use Rattle.store.specs.Sound.{Sound}
 use Rattle.store.specs.Fresh.{freshState, noState}
@@ -60,15 +60,15 @@ pub record SavePromise (store : Store) (out : List ℕ) (answer : Answer ℕ) (o
 -- bytes past a page's count, the contents of free pages. Shut out: 2 before 13, equal keys accepted, 7 with empty
 -- leaves counted, a stored payload of 0 refused (answered-as); a load that writes before it knows of 6 or 7
 -- (memory-kept)
-pub record LoadPromise (file : List ℕ) (m : Memory) (answer : Answer Reply) (after : Store) : Type 0 where
-  pub answered-as : answer ≡ answered (loadNumber file m) changed
+pub record LoadPromise (file : List ℕ) (m : Memory) (answer : Answer (Unit {0})) (after : Store) : Type 0 where
+  pub answered-as : answer ≡ answered (loadNumber file m) tt
   -- "All of them return the number and change nothing."; as after a refused Fresh there is no state to go on with
   pub no-state : (n : ℕ) → answer ≡ refused n → after .state ≡ noState
   pub memory-kept : (n : ℕ) → answer ≡ refused n → after .memory ≡ m
   -- "Loading makes a sound store of the file's shape and records in lent slices, with P and L set as by Fresh."
-  pub shape-as : answer ≡ accepted changed → after .state .shape ≡ fileShape file
-  pub limits-as : answer ≡ accepted changed → after .state .limits ≡ freshState (fileShape file) m .limits
-  pub shown : answer ≡ accepted changed → Sound after (fileRecords file)
+  pub shape-as : answer ≡ accepted tt → after .state .shape ≡ fileShape file
+  pub limits-as : answer ≡ accepted tt → after .state .limits ≡ freshState (fileShape file) m .limits
+  pub shown : answer ≡ accepted tt → Sound after (fileRecords file)
   -- "Words past the first 2^L and bytes past the P pages are never changed."
   pub words-length : length (after .memory .words) ≡ length (m .words)
   pub bytes-length : length (after .memory .bytes) ≡ length (m .bytes)

@@ -11,7 +11,6 @@ use Rattle.shape.specs.Shape.{shapeNumber}
 use Rattle.shape.specs.declared.Shape.{Shape}
 use Rattle.shape.proofs.RefusalLaws.{firstNumber-shape, firstNumber-shape-out}
 use Rattle.model.specs.Limits.{pageLimitOf, depthLimitOf, freshShape}
-use Rattle.model.specs.Model.{Reply, changed}
 use Rattle.store.specs.Fresh.{FreshPromise, freshNumber, freshState, freshMemory, clearedCounts, noState}
 use Rattle.store.specs.Store.{memory, store}
 use Rattle.store.specs.declared.State.{State}
@@ -46,7 +45,7 @@ module _ (s : Shape) (words bytes : List ℕ) where
 
   -- ---- the promise
 
-  pub promise-refused : (answer : Answer Reply) (state : State) (n : ℕ) → freshNumber s (memory words bytes) ≡ n
+  pub promise-refused : (answer : Answer (Unit {0})) (state : State) (n : ℕ) → freshNumber s (memory words bytes) ≡ n
       → (n ≡ 0 → ⊥) → answer ≡ refused n → state ≡ noState
       → FreshPromise s (memory words bytes) answer (store state words bytes)
   promise-refused answer state zero e ne a t = absurd (ne refl)
@@ -65,7 +64,7 @@ module _ (s : Shape) (words bytes : List ℕ) where
   pub promise-accepted : (state : State) (words′ bytes′ : List ℕ) → freshNumber s (memory words bytes) ≡ 0
       → state ≡ freshState s (memory words bytes) → words′ ≡ set words 0 0
       → bytes′ ≡ clearedCounts (s .capacity) (pageLimitOf s (length bytes)) bytes
-      → FreshPromise s (memory words bytes) (accepted changed) (store state words′ bytes′)
+      → FreshPromise s (memory words bytes) (accepted tt) (store state words′ bytes′)
   unfolding freshMemory
   promise-accepted state words′ bytes′ e t w b =
       record { answered-as = rw e refl; state-as = rw e t; memory-as = rw (e, w, b) refl }

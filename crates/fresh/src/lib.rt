@@ -6,9 +6,9 @@ use shape::Shape;
 use shape::shape_number;
 use shape::total_of;
 use shape::widths_of;
-use store::Change;
-use store::Changed;
 use store::Limits;
+use store::Made;
+use store::Making;
 use store::State;
 use store::Tally;
 ghost use mathlib.Core.Path.{_≡_};
@@ -19,7 +19,7 @@ ghost use Rattle.shape.specs.Refusal.{refused};
 ghost use Rattle.shape.specs.Shape.{shapeNumber};
 ghost use Rattle.page.specs.Page.{pageSize};
 ghost use Rattle.model.specs.Limits.{logarithm, pageLimitOf, depthLimitOf, freshShape};
-ghost use Rattle.store.specs.Answers.{changedAnswer};
+ghost use Rattle.store.specs.Answers.{madeAnswer};
 ghost use Rattle.store.specs.Fresh.{FreshPromise, clearedCounts, noState};
 ghost use Rattle.store.specs.Store.{memory, store};
 ghost use Rattle.fresh.specs.Memory.{lacksWordOrPage};
@@ -27,9 +27,9 @@ ghost use Rattle.fresh.specs.Memory.{lacksWordOrPage};
 // Makes a store without records in lent memory: the state, word 0 and the counts of the P pages.
 // Refused with 1 for a shape outside its bounds, then with 2 for no directory word or no whole
 // page; a refused call changes nothing.
-pub fn fresh(shape: Shape, dir: &mut [u32], pages: &mut [u8]) -> Change
+pub fn fresh(shape: Shape, dir: &mut [u32], pages: &mut [u8]) -> Making
     ensures { λ r. ⌜ FreshPromise shape (memory (now (dir .entry)) (now (pages .entry)))
-        (changedAnswer (r .answer))
+        (madeAnswer (r .answer))
         (store (r .state) (now (dir .exit)) (now (pages .exit))) ⌝ }
 {
     let number = shape_number(shape);
@@ -55,15 +55,15 @@ pub fn fresh(shape: Shape, dir: &mut [u32], pages: &mut [u8]) -> Change
         deepest: 0,
         tally: one_leaf(),
     };
-    Change {
-        answer: Changed::Done,
+    Making {
+        answer: Made::Done,
         state,
     }
 }
 
 // The answer of a refused call, and no state to go on with.
-pub fn refuse(number: u32) -> Change
-    ensures { λ r. ⌜ (changedAnswer (r .answer) ≡ refused number) × (r .state ≡ noState) ⌝ }
+pub fn refuse(number: u32) -> Making
+    ensures { λ r. ⌜ (madeAnswer (r .answer) ≡ refused number) × (r .state ≡ noState) ⌝ }
 {
     let widths = [0u32; 4];
     let shape = Shape {
@@ -81,8 +81,8 @@ pub fn refuse(number: u32) -> Change
         deepest: 0,
         tally,
     };
-    Change {
-        answer: Changed::Refused(number),
+    Making {
+        answer: Made::Refused(number),
         state,
     }
 }

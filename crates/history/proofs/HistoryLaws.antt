@@ -11,7 +11,7 @@ use Rattle.shape.proofs.RefusalLaws.{accepted-answered}
 use Rattle.record.specs.Record.{Record}
 use Rattle.range_box.specs.Box.{boxOf}
 use Rattle.model.specs.Limits.{fixedBy}
-use Rattle.model.specs.Model.{Fixed, Call, insertCall, deleteCall, lookupCall, queryCall, rangeCall, Reply, changed}
+use Rattle.model.specs.Model.{Fixed, Call, insertCall, deleteCall, lookupCall, queryCall, rangeCall, Reply}
 use Rattle.model.specs.Model.{Outcome, numberFor, outputBefore, outputAfter, outcome, next, setAfter, run, lastSet}
 use Rattle.model.specs.Model.{ifAccepted}
 use Rattle.model.specs.Sets.{readsBound}
@@ -55,9 +55,10 @@ pub same-set : (f : Fixed) (S : List Record) (c : Call) → setAfter f S c ≡ S
 unfolding next
 same-set f S c e = rw e (ifAccepted-same (numberFor f S c) S)
 
-same-fixed : {joins : Bool} {values : List ℕ} {early : ℕ} {numbers : List ℕ} {model : List Record → Answer Reply}
-    {next : List Record → List Record} {before after : Store} {answer : Answer Reply}
-    → ChangePromise joins values early numbers model next before answer after
+same-fixed : {joins : Bool} {values : List ℕ} {early : ℕ} {answers : ℕ → List (Answer Reply)}
+    {model : List Record → Answer Reply} {next : List Record → List Record} {before after : Store}
+    {answer : Answer Reply}
+    → ChangePromise joins values early answers model next before answer after
     → fixedOf (after .state) ≡ fixedOf (before .state)
 same-fixed p = rw (p .shape-kept, p .limits-kept)
 
@@ -150,12 +151,12 @@ run-more c o (one-more q r) p = one-more q (run-more c o r p)
 -- ---- demand 3
 
 -- an accepted Fresh met no condition for refusal
-fresh-accepted : (s : Shape) (m : Memory) (fresh : Store) → FreshPromise s m (accepted changed) fresh
+fresh-accepted : (s : Shape) (m : Memory) (fresh : Store) → FreshPromise s m (accepted tt) fresh
     → freshNumber s m ≡ 0
-fresh-accepted s m fresh p = accepted-answered changed changed (freshNumber s m) (p .answered-as)
+fresh-accepted s m fresh p = accepted-answered tt tt (freshNumber s m) (p .answered-as)
 
 -- the store that it leaves
-fresh-store : (s : Shape) (m : Memory) (fresh : Store) → FreshPromise s m (accepted changed) fresh
+fresh-store : (s : Shape) (m : Memory) (fresh : Store) → FreshPromise s m (accepted tt) fresh
     → fresh ≡ record { state = freshState s m; memory = freshMemory s m }
 fresh-store s m fresh p =
     let number = fresh-accepted s m fresh p in
@@ -164,7 +165,7 @@ fresh-store s m fresh p =
     same-store state memory
 
 -- what it fixes is what the model is given
-pub fixedOf-fresh : (s : Shape) (m : Memory) (fresh : Store) → FreshPromise s m (accepted changed) fresh
+pub fixedOf-fresh : (s : Shape) (m : Memory) (fresh : Store) → FreshPromise s m (accepted tt) fresh
     → fixedOf (fresh .state) ≡ fixedBy s (length (m .words)) (length (m .bytes))
 fixedOf-fresh s m fresh p = rw (fresh-store s m fresh p) (fixedOf-freshState s m)
 

@@ -8,7 +8,7 @@ use Rattle.shape.specs.Refusal.{accepted}
 use Rattle.shape.specs.declared.Shape.{Shape}
 use Rattle.record.specs.Record.{Record}
 use Rattle.model.specs.Limits.{fixedBy}
-use Rattle.model.specs.Model.{Fixed, Call, insertCall, deleteCall, lookupCall, queryCall, rangeCall, changed, listed}
+use Rattle.model.specs.Model.{Fixed, Call, insertCall, deleteCall, lookupCall, queryCall, rangeCall, listed}
 use Rattle.model.specs.Model.{Outcome, next, run, lastSet}
 use Rattle.model.specs.Sets.{readsBound}
 use Rattle.store.specs.Store.{Store, Memory}
@@ -60,7 +60,7 @@ WithinBounds f S (c ∷ cs) (o ∷ os) = ReadsBounded f S c o × WithinBounds f 
 -- the bound, and the store that is left shows the model's set
 abbrev pub History : Type 0
 History =
-    (s : Shape) (m : Memory) (fresh : Store) → FreshPromise s m (accepted changed) fresh
+    (s : Shape) (m : Memory) (fresh : Store) → FreshPromise s m (accepted tt) fresh
     → (calls : List Call) (outcomes : List Outcome) (after : Store) → Run fresh calls outcomes after
     → (outcomes ≡ run (fixedBy s (length (m .words)) (length (m .bytes))) [] calls)
     × WithinBounds (fixedBy s (length (m .words)) (length (m .bytes))) [] calls outcomes

@@ -14,6 +14,7 @@ use host_reads::lookup_result;
 use host_reads::query_result;
 use host_reads::range_result;
 use host_reads::save_result;
+use host_results::ChangeResult;
 use host_results::CheckResult;
 use host_results::HostQuery;
 use host_results::HostRange;
@@ -25,14 +26,13 @@ use shape::Shape;
 ghost use mathlib.Core.List.{[], _∷_};
 ghost use Rattle.address_formula.specs.Index.{indexList};
 ghost use Rattle.address_calls.specs.Answers.{addressAnswer, indexAnswer};
-ghost use Rattle.host_results.specs.Result.{Reports};
 ghost use Prim.Native.Nat.{_≤_};
 ghost use Rattle.model.specs.Model.{found, listed};
 ghost use Rattle.store.specs.Store.{store, memory};
 ghost use Rattle.store.specs.Promises.{LookupPromise, QueryPromise, RangePromise, CheckPromise};
 ghost use Rattle.store.specs.Promises.{InsertPromise, DeletePromise};
 ghost use Rattle.host_state.specs.Image.{stateIn};
-ghost use Rattle.host_results.specs.Result.{Reports, Keeps, isYes};
+ghost use Rattle.host_results.specs.Result.{Reports, Keeps, KeepsDepth, isYes};
 ghost use Rattle.host_results.specs.Wanted.{wantedOf};
 ghost use Rattle.shape.specs.Range.{intervalsOf};
 ghost use Rattle.host_changes.specs.Changes.{LentChangePromise};
@@ -56,8 +56,9 @@ pub extern "C" fn mdeh_fresh(
     fresh_in_words(shape, state, dir, pages)
 }
 
-// Adds a record, and divides regions until no leaf has more than b. Refused with 1, 2, 3, 11 (a
-// payload of 0), 4, 6, 7 or 9, the first that holds in this order; a refused call changes nothing.
+// Adds a record, divides regions until no leaf has more than b, and returns the depth of the record's
+// leaf afterwards. Refused with 1, 2, 3, 11 (a payload of 0), 4, 6, 7 or 9, the first that holds in this
+// order, with depth 0; a refused call changes nothing.
 #[no_mangle]
 pub extern "C" fn mdeh_insert(
     state: &mut [u32],
@@ -65,30 +66,40 @@ pub extern "C" fn mdeh_insert(
     pages: &mut [u8],
     key: Key,
     payload: u32,
-) -> u32
+) -> ChangeResult
     ensures { λ r. ⌜ LentChangePromise (λ before answer after. InsertPromise
         (store before (now (dir .entry)) (now (pages .entry))) (key .values) (record { payload = payload }) answer
-        (store after (now (dir .exit)) (now (pages .exit)))) (now (state .entry)) r (now (state .exit)) ⌝ }
+        (store after (now (dir .exit)) (now (pages .exit)))) (now (state .entry)) (r .number) (r .depth)
+        (now (state .exit)) ⌝ }
 {
     insert_in_words(state, dir, pages, key, payload)
 }
 
-// Removes the record of a key, and joins leaves until the set's own leaves stand. Refused with 1,
-// 2, 3, 5 or 9, the first that holds in this order; a refused call changes nothing.
+// Removes the record of a key, joins leaves until the set's own leaves stand, and returns the depth
+// of the key's leaf afterwards. Refused with 1, 2, 3, 5 or 9, the first that holds in this
+// order: 5 with the depth of the leaf in which the absent key falls, the others with depth 0; a
+// refused call changes nothing.
 #[no_mangle]
-pub extern "C" fn mdeh_delete(state: &mut [u32], dir: &mut [u32], pages: &mut [u8], key: Key) -> u32
+pub extern "C" fn mdeh_delete(
+    state: &mut [u32],
+    dir: &mut [u32],
+    pages: &mut [u8],
+    key: Key,
+) -> ChangeResult
     ensures { λ r. ⌜ LentChangePromise (λ before answer after. DeletePromise
         (store before (now (dir .entry)) (now (pages .entry))) (key .values) answer
-        (store after (now (dir .exit)) (now (pages .exit)))) (now (state .entry)) r (now (state .exit)) ⌝ }
+        (store after (now (dir .exit)) (now (pages .exit)))) (now (state .entry)) (r .number) (r .depth)
+        (now (state .exit)) ⌝ }
 {
     delete_in_words(state, dir, pages, key)
 }
 
-// The payload of a key's record, and the pages read: 1. Refused with 1, 2, 3, 5 or 9, the first
-// that holds in this order. Writes nothing.
+// The payload of a key's record, the pages read, 1, and the depth of the key's leaf. Refused with 1,
+// 2, 3, 5 or 9, the first that holds in this order: 5 with the depth of the leaf in which the absent
+// key falls, the others with depth 0. Writes nothing.
 #[no_mangle]
 pub extern "C" fn mdeh_lookup(state: &[u32], dir: &[u32], pages: &[u8], key: Key) -> LookupResult
-    ensures { λ r. ⌜ Keeps (r .number) (found (record { payload = r .payload }) (r .reads))
+    ensures { λ r. ⌜ KeepsDepth (r .number) (r .depth) (found (record { payload = r .payload }) (r .reads))
         (found (record { payload = 0 }) 0)
         (LookupPromise (store (stateIn (now (state .entry))) (now (dir .entry)) (now (pages .entry))) (key .values)) ⌝ }
 {

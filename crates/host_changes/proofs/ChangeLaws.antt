@@ -1,56 +1,60 @@
--- Laws of changes on a state in lent words: an accepted one has a state's words; the promise over the words from that of the
--- call. Assumes nothing.
+-- Laws of changes on a state in lent words: number and depth tell an answer; an accepted call has a state's words; the
+-- promise over the words from that of the call. Assumes nothing.
 use Prim.Native.Nat.{ℕ, zero, suc, _≤_, _<_}
 use mathlib.Core.Path.{_≡_, refl, sym, ap, subst, _∙_}
-use mathlib.Core.Bool.{Bool}
+use mathlib.Core.Bool.{Bool, true, false, false≢true}
 use mathlib.Core.List.{List}
-use mathlib.Core.Logic.{⊎-elim}
 use native.Mathlib.Decide.{decLt}
 use native.Mathlib.Omega.{arith}
 use lib.ListN.{length, drop}
-use Rattle.lists.specs.Members.{Member}
-use Rattle.shape.specs.Refusal.{Answer, accepted, refused, answered, firstNumber}
+use Rattle.lists.specs.Members.{All}
+use Rattle.lists.proofs.MemberLaws.{All-member}
+use Rattle.shape.specs.Refusal.{Answer, refused, isRefused, firstNumber}
 use Rattle.shape.specs.Shape.{inBounds, shapeConditions}
 use Rattle.record.specs.declared.Content.{Content}
 use Rattle.record.specs.Record.{Record}
 use Rattle.model.specs.Model.{Reply, changed}
-use Rattle.store.specs.Answers.{changedAnswer}
 use Rattle.store.specs.Fresh.{noState}
 use Rattle.store.specs.Store.{Store, store, lentConditions}
-use Rattle.store.specs.Promises.{keyNumber, insertNumber, ChangePromise, InsertPromise, DeletePromise}
-use Rattle.store.specs.declared.Change.{Change}
-use Rattle.store.specs.declared.Changed.{Changed}
-use Rattle.store.specs.declared.Changed.the-variants.{Done, Refused}
+use Rattle.store.specs.Promises.{keyNumber, insertNumber, depthAt, ChangePromise, InsertPromise, DeletePromise}
 use Rattle.store.specs.declared.State.{State}
 use Rattle.host_state.specs.Image.{stateSize, stateIn}
 use Rattle.host_state.proofs.ImageLaws.{stateIn-short}
+use Rattle.host_results.specs.Result.{keyAnswer}
+use Rattle.host_results.specs.Settled.{numberTold, depthTold, Settled}
+use Rattle.store.proofs.NumberLaws.{keyNumber-not-five, insertNumber-not-five}
+use Rattle.host_results.proofs.ResultLaws.{keyAnswer-refused}
+use Rattle.host_results.proofs.SettledLaws.{isRefused-numberTold}
 use Rattle.host_changes.specs.Changes.{LentChangePromise}
-use Rattle.host_results.specs.Settled.{Settled}
-use Rattle.host_results.proofs.SettledLaws.{accepted-refused, refused-same}
 
 -- ---- what is asked of a promise
 
--- of the states before and after: a state without attributes is refused, a refused call keeps the state, and no refusal
--- has the number 0
+-- number and depth tell the answer
+abbrev Told : Answer Reply → Type 0
+Told answer = keyAnswer (numberTold answer) (depthTold answer) (changed (depthTold answer)) ≡ answer
+
+-- of the states before and after: a state without attributes is refused, a refused call keeps the state, and number and
+-- depth tell the answer
 pub record Judged (Promise : State → Answer Reply → State → Type 0) : Type 0 where
   no-shape : (answer : Answer Reply) (after : State) → Promise noState answer after → answer ≡ refused 1
-  state-kept : (before after : State) (n : ℕ) → Promise before (refused n) after → after ≡ before
-  not-zero : (before after : State) → Promise before (refused 0) after → ⊥
+  state-kept : (before after : State) (answer : Answer Reply) → Promise before answer after → isRefused answer ≡ true
+      → after ≡ before
+  told : (before after : State) (answer : Answer Reply) → Promise before answer after → Told answer
 
-module _ {joins : Bool} {values : List ℕ} {early : ℕ} {numbers : List ℕ} {model : List Record → Answer Reply}
-    {next : List Record → List Record} {before after : Store} where
-  change-not-zero : (Member 0 numbers → ⊥)
-      → ChangePromise joins values early numbers model next before (refused 0) after → ⊥
-  change-not-zero none p = go early refl
+module _ {joins : Bool} {values : List ℕ} {early : ℕ} {answers : ℕ → List (Answer Reply)}
+    {model : List Record → Answer Reply} {next : List Record → List Record} {before after : Store}
+    {answer : Answer Reply} where
+  change-told : (early ≡ 5 → ⊥) → ((x : ℕ) → All Told (answers x))
+      → ChangePromise joins values early answers model next before answer after → Told answer
+  change-told other ordinary p = go early refl
     where
-      go : (n : ℕ) → early ≡ n → ⊥
+      go : (n : ℕ) → early ≡ n → Told answer
       go zero e =
-          ⊎-elim (λ a. accepted-refused 0 (sym a))
-          (λ h. none (subst (λ n. Member n numbers) (sym (refused-same 0 (h .0) (h .1))) (h .2)))
-          (p .ordinary e)
+          let depth = depthAt after values in
+          All-member Told (answers depth) (ordinary depth) answer (p .ordinary e)
       go (suc n) e =
-          let z : 0 ≡ suc n = refused-same 0 (suc n) (p .early-refused n e) in
-          omega arith
+          subst Told (sym (p .early-refused n e))
+          (keyAnswer-refused (suc n) 0 (changed 0) (λ z. omega arith) (λ five. other (e ∙ five)))
 
 module _ (ds bs ds′ bs′ values : List ℕ) where
   keyNumber-noState : keyNumber (store noState ds bs) values ≡ 1
@@ -66,79 +70,61 @@ module _ (ds bs ds′ bs′ values : List ℕ) where
   insert-judged content =
       record {
         no-shape = λ answer s′ p. p .early-refused 0 (insertNumber-noState content);
-        state-kept = λ s s′ n p. ap (λ t. t .state) (p .unchanged n refl);
-        not-zero = λ s s′. change-not-zero
-            (⊎-elim (λ e. omega arith) (⊎-elim (λ e. omega arith)
-            (⊎-elim (λ e. omega arith) (⊎-elim (λ e. omega arith) (λ e. e)))));
+        state-kept = λ s s′ answer p e. ap (λ t. t .state) (p .unchanged e);
+        told = λ s s′ answer. change-told (insertNumber-not-five (store s ds bs) values content)
+            (λ x. (refl, (refl, (refl, (refl, (refl, tt))))));
       }
 
   pub delete-judged : Judged (λ s answer s′. DeletePromise (store s ds bs) values answer (store s′ ds′ bs′))
   delete-judged =
       record {
         no-shape = λ answer s′ p. p .early-refused 0 keyNumber-noState;
-        state-kept = λ s s′ n p. ap (λ t. t .state) (p .unchanged n refl);
-        not-zero = λ s s′. change-not-zero (⊎-elim (λ e. omega arith) (⊎-elim (λ e. omega arith) (λ e. e)));
+        state-kept = λ s s′ answer p e. ap (λ t. t .state) (p .unchanged e);
+        told = λ s s′ answer. change-told (keyNumber-not-five (store s ds bs) values)
+            (λ x. (refl, (refl, (refl, tt))));
       }
 
 -- ---- a call on the state that the words show
 
 module _ {Promise : State → Answer Reply → State → Type 0} (judged : Judged Promise) (words : List ℕ) where
-  module _ (state : State) (read : state ≡ stateIn words) (change : Change)
-      (p : Promise state (changedAnswer (change .answer)) (change .state)) where
+  module _ (state : State) (read : state ≡ stateIn words) (answer : Answer Reply) (after : State)
+      (p : Promise state answer after) where
     -- fewer words than a state has show no shape, so that the call is refused
-    pub words-of-done : changedAnswer (change .answer) ≡ accepted changed → stateSize ≤ length words
+    pub words-of-done : isRefused answer ≡ false → stateSize ≤ length words
     words-of-done done = go (decLt (length words) stateSize)
       where
         go : Dec (length words < stateSize) → stateSize ≤ length words
         go (yes short) =
             let none : state ≡ noState = read ∙ stateIn-short words short in
-            let told = subst (λ s. Promise s (changedAnswer (change .answer)) (change .state)) none p in
-            absurd (accepted-refused 1 (sym done ∙ judged .no-shape _ _ told))
+            let one = judged .no-shape answer after (subst (λ s. Promise s answer after) none p) in
+            absurd (false≢true (sym done ∙ ap isRefused one))
         go (no long) = omega arith
 
-    -- a refused call leaves the state
-    state-of-refused : (n : ℕ) → changedAnswer (change .answer) ≡ refused n → change .state ≡ stateIn words
-    state-of-refused n e =
-        judged .state-kept state (change .state) n (subst (λ a. Promise state a (change .state)) e p) ∙ read
-
     -- the promise over the words
-    pub promise-settled : (number : ℕ) (words′ : List ℕ)
-        → Settled change words number words′ → LentChangePromise Promise words number words′
-    unfolding changedAnswer
-    promise-settled number words′ s = go (change .answer) refl
+    pub promise-settled : (number depth : ℕ) (words′ : List ℕ)
+        → (number ≡ numberTold answer) × (depth ≡ depthTold answer) → Settled answer after words words′
+        → LentChangePromise Promise words number depth words′
+    promise-settled number depth words′ same s =
+        record {
+          promise-kept =
+              subst (λ a. Promise (stateIn words) a (stateIn words′)) (sym telling)
+              (subst (λ t. Promise t answer (stateIn words′)) read
+              (subst (Promise state answer) (shown (isRefused answer) refl) p));
+          depth-if-refused = λ n e other.
+              let alone = sym telling ∙ keyAnswer-refused number depth (changed depth) (λ z. omega arith) other in
+              same .1 ∙ ap depthTold alone;
+          words-kept = λ n e. s .words-refused (isRefused-numberTold answer n (sym (same .0) ∙ e));
+          words-past = past (isRefused answer) refl;
+        }
       where
-        kept : (a : Answer Reply) (after : State) → changedAnswer (change .answer) ≡ a → change .state ≡ after
-            → Promise (stateIn words) a after
-        kept a after e f =
-            subst (λ t. Promise t a after) read
-            (subst (λ t. Promise state t after) e (subst (Promise state (changedAnswer (change .answer))) f p))
+        telling : keyAnswer number depth (changed depth) ≡ answer
+        telling = rw (same .0, same .1) (judged .told state after answer p)
 
-        go-refused : (n : ℕ) → changedAnswer (change .answer) ≡ refused n
-            → LentChangePromise Promise words number words′
-        go-refused zero e =
-            absurd (judged .not-zero (stateIn words) (change .state) (kept (refused 0) (change .state) e refl))
-        go-refused (suc n) e =
-            let same : words′ ≡ words = s .words-refused (suc n) e in
-            let known : number ≡ suc n = s .number-refused (suc n) e in
-            record {
-              promise-kept =
-                  subst (λ k. Promise (stateIn words) (answered k changed) (stateIn words′)) (sym known)
-                  (kept (refused (suc n)) (stateIn words′) e (state-of-refused (suc n) e ∙ sym (ap stateIn same)));
-              words-kept = λ _ _. same;
-              words-past = ap (drop stateSize) same;
-            }
+        -- a refused call leaves the state
+        shown : (b : Bool) → isRefused answer ≡ b → after ≡ stateIn words′
+        shown true e = judged .state-kept state after answer p e ∙ read ∙ ap stateIn (sym (s .words-refused e))
+        shown false e = sym (s .state-done e)
 
-        go-done : changedAnswer (change .answer) ≡ accepted changed → LentChangePromise Promise words number words′
-        go-done e =
-            let known : number ≡ 0 = s .number-done e in
-            record {
-              promise-kept =
-                  subst (λ k. Promise (stateIn words) (answered k changed) (stateIn words′)) (sym known)
-                  (kept (accepted changed) (stateIn words′) e (sym (s .state-done e)));
-              words-kept = λ n f. absurd (omega arith);
-              words-past = s .past-done e;
-            }
-
-        go : (a : Changed) → change .answer ≡ a → LentChangePromise Promise words number words′
-        go Done e = go-done (ap changedAnswer e)
-        go (Refused n) e = go-refused n (ap changedAnswer e)
+        past : (b : Bool) → isRefused answer ≡ b → drop stateSize words′ ≡ drop stateSize words
+        past true e = ap (drop stateSize) (s .words-refused e)
+        past false e = s .past-done e

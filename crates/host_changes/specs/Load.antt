@@ -6,7 +6,6 @@ use mathlib.Core.List.{List, []}
 use lib.Dec.{ltb}
 use lib.ListN.{length, drop}
 use Rattle.shape.specs.Refusal.{accepted}
-use Rattle.model.specs.Model.{changed}
 use Rattle.store.specs.Store.{Memory, memory}
 use Rattle.file.specs.Loading.{loadNumber}
 use Rattle.file.specs.Promises.{LoadPromise}
@@ -26,6 +25,6 @@ pub record LentLoadPromise (file : List ℕ) (words : List ℕ) (m : Memory) (nu
   pub words-kept : (n : ℕ) → number ≡ suc n → words′ ≡ words
   pub memory-kept : (n : ℕ) → number ≡ suc n → m′ ≡ m
   -- the words show the state of the loaded store
-  pub loaded : number ≡ 0 → LoadPromise file m (accepted changed) (record { state = stateIn words′; memory = m′ })
+  pub loaded : number ≡ 0 → LoadPromise file m (accepted tt) (record { state = stateIn words′; memory = m′ })
   -- whatever lies past the state stays
   pub words-past : drop stateSize words′ ≡ drop stateSize words

@@ -1,10 +1,12 @@
 // Fresh, load and the calls that change a store, for hosts: the state lies in lent words (crate
-// `host_state`), and the answer is a number, 0 for an accepted call. Fewer words than a state has
-// show no shape, so that insert and delete are refused with 1; Fresh and load, which are given no
-// state, are refused with 2.
+// `host_state`), and the answer is a number, 0 for an accepted call, of insert and delete with a depth
+// beside it. Fewer words than a state has show no shape, so that insert and delete are refused with
+// 1; Fresh and load, which are given no state, are refused with 2.
 use delete::delete;
 use fresh::fresh;
+use host_results::ChangeResult;
 use host_results::settle;
+use host_results::settle_change;
 use host_state::STATE_SIZE;
 use host_state::state_in;
 use insert::insert;
@@ -33,37 +35,47 @@ pub fn fresh_in_words(shape: Shape, state: &mut [u32], dir: &mut [u32], pages: &
     if state.len() < STATE_SIZE {
         return 2;
     }
-    let change = fresh(shape, dir, pages);
-    settle(state, change)
+    let making = fresh(shape, dir, pages);
+    settle(state, making)
 }
 
-// Adds a record, and divides regions until no leaf has more than b. Refused with 1, 2, 3, 11 (a
-// payload of 0), 4, 6, 7 or 9, the first that holds in this order; a refused call changes nothing.
+// Adds a record, divides regions until no leaf has more than b, and returns the depth of the record's
+// leaf afterwards. Refused with 1, 2, 3, 11 (a payload of 0), 4, 6, 7 or 9, the first that holds in this
+// order, with depth 0; a refused call changes nothing.
 pub fn insert_in_words(
     state: &mut [u32],
     dir: &mut [u32],
     pages: &mut [u8],
     key: Key,
     payload: u32,
-) -> u32
+) -> ChangeResult
     ensures { λ r. ⌜ LentChangePromise (λ before answer after. InsertPromise
         (store before (now (dir .entry)) (now (pages .entry))) (key .values) (record { payload = payload }) answer
-        (store after (now (dir .exit)) (now (pages .exit)))) (now (state .entry)) r (now (state .exit)) ⌝ }
+        (store after (now (dir .exit)) (now (pages .exit)))) (now (state .entry)) (r .number) (r .depth)
+        (now (state .exit)) ⌝ }
 {
     let content = Content { payload };
     let inserted = insert(state_in(state), dir, pages, key, content);
-    settle(state, inserted)
+    settle_change(state, inserted)
 }
 
-// Removes the record of a key, and joins leaves until the set's own leaves stand. Refused with 1,
-// 2, 3, 5 or 9, the first that holds in this order; a refused call changes nothing.
-pub fn delete_in_words(state: &mut [u32], dir: &mut [u32], pages: &mut [u8], key: Key) -> u32
+// Removes the record of a key, joins leaves until the set's own leaves stand, and returns the depth
+// of the key's leaf afterwards. Refused with 1, 2, 3, 5 or 9, the first that holds in this
+// order: 5 with the depth of the leaf in which the absent key falls, the others with depth 0; a
+// refused call changes nothing.
+pub fn delete_in_words(
+    state: &mut [u32],
+    dir: &mut [u32],
+    pages: &mut [u8],
+    key: Key,
+) -> ChangeResult
     ensures { λ r. ⌜ LentChangePromise (λ before answer after. DeletePromise
         (store before (now (dir .entry)) (now (pages .entry))) (key .values) answer
-        (store after (now (dir .exit)) (now (pages .exit)))) (now (state .entry)) r (now (state .exit)) ⌝ }
+        (store after (now (dir .exit)) (now (pages .exit)))) (now (state .entry)) (r .number) (r .depth)
+        (now (state .exit)) ⌝ }
 {
     let deleted = delete(state_in(state), dir, pages, key);
-    settle(state, deleted)
+    settle_change(state, deleted)
 }
 
 // Makes a store of a file's shape and records in lent memory, with P and L as Fresh fixes them.

@@ -1,7 +1,7 @@
 // The calls that read a store, for hosts: the state lies in lent words (crate `host_state`), and an answer is
 // a struct of numbers. A number of 0 stands for an accepted call; any other is the refusal's (document
-// 01, "Refused calls"), and the values beside it are 0. Fewer words than a state has show no shape,
-// so that a call is refused with 1.
+// 01, "Refused calls"), and the values beside it are 0, but for the depth beside 5. Fewer words than a
+// state has show no shape, so that a call is refused with 1.
 use check_call::check;
 use host_results::CheckResult;
 use host_results::HostQuery;
@@ -27,14 +27,15 @@ ghost use Rattle.store.specs.Store.{store};
 ghost use Rattle.store.specs.Promises.{LookupPromise, QueryPromise, RangePromise, CheckPromise};
 ghost use Rattle.file.specs.Promises.{SavePromise};
 ghost use Rattle.host_state.specs.Image.{stateIn};
-ghost use Rattle.host_results.specs.Result.{Keeps, isYes};
+ghost use Rattle.host_results.specs.Result.{Keeps, KeepsDepth, isYes};
 ghost use Rattle.host_results.specs.Wanted.{wantedOf};
 ghost use Rattle.shape.specs.Range.{intervalsOf};
 
-// The payload of a key's record, and the pages read: 1. Refused with 1, 2, 3, 5 or 9, the first
-// that holds in this order. Writes nothing.
+// The payload of a key's record, the pages read, 1, and the depth of the key's leaf. Refused with 1,
+// 2, 3, 5 or 9, the first that holds in this order: 5 with the depth of the leaf in which the absent
+// key falls, the others with depth 0. Writes nothing.
 pub fn lookup_result(state: &[u32], dir: &[u32], pages: &[u8], key: Key) -> LookupResult
-    ensures { λ r. ⌜ Keeps (r .number) (found (record { payload = r .payload }) (r .reads))
+    ensures { λ r. ⌜ KeepsDepth (r .number) (r .depth) (found (record { payload = r .payload }) (r .reads))
         (found (record { payload = 0 }) 0)
         (LookupPromise (store (stateIn (now (state .entry))) (now (dir .entry)) (now (pages .entry))) (key .values)) ⌝ }
 {

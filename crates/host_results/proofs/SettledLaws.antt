@@ -1,49 +1,40 @@
--- Laws of the words after a change: those of an accepted one show its state, those of a refused one are as they came.
--- Assumes nothing.
-use Prim.Native.Nat.{ℕ}
+-- Laws of the number of a call that leaves a state, and of the words after it: those of an accepted one show the state,
+-- those of a refused one are as they came. Assumes nothing.
+use Prim.Native.Nat.{ℕ, suc}
 use mathlib.Core.Path.{_≡_, refl, sym, ap, _∙_}
-use mathlib.Core.Bool.{false≢true, true, false}
+use mathlib.Core.Bool.{true, false, false≢true}
 use mathlib.Core.List.{List}
+use native.Mathlib.Omega.{arith}
 use lib.ListN.{length, drop}
-use Rattle.shape.specs.Refusal.{Answer, accepted, refused}
-use Rattle.model.specs.Model.{Reply, changed}
-use Rattle.store.specs.Answers.{changedAnswer}
-use Rattle.store.specs.declared.Change.{Change}
+use Rattle.shape.specs.Refusal.{Answer, accepted, refused, refusedWith, isRefused}
+use Rattle.store.specs.declared.State.{State}
 use Rattle.host_state.specs.Image.{stateSize, stateIn, statePut}
 use Rattle.host_state.proofs.ImageLaws.{drop-statePut, stateIn-statePut}
-use Rattle.host_results.specs.Settled.{Settled}
+use Rattle.host_results.specs.Settled.{numberTold, Settled}
 
--- ---- answers
+-- a number other than 0 is a refusal's
+pub isRefused-numberTold : {A : Type 0} (answer : Answer A) (n : ℕ) → numberTold answer ≡ suc n
+    → isRefused answer ≡ true
+isRefused-numberTold (accepted x) n e = absurd (omega arith)
+isRefused-numberTold (refused m) n e = refl
+isRefused-numberTold (refusedWith m x) n e = refl
 
-pub accepted-refused : (n : ℕ) → _≡_ {A = Answer Reply} (accepted changed) (refused n) → ⊥
-accepted-refused n e = let z : false ≡ true = cc in false≢true z
-
-pub refused-same : (n m : ℕ) → _≡_ {A = Answer Reply} (refused n) (refused m) → n ≡ m
-refused-same n m e = cc
-
--- ---- the words after a change
-
-module _ (change : Change) (words : List ℕ) where
-  pub settled-done : changedAnswer (change .answer) ≡ accepted changed
-      → length (change .state .shape .widths) ≡ 4 → length (change .state .tally .leaves) ≡ 13
-      → (words′ : List ℕ) → words′ ≡ statePut (change .state) words → Settled change words 0 words′
+module _ {A : Type 0} (answer : Answer A) (state : State) (words : List ℕ) where
+  pub settled-done : isRefused answer ≡ false → length (state .shape .widths) ≡ 4 → length (state .tally .leaves) ≡ 13
+      → (words′ : List ℕ) → words′ ≡ statePut state words → Settled answer state words words′
   settled-done done four thirteen words′ e =
       record {
-        number-done = λ _. refl;
         words-done = λ _. e;
-        state-done = λ _. ap stateIn e ∙ stateIn-statePut (change .state) words four thirteen;
-        past-done = λ _. ap (drop stateSize) e ∙ drop-statePut (change .state) words;
-        number-refused = λ n f. absurd (accepted-refused n (sym done ∙ f));
-        words-refused = λ n f. absurd (accepted-refused n (sym done ∙ f));
+        state-done = λ _. ap stateIn e ∙ stateIn-statePut state words four thirteen;
+        past-done = λ _. ap (drop stateSize) e ∙ drop-statePut state words;
+        words-refused = λ f. absurd (false≢true (sym done ∙ f));
       }
 
-  pub settled-refused : (n : ℕ) → changedAnswer (change .answer) ≡ refused n → Settled change words n words
-  settled-refused n e =
+  pub settled-refused : isRefused answer ≡ true → Settled answer state words words
+  settled-refused not-done =
       record {
-        number-done = λ f. absurd (accepted-refused n (sym f ∙ e));
-        words-done = λ f. absurd (accepted-refused n (sym f ∙ e));
-        state-done = λ f. absurd (accepted-refused n (sym f ∙ e));
-        past-done = λ f. absurd (accepted-refused n (sym f ∙ e));
-        number-refused = λ m f. refused-same n m (sym e ∙ f);
-        words-refused = λ _ _. refl;
+        words-done = λ f. absurd (false≢true (sym f ∙ not-done));
+        state-done = λ f. absurd (false≢true (sym f ∙ not-done));
+        past-done = λ f. absurd (false≢true (sym f ∙ not-done));
+        words-refused = λ _. refl;
       }

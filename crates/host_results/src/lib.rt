@@ -1,6 +1,7 @@
-// What crosses the C interface as numbers: an answer as a struct of numbers, a change as its number
-// and its state in words, a query and a range as they come. A number of 0 stands for an accepted
-// call; any other is the refusal's (document 01, "Refused calls"), and the values beside it are 0.
+// What crosses the C interface as numbers: an answer as a struct of numbers, a change as its number,
+// its depth and its state in words, a query and a range as they come. A number of 0 stands for an
+// accepted call; any other is the refusal's (document 01, "Refused calls"), and the values beside it are 0, but
+// for the depth beside 5 (document 02, request 6).
 use file::Saved;
 use host_state::put_state;
 use shape::Attribute;
@@ -14,18 +15,21 @@ use store::Changed;
 use store::Checked;
 use store::Found;
 use store::Listed;
+use store::Made;
+use store::Making;
 ghost use mathlib.Core.Path.{_≡_};
+ghost use mathlib.Core.Bool.{false};
 ghost use Prim.Native.Nat.{_<_, _≤_};
 ghost use lib.ListN.{getD, length};
 ghost use Rattle.shape.specs.Key.{wantedValue, wantedValues};
 ghost use Rattle.shape.specs.Range.{spanInterval, rangeIntervals, intervalIf, intervalsOf};
-ghost use Rattle.shape.specs.Refusal.{accepted, refused};
-ghost use Rattle.model.specs.Model.{changed, found, listed};
-ghost use Rattle.store.specs.Answers.{changedAnswer, foundAnswer, listedAnswer, checkedAnswer};
+ghost use Rattle.shape.specs.Refusal.{refused, isRefused};
+ghost use Rattle.model.specs.Model.{found, listed};
+ghost use Rattle.store.specs.Answers.{madeAnswer, changedAnswer, foundAnswer, listedAnswer, checkedAnswer};
 ghost use Rattle.file.specs.Answers.{savedAnswer};
 ghost use Rattle.host_state.specs.Image.{stateSize};
-ghost use Rattle.host_results.specs.Result.{Reports, isYes};
-ghost use Rattle.host_results.specs.Settled.{Settled};
+ghost use Rattle.host_results.specs.Result.{Reports, KeepsDepth, isYes};
+ghost use Rattle.host_results.specs.Settled.{numberTold, depthTold, Settled};
 ghost use Rattle.host_results.specs.Wanted.{wantedIf, wantedOf};
 
 // A partial-match query: attribute j is given `values[j]` where `given[j]` is not 0, otherwise free.
@@ -44,12 +48,21 @@ pub struct HostRange {
     pub highs: [u32; 4],
 }
 
-// The payload of a key's record, and the pages read.
+// The depth of a key's leaf after an insert or a delete; of a delete's 5, that of the leaf in which
+// the absent key falls.
+#[repr(C)]
+pub struct ChangeResult {
+    pub number: u32,
+    pub depth: u32,
+}
+
+// The payload of a key's record, the pages read, and the depth of the key's leaf.
 #[repr(C)]
 pub struct LookupResult {
     pub number: u32,
     pub payload: u32,
     pub reads: u32,
+    pub depth: u32,
 }
 
 // How many records a query or a range wrote, how many match, how many pages it read.
@@ -77,20 +90,28 @@ pub struct SaveResult {
 
 // A lookup's answer as numbers.
 pub fn found_result(answer: Found) -> LookupResult
-    requires { ⌜ (foundAnswer answer ≡ refused 0 → ⊥) ⌝ }
-    ensures { λ r. ⌜ Reports (r .number) (found (record { payload = r .payload }) (r .reads))
-        (found (record { payload = 0 }) 0) (foundAnswer answer) ⌝ }
+    requires { ⌜ (foundAnswer answer ≡ refused 0 → ⊥) × (foundAnswer answer ≡ refused 5 → ⊥) ⌝ }
+    ensures { λ r. ⌜ KeepsDepth (r .number) (r .depth) (found (record { payload = r .payload }) (r .reads))
+        (found (record { payload = 0 }) 0) (λ told. told ≡ foundAnswer answer) ⌝ }
 {
     match answer {
-        Found::Content(content, reads) => LookupResult {
+        Found::Content(content, reads, depth) => LookupResult {
             number: 0,
             payload: content.payload,
             reads,
+            depth,
+        },
+        Found::Absent(depth) => LookupResult {
+            number: 5,
+            payload: 0,
+            reads: 0,
+            depth,
         },
         Found::Refused(number) => LookupResult {
             number,
             payload: 0,
             reads: 0,
+            depth: 0,
         },
     }
 }
@@ -147,18 +168,39 @@ pub fn saved_result(answer: Saved) -> SaveResult
     }
 }
 
-// Writes the state of an accepted change into its words, and returns the number of the change.
-pub fn settle(words: &mut [u32], change: Change) -> u32
-    requires { ⌜ (changedAnswer (change .answer) ≡ accepted changed → stateSize ≤ length (now words)) ⌝ }
-    ensures { λ r. ⌜ Settled change (now (words .entry)) r (now (words .exit)) ⌝ }
+// Writes the state of a store that is made into its words, and returns the number.
+pub fn settle(words: &mut [u32], making: Making) -> u32
+    requires { ⌜ (isRefused (madeAnswer (making .answer)) ≡ false → stateSize ≤ length (now words)) ⌝ }
+    ensures { λ r. ⌜ r ≡ numberTold (madeAnswer (making .answer)) ⌝ }
+    ensures { λ _. ⌜ Settled (madeAnswer (making .answer)) (making .state) (now (words .entry))
+        (now (words .exit)) ⌝ }
+{
+    let answer = making.answer;
+    match answer {
+        Made::Done => {
+            put_state(words, making.state);
+            0
+        }
+        Made::Refused(number) => number,
+    }
+}
+
+// Writes the state of an accepted change into its words, and returns number and depth of the change.
+pub fn settle_change(words: &mut [u32], change: Change) -> ChangeResult
+    requires { ⌜ (isRefused (changedAnswer (change .answer)) ≡ false → stateSize ≤ length (now words)) ⌝ }
+    ensures { λ r. ⌜ (r .number ≡ numberTold (changedAnswer (change .answer)))
+        × (r .depth ≡ depthTold (changedAnswer (change .answer))) ⌝ }
+    ensures { λ _. ⌜ Settled (changedAnswer (change .answer)) (change .state) (now (words .entry))
+        (now (words .exit)) ⌝ }
 {
     let answer = change.answer;
     match answer {
-        Changed::Done => {
+        Changed::Refused(number) => ChangeResult { number, depth: 0 },
+        Changed::Absent(depth) => ChangeResult { number: 5, depth },
+        Changed::Done(depth) => {
             put_state(words, change.state);
-            0
+            ChangeResult { number: 0, depth }
         }
-        Changed::Refused(number) => number,
     }
 }
 

@@ -26,9 +26,9 @@ ghost use Rattle.store.specs.Answers.{changedAnswer};
 ghost use Rattle.store.specs.Promises.{keyNumber, AddPromise, InsertPromise};
 ghost use Rattle.store.specs.Store.{store};
 
-// Adds a record; a full leaf is divided until no leaf has more than b. Refused with 1, 2, 3, 11 (a
-// payload of 0), 4, 6, 7 or 9, the first that holds in this order; a refused call changes nothing.
-// On any store no word and no page of another leaf is lost.
+// Adds a record, and returns the depth of its leaf afterwards; a full leaf is divided until no leaf
+// has more than b. Refused with 1, 2, 3, 11 (a payload of 0), 4, 6, 7 or 9, the first that holds in this order;
+// a refused call changes nothing. On any store no word and no page of another leaf is lost.
 pub fn insert(state: State, dir: &mut [u32], pages: &mut [u8], key: Key, content: Content) -> Change
     ensures { λ r. ⌜ InsertPromise (store state (now (dir .entry)) (now (pages .entry))) (key .values) content
         (changedAnswer (r .answer)) (store (r .state) (now (dir .exit)) (now (pages .exit))) ⌝ }
@@ -58,7 +58,6 @@ pub fn add(state: State, dir: &mut [u32], pages: &mut [u8], key: Key, content: C
 {
     let encoded = encode_key(state.shape, key);
     let encodings = encoded.values;
-    let answer = Changed::Done;
     // find: F1 to F4, I1
     let found = find(state, dir, pages, encoded);
     // allocate: I2
@@ -72,14 +71,16 @@ pub fn add(state: State, dir: &mut [u32], pages: &mut [u8], key: Key, content: C
             return Change { answer, state };
         }
         // I2, page p is not full: the record
-        Plan::Take(page, place, count) => {
+        Plan::Take(page, depth, place, count) => {
             insert_record(pages, b, page as usize, place, count, fields, content);
+            let answer = Changed::Done(depth);
             return Change { answer, state };
         }
         // I2, page p was null: the record; set the words: I4, I5
         Plan::Get(page, depth) => {
             insert_record(pages, b, page as usize, 0, 0, fields, content);
             set_word(state, dir, encodings, page, depth);
+            let answer = Changed::Done(depth);
             return Change { answer, state };
         }
         Plan::Divide(split, cut, free) => {
@@ -99,6 +100,9 @@ pub fn add(state: State, dir: &mut [u32], pages: &mut [u8], key: Key, content: C
                 fields,
                 content,
             );
+            // the key's leaf is a half of the region that the step divides
+            let depth = split.step as u32 + 1;
+            let answer = Changed::Done(depth);
             return Change { answer, state };
         }
     }

@@ -17,7 +17,7 @@ module _ (before : Store) (encoded : List ℕ) where
   -- a refusal is what `add` promises; a leaf that gets a page is whole
   abbrev pub InsertPlanned : Plan → Type 0
   InsertPlanned (Refused n) = RefusalMet before encoded n
-  InsertPlanned (Take g i n) = RoomFound before encoded g i n
+  InsertPlanned (Take g x i n) = RoomFound before encoded g x i n
   InsertPlanned (Get g x) = GetPlanned before encoded g x × LeafWhole x (wordOf (Empty x))
   InsertPlanned (Divide split cut free) =
       DividePlanned before encoded split cut free

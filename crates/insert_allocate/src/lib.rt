@@ -12,12 +12,12 @@ ghost use Rattle.store.specs.Store.{store};
 ghost use Rattle.insert_planned.specs.Planned.{InsertFound, NullFound, FullFound};
 ghost use Rattle.insert_allocate.specs.Planned.{InsertPlanned};
 
-// What is to be done: nothing, with the number of a refusal; a page takes the record at a place
-// among the records that it has; an empty leaf, of a depth, gets a free page; a full leaf is
-// divided, and a free page takes the records from a cut on.
+// What is to be done: nothing, with the number of a refusal; a page, of a leaf of a depth, takes the
+// record at a place among the records that it has; an empty leaf, of a depth, gets a free page; a
+// full leaf is divided, and a free page takes the records from a cut on.
 pub enum Plan {
     Refused(u32),
-    Take(u32, usize, usize),
+    Take(u32, u32, usize, usize),
     Get(u32, u32),
     Divide(Split, Cut, u32),
 }
@@ -30,7 +30,7 @@ pub fn allocate(state: State, dir: &[u32], pages: &[u8], encoded: [u32; 4], foun
 {
     match found {
         Found::Refused(n) => Plan::Refused(n),
-        Found::Room(page, place, count) => Plan::Take(page, place, count),
+        Found::Room(page, depth, place, count) => Plan::Take(page, depth, place, count),
         Found::Null(depth) => allocate_first(state, dir, pages, encoded, depth),
         Found::Full(split, cut) => allocate_half(state, dir, pages, encoded, split, cut),
     }

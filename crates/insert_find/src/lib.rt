@@ -38,11 +38,11 @@ pub fn find(state: State, dir: &[u32], pages: &[u8], encoded: Key) -> Found
     }
     let packed = pack_key(encoded);
     let widths = widths_of(state.shape);
-    let word = key_word(widths, state.deepest as u64, dir, packed);
-    if !word_holds(state, word) {
+    let at = key_word(widths, state.deepest as u64, dir, packed);
+    if !word_holds(state, at.word) {
         return Found::Refused(9);
     }
-    find_page(state, pages, packed, word)
+    find_page(state, pages, packed, at.word)
 }
 
 // F3, F4: the page of the leaf that the word of a packed key's cell names, where it has one.
@@ -92,7 +92,7 @@ fn find_place(state: State, pages: &[u8], key: u64, page: u32, depth: u32) -> Fo
         return Found::Refused(4);
     };
     if n < capacity {
-        return Found::Room(page, i, n);
+        return Found::Room(page, depth, i, n);
     }
     find_split(state, pages, key, page, depth, i)
 }

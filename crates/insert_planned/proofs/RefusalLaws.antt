@@ -147,8 +147,8 @@ module _ (before : Store) (encoded : List ℕ) where
         falls : Placed (widthsOf s) (biasKey s) (unpackedKey (packedKey encoded)) (page g) n (Before i)
         falls = subst (λ k. Placed (widthsOf s) (biasKey s) (unpackedKey k) (page g) n (Before i)) (m .key-is) p
 
-        pub room-found : n < b → InsertFound before encoded (Room g i n)
-        room-found l = record { asked = m .asked; depth = x; met = page-met; room = l; place = falls }
+        pub room-found : n < b → InsertFound before encoded (Room g x i n)
+        room-found l = record { asked = m .asked; met = page-met; room = l; place = falls }
 
         pub full-met : b ≤ n → FullMet before encoded key g x i
         full-met l =

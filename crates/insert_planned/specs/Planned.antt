@@ -49,11 +49,10 @@ module _ (before : Store) (encoded : List ℕ) where
 
   -- ---- what is found
 
-  -- page g has room, and takes the key before record i of n
-  pub record RoomFound (g i n : ℕ) : Type 0 where
+  -- page g, of a leaf of depth x, has room, and takes the key before record i of n
+  pub record RoomFound (g x i n : ℕ) : Type 0 where
     pub asked : InsertAsked before encoded
-    pub depth : ℕ
-    pub met : PageMet before encoded g depth n
+    pub met : PageMet before encoded g x n
     pub room : n < before .state .shape .capacity
     pub place : FallsBefore before encoded g n i
 
@@ -86,7 +85,7 @@ module _ (before : Store) (encoded : List ℕ) where
 
   abbrev pub InsertFound : Found → Type 0
   InsertFound (Refused n) = RefusalMet n
-  InsertFound (Room g i n) = RoomFound g i n
+  InsertFound (Room g x i n) = RoomFound g x i n
   InsertFound (Null x) = NullFound x
   InsertFound (Full split cut) = FullFound split cut
 

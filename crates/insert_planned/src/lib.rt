@@ -2,11 +2,11 @@
 use insert_cut::Cut;
 
 // What is found of a key's leaf: nothing to be done, with the number of a refusal; a page with room,
-// the place of the key and the number of records that it has; no page, the leaf's depth; a full
-// page, how the leaf is divided and where the page is cut.
+// the leaf's depth, the place of the key and the number of records that the page has; no page, the
+// leaf's depth; a full page, how the leaf is divided and where the page is cut.
 pub enum Found {
     Refused(u32),
-    Room(u32, usize, usize),
+    Room(u32, u32, usize, usize),
     Null(u32),
     Full(Split, Cut),
 }

@@ -38,18 +38,18 @@ module _ (before : Store) (encoded : List ℕ) (content : Content) where
   module _ (small : content .payload < 2 ^ 32) (key : ℕ) (ek : key ≡ fieldsKey s (packedKey encoded)) where
     -- ---- a page takes the record
 
-    module _ (g i n : ℕ) (taken : RoomFound before encoded g i n) where
+    module _ (g x i n : ℕ) (taken : RoomFound before encoded g x i n) where
       pub lent-taken : PageLent b g bytes × (i ≤ n) × (n < b)
       lent-taken = (page-lent before encoded (taken .asked) g (taken .met .within), taken .place .0, taken .room)
 
       pub by-taken : (bytes′ : List ℕ) → bytes′ ≡ insertedPages b g i n (packedBytes key content) bytes
-          → AcceptedMet before encoded content (store (before .state) (before .memory .words) bytes′)
+          → AcceptedMet before encoded content x (store (before .state) (before .memory .words) bytes′)
       by-taken bytes′ d =
           subst
-          (λ bs. AcceptedMet before encoded content (store (before .state) (before .memory .words) bs))
+          (λ bs. AcceptedMet before encoded content x (store (before .state) (before .memory .words) bs))
           (sym (d ∙ ap (λ k. insertedPages b g i n (packedBytes k content) bytes) ek))
-          (promise-taken before encoded content (taken .asked) small g i n taken
-          (contained-taken before encoded (fieldsKey s (packedKey encoded)) content g i n taken lent-taken _ refl))
+          (promise-taken before encoded content (taken .asked) small g x i n taken
+          (contained-taken before encoded (fieldsKey s (packedKey encoded)) content g x i n taken lent-taken _ refl))
 
     -- ---- an empty leaf gets a page
 
@@ -74,10 +74,10 @@ module _ (before : Store) (encoded : List ℕ) (content : Content) where
           → Filled (widthsOf s) (before .state .deepest) x (splitBit (widthsOf s) encoded) (wordOf (Page g x))
           (before .memory .words) words′
           → (bytes′ : List ℕ) → bytes′ ≡ insertedPages b g 0 0 (packedBytes key content) bytes
-          → AcceptedMet before encoded content (store (before .state) words′ bytes′)
+          → AcceptedMet before encoded content x (store (before .state) words′ bytes′)
       by-got words′ filled bytes′ d =
           subst
-          (λ bs. AcceptedMet before encoded content (store (before .state) words′ bs))
+          (λ bs. AcceptedMet before encoded content x (store (before .state) words′ bs))
           (sym (d ∙ ap (λ k. insertedPages b g 0 0 (packedBytes k content) bytes) ek))
           (promise-got before encoded content (got .found .asked) small g x got words′ filled
           (contained-got before encoded (fieldsKey s (packedKey encoded)) content g x got lent-got whole words′ filled _ refl))

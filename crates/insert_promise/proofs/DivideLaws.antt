@@ -1,6 +1,6 @@
 -- Laws of a record that is added to a full leaf: what the steps ask holds, and what they leave keeps the promise.
 -- Assumes nothing.
-use Prim.Native.Nat.{ℕ, suc, _-_, _^_, max, _≤_, _<_}
+use Prim.Native.Nat.{ℕ, suc, _+_, _-_, _^_, max, _≤_, _<_}
 use mathlib.Core.Path.{_≡_, refl, sym, ap, _∙_, subst}
 use mathlib.Core.Bool.{false}
 use mathlib.Core.List.{List}
@@ -176,12 +176,12 @@ module _ (before : Store) (encoded : List ℕ) (content : Content) where
             (splitBit (widthsOf (deeper .shape)) encoded) (split .page) free doubled words′
             → (after : State) → LeavesCounted deeper split after → (bytes′ : List ℕ)
             → bytes′ ≡ dividedPages b (split .page) free cut (packedBytes key content) bytes
-            → AcceptedMet before encoded content (store after words′ bytes′)
+            → AcceptedMet before encoded content (split .step + 1) (store after words′ bytes′)
         by-divided words′ l after c bytes′ e =
-            subst (λ st. AcceptedMet before encoded content (store st words′ bytes′))
+            subst (λ st. AcceptedMet before encoded content (split .step + 1) (store st words′ bytes′))
             (sym (w .state))
             (subst
-            (λ bs. AcceptedMet before encoded content
+            (λ bs. AcceptedMet before encoded content (split .step + 1)
             (changedStore before (after .deepest) (after .tally) (memory words′ bs)))
             (sym (e ∙ ap (λ k. dividedPages b (split .page) free cut (packedBytes k content) bytes) ek))
             (promise-divided before encoded content a small split cut free dividing (after .deepest) (after .tally)

@@ -1,9 +1,11 @@
 -- Laws of an insert that divides a full leaf: what was planned and done keeps the promise of `add`. Assumes nothing.
-use Prim.Native.Nat.{ℕ, suc, _-_, max, _^_, _≤_, _<_}
-use mathlib.Core.Path.{_≡_, sym, subst}
-use mathlib.Core.Bool.{false}
+use Prim.Native.Nat.{ℕ, suc, _+_, _-_, max, _^_, _≤_, _<_}
+use mathlib.Core.Path.{_≡_, refl, sym, subst}
+use mathlib.Core.Bool.{false, cond}
 use mathlib.Core.List.{List}
 use native.Mathlib.Omega.{arith}
+use native.Mathlib.Numerals.{add-one}
+use Rattle.lists.proofs.Bools.{cond-cases}
 use Rattle.shape.specs.Shape.{widthsOf}
 use Rattle.shape.specs.declared.Shape.{Shape}
 use Rattle.split.specs.Bits.{splitBit}
@@ -27,7 +29,7 @@ use Rattle.insert_cut.specs.declared.Cut.{Cut}
 use Rattle.insert_planned.proofs.MetLaws.{recordWith}
 use Rattle.insert_planned.proofs.SplitLaws.{meets-full}
 use Rattle.insert_pages.specs.Inserted.{dividedPages}
-use Rattle.insert_promise.proofs.TakeLaws.{AcceptedMet}
+use Rattle.insert_promise.proofs.TakeLaws.{AcceptedMet, depth-there}
 use Rattle.insert_promise.proofs.DividedLaws.{length-divided, drop-divided, others-divided, shows-divided}
 
 module _ (before : Store) (encoded : List ℕ) (content : Content) (a : InsertAsked before encoded)
@@ -71,11 +73,19 @@ module _ (before : Store) (encoded : List ℕ) (content : Content) (a : InsertAs
   pub depth-le-limit : depth′ ≤ before .state .limits .depth
   depth-le-limit = omega (arith, deeper, a .within-limit, t .found .met .deep)
 
+  -- the page of the key's half has a number
+  page-few : cond (splitBit (widthsOf s) encoded (split .step)) free (split .page) < 2 ^ 16 - 1
+  page-few =
+      cond-cases (λ g. g < 2 ^ 16 - 1) (splitBit (widthsOf s) encoded (split .step)) free (split .page)
+      (λ e. omega (arith, t .free-within, a .pages-lent .few))
+      (λ e. omega (arith, t .found .met .ends-met .met .within, a .pages-lent .few))
+
   pub promise-divided : Contained false before (changedStore before depth′ tally′ (memory words′ after))
       (splitBit (widthsOf s) encoded)
-      → AcceptedMet before encoded content (changedStore before depth′ tally′ (memory words′ after))
+      → AcceptedMet before encoded content (split .step + 1) (changedStore before depth′ tally′ (memory words′ after))
   promise-divided contained values early same =
-      add-divided before values content early (split .page) free (split .depth) (split .step) depth′ tally′
+      rw (add-one (split .step))
+      (add-divided before values content early (split .page) free (split .depth) (split .step) depth′ tally′
       words₁ words′ after
       (subst
       (λ k. OnSound before
@@ -96,3 +106,5 @@ module _ (before : Store) (encoded : List ℕ) (content : Content) (a : InsertAs
         bytes-past = drop-divided before encoded content a small split cut free t;
       })
       (keeps-others false before encoded values same _ contained)
+      (depth-there (changedStore before depth′ tally′ (memory words′ after)) encoded values same _ _ page-few
+      (leaves .half _ (λ i l. refl))))

@@ -1,12 +1,13 @@
 -- Laws of an insert that a page takes, and of one that gives an empty leaf a page: what was planned and done keeps the
 -- promise of `add`. Assumes nothing.
-use Prim.Native.Nat.{ℕ, _^_, _<_}
+use Prim.Native.Nat.{ℕ, _-_, _^_, _<_}
 use mathlib.Core.Path.{_≡_, refl, sym, ap, _∙_, subst}
 use mathlib.Core.Bool.{false}
 use mathlib.Core.List.{List, [], _∷_}
 use native.Mathlib.Omega.{arith}
 use lib.ListN.{length}
 use Rattle.shape.specs.Refusal.{accepted}
+use Rattle.shape.specs.Key.{encodings}
 use Rattle.shape.specs.Shape.{widthsOf}
 use Rattle.shape.specs.declared.Shape.{Shape}
 use Rattle.shape.proofs.ShapeLaws.{capacity-bounds}
@@ -23,16 +24,18 @@ use Rattle.page.proofs.FieldLaws.{length-recordsFrom}
 use Rattle.pages.specs.Pages.{PageLent}
 use Rattle.page.proofs.PartLaws.{page-end-le}
 use Rattle.page_place.proofs.FoundLaws.{insertAt-placed}
-use Rattle.directory_word.specs.Word.{wordOf}
+use Rattle.directory_word.specs.Word.{wordOf, depthField}
 use Rattle.directory_word.specs.declared.Leaf.the-variants.{Page}
+use Rattle.directory_word.proofs.WordLaws.{wordOf-depth}
 use Rattle.model.specs.Model.{changed}
 use Rattle.model.specs.Sets.{withRecord}
 use Rattle.store.specs.Store.{Store, memory, store}
 use Rattle.store.specs.Contained.{Contained}
-use Rattle.store.specs.Promises.{AddPromise}
+use Rattle.store.specs.Promises.{depthAt, AddPromise}
+use Rattle.store.proofs.ShownLaws.{wordOn}
 use Rattle.refusals.specs.Passed.{OfValues}
 use Rattle.refusals.proofs.PassedLaws.{unpackedKey-passed}
-use Rattle.change.proofs.PromiseLaws.{drop-of-past, keeps-others}
+use Rattle.change.proofs.PromiseLaws.{drop-of-past, keeps-others, depthAt-encoded}
 use Rattle.change.proofs.InsertLaws.{TookRecord, GotPage}
 use Rattle.change.proofs.AddPromiseLaws.{OnSound, add-taken, add-got}
 use Rattle.insert_planned.specs.Found.{InsertAsked}
@@ -43,10 +46,17 @@ use Rattle.insert_pages.specs.Inserted.{insertedPages}
 use Rattle.insert_pages.proofs.InsertedLaws.{length-insertedPages, drop-insertedPages, pageAt-insertedPages-other}
 use Rattle.insert_pages.proofs.InsertedLaws.{recordsOf-insertedPages}
 
--- what `add` promises of a record that it accepts, of the call's values
-abbrev pub AcceptedMet : Store → List ℕ → Content → Store → Type 0
-AcceptedMet before encoded content after =
-    OfValues before encoded (λ values. AddPromise before values content (accepted changed) after)
+-- what `add` promises of a record that it accepts with a depth, of the call's values
+abbrev pub AcceptedMet : Store → List ℕ → Content → ℕ → Store → Type 0
+AcceptedMet before encoded content x after =
+    OfValues before encoded (λ values. AddPromise before values content (accepted (changed x)) after)
+
+-- the depth in the word at the key's cell, which names a page
+pub depth-there : (after : Store) (encoded values : List ℕ) → encodings (after .state .shape) values ≡ encoded
+    → (g x : ℕ) → g < 2 ^ 16 - 1 → wordOn after (splitBit (widthsOf (after .state .shape)) encoded) ≡ wordOf (Page g x)
+    → depthAt after values ≡ x
+depth-there after encoded values same g x few word =
+    depthAt-encoded after encoded values same x (ap depthField word ∙ wordOf-depth g x few)
 
 -- a page of the P is lent
 pub page-lent : (before : Store) (encoded : List ℕ) → InsertAsked before encoded → (g : ℕ)
@@ -80,7 +90,7 @@ module _ (before : Store) (encoded : List ℕ) (content : Content) (a : InsertAs
 
   -- ---- a page takes the record
 
-  module _ (g i n : ℕ) (t : RoomFound before encoded g i n) where
+  module _ (g x i n : ℕ) (t : RoomFound before encoded g x i n) where
     abbrev page : List ℕ
     page = pageAt b (before .memory .bytes) g
 
@@ -90,21 +100,21 @@ module _ (before : Store) (encoded : List ℕ) (content : Content) (a : InsertAs
     lent : PageLent b g (before .memory .bytes)
     lent = page-lent before encoded a g (t .met .within)
 
-    took : OnSound before (TookRecord before r g (t .depth) after)
+    took : OnSound before (TookRecord before r g x after)
     took S sound =
         let met = t .met in
-        let same = records-met before encoded content a g (t .depth) n met in
+        let same = records-met before encoded content a g x n met in
         record {
-          meets = meets before encoded content a g (t .depth) n met;
-          absent = absent-met before encoded content a g (t .depth) n met S sound i (t .place);
+          meets = meets before encoded content a g x n met;
+          absent = absent-met before encoded content a g x n met S sound i (t .place);
           room = omega (arith, ap length same, length-recordsFrom s n 2 page, t .room);
           shows =
               recordsOf-insertedPages b g i n new (before .memory .bytes) lent (t .place .0) (t .room) new-length s
               ∙ ap (λ q. insertAt i q (recordsFrom s n 2 page))
               (recordOf-passed before encoded (a .passed) content small)
               ∙ insertAt-placed s (a .passed .shape) r (packedKey encoded) (sym (unpackedKey-passed before encoded (a .passed))) page
-              (page-bytes before encoded content a g (t .depth) n met) n
-              (sorted-met before encoded content a g (t .depth) n met S sound) i (t .place)
+              (page-bytes before encoded content a g x n met) n
+              (sorted-met before encoded content a g x n met S sound) i (t .place)
               ∙ ap (withRecord s r) (sym same);
           others = λ k l d.
               ap (recordsOf s)
@@ -114,10 +124,10 @@ module _ (before : Store) (encoded : List ℕ) (content : Content) (a : InsertAs
 
     pub promise-taken : Contained false before (store (before .state) (before .memory .words) after)
         (splitBit (widthsOf s) encoded)
-        → AcceptedMet before encoded content (store (before .state) (before .memory .words) after)
+        → AcceptedMet before encoded content x (store (before .state) (before .memory .words) after)
     promise-taken contained values early same =
-        add-taken before values content early g (t .depth) after
-        (subst (λ k. OnSound before (TookRecord before (recordWith k content) g (t .depth) after)) (sym same) took)
+        add-taken before values content early g x after
+        (subst (λ k. OnSound before (TookRecord before (recordWith k content) g x after)) (sym same) took)
         (record {
           words-length = refl;
           bytes-length =
@@ -128,6 +138,8 @@ module _ (before : Store) (encoded : List ℕ) (content : Content) (a : InsertAs
               (before .state .limits .pages) (t .met .within);
         })
         (keeps-others false before encoded values same _ contained)
+        (depth-there (store (before .state) (before .memory .words) after) encoded values same g x
+        (omega (arith, t .met .within, a .pages-lent .few)) (t .met .own))
 
   -- ---- an empty leaf gets a page
 
@@ -161,7 +173,7 @@ module _ (before : Store) (encoded : List ℕ) (content : Content) (a : InsertAs
         }
 
     pub promise-got : Contained false before (store (before .state) words′ got-after) (splitBit (widthsOf s) encoded)
-        → AcceptedMet before encoded content (store (before .state) words′ got-after)
+        → AcceptedMet before encoded content x (store (before .state) words′ got-after)
     promise-got contained values early same =
         add-got before values content early g x words′ got-after
         (subst (λ k. OnSound before (GotPage before (recordWith k content) g x words′ got-after)) (sym same) got)
@@ -177,3 +189,5 @@ module _ (before : Store) (encoded : List ℕ) (content : Content) (a : InsertAs
               (before .state .limits .pages) (t .within);
         })
         (keeps-others false before encoded values same _ contained)
+        (depth-there (store (before .state) words′ got-after) encoded values same g x
+        (omega (arith, t .within, a .pages-lent .few)) (filled .inside _ (λ i l. refl)))

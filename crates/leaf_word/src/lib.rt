@@ -19,18 +19,30 @@ ghost use lib.ListN.{getD, length};
 ghost use Rattle.shape.specs.Shape.{widthList};
 ghost use Rattle.split.specs.Bits.{splitBit};
 ghost use Rattle.cell.specs.Cell.{cellAddress};
+ghost use Rattle.directory_word.specs.Word.{depthField};
 ghost use Rattle.record.specs.Packed.{unpackedKey};
 ghost use Rattle.page.specs.Page.{pageAt};
 ghost use Rattle.leaf_word.specs.Hold.{CellAsked, wordHolds, ownPage, ownCount, LeafAsked, OwnAsked};
 
-// The word at the cell of a packed key, in a directory of depth t.
-pub fn key_word(widths: Widths, t: u64, dir: &[u32], key: u64) -> u32
+// What is found at a key's cell: its word, and the depth of the leaf that the word names.
+pub struct KeyWord {
+    pub word: u32,
+    pub depth: u32,
+}
+
+// The word at the cell of a packed key, in a directory of depth t, and its leaf's depth.
+pub fn key_word(widths: Widths, t: u64, dir: &[u32], key: u64) -> KeyWord
     requires { ⌜ CellAsked (widthList widths) t (length (now dir)) ⌝ }
-    ensures { λ r. ⌜ r ≡ getD (now (dir .entry))
+    ensures { λ r. ⌜ r .word ≡ getD (now (dir .entry))
         (cellAddress (widthList widths) t (splitBit (widthList widths) (unpackedKey key))) 0 ⌝ }
+    ensures { λ r. ⌜ r .depth ≡ depthField (r .word) ⌝ }
 {
     let cell = find_cell(widths, key, t);
-    dir[cell as usize]
+    let word = dir[cell as usize];
+    KeyWord {
+        word,
+        depth: depth_of(word),
+    }
 }
 
 // Whether a sound store can have a word: its depth is at most T and one that the tally has a leaf of,

@@ -1,15 +1,15 @@
 -- Laws of the promise of a call that lists records, one for each way that the call ends, whatever it lists and reads.
 -- Assumes nothing.
 use Prim.Native.Nat.{ℕ, zero, suc, _*_, _/_, min}
-use mathlib.Core.Path.{_≡_, refl, sym, ap, _∙_, subst}
-use mathlib.Core.Bool.{Bool, true, false, true≢false}
+use mathlib.Core.Path.{_≡_, refl, sym, ap, _∙_, subst, fun-ext}
+use mathlib.Core.Bool.{false≢true}
 use mathlib.Core.List.{List, map}
 use mathlib.Core.Logic.{inl, inr}
 use native.Mathlib.Omega.{arith}
 use lib.ListN.{length, take, drop, length-map}
 use lib.Seq.{drop-at, length-take-le}
 use Rattle.lists.specs.Members.{All}
-use Rattle.shape.specs.Refusal.{Answer, accepted, refused, answered}
+use Rattle.shape.specs.Refusal.{Answer, accepted, refused, isRefused, answered}
 use Rattle.shape.specs.declared.Shape.{Shape}
 use Rattle.region.specs.Query.{LeafTest}
 use Rattle.record.specs.Record.{Record}
@@ -20,10 +20,6 @@ use Rattle.page_matches.specs.Output.{emit}
 use Rattle.page_matches.proofs.EmitLaws.{IsField, length-emit, emit-records}
 use Rattle.store.specs.Store.{Store}
 use Rattle.store.specs.Promises.{SoundWhere, ListPromise}
-
-abbrev pub isAccepted : Answer Reply → Bool
-isAccepted (accepted x) = true
-isAccepted (refused n) = false
 
 -- what the model answers and leaves as the output, where `number S` is that of its refusal (0 for none), `found S` are
 -- the records of S that it lists, and `count S` are its reads
@@ -41,6 +37,13 @@ module _ (here : Store) (early : ℕ) (reads : LeafTest Record) (number count : 
 
   abbrev pub Lists : Answer Reply → List ℕ → Type 0
   Lists answer out′ = ListPromise early reads (listOutcome shape number count found out) here out answer out′
+
+  -- a model that says the same of each set
+  pub list-by : (model : List Record → Outcome)
+      → ((S : List Record) → model S ≡ listOutcome shape number count found out S)
+      → (answer : Answer Reply) (out′ : List ℕ) → Lists answer out′
+      → ListPromise early reads model here out answer out′
+  list-by model e answer out′ = subst (λ m. ListPromise early reads m here out answer out′) (sym (fun-ext e))
 
   -- on a sound store the number of the refusals above is the model's
   module _ (model-number : (S : List Record) → SoundWhere here reads S → early ≡ number S) where
@@ -121,7 +124,7 @@ module _ (here : Store) (early : ℕ) (reads : LeafTest Record) (number count : 
         pub list-listed : Lists (accepted (listed written (length fs) opened)) (emit out 0 fs)
         list-listed = record {
           early-refused = λ m d. absurd (omega (arith, none, d));
-          unchanged = λ m d. absurd (true≢false (ap isAccepted d));
+          unchanged = λ m d. absurd (false≢true (ap isRefused d));
           ordinary = λ d. inl (written, length fs, opened, refl, omega arith, omega arith, untouched);
           output-length = length-emit out 0 fs whole;
           answered-as = λ S h. listed-as S h;

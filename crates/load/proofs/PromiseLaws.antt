@@ -11,7 +11,6 @@ use Rattle.shape.proofs.ShapeLaws.{shapeNumber-true}
 use Rattle.record.specs.Record.{Record}
 use Rattle.page.specs.Page.{pageSize, recordsFrom}
 use Rattle.model.specs.Limits.{pageLimitOf, depthLimitOf, freshShape, fixedBy}
-use Rattle.model.specs.Model.{Reply, changed}
 use Rattle.store.specs.Fresh.{FreshPromise, freshConditions, freshNumber, freshState, freshMemory, noState}
 use Rattle.store.specs.Sound.{Sound}
 use Rattle.store.specs.Store.{Store, Memory}
@@ -27,7 +26,7 @@ use Rattle.load.proofs.ClearedLaws.{drop-set-first, drop-clearedCounts}
 use Rattle.load.proofs.NumberLaws.{records-read, set-read}
 
 module _ (file : List ℕ) (m : Memory) where
-  pub promise-refused : (n : ℕ) (answer : Answer Reply) (after : Store) → n ≡ loadNumber file m → (n ≡ 0 → ⊥)
+  pub promise-refused : (n : ℕ) (answer : Answer (Unit {0})) (after : Store) → n ≡ loadNumber file m → (n ≡ 0 → ⊥)
       → answer ≡ refused n → after .state ≡ noState → after .memory ≡ m → LoadPromise file m answer after
   promise-refused zero answer after e some a st kept = absurd (some refl)
   promise-refused (suc n) answer after e some a st kept =
@@ -35,9 +34,9 @@ module _ (file : List ℕ) (m : Memory) where
         answered-as = rw (← e) a;
         no-state = λ k d. st;
         memory-kept = λ k d. kept;
-        shape-as = λ d. accepted-refused changed (suc n) (sym d ∙ a);
-        limits-as = λ d. accepted-refused changed (suc n) (sym d ∙ a);
-        shown = λ d. accepted-refused changed (suc n) (sym d ∙ a);
+        shape-as = λ d. accepted-refused tt (suc n) (sym d ∙ a);
+        limits-as = λ d. accepted-refused tt (suc n) (sym d ∙ a);
+        shown = λ d. accepted-refused tt (suc n) (sym d ∙ a);
         words-length = ap (λ (x : Memory). length (x .words)) kept;
         bytes-length = ap (λ (x : Memory). length (x .bytes)) kept;
         words-past = rw kept refl;
@@ -60,7 +59,7 @@ module _ (file : List ℕ) (m : Memory) where
     abbrev fresh : Store
     fresh = record { state = freshState s m; memory = freshMemory s m }
 
-    made-fresh : (answer : Answer Reply) (made : Store) → FreshPromise s m answer made → made ≡ fresh
+    made-fresh : (answer : Answer (Unit {0})) (made : Store) → FreshPromise s m answer made → made ≡ fresh
     made-fresh answer made p =
         λ i. record { state = (rw none-fresh at (p .state-as)) i; memory = (rw none-fresh at (p .memory-as)) i }
 
@@ -82,13 +81,13 @@ module _ (file : List ℕ) (m : Memory) where
             room = rw (fixedOf-freshState s m, records-fresh) (known .joined);
           }
 
-      promise-accepted : (after : Store) → Joined fresh n file after → LoadPromise file m (accepted changed) after
+      promise-accepted : (after : Store) → Joined fresh n file after → LoadPromise file m (accepted tt) after
       unfolding freshState freshMemory freshShape fixedBy
       promise-accepted after joined =
           record {
             answered-as = rw z refl;
-            no-state = λ k d. accepted-refused changed k d;
-            memory-kept = λ k d. accepted-refused changed k d;
+            no-state = λ k d. accepted-refused tt k d;
+            memory-kept = λ k d. accepted-refused tt k d;
             shape-as = λ d. joined .shape-kept ∙ shape-fresh;
             limits-as = λ d. joined .limits-kept;
             shown = λ d. subst (λ (S : List Record). Sound after S) records-fresh (joined .shown);
@@ -104,7 +103,7 @@ module _ (file : List ℕ) (m : Memory) where
           }
 
       -- the store that is made, by the shape that is read
-      module _ (shape : Shape) (shape-read : shape ≡ fileShape file) (answer : Answer Reply) (made : Store)
+      module _ (shape : Shape) (shape-read : shape ≡ fileShape file) (answer : Answer (Unit {0})) (made : Store)
           (promised : FreshPromise shape m answer made) where
         same : made ≡ fresh
         same =
@@ -113,6 +112,6 @@ module _ (file : List ℕ) (m : Memory) where
         pub joining-made : fileSize n ≡ length file → Joining made n file
         joining-made size = subst (λ (x : Store). Joining x n file) (sym same) (joining-fresh size)
 
-        pub promise-joined : (after : Store) → Joined made n file after → LoadPromise file m (accepted changed) after
+        pub promise-joined : (after : Store) → Joined made n file after → LoadPromise file m (accepted tt) after
         promise-joined after joined =
             promise-accepted after (subst (λ (x : Store). Joined x n file after) same joined)

@@ -18,15 +18,15 @@ use key_values::decode_key;
 use record::RECORD_SIZE;
 use record::read_content;
 use shape::shape_number;
-use store::Change;
-use store::Changed;
 use store::Limits;
+use store::Made;
+use store::Making;
 use store::State;
 ghost use mathlib.Core.Path.{_≡_};
 ghost use mathlib.Core.Bool.{true, _&&_};
 ghost use Rattle.shape.specs.Shape.{shapeNumber};
 ghost use Rattle.model.specs.Sets.{isSet};
-ghost use Rattle.store.specs.Answers.{changedAnswer};
+ghost use Rattle.store.specs.Answers.{madeAnswer};
 ghost use Rattle.store.specs.Store.{memory, store};
 ghost use Rattle.file.specs.File.{fileShape, fileRecords, isWhole, isPlain};
 ghost use Rattle.file.specs.Promises.{LoadPromise};
@@ -37,9 +37,9 @@ ghost use Rattle.load.specs.Private.{Joining, Joined};
 // Refused with 12 (no whole file), 1, 13 (a shape with stray bytes, a value outside its bounds,
 // records not strictly rising), 2, then 6 or 7 at the first record that meets them; a refused call
 // changes nothing. A payload of 0 loads.
-pub fn load(file: &[u8], dir: &mut [u32], pages: &mut [u8]) -> Change
+pub fn load(file: &[u8], dir: &mut [u32], pages: &mut [u8]) -> Making
     ensures { λ r. ⌜ LoadPromise (now (file .entry)) (memory (now (dir .entry)) (now (pages .entry)))
-        (changedAnswer (r .answer)) (store (r .state) (now (dir .exit)) (now (pages .exit))) ⌝ }
+        (madeAnswer (r .answer)) (store (r .state) (now (dir .exit)) (now (pages .exit))) ⌝ }
 {
     let number = load_number(file, dir.len(), pages.len());
     if number != 0 {
@@ -48,8 +48,8 @@ pub fn load(file: &[u8], dir: &mut [u32], pages: &mut [u8]) -> Change
     let made = fresh(shape_in(file), dir, pages);
     let n = record_count(file);
     let state = add_records(made.state, dir, pages, file, n);
-    Change {
-        answer: Changed::Done,
+    Making {
+        answer: Made::Done,
         state,
     }
 }

@@ -1,12 +1,12 @@
 -- Lookup's promise: kept by the number of an early refusal, and by the answer of the store otherwise. Assumes nothing.
-use Prim.Native.Nat.{ℕ}
+use Prim.Native.Nat.{ℕ, zero, suc}
 use mathlib.Core.Path.{_≡_, refl, sym, ap, subst, _∙_}
 use mathlib.Core.Bool.{Bool, true, false, not, cond}
 use mathlib.Core.List.{List}
 use mathlib.Core.Logic.{_⊎_, inl, inr}
 use native.Mathlib.Omega.{arith}
 use lib.Dec.{ltb}
-use Rattle.shape.specs.Refusal.{Answer, accepted, refused}
+use Rattle.shape.specs.Refusal.{Answer, accepted, refused, refusedWith}
 use Rattle.shape.specs.Shape.{widthsOf}
 use Rattle.shape.specs.Key.{keyFits, encodings}
 use Rattle.shape.specs.declared.Shape.{Shape}
@@ -18,13 +18,11 @@ use Rattle.record.specs.Packed.{packedKey}
 use Rattle.page.specs.Page.{pageAt}
 use Rattle.page.specs.Fields.{contentAt}
 use Rattle.page_matches.specs.KeyPlace.{keyPlace}
-use Rattle.directory_word.specs.Word.{leafOf}
-use Rattle.directory_word.specs.declared.Leaf.{Leaf}
-use Rattle.directory_word.specs.declared.Leaf.the-variants.{Empty, Page}
+use Rattle.directory_word.specs.Word.{depthField, pageField, fieldLeaf, leafOf}
 use Rattle.model.specs.Model.{lookupCall, Reply, found, outcome}
 use Rattle.model.proofs.SetLaws.{indexFits-encodings}
 use Rattle.store.specs.Store.{Store, fixedOf}
-use Rattle.store.specs.Promises.{keyNumber, LookupPromise}
+use Rattle.store.specs.Promises.{keyNumber, depthAt, LookupPromise}
 use Rattle.store.specs.declared.State.{State}
 use Rattle.store.proofs.ShownLaws.{wordOn}
 use Rattle.refusals.specs.Limits.{limitsHold}
@@ -34,51 +32,57 @@ use Rattle.lookup.specs.Private.{placeAnswer, countAnswer, leafAnswer, w
 use Rattle.lookup.proofs.SoughtLaws.{keyNumber-read, soughtAnswer-stored}
 use Rattle.lookup.proofs.StoredLaws.{lookup-unfit, lookup-stored}
 
--- ---- on any store: a content with 1 read, 5 or 9
+-- ---- on any store: a content with 1 read or 5, with the depth x of the word; or 9
 
-abbrev Ordinary : Answer Reply → Type 0
-Ordinary answer =
-    ((content : Content) × (answer ≡ accepted (found content 1))) ⊎ ((answer ≡ refused 5) ⊎ (answer ≡ refused 9))
+module _ (x : ℕ) where
+  abbrev Ordinary : Answer Reply → Type 0
+  Ordinary answer =
+      ((content : Content) × (answer ≡ accepted (found content 1 x)))
+      ⊎ ((answer ≡ refusedWith 5 x) ⊎ (answer ≡ refused 9))
 
-ordinary-or-nine : (β : Bool) (answer : Answer Reply) → Ordinary answer → Ordinary (cond β answer (refused 9))
-ordinary-or-nine true answer h = h
-ordinary-or-nine false answer h = inr (inr refl)
+  ordinary-or-nine : (β : Bool) (answer : Answer Reply) → Ordinary answer → Ordinary (cond β answer (refused 9))
+  ordinary-or-nine true answer h = h
+  ordinary-or-nine false answer h = inr (inr refl)
 
-placeAnswer-ordinary : (page : List ℕ) (n i : ℕ) → Ordinary (placeAnswer page n i)
-unfolding placeAnswer
-placeAnswer-ordinary page n i = go (ltb i n)
-  where
-    go : (β : Bool) → Ordinary (cond β (accepted (found (contentAt page i) 1)) (refused 5))
-    go true = inl (contentAt page i, refl)
-    go false = inr (inl refl)
+  placeAnswer-ordinary : (page : List ℕ) (n i : ℕ) → Ordinary (placeAnswer x page n i)
+  unfolding placeAnswer
+  placeAnswer-ordinary page n i = go (ltb i n)
+    where
+      go : (β : Bool) → Ordinary (cond β (accepted (found (contentAt page i) 1 x)) (refusedWith 5 x))
+      go true = inl (contentAt page i, refl)
+      go false = inr (inl refl)
 
-countAnswer-ordinary : (n : ℕ) (page : List ℕ) (fields : ℕ) → Ordinary (countAnswer n page fields)
-unfolding countAnswer
-countAnswer-ordinary n page fields =
-    let i = keyPlace fields page n 0 in
-    ordinary-or-nine (ltb 0 n) (placeAnswer page n i) (placeAnswer-ordinary page n i)
+  countAnswer-ordinary : (n : ℕ) (page : List ℕ) (fields : ℕ) → Ordinary (countAnswer x n page fields)
+  unfolding countAnswer
+  countAnswer-ordinary n page fields =
+      let i = keyPlace fields page n 0 in
+      ordinary-or-nine (ltb 0 n) (placeAnswer x page n i) (placeAnswer-ordinary page n i)
 
-leafAnswer-ordinary : (s : Shape) (key : ℕ) (bytes : List ℕ) (leaf : Leaf) → Ordinary (leafAnswer s bytes key leaf)
-unfolding leafAnswer
-leafAnswer-ordinary s key bytes (Empty depth) = inr (inl refl)
-leafAnswer-ordinary s key bytes (Page g depth) =
-    let page = pageAt (s .capacity) bytes g in
-    countAnswer-ordinary (ownCount s depth key page) page (fieldsKey s key)
+  leafAnswer-ordinary : (s : Shape) (key : ℕ) (bytes : List ℕ) (field : ℕ)
+      → Ordinary (leafAnswer s bytes key (fieldLeaf field x))
+  unfolding leafAnswer
+  leafAnswer-ordinary s key bytes zero = inr (inl refl)
+  leafAnswer-ordinary s key bytes (suc g) =
+      let page = pageAt (s .capacity) bytes g in
+      countAnswer-ordinary (ownCount s x key page) page (fieldsKey s key)
 
-wordAnswer-ordinary : (st : State) (bytes : List ℕ) (key word : ℕ) → Ordinary (wordAnswer st bytes key word)
-unfolding wordAnswer
+wordAnswer-ordinary : (st : State) (bytes : List ℕ) (key word : ℕ)
+    → Ordinary (depthField word) (wordAnswer st bytes key word)
+unfolding wordAnswer leafOf
 wordAnswer-ordinary st bytes key word =
-    ordinary-or-nine (wordHolds st word) (leafAnswer (st .shape) bytes key (leafOf word))
-    (leafAnswer-ordinary (st .shape) key bytes (leafOf word))
+    ordinary-or-nine (depthField word) (wordHolds st word) (leafAnswer (st .shape) bytes key (leafOf word))
+    (leafAnswer-ordinary (depthField word) (st .shape) key bytes (pageField word))
 
-soughtAnswer-ordinary : (store : Store) (encoded : List ℕ) → Ordinary (soughtAnswer store encoded)
+soughtAnswer-ordinary : (store : Store) (values : List ℕ)
+    → Ordinary (depthAt store values) (soughtAnswer store (encodings (store .state .shape) values))
 unfolding soughtAnswer
-soughtAnswer-ordinary store encoded =
+soughtAnswer-ordinary store values =
     let st = store .state in
-    let bytes = store .memory .bytes in
+    let encoded = encodings (st .shape) values in
     let word = wordOn store (splitBit (widthsOf (st .shape)) encoded) in
-    ordinary-or-nine (limitsHold st) (wordAnswer st bytes (packedKey encoded) word)
-    (wordAnswer-ordinary st bytes (packedKey encoded) word)
+    ordinary-or-nine (depthAt store values) (limitsHold st)
+    (wordAnswer st (store .memory .bytes) (packedKey encoded) word)
+    (wordAnswer-ordinary st (store .memory .bytes) (packedKey encoded) word)
 
 -- ---- the promise
 
@@ -107,7 +111,7 @@ module _ (store : Store) (values : List ℕ) where
       let fits = sym (indexFits-encodings (store .state .shape) values) ∙ passed store values e .fits in
       record {
         early-refused = λ n h. absurd (omega arith);
-        ordinary = λ h. subst Ordinary (sym a) (soughtAnswer-ordinary store (encodings (store .state .shape) values));
+        ordinary = λ h. subst (Ordinary (depthAt store values)) (sym a) (soughtAnswer-ordinary store values);
         answered-as = λ S w.
             a ∙ soughtAnswer-stored store values S w fits ∙ sym (lookup-stored (fixedOf (store .state)) S values fits);
       }

@@ -25,15 +25,15 @@ use Rattle.page.proofs.FieldLaws.{length-recordsFrom}
 use Rattle.directory_word.specs.Word.{leafOf, wordOf}
 use Rattle.directory_word.specs.declared.Leaf.the-variants.{Page}
 use Rattle.directory_word.proofs.LeafLaws.{leafOf-empty}
-use Rattle.model.specs.Sets.{inShape, isSet, stored, divisionOf}
+use Rattle.model.specs.Sets.{inShape, isSet, stored, divisionOf, keyDepth}
 use Rattle.model.proofs.SetLaws.{length-encodings, SixteenBits-encodings, inShape-of-isSet}
 use Rattle.store.specs.Store.{Store}
 use Rattle.store.specs.Sound.{Sound}
-use Rattle.store.specs.Promises.{keyNumber, keyQuery, withBytes, SoundWhereRead}
+use Rattle.store.specs.Promises.{keyNumber, depthAt, keyQuery, withBytes, SoundWhereRead}
 use Rattle.store.proofs.ShownLaws.{wordOn-depth, shape-of-Sound, leafRecords-page}
 use Rattle.store.proofs.SetLaws.{length-leafRecords}
 use Rattle.store.proofs.DividedLaws.{leafDepth-le-total, leafRecords-divisionOf}
-use Rattle.store.proofs.KeyLaws.{keyWord, stored-no-page, stored-page}
+use Rattle.store.proofs.KeyLaws.{keyWord, stored-no-page, stored-page, depthAt-sound}
 use Rattle.refusals.proofs.LentLaws.{lentNumberBy-none, keyNumberBy-key, keyNumber-by}
 use Rattle.refusals.proofs.LimitsLaws.{limits-of-sound}
 use Rattle.leaf_word.specs.Hold.{ownPage}
@@ -61,17 +61,18 @@ module _ (s : Shape) (good : shapeNumber s ≡ 0) (S : List Record) (set : isSet
       (all-filter (inShape s) (λ r. sameBits p (recordBit s r) x 0) (inShape s) (λ r f e. f) S
       (inShape-of-isSet s S set))
 
-  pub countAnswer-stored : (b : ℕ) (own : Bool) (key page : List ℕ) → own ≡ true → SixteenBits key
+  pub countAnswer-stored : (x b : ℕ) (own : Bool) (key page : List ℕ) → own ≡ true → SixteenBits key
       → recordsOf s page ≡ records → nonEmpty records ≡ true → length records ≤ b
-      → countAnswer (fairCount b own page) page (fieldsKey s (packedKey key)) ≡ storedAnswer (stored key (recordsOf s page))
-  countAnswer-stored b own key page o k e h l =
+      → countAnswer x (fairCount b own page) page (fieldsKey s (packedKey key))
+      ≡ storedAnswer x (stored key (recordsOf s page))
+  countAnswer-stored x b own key page o k e h l =
       let n = countOf page in
       let count : n ≡ length records = sym (length-recordsFrom s n 2 page) ∙ ap length e in
       let not-zero : n ≡ 0 → ⊥ = λ z. some records h (sym count ∙ z) in
       let fields = fieldsKey s (packedKey key) in
-      ap (λ m. countAnswer m page fields) (sym (fairCount-own b own page n refl not-zero (omega arith) o))
-      ∙ sym (countAnswer-some page n fields not-zero)
-      ∙ placeAnswer-stored s good key page k n n 0 (omega arith) (ap (all (inShape s)) e ∙ all-inShape)
+      ap (λ m. countAnswer x m page fields) (sym (fairCount-own b own page n refl not-zero (omega arith) o))
+      ∙ sym (countAnswer-some x page n fields not-zero)
+      ∙ placeAnswer-stored s good x key page k n n 0 (omega arith) (ap (all (inShape s)) e ∙ all-inShape)
     where
       some : (rs : List Record) → nonEmpty rs ≡ true → length rs ≡ 0 → ⊥
       some [] h z = let d : _≡_ {A = ℕ} 0 1 = cc in omega arith
@@ -99,6 +100,10 @@ module _ (store : Store) (values : List ℕ) (S : List Record)
   abbrev whole : Store
   whole = withBytes store (w .0)
 
+  -- the depth that the word at the key's cell names
+  abbrev depth : ℕ
+  depth = depthAt whole values
+
   sound : Sound whole S
   sound = w .1
 
@@ -122,18 +127,18 @@ module _ (store : Store) (values : List ℕ) (S : List Record)
 
   wordAnswer-sound : keyFits s values ≡ true → (field : ℕ) → keyWord whole key % 2 ^ 16 ≡ field
       → wordAnswer (store .state) (store .memory .bytes) (packedKey key) (keyWord whole key)
-      ≡ storedAnswer (stored key S)
+      ≡ storedAnswer depth (stored key S)
   wordAnswer-sound f zero e =
       sym (wordAnswer-empty (store .state) (store .memory .bytes) (packedKey key) (keyWord whole key)
       (word-of-sound whole S sound bits) _ (leafOf-empty (keyWord whole key) e))
-      ∙ ap storedAnswer (sym (stored-no-page whole S sound key e))
+      ∙ ap (storedAnswer depth) (sym (stored-no-page whole S sound key e))
   wordAnswer-sound f (suc g) e =
       sym (wordAnswer-page (store .state) (store .memory .bytes) (packedKey key) (keyWord whole key)
       (word-of-sound whole S sound bits) g _ (leafOf-suc (keyWord whole key) g e))
       ∙ ap (pageAnswer s depth (packedKey key)) read
-      ∙ countAnswer-stored s good S (sound .set) bits (s .capacity) _ key page own sixteen (leaf .2) (leaf .3)
+      ∙ countAnswer-stored s good S (sound .set) bits depth (s .capacity) _ key page own sixteen (leaf .2) (leaf .3)
       (length-leafRecords s S (sound .set) (sound .shape) bits)
-      ∙ ap storedAnswer (sym (stored-page whole S sound key g plus .1))
+      ∙ ap (storedAnswer depth) (sym (stored-page whole S sound key g plus .1))
     where
       plus : keyWord whole key % 2 ^ 16 ≡ g + 1
       plus = e ∙ sym (add-one g)
@@ -150,10 +155,7 @@ module _ (store : Store) (values : List ℕ) (S : List Record)
       sixteen : SixteenBits key
       sixteen = SixteenBits-encodings s values good f
 
-      -- the leaf's depth, and the key back from its packed form
-      depth : ℕ
-      depth = keyWord whole key / 2 ^ 16
-
+      -- the key back from its packed form
       unpacked : unpackedKey (packedKey key) ≡ key
       unpacked = unpackedKey-packedKey key sixteen ∙ perAttribute-getD 0 key (length-encodings s values)
 
@@ -167,8 +169,10 @@ module _ (store : Store) (values : List ℕ) (S : List Record)
       read : pageAt (s .capacity) (store .memory .bytes) g ≡ page
       read = w .3 bits (agrees-keyQuery s values good _ (leafDepth-le-total s S bits)) g _ (leaf .0) (leaf .1)
 
-  pub soughtAnswer-stored : keyFits s values ≡ true → soughtAnswer store key ≡ storedAnswer (stored key S)
+  pub soughtAnswer-stored : keyFits s values ≡ true
+      → soughtAnswer store key ≡ storedAnswer (keyDepth s key S) (stored key S)
   soughtAnswer-stored f =
       let limits = limits-of-sound whole S sound in
       sym (soughtAnswer-word store key limits (keyWord whole key) (packedKey key) refl refl)
       ∙ wordAnswer-sound f (keyWord whole key % 2 ^ 16) refl
+      ∙ ap (λ x. storedAnswer x (stored key S)) (depthAt-sound whole S sound values)

@@ -6,7 +6,7 @@ use mathlib.Core.Bool.{true, cond}
 use mathlib.Core.List.{List}
 use lib.Dec.{ltb}
 use lib.ListN.{length}
-use Rattle.shape.specs.Refusal.{Answer, accepted, refused}
+use Rattle.shape.specs.Refusal.{Answer, accepted, refused, refusedWith}
 use Rattle.shape.specs.Shape.{widthsOf, total, indexFits, shapeNumber}
 use Rattle.shape.specs.declared.Shape.{Shape}
 use Rattle.split.specs.Bits.{splitBit}
@@ -26,24 +26,24 @@ use Rattle.leaf_word.specs.Hold.{wordHolds, ownCount}
 
 -- ---- a page
 
--- the record at place i of n: "the payload and 1 page read"; none at place n
-unfoldable pub placeAnswer : List ℕ → ℕ → ℕ → Answer Reply
-placeAnswer page n i = cond (ltb i n) (accepted (found (contentAt page i) 1)) (refused 5)
+-- the record at place i of n, on the page of a leaf of depth x: "the payload and 1 page read"; none at place n
+unfoldable pub placeAnswer : ℕ → List ℕ → ℕ → ℕ → Answer Reply
+placeAnswer x page n i = cond (ltb i n) (accepted (found (contentAt page i) 1 x)) (refusedWith 5 x)
 
--- the record with the packed fields of a key among the n of a leaf's page; 9 for no records, as a page has that is not
--- the leaf's
-unfoldable pub countAnswer : ℕ → List ℕ → ℕ → Answer Reply
-countAnswer n page fields = cond (ltb 0 n) (placeAnswer page n (keyPlace fields page n 0)) (refused 9)
+-- the record with the packed fields of a key among the n of its page; 9 for no records, as a page has that is not the
+-- leaf's
+unfoldable pub countAnswer : ℕ → ℕ → List ℕ → ℕ → Answer Reply
+countAnswer x n page fields = cond (ltb 0 n) (placeAnswer x page n (keyPlace fields page n 0)) (refused 9)
 
 -- on the page of the leaf of depth x in which a packed key falls
 abbrev pub pageAnswer : Shape → ℕ → ℕ → List ℕ → Answer Reply
-pageAnswer s x key page = countAnswer (ownCount s x key page) page (fieldsKey s key)
+pageAnswer s x key page = countAnswer x (ownCount s x key page) page (fieldsKey s key)
 
 -- ---- a leaf, as the word of the key's cell names it
 
 -- "A word taken apart without a page means absent, with no read"
 unfoldable pub leafAnswer : Shape → List ℕ → ℕ → Leaf → Answer Reply
-leafAnswer s bytes key (Empty depth) = refused 5
+leafAnswer s bytes key (Empty depth) = refusedWith 5 depth
 leafAnswer s bytes key (Page g depth) = pageAnswer s depth key (pageAt (s .capacity) bytes g)
 
 -- 9 for a word that no sound store has: a depth above T or of no leaf, "word with page number P"

@@ -5,6 +5,7 @@ use directory_word::unpack;
 use key_encoding::bias_key;
 use key_encoding::encode_key;
 use key_encoding::to_fields;
+use leaf_word::KeyWord;
 use leaf_word::key_word;
 use leaf_word::own_count;
 use leaf_word::word_holds;
@@ -24,6 +25,7 @@ use store::State;
 ghost use mathlib.Core.Path.{_≡_};
 ghost use Prim.Native.Nat.{_≤_};
 ghost use lib.ListN.{length};
+ghost use Rattle.directory_word.specs.Word.{depthField};
 ghost use Rattle.page.specs.Fields.{recordOffset};
 ghost use Rattle.page.specs.Page.{pageAt};
 ghost use Rattle.page_matches.specs.KeyPlace.{keyPlace};
@@ -34,8 +36,9 @@ ghost use Rattle.refusals.specs.Passed.{Passed};
 ghost use Rattle.leaf_word.specs.Hold.{LeafAsked};
 ghost use Rattle.lookup.specs.Private.{placeAnswer, pageAnswer, wordAnswer, soughtAnswer, KeyPassed};
 
-// The content of a key's record, and the pages read: 1. Refused with 1, 2, 3, 5 or 9, the first that
-// holds in this order. Writes nothing.
+// The content of a key's record, the pages read, 1, and the depth of the key's leaf. Refused with 1,
+// 2, 3, 5 or 9, the first that holds in this order; 5 carries the depth of the leaf in which the
+// absent key falls. Writes nothing.
 pub fn lookup(state: State, dir: &[u32], pages: &[u8], key: Key) -> Found
     ensures { λ r. ⌜ LookupPromise (store state (now (dir .entry)) (now (pages .entry))) (key .values)
         (foundAnswer r) ⌝ }
@@ -63,22 +66,23 @@ fn seek_key(state: State, dir: &[u32], pages: &[u8], encoded: Key) -> Found
     }
     let packed = pack_key(encoded);
     let widths = widths_of(state.shape);
-    let word = key_word(widths, state.deepest as u64, dir, packed);
-    seek_by_word(state, pages, word, packed)
+    let at = key_word(widths, state.deepest as u64, dir, packed);
+    seek_by_word(state, pages, at, packed)
 }
 
-// The record of a packed key in the leaf that a word names: 9 for a word that no sound store has, 5
-// for a leaf without a page, which is not read.
-fn seek_by_word(state: State, pages: &[u8], word: u32, key: u64) -> Found
-    requires { ⌜ KeyPassed state (now pages) key ⌝ }
-    ensures { λ r. ⌜ foundAnswer r ≡ wordAnswer state (now (pages .entry)) key word ⌝ }
+// The record of a packed key in the leaf that the word at its cell names: 9 for a word that no sound
+// store has, 5 for a leaf without a page, which is not read.
+fn seek_by_word(state: State, pages: &[u8], at: KeyWord, key: u64) -> Found
+    requires { ⌜ KeyPassed state (now pages) key × (at .depth ≡ depthField (at .word)) ⌝ }
+    ensures { λ r. ⌜ foundAnswer r ≡ wordAnswer state (now (pages .entry)) key (at .word) ⌝ }
 {
+    let word = at.word;
     if !word_holds(state, word) {
         return Found::Refused(9);
     }
     let found = unpack(word);
     let Leaf::Page(page, depth) = found else {
-        return Found::Refused(5);
+        return Found::Absent(at.depth);
     };
     seek_at(state.shape, pages, page as usize, depth, key)
 }
@@ -97,18 +101,19 @@ fn seek_at(shape: Shape, pages: &[u8], g: usize, depth: u32, key: u64) -> Found
     let start = page_start(capacity, g);
     let end = start + page_size(capacity);
     let fields = to_fields(bias_key(shape), key);
-    seek_in_page(&pages[start..end], n, fields)
+    seek_in_page(&pages[start..end], n, depth, fields)
 }
 
-// The record with the packed fields of a key among the n of a page: 5 where it is not there.
-fn seek_in_page(page: &[u8], n: usize, fields: u64) -> Found
+// The record with the packed fields of a key among the n of the page of a leaf of this depth: 5 where
+// it is not there.
+fn seek_in_page(page: &[u8], n: usize, depth: u32, fields: u64) -> Found
     requires { ⌜ (n ≤ 16) × (recordOffset n ≤ length (now page)) ⌝ }
     ensures { λ r. ⌜ foundAnswer r
-        ≡ placeAnswer (now (page .entry)) n (keyPlace fields (now (page .entry)) n 0) ⌝ }
+        ≡ placeAnswer depth (now (page .entry)) n (keyPlace fields (now (page .entry)) n 0) ⌝ }
 {
     let i = find_key(page, n, fields);
     if i == n {
-        return Found::Refused(5);
+        return Found::Absent(depth);
     }
-    Found::Content(content_at(page, i), 1)
+    Found::Content(content_at(page, i), 1, depth)
 }

@@ -18,6 +18,7 @@ use Rattle.model.specs.Model.{outcome, next, lastSet}
 use Rattle.model.specs.Add.{addNumber, addAnswer, addNext}
 use Rattle.model.specs.Inserts.{hasPayload, withoutZero, SetInserts}
 use Rattle.model.proofs.ConditionLaws.{firstNumber-zero}
+use Rattle.model.proofs.AnswerLaws.{answer-insert}
 
 -- ---- numbers
 
@@ -41,8 +42,7 @@ module _ (f : Fixed) (S : List Record) (values : List ℕ) (content : Content) w
 module _ (f : Fixed) (S : List Record) (values : List ℕ) (content : Content) where
   outcome-insert : (n : ℕ) → numberFor f S (insertCall values content) ≡ suc n
       → outcome f S (insertCall values content) .answer ≡ refused (suc n)
-  unfolding outcome
-  outcome-insert n e = rw e
+  outcome-insert n e = rw (answer-insert f S values content, e)
 
   next-insert : (n : ℕ) → numberFor f S (insertCall values content) ≡ suc n → next f S (insertCall values content) ≡ S
   unfolding next
@@ -50,8 +50,12 @@ module _ (f : Fixed) (S : List Record) (values : List ℕ) (content : Content) w
 
   pub outcome-insert-other : (content .payload ≡ 0 → ⊥)
       → outcome f S (insertCall values content) .answer ≡ addAnswer f S values content
-  unfolding outcome replyTo
-  outcome-insert-other some = rw (numberFor-insert-other f S values content (ne-eqb (content .payload) 0 some))
+  unfolding replyTo setAfter
+  outcome-insert-other some =
+      rw (
+        answer-insert f S values content,
+        numberFor-insert-other f S values content (ne-eqb (content .payload) 0 some),
+      )
 
   pub next-insert-other : (content .payload ≡ 0 → ⊥)
       → next f S (insertCall values content) ≡ addNext f S values content

@@ -9,7 +9,7 @@ use mathlib.Core.Option.{Option, none, some}
 use lib.ListN.{length, set}
 use borrow.Author.Tests.{not-false}
 use Rattle.lists.proofs.FilterLaws.{all-filter, filter-ext}
-use Rattle.shape.specs.Refusal.{refusal, firstNumber, answered, refused}
+use Rattle.shape.specs.Refusal.{refusal, firstNumber, answered, answeredBy, refused}
 use Rattle.shape.specs.Shape.{shapeNumber, widthsOf, total}
 use Rattle.shape.specs.Key.{namesUnused, queryFits}
 use Rattle.shape.specs.Range.{Interval, rangeFits, rangeRises, pointRange}
@@ -25,6 +25,7 @@ use Rattle.model.specs.Model.{listed, writtenFor, outputFor, matching, i
 use Rattle.model.specs.Model.{outputBefore, ifAccepted, Outcome, outcome}
 use Rattle.model.specs.Ranges.{SetRanges, wholeInterval}
 use Rattle.model.proofs.ConditionLaws.{firstNumber-zero}
+use Rattle.model.proofs.AnswerLaws.{answer-query, answer-range}
 use Rattle.model.proofs.SetLaws.{sorted-of-isSet, inShape-of-isSet, isSet-of-parts}
 use Rattle.model.proofs.PointLaws.{namesUnused-pointRange, rangeFits-pointRange, rangeRises-pointRange}
 use Rattle.model.proofs.PointLaws.{inBox-pointRange, rangeReadsOf-pointRange}
@@ -35,28 +36,32 @@ use Rattle.model.proofs.WholeLaws.{rangeReadsOf-whole}
 
 module _ (f : Fixed) (S : List Record) (r : List (Option Interval)) (out : List ℕ) where
   unused-eight : namesUnused (f .shape) r ≡ true → outcome f S (rangeCall r out) .answer ≡ refused 8
-  unfolding outcome numberFor firstNumber
+  unfolding outcome answeredBy
   unused-eight u = rw u
 
   three-before-ten : namesUnused (f .shape) r ≡ false → rangeFits (f .shape) r ≡ false
       → outcome f S (rangeCall r out) .answer ≡ refused 3
-  unfolding outcome numberFor firstNumber
+  unfolding outcome answeredBy
   three-before-ten u fits = rw (u, fits)
 
   falling-ten : namesUnused (f .shape) r ≡ false → rangeFits (f .shape) r ≡ true → rangeRises (f .shape) r ≡ false
       → outcome f S (rangeCall r out) .answer ≡ refused 10
-  unfolding outcome numberFor firstNumber
+  unfolding outcome answeredBy
   falling-ten u fits rises = rw (u, fits, rises)
 
 -- ---- two calls with one outcome
 
+-- their answers carry nothing
+abbrev Plain : Fixed → List Record → Call → Type 0
+Plain f S c = outcome f S c .answer ≡ answered (numberFor f S c) (replyTo f S c)
+
 -- their numbers are equal, and where they are accepted their replies and outputs are
 module _ (f : Fixed) (S : List Record) (c c′ : Call) where
-  outcome-same : numberFor f S c ≡ numberFor f S c′ → outputBefore c ≡ outputBefore c′
+  outcome-same : Plain f S c → Plain f S c′ → numberFor f S c ≡ numberFor f S c′ → outputBefore c ≡ outputBefore c′
       → (numberFor f S c′ ≡ 0 → (replyTo f S c ≡ replyTo f S c′) × (outputAfter f S c ≡ outputAfter f S c′))
       → outcome f S c ≡ outcome f S c′
   unfolding outcome
-  outcome-same e b h = rw e (go (numberFor f S c′) h)
+  outcome-same d d′ e b h = rw (d, d′, e) (go (numberFor f S c′) h)
     where
       go : (m : ℕ)
           → (m ≡ 0 → (replyTo f S c ≡ replyTo f S c′) × (outputAfter f S c ≡ outputAfter f S c′))
@@ -82,7 +87,8 @@ module _ (f : Fixed) (S : List Record) (n : shapeNumber (f .shape) ≡ 0) where
       → outcome f S (rangeCall (pointRange q) out) ≡ outcome f S (queryCall q out)
   unfolding numberFor replyTo outputAfter outputOf firstNumber
   equal-ends q out =
-      outcome-same f S (rangeCall (pointRange q) out) (queryCall q out)
+      outcome-same f S (rangeCall (pointRange q) out) (queryCall q out) (answer-range f S (pointRange q) out)
+      (answer-query f S q out)
       (rw (namesUnused-pointRange s q, rangeFits-pointRange s q, rangeRises-pointRange s q)) refl accepted
     where
       lists : inside f S (pointRange q) ≡ matching f S q
@@ -106,6 +112,7 @@ module _ (f : Fixed) (S : List Record) (n : shapeNumber (f .shape) ≡ 0) where
     unfolding numberFor replyTo outputAfter
     whole-as-free r out j four used =
         outcome-same f S (rangeCall (set r j (some (wholeInterval s j))) out) (rangeCall (set r j none) out)
+        (answer-range f S (set r j (some (wholeInterval s j))) out) (answer-range f S (set r j none) out)
         (rw (
           namesUnused-whole s n r four j used,
           rangeFits-whole s n r four j used,

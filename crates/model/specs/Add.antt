@@ -6,7 +6,8 @@ use Rattle.shape.specs.Refusal.{Answer, answered, firstNumber}
 use Rattle.record.specs.declared.Content.{Content}
 use Rattle.record.specs.Record.{Record}
 use Rattle.model.specs.Sets.{withRecord}
-use Rattle.model.specs.Model.{Fixed, Reply, changed, recordFor, keyConditions, addConditions, ifAccepted}
+use Rattle.model.specs.Model.{Fixed, Reply, changed, recordFor, depthIn, keyConditions, addConditions}
+use Rattle.model.specs.Model.{ifAccepted}
 
 module _ (f : Fixed) (S : List Record) (values : List ℕ) (content : Content) where
   -- 3, 4, 6, 7
@@ -14,9 +15,14 @@ module _ (f : Fixed) (S : List Record) (values : List ℕ) (content : Content) w
   addNumber =
       firstNumber (keyConditions (f .shape) values ++ addConditions f S (recordFor (f .shape) values content))
 
-  abbrev pub addAnswer : Answer Reply
-  addAnswer = answered addNumber changed
+  -- "the record joins S"
+  abbrev pub addSet : List Record
+  addSet = withRecord (f .shape) (recordFor (f .shape) values content) S
 
-  -- "the record joins S"; "S stays" where it is refused
+  -- "the depth of the key's leaf afterwards"
+  abbrev pub addAnswer : Answer Reply
+  addAnswer = answered addNumber (changed (depthIn f values addSet))
+
+  -- "S stays" where it is refused
   abbrev pub addNext : List Record
-  addNext = ifAccepted addNumber (withRecord (f .shape) (recordFor (f .shape) values content) S) S
+  addNext = ifAccepted addNumber addSet S

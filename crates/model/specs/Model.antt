@@ -1,5 +1,6 @@
--- The plain model of demand 3 (document 01, "The plain model of demand 3"; document 02, requests 1 and 2): calls, their
--- refusals, answers and the set after them. It takes nothing from a state, words, pages or answers. Assumes nothing.
+-- The plain model of demand 3 (document 01, "The plain model of demand 3"; document 02, requests 1, 2 and 6): calls,
+-- their refusals, answers and the set after them. It takes nothing from a state, words, pages or answers. Assumes
+-- nothing.
 use Prim.Native.Nat.{ℕ, zero, suc, _*_, _/_, min}
 use mathlib.Core.Bool.{not}
 use mathlib.Core.List.{List, [], _∷_, _++_}
@@ -7,7 +8,7 @@ use mathlib.Core.Option.{Option}
 use lib.Dec.{leb, ltb, eqb}
 use lib.ListN.{length, take, drop}
 use Rattle.lists.specs.Filter.{filter, nonEmpty}
-use Rattle.shape.specs.Refusal.{Condition, Answer, answered, refusal, firstNumber}
+use Rattle.shape.specs.Refusal.{Condition, Answer, answeredBy, refusal, refusalWith, firstNumber}
 use Rattle.shape.specs.Key.{keyFits, encodings, namesUnused, queryFits}
 use Rattle.shape.specs.Range.{Interval, rangeFits, rangeRises}
 use Rattle.shape.specs.declared.Shape.{Shape}
@@ -16,7 +17,7 @@ use Rattle.record.specs.declared.Content.{Content}
 use Rattle.record.specs.Record.{Record, matches}
 use Rattle.record.specs.Bytes.{recordSize, recordsBytes}
 use Rattle.range_box.specs.Box.{boxOf, inBox}
-use Rattle.model.specs.Sets.{stored, withRecord, withoutKey, sharing, divisionOf, readsOf, rangeReadsOf}
+use Rattle.model.specs.Sets.{stored, withRecord, withoutKey, sharing, divisionOf, keyDepth, readsOf, rangeReadsOf}
 
 -- "The plain model is given that Fresh's shape and slice lengths, which set P and L": what stays fixed afterwards
 pub record Fixed : Type 0 where
@@ -38,9 +39,10 @@ pub data Call : Type 0 where
 
 -- what an accepted call returns
 pub data Reply : Type 0 where
-  changed : Reply
-  -- content and pages read
-  found : Content → ℕ → Reply
+  -- the depth of the key's leaf afterwards
+  changed : ℕ → Reply
+  -- content, pages read, and the depth of the key's leaf
+  found : Content → ℕ → ℕ → Reply
   -- written, total, reads
   listed : ℕ → ℕ → ℕ → Reply
 
@@ -52,6 +54,10 @@ pub record Outcome : Type 0 where
 -- the record of a key with its content
 abbrev pub recordFor : Shape → List ℕ → Content → Record
 recordFor s values content = record { key = encodings s values; content = content }
+
+-- the depth of the leaf that a call's key falls in, in a set
+abbrev pub depthIn : Fixed → List ℕ → List Record → ℕ
+depthIn f values S = keyDepth (f .shape) (encodings (f .shape) values) S
 
 -- ---- refusals, in the table's order; 1 and 2 are judged by what is lent, and 9 is left out
 
@@ -90,18 +96,26 @@ module _ (f : Fixed) (S : List Record) where
       keyConditions (f .shape) values ++ payloadConditions content
       ++ addConditions (recordFor (f .shape) values content)
 
-  -- 5 "key absent"
+  -- 5 "key absent": it "carries the depth of the present leaf that the absent key's split bits begin with; no other
+  -- number carries a depth"
+  abbrev pub absentCondition : List ℕ → Condition
+  absentCondition values =
+      refusalWith 5 (not (nonEmpty (stored (encodings (f .shape) values) S))) (depthIn f values S)
+
+  -- 3, 5
   abbrev pub storedConditions : List ℕ → List Condition
-  storedConditions values =
-      keyConditions (f .shape) values ++ refusal 5 (not (nonEmpty (stored (encodings (f .shape) values) S))) ∷ []
+  storedConditions values = keyConditions (f .shape) values ++ absentCondition values ∷ []
+
+  abbrev pub conditionsFor : Call → List Condition
+  conditionsFor (insertCall values content) = insertConditions values content
+  conditionsFor (deleteCall values) = storedConditions values
+  conditionsFor (lookupCall values) = storedConditions values
+  conditionsFor (queryCall q out) = queryConditions (f .shape) q
+  conditionsFor (rangeCall r out) = rangeConditions (f .shape) r
 
   -- "the first condition for refusal that holds .. gives the number"; 0 for an accepted call
   unfoldable pub numberFor : Call → ℕ
-  numberFor (insertCall values content) = firstNumber (insertConditions values content)
-  numberFor (deleteCall values) = firstNumber (storedConditions values)
-  numberFor (lookupCall values) = firstNumber (storedConditions values)
-  numberFor (queryCall q out) = firstNumber (queryConditions (f .shape) q)
-  numberFor (rangeCall r out) = firstNumber (rangeConditions (f .shape) r)
+  numberFor c = firstNumber (conditionsFor c)
 
 -- ---- accepted calls
 
@@ -135,14 +149,6 @@ module _ (f : Fixed) (S : List Record) where
   abbrev pub inside : List (Option Interval) → List Record
   inside r = filter (λ x. inBox (boxOf (f .shape) r) (x .key)) S
 
-  -- "Lookup: the key's payload in S and 1 page read", "Query: .. written .. Total .. Reads"
-  unfoldable pub replyTo : Call → Reply
-  replyTo (insertCall values content) = changed
-  replyTo (deleteCall values) = changed
-  replyTo (lookupCall values) = found (contentOf (stored (encodings (f .shape) values) S)) 1
-  replyTo (queryCall q out) = listed (writtenOf q out) (length (matching q)) (readsOf (f .shape) q S)
-  replyTo (rangeCall r out) = listed (writtenFor (inside r) out) (length (inside r)) (rangeReadsOf (f .shape) r S)
-
   -- "Insert: the record joins S. Delete: the key's record leaves S." "S stays."
   unfoldable pub setAfter : Call → List Record
   setAfter (insertCall values content) = withRecord (f .shape) (recordFor (f .shape) values content) S
@@ -150,6 +156,16 @@ module _ (f : Fixed) (S : List Record) where
   setAfter (lookupCall values) = S
   setAfter (queryCall q out) = S
   setAfter (rangeCall r out) = S
+
+  -- "Lookup: the key's payload in S and 1 page read", "Query: .. written .. Total .. Reads". "For insert and delete
+  -- it is the depth of the key's leaf afterwards."
+  unfoldable pub replyTo : Call → Reply
+  replyTo (insertCall values content) = changed (depthIn f values (setAfter (insertCall values content)))
+  replyTo (deleteCall values) = changed (depthIn f values (setAfter (deleteCall values)))
+  replyTo (lookupCall values) =
+      found (contentOf (stored (encodings (f .shape) values) S)) 1 (depthIn f values S)
+  replyTo (queryCall q out) = listed (writtenOf q out) (length (matching q)) (readsOf (f .shape) q S)
+  replyTo (rangeCall r out) = listed (writtenFor (inside r) out) (length (inside r)) (rangeReadsOf (f .shape) r S)
 
   unfoldable pub outputAfter : Call → List ℕ
   outputAfter (insertCall values content) = []
@@ -175,7 +191,7 @@ ifAccepted (suc n) x y = y
 
 unfoldable pub outcome : Fixed → List Record → Call → Outcome
 outcome f S c = record {
-  answer = answered (numberFor f S c) (replyTo f S c);
+  answer = answeredBy (conditionsFor f S c) (replyTo f S c);
   output = ifAccepted (numberFor f S c) (outputAfter f S c) (outputBefore c);
 }
 

@@ -2,15 +2,14 @@
 use replay::replay;
 use replay::replay_file;
 use shape::Shape;
-use store::Change;
-use store::Changed;
+use store::Made;
+use store::Making;
 use store::State;
 ghost use mathlib.Core.Path.{_≡_};
 ghost use Rattle.shape.specs.Refusal.{answered};
-ghost use Rattle.model.specs.Model.{changed};
 ghost use Rattle.store.specs.Store.{memory, store};
 ghost use Rattle.replay.specs.Replayed.{Replayed, ReplayedFile};
-ghost use Rattle.probe.specs.Fields.{changedNumber};
+ghost use Rattle.probe.specs.Fields.{madeNumber};
 
 // The number of Fresh's or the load's refusal, 0 where it is accepted, and the state after the calls.
 #[repr(C)]
@@ -31,7 +30,7 @@ pub extern "C" fn probe_replay(
     out: &mut [u8],
 ) -> ReplayFields
     ensures { λ r. ⌜ Replayed shape (memory (now (dir .entry)) (now (pages .entry)))
-        (now (calls .entry)) (now (answers .entry)) (now (out .entry)) (answered (r .number) changed)
+        (now (calls .entry)) (now (answers .entry)) (now (out .entry)) (answered (r .number) tt)
         (store (r .state) (now (dir .exit)) (now (pages .exit))) (now (answers .exit)) (now (out .exit)) ⌝ }
 {
     fields_of(replay(shape, dir, pages, calls, answers, out))
@@ -49,20 +48,20 @@ pub extern "C" fn probe_replay_file(
     out: &mut [u8],
 ) -> ReplayFields
     ensures { λ r. ⌜ ReplayedFile (now (file .entry)) (memory (now (dir .entry)) (now (pages .entry)))
-        (now (calls .entry)) (now (answers .entry)) (now (out .entry)) (answered (r .number) changed)
+        (now (calls .entry)) (now (answers .entry)) (now (out .entry)) (answered (r .number) tt)
         (store (r .state) (now (dir .exit)) (now (pages .exit))) (now (answers .exit)) (now (out .exit)) ⌝ }
 {
     fields_of(replay_file(file, dir, pages, calls, answers, out))
 }
 
-// The number and the state of a change.
-fn fields_of(change: Change) -> ReplayFields
-    ensures { λ r. ⌜ (r .number ≡ changedNumber (change .answer)) × (r .state ≡ change .state) ⌝ }
+// The number and the state of a store that is made.
+fn fields_of(making: Making) -> ReplayFields
+    ensures { λ r. ⌜ (r .number ≡ madeNumber (making .answer)) × (r .state ≡ making .state) ⌝ }
 {
-    let answer = change.answer;
-    let state = change.state;
+    let answer = making.answer;
+    let state = making.state;
     match answer {
-        Changed::Done => ReplayFields { number: 0, state },
-        Changed::Refused(number) => ReplayFields { number, state },
+        Made::Done => ReplayFields { number: 0, state },
+        Made::Refused(number) => ReplayFields { number, state },
     }
 }

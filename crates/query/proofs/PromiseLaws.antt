@@ -1,12 +1,12 @@
 -- Laws of the query's promise, one for each way that the call ends. Assumes nothing.
 use Prim.Native.Nat.{ℕ, _-_, _/_, _^_, _≤_, min}
 use mathlib.Core.Path.{_≡_, sym, ap, _∙_, subst}
-use mathlib.Core.Bool.{false≢true}
+use mathlib.Core.Bool.{true≢false}
 use mathlib.Core.List.{List, map}
 use mathlib.Core.Option.{Option}
 use lib.ListN.{length}
 use Rattle.lists.specs.Members.{All}
-use Rattle.shape.specs.Refusal.{Answer, accepted, refused}
+use Rattle.shape.specs.Refusal.{Answer, accepted, refused, refusedWith, isRefused}
 use Rattle.shape.specs.Shape.{shapeNumber}
 use Rattle.shape.proofs.ShapeLaws.{shapeNumber-true}
 use Rattle.record.specs.Record.{Record}
@@ -14,6 +14,7 @@ use Rattle.record.specs.Bytes.{recordSize, recordOf}
 use Rattle.model.specs.Model.{Reply, changed, found, listed, queryCall, numberFor}
 use Rattle.model.specs.Model.{matching, replyTo, outputOf, outputAfter, outcome}
 use Rattle.model.specs.Sets.{queryBits, readsOf, givenDepths, readsBound}
+use Rattle.model.proofs.AnswerLaws.{answer-query}
 use Rattle.model.proofs.ReadsLaws.{readsOf-le}
 use Rattle.page_matches.specs.Output.{emit}
 use Rattle.page_matches.proofs.EmitLaws.{IsField}
@@ -21,17 +22,18 @@ use Rattle.store.specs.declared.State.{State}
 use Rattle.store.specs.Store.{Store, store, fixedOf}
 use Rattle.store.specs.Promises.{QueryPromise, agreeing, SoundWhereRead, queryNumber}
 use Rattle.list_call.proofs.LentLaws.{lentNumberBy-sound}
-use Rattle.list_call.proofs.ListPromiseLaws.{isAccepted, Lists, list-early, list-nine, list-listed}
+use Rattle.list_call.proofs.ListPromiseLaws.{Lists, list-by, list-early, list-nine, list-listed}
 use Rattle.query_number.specs.Number.{queryNumberBy}
 use Rattle.query_number.proofs.EarlyLaws.{queryNumberBy-query, queryNumber-by}
 
 -- ---- answers
 
 abbrev readsIn : Answer Reply → ℕ
-readsIn (accepted changed) = 0
-readsIn (accepted (found c n)) = n
+readsIn (accepted (changed x)) = 0
+readsIn (accepted (found c n x)) = n
 readsIn (accepted (listed w t r)) = r
 readsIn (refused n) = 0
+readsIn (refusedWith n x) = 0
 
 module _ (st : State) (words bytes : List ℕ) (q : List (Option ℕ)) (out : List ℕ) where
   abbrev here : Store
@@ -64,7 +66,12 @@ module _ (st : State) (words bytes : List ℕ) (q : List (Option ℕ)) (out : Li
       → reads ≤ 2 ^ (st .deepest - givenDepths (st .shape) q (st .deepest)))
       → QueryPromise here q out answer out′
   unfolding outcome replyTo outputAfter outputOf
-  of-list answer out′ h bound = record { listed-as = h; bounded = bound }
+  of-list answer out′ h bound = record {
+    listed-as =
+        list-by here _ _ (λ S. numberFor (fixedOf st) S (queryCall q out)) (readsOf (st .shape) q) matched out
+        (λ S. outcome (fixedOf st) S (queryCall q out)) (λ S. rw (answer-query (fixedOf st) S q out)) answer out′ h;
+    bounded = bound;
+  }
 
   -- ---- refused early
 
@@ -73,7 +80,7 @@ module _ (st : State) (words bytes : List ℕ) (q : List (Option ℕ)) (out : Li
       of-list (refused n) out
       (list-early here _ _ _ (readsOf (st .shape) q) matched out model-number n
       (e ∙ sym (queryNumber-by st words bytes q)) z)
-      (λ S h w t r d. absurd (false≢true (ap isAccepted d)))
+      (λ S h w t r d. absurd (true≢false (ap isRefused d)))
 
   module _ (none : 0 ≡ number) where
     none-early : queryNumber here q ≡ 0

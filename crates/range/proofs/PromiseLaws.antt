@@ -14,6 +14,7 @@ use Rattle.range_box.specs.Box.{boxOf}
 use Rattle.model.specs.Model.{Reply, listed, rangeCall, numberFor, rangeConditions, inside}
 use Rattle.model.specs.Model.{replyTo, outputAfter, outcome}
 use Rattle.model.specs.Sets.{rangeReadsOf}
+use Rattle.model.proofs.AnswerLaws.{answer-range}
 use Rattle.page_matches.specs.Output.{emit}
 use Rattle.page_matches.proofs.EmitLaws.{IsField}
 use Rattle.store.specs.declared.State.{State}
@@ -21,7 +22,7 @@ use Rattle.store.specs.Store.{Store, store, fixedOf}
 use Rattle.store.specs.Promises.{RangePromise, SoundWhere, meeting, rangeNumber}
 use Rattle.refusals.proofs.LentLaws.{firstNumber-others}
 use Rattle.list_call.proofs.LentLaws.{lentNumberBy-sound}
-use Rattle.list_call.proofs.ListPromiseLaws.{Lists, list-early, list-nine, list-listed}
+use Rattle.list_call.proofs.ListPromiseLaws.{Lists, list-by, list-early, list-nine, list-listed}
 use Rattle.range_number.specs.Number.{rangeNumberBy}
 use Rattle.range_number.proofs.EarlyLaws.{rangeNumber-by}
 
@@ -53,7 +54,9 @@ module _ (st : State) (words bytes : List ℕ) (r : List (Option Interval)) (out
       (rangeReadsOf (st .shape) r) found out answer out′
       → RangePromise here r out answer out′
   unfolding outcome replyTo outputAfter
-  of-list answer out′ h = h
+  of-list answer out′ h =
+      list-by here _ _ (λ S. numberFor (fixedOf st) S (rangeCall r out)) (rangeReadsOf (st .shape) r) found out
+      (λ S. outcome (fixedOf st) S (rangeCall r out)) (λ S. rw (answer-range (fixedOf st) S r out)) answer out′ h
 
   pub promise-early : (n : ℕ) → n ≡ number → (n ≡ 0 → ⊥) → RangePromise here r out (refused n) out
   promise-early n e z =

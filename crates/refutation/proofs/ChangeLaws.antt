@@ -1,19 +1,19 @@
 -- Laws of unlike answers; of the promise of a call that changes a sound store: T, words and pages after it, by the
 -- leaves of the model's set; and of an insert that is refused early, on any store. Assumes nothing.
 use Prim.Native.Nat.{ℕ, suc, _<_}
-use mathlib.Core.Path.{_≡_}
+use mathlib.Core.Path.{_≡_, sym, ap, _∙_}
 use mathlib.Core.Bool.{Bool, true, false, false≢true}
 use mathlib.Core.List.{List}
 use mathlib.Core.Logic.{_⊎_}
 use Rattle.lists.specs.Filter.{nonEmpty}
-use Rattle.shape.specs.Refusal.{Answer, accepted, refused}
+use Rattle.shape.specs.Refusal.{Answer, accepted, refused, refusedWith, isRefused}
 use Rattle.region.specs.Division.{Division, greatestDepth, leafDepth, leafRecords}
 use Rattle.record.specs.declared.Content.{Content}
 use Rattle.record.specs.Record.{Record}
 use Rattle.page.specs.Page.{countOf, pageAt}
 use Rattle.directory_word.specs.Word.{wordOf}
 use Rattle.directory_word.specs.declared.Leaf.the-variants.{Page}
-use Rattle.model.specs.Model.{Reply, found, listed}
+use Rattle.model.specs.Model.{Reply, changed, found, listed}
 use Rattle.model.specs.Sets.{divisionOf}
 use Rattle.store.specs.Store.{Store, wordAt}
 use Rattle.store.specs.Sound.{Sound, Shows}
@@ -25,8 +25,21 @@ use Rattle.store.proofs.InsertNumberLaws.{insertNumber-key, insertNumber-zero}
 pub refused-not-accepted : {A : Type 0} (x : A) (n : ℕ) → refused n ≡ accepted x → ⊥
 refused-not-accepted x n e = let z : false ≡ true = cc in false≢true z
 
-pub refused-number : {m n : ℕ} → _≡_ {A = Answer Reply} (refused m) (refused n) → m ≡ n
+-- by a number alone or with a depth
+pub refusal-not-accepted : {A : Type 0} (x : A) (answer : Answer A) → isRefused answer ≡ true → answer ≡ accepted x → ⊥
+refusal-not-accepted x answer refusal e = false≢true (sym (ap isRefused e) ∙ refusal)
+
+pub refused-not-with : {A : Type 0} (m n x : ℕ) → _≡_ {A = Answer A} (refused m) (refusedWith n x) → ⊥
+refused-not-with m n x e = let z : false ≡ true = cc in false≢true z
+
+pub refused-number : {A : Type 0} {m n : ℕ} → _≡_ {A = Answer A} (refused m) (refused n) → m ≡ n
 refused-number e = cc
+
+pub refused-depth : {m n x y : ℕ} → _≡_ {A = Answer Reply} (refusedWith m x) (refusedWith n y) → x ≡ y
+refused-depth e = cc
+
+pub changed-depth : {x y : ℕ} → _≡_ {A = Answer Reply} (accepted (changed x)) (accepted (changed y)) → x ≡ y
+changed-depth e = cc
 
 pub listed-written : {w w′ t t′ r r′ : ℕ}
     → _≡_ {A = Answer Reply} (accepted (listed w t r)) (accepted (listed w′ t′ r′)) → w ≡ w′
@@ -40,19 +53,24 @@ pub listed-reads : {w w′ t t′ r r′ : ℕ}
     → _≡_ {A = Answer Reply} (accepted (listed w t r)) (accepted (listed w′ t′ r′)) → r ≡ r′
 listed-reads e = cc
 
-pub found-content : {k l : Content} {m n : ℕ}
-    → _≡_ {A = Answer Reply} (accepted (found k m)) (accepted (found l n)) → k ≡ l
+pub found-content : {k l : Content} {m n x y : ℕ}
+    → _≡_ {A = Answer Reply} (accepted (found k m x)) (accepted (found l n y)) → k ≡ l
 found-content e = cc
 
-pub found-reads : {k l : Content} {m n : ℕ}
-    → _≡_ {A = Answer Reply} (accepted (found k m)) (accepted (found l n)) → m ≡ n
+pub found-reads : {k l : Content} {m n x y : ℕ}
+    → _≡_ {A = Answer Reply} (accepted (found k m x)) (accepted (found l n y)) → m ≡ n
 found-reads e = cc
+
+pub found-depth : {k l : Content} {m n x y : ℕ}
+    → _≡_ {A = Answer Reply} (accepted (found k m x)) (accepted (found l n y)) → x ≡ y
+found-depth e = cc
 
 -- ---- the store after a call
 
-module _ {joins : Bool} {early : ℕ} {values numbers : List ℕ} {model : List Record → Answer Reply}
-    {next : List Record → List Record} {before after : Store} {answer : Answer Reply} (S : List Record)
-    (p : ChangePromise joins values early numbers model next before answer after) (sound : Sound before S)
+module _ {joins : Bool} {early : ℕ} {values : List ℕ} {answers : ℕ → List (Answer Reply)}
+    {model : List Record → Answer Reply} {next : List Record → List Record} {before after : Store}
+    {answer : Answer Reply} (S : List Record)
+    (p : ChangePromise joins values early answers model next before answer after) (sound : Sound before S)
     (D : Division Record) (leaves : divisionOf (before .state .shape) (next S) ≡ D) where
   pub depth-after : after .state .deepest ≡ greatestDepth D
   depth-after = rw (p .shape-kept, leaves) at (p .shown S sound .deepest)
@@ -90,4 +108,4 @@ module _ {before after : Store} {values : List ℕ} {answer : Answer Reply} (con
     answer-of-zero = p .early-refused 10 (insertNumber-zero before values content fits zero)
 
     pub store-of-zero : after ≡ before
-    store-of-zero = p .unchanged 11 answer-of-zero
+    store-of-zero = p .unchanged (rw answer-of-zero)

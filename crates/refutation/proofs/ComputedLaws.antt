@@ -5,7 +5,7 @@ use mathlib.Core.Path.{_≡_, refl, ap}
 use mathlib.Core.Bool.{Bool, true, false}
 use mathlib.Core.List.{List, [], _∷_, _++_}
 use lib.ListN.{length, getD, replicate}
-use Rattle.shape.specs.Refusal.{accepted, refused, firstNumber}
+use Rattle.shape.specs.Refusal.{accepted, refused, refusedWith, firstNumber, answeredBy}
 use Rattle.shape.specs.Shape.{inBounds, shapeConditions, widthsOf}
 use Rattle.shape.specs.Key.{marked, valueFits, encode, keyFits, encodings, namesUnused, queryFits}
 use Rattle.split.specs.Steps.{stepsBelow, steps, step, stepNumber, stepsOf, attributeDepth}
@@ -21,7 +21,7 @@ use Rattle.record.specs.Bytes.{recordSize, recordBytes}
 use Rattle.model.specs.Model.{insertCall, deleteCall, lookupCall, queryCall, changed, found, listed, numberFor, replyTo}
 use Rattle.model.specs.Model.{setAfter, outputOf, outputAfter, outcome, next}
 use Rattle.model.specs.Add.{addNumber, addAnswer, addNext}
-use Rattle.model.specs.Sets.{divisionOf, queryBits, readsOf, givenDepths, readsBound}
+use Rattle.model.specs.Sets.{divisionOf, keyDepth, queryBits, readsOf, givenDepths, readsBound}
 use Rattle.model.proofs.InsertLaws.{outcome-insert-other, next-insert-other}
 use Rattle.store.specs.Store.{Store, fixedOf, wordAt, lentConditions}
 use Rattle.store.specs.Promises.{keyNumber}
@@ -70,7 +70,7 @@ fitting =
 -- inserts of any payload but 0
 pub record Inserts (content : Content) : Type 0 where
   -- (0,0) where there is no record
-  pub first-answer : outcomeOn noRecord [] (insertCall (key 0 0) content) .answer ≡ accepted changed
+  pub first-answer : outcomeOn noRecord [] (insertCall (key 0 0) content) .answer ≡ accepted (changed 0)
   pub first-leaves : leavesAfter noRecord [] (insertCall (key 0 0) content)
       ≡ leaf (record { key = key 0 0; content = content } ∷ [])
   -- (0,1) beside (0,0)
@@ -94,7 +94,7 @@ pub record Inserts (content : Content) : Type 0 where
 
 pub inserts : (content : Content) → (content .payload ≡ 0 → ⊥) → Inserts content
 unfolding
-    firstNumber widthsOf keyFits encodings stepsBelow steps step splitBit addNumber divisionOf valueFits encode
+    firstNumber widthsOf keyFits encodings stepsBelow steps step splitBit addNumber divisionOf keyDepth valueFits encode
     marked
 inserts content some =
     record {
@@ -118,12 +118,12 @@ inserts content some =
 
 pub record Deletes : Type 0 where
   -- of (0,0), where there is no other record
-  pub only-answer : outcomeOn oneRecord setOfOne (deleteCall (key 0 0)) .answer ≡ accepted changed
+  pub only-answer : outcomeOn oneRecord setOfOne (deleteCall (key 0 0)) .answer ≡ accepted (changed 0)
   pub only-leaves : leavesAfter oneRecord setOfOne (deleteCall (key 0 0)) ≡ leaf []
   -- of (2,0) beside (3,1)
   pub rest-leaves : leavesAfter twoRecords setOfTwo (deleteCall (key 2 0)) ≡ leaf (recordAt 3 1 12 ∷ [])
   -- where there is none
-  pub absent-answer : outcomeOn noRecord [] (deleteCall (key 0 0)) .answer ≡ refused 5
+  pub absent-answer : outcomeOn noRecord [] (deleteCall (key 0 0)) .answer ≡ refusedWith 5 0
   -- of (2,1), of (0,0), among four
   pub joined-leaves : leavesAfter fourRecords setOfFour (deleteCall (key 2 1)) ≡ divided (leaf setOfOne) (leaf setOfTwo)
   pub emptied-leaves : leavesAfter fourRecords setOfFour (deleteCall (key 0 0))
@@ -132,9 +132,9 @@ pub record Deletes : Type 0 where
 
 pub deletes : Deletes
 unfolding
-    firstNumber inBounds shapeConditions widthsOf keyFits encodings namesUnused queryFits valueFits encode
+    firstNumber answeredBy inBounds shapeConditions widthsOf keyFits encodings namesUnused queryFits valueFits encode
     stepsBelow steps step stepNumber stepsOf attributeDepth splitBit matches recordBytes
-    numberFor replyTo setAfter outputOf outputAfter outcome next divisionOf queryBits readsOf marked
+    numberFor replyTo setAfter outputOf outputAfter outcome next divisionOf keyDepth queryBits readsOf marked
 deletes =
     record {
       only-answer = refl;
@@ -148,8 +148,8 @@ deletes =
 pub record Reads (out : List ℕ) : Type 0 where
   -- lookup of (0,0) and of (1,1), where (0,0) is stored
   pub found-answer : outcomeOn oneRecord setOfOne (lookupCall (key 0 0)) .answer
-      ≡ accepted (found (record { payload = 10 }) 1)
-  pub absent-answer : outcomeOn oneRecord setOfOne (lookupCall (key 1 1)) .answer ≡ refused 5
+      ≡ accepted (found (record { payload = 10 }) 1 0)
+  pub absent-answer : outcomeOn oneRecord setOfOne (lookupCall (key 1 1)) .answer ≡ refusedWith 5 0
   -- queries
   pub none-listed : outcomeOn noRecord [] (queryCall allFree out) .answer
       ≡ accepted (listed (min 0 (length out / recordSize)) 0 0)
@@ -173,10 +173,10 @@ pub record Reads (out : List ℕ) : Type 0 where
 
 pub reads : (out : List ℕ) → Reads out
 unfolding
-    firstNumber inBounds shapeConditions widthsOf keyFits encodings namesUnused queryFits valueFits encode
+    firstNumber answeredBy inBounds shapeConditions widthsOf keyFits encodings namesUnused queryFits valueFits encode
     stepsBelow steps step stepNumber stepsOf attributeDepth splitBit matches recordBytes
-    numberFor replyTo setAfter outputOf outputAfter outcome next divisionOf queryBits readsOf givenDepths readsBound
-    marked
+    numberFor replyTo setAfter outputOf outputAfter outcome next divisionOf keyDepth queryBits readsOf givenDepths
+    readsBound marked
 reads out =
     record {
       found-answer = refl;

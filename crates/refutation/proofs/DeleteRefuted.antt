@@ -2,35 +2,37 @@
 -- Assumes nothing.
 use Prim.Native.Nat.{ℕ}
 use mathlib.Core.Path.{_≡_, refl, sym, ap, _∙_}
+use mathlib.Core.Bool.{true}
 use mathlib.Core.List.{[], _∷_}
 use native.Mathlib.Omega.{arith}
 use lib.ListN.{length, getD}
-use Rattle.shape.specs.Refusal.{Answer, accepted, refused}
+use Rattle.shape.specs.Refusal.{Answer, accepted, isRefused}
 use Rattle.region.specs.Strings.{emptyString}
 use Rattle.page.specs.Page.{countOf, recordsOf, pageAt}
 use Rattle.directory_word.specs.Word.{wordOf}
 use Rattle.directory_word.specs.declared.Leaf.the-variants.{Empty, Page}
-use Rattle.model.specs.Model.{Reply, changed, contentOf}
+use Rattle.model.specs.Model.{Reply, contentOf}
 use Rattle.store.specs.Store.{Store}
 use Rattle.store.specs.Promises.{DeletePromise}
 use Rattle.table.specs.Table.{twoTwo, key}
 use Rattle.refutation.specs.Stores.{recordAt, noRecord, oneRecord, setOfOne, twoRecords, setOfTwo, fourRecords}
 use Rattle.refutation.specs.Stores.{setOfFour}
-use Rattle.refutation.proofs.ChangeLaws.{refused-not-accepted, depth-after, shows-after, kept-after}
+use Rattle.refutation.proofs.ChangeLaws.{refusal-not-accepted, depth-after, shows-after, kept-after}
 use Rattle.refutation.proofs.ComputedLaws.{leaf-of-two, deletes, cells}
 use Rattle.refutation.proofs.OneLeafSound.{noRecord-sound, oneRecord-sound, twoRecords-sound}
 use Rattle.refutation.proofs.FourLeavesSound.{fourRecords-sound}
 
 module _ (after : Store) where
   -- 5 "delete on a fresh store"
-  pub accepts-absent : DeletePromise noRecord (key 0 0) (accepted changed) after → ⊥
-  accepts-absent p =
-      refused-not-accepted changed 5 (sym (p .answered-as [] noRecord-sound ∙ deletes .absent-answer))
+  pub accepts-absent : (r : Reply) → DeletePromise noRecord (key 0 0) (accepted r) after → ⊥
+  accepts-absent r p =
+      refusal-not-accepted r _ refl (sym (p .answered-as [] noRecord-sound ∙ deletes .absent-answer))
 
-  -- 5, 9 or another number for a stored key
-  pub turned-down : (n : ℕ) → DeletePromise oneRecord (key 0 0) (refused n) after → ⊥
-  turned-down n p =
-      refused-not-accepted changed n (p .answered-as setOfOne oneRecord-sound ∙ deletes .only-answer)
+  -- 5, 9 or another number for a stored key, with a depth or without
+  pub turned-down : (answer : Answer Reply) → isRefused answer ≡ true → DeletePromise oneRecord (key 0 0) answer after
+      → ⊥
+  turned-down answer refusal p =
+      refusal-not-accepted _ answer refusal (p .answered-as setOfOne oneRecord-sound ∙ deletes .only-answer)
 
 module _ (answer : Answer Reply) (after : Store) where
   -- "an emptied page is free again": its count stays

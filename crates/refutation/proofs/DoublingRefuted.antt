@@ -7,7 +7,7 @@ use mathlib.Core.Bool.{Bool, true, false}
 use mathlib.Core.List.{List, [], _∷_}
 use native.Mathlib.Omega.{arith}
 use lib.ListN.{getD}
-use Rattle.shape.specs.Refusal.{Answer, refused, firstNumber}
+use Rattle.shape.specs.Refusal.{Answer, refused, isRefused, firstNumber}
 use Rattle.shape.specs.Shape.{inBounds, shapeConditions, shapeNumber, widthsOf}
 use Rattle.shape.specs.declared.Shape.{Shape}
 use Rattle.split.specs.Steps.{stepsBelow, steps, step, stepNumber, stepsOf, attributeDepth}
@@ -167,14 +167,15 @@ from-leaf-refused split after within d =
 -- ---- a number that is told after a doubling, as 7, on any store
 
 -- T or a word is another, after an insert, an add or a delete
-module _ {joins : Bool} {early : ℕ} {values numbers : List ℕ} {model : List Record → Answer Reply}
-    {next : List Record → List Record} (before after : Store) (n : ℕ)
-    (p : ChangePromise joins values early numbers model next before (refused n) after) where
-  pub refused-with-depth : (after .state .deepest ≡ before .state .deepest → ⊥) → ⊥
-  refused-with-depth apart = apart (ap (λ s. s .state .deepest) (p .unchanged n refl))
+module _ {joins : Bool} {early : ℕ} {values : List ℕ} {answers : ℕ → List (Answer Reply)}
+    {model : List Record → Answer Reply} {next : List Record → List Record} (before after : Store)
+    (answer : Answer Reply) (refusal : isRefused answer ≡ true)
+    (p : ChangePromise joins values early answers model next before answer after) where
+  pub refusal-changes-depth : (after .state .deepest ≡ before .state .deepest → ⊥) → ⊥
+  refusal-changes-depth apart = apart (ap (λ s. s .state .deepest) (p .unchanged refusal))
 
-  pub refused-with-word : (k : ℕ) → (getD (wordsOf after) k 0 ≡ getD (wordsOf before) k 0 → ⊥) → ⊥
-  refused-with-word k apart = apart (ap (λ s. getD (wordsOf s) k 0) (p .unchanged n refl))
+  pub refusal-changes-word : (k : ℕ) → (getD (wordsOf after) k 0 ≡ getD (wordsOf before) k 0 → ⊥) → ⊥
+  refusal-changes-word k apart = apart (ap (λ s. getD (wordsOf s) k 0) (p .unchanged refusal))
 
 -- a right doubling, since the new leaves are deeper than T
 module _ (before after : Store) (values : List ℕ) (content : Content) (n : ℕ) (split : Split)
@@ -186,7 +187,7 @@ module _ (before after : Store) (values : List ℕ) (content : Content) (n : ℕ
       omega (arith, T, e, deep)
 
   pub refused-after-doubling : InsertPromise before values content (refused n) after → ⊥
-  refused-after-doubling p = refused-with-depth before after n p other-depth
+  refused-after-doubling p = refusal-changes-depth before after (refused n) refl p other-depth
 
   pub refused-after-doubling-in-add : AddPromise before values content (refused n) after → ⊥
-  refused-after-doubling-in-add p = refused-with-depth before after n p other-depth
+  refused-after-doubling-in-add p = refusal-changes-depth before after (refused n) refl p other-depth

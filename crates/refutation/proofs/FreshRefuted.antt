@@ -1,34 +1,35 @@
 -- Wrong Freshes of document 01: each contradicts `FreshPromise`. Assumes nothing.
-use Prim.Native.Nat.{ℕ}
 use mathlib.Core.Path.{_≡_, refl, ap, _∙_}
+use mathlib.Core.Bool.{true}
 use native.Mathlib.Omega.{arith}
 use lib.ListN.{getD}
-use Rattle.shape.specs.Refusal.{Answer, refused, answered, firstNumber}
+use Rattle.shape.specs.Refusal.{Answer, answered, isRefused, firstNumber}
 use Rattle.shape.specs.Shape.{inBounds, shapeConditions}
 use Rattle.shape.specs.declared.Shape.{Shape}
 use Rattle.model.specs.Limits.{pageLimitOf}
-use Rattle.model.specs.Model.{Reply, changed}
 use Rattle.store.specs.Store.{Store, Memory}
 use Rattle.store.specs.Fresh.{FreshPromise, freshNumber, freshMemory, clearedCounts}
 use Rattle.table.specs.Table.{twoTwo}
 use Rattle.refutation.specs.Stores.{ones}
-use Rattle.refutation.proofs.ChangeLaws.{refused-not-accepted}
+use Rattle.refutation.proofs.ChangeLaws.{refusal-not-accepted}
 
 -- "a Fresh that refuses a good shape with good slices" (review, 5)
-pub turned-down : (s : Shape) (m : Memory) (n : ℕ) (after : Store) → freshNumber s m ≡ 0
-    → FreshPromise s m (refused n) after → ⊥
-turned-down s m n after e p = refused-not-accepted changed n (p .answered-as ∙ ap (λ k. answered k changed) e)
+pub turned-down : (s : Shape) (m : Memory) (answer : Answer (Unit {0})) (after : Store) → isRefused answer ≡ true
+    → freshNumber s m ≡ 0 → FreshPromise s m answer after → ⊥
+turned-down s m answer after refusal e p =
+    refusal-not-accepted tt answer refusal (p .answered-as ∙ ap (λ k. answered k tt) e)
 
 -- 8 words and 3 pages with the proof table's shape are good
 ones-good : freshNumber twoTwo ones ≡ 0
 unfolding freshNumber shapeConditions inBounds firstNumber
 ones-good = refl
 
-pub turned-down-ones : (n : ℕ) (after : Store) → FreshPromise twoTwo ones (refused n) after → ⊥
-turned-down-ones n after = turned-down twoTwo ones n after ones-good
+pub turned-down-ones : (answer : Answer (Unit {0})) (after : Store) → isRefused answer ≡ true
+    → FreshPromise twoTwo ones answer after → ⊥
+turned-down-ones answer after refusal = turned-down twoTwo ones answer after refusal ones-good
 
 -- "sets the count of each of the P pages and word 0 to 0": the last count stays, word 0 stays, another byte is cleared
-module _ (answer : Answer Reply) (after : Store) (p : FreshPromise twoTwo ones answer after) where
+module _ (answer : Answer (Unit {0})) (after : Store) (p : FreshPromise twoTwo ones answer after) where
   memory-after : after .memory ≡ freshMemory twoTwo ones
   memory-after = rw ones-good at (p .memory-as)
 

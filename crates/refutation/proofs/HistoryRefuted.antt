@@ -2,10 +2,11 @@
 -- a fresh store that has their outcomes, whatever the outcomes of the calls before. Assumes nothing.
 use Prim.Native.Nat.{ℕ, min, _/_}
 use mathlib.Core.Path.{_≡_, refl, ap, _∙_}
+use mathlib.Core.Bool.{true}
 use mathlib.Core.List.{List, [], _∷_, _++_}
 use native.Mathlib.Omega.{arith}
 use lib.ListN.{length, getD}
-use Rattle.shape.specs.Refusal.{Answer, accepted, refused, firstNumber}
+use Rattle.shape.specs.Refusal.{Answer, accepted, refused, isRefused, firstNumber, answeredBy}
 use Rattle.shape.specs.Shape.{widthsOf}
 use Rattle.shape.specs.Key.{marked, valueFits, encode, keyFits, encodings, namesUnused, queryFits}
 use Rattle.split.specs.Steps.{stepsBelow, steps, step, stepNumber, stepsOf, attributeDepth}
@@ -14,17 +15,17 @@ use Rattle.record.specs.declared.Content.{Content}
 use Rattle.record.specs.Record.{matches}
 use Rattle.record.specs.Bytes.{recordSize}
 use Rattle.model.specs.Limits.{logarithm, pageLimitOf, depthLimitOf, freshShape, fixedBy}
-use Rattle.model.specs.Model.{Fixed, Call, insertCall, lookupCall, queryCall, Reply, changed, found, listed, Outcome}
+use Rattle.model.specs.Model.{Fixed, Call, insertCall, lookupCall, queryCall, Reply, found, listed, Outcome}
 use Rattle.model.specs.Model.{numberFor, replyTo, setAfter, outcome, next, run}
 use Rattle.model.specs.Add.{addNumber, addNext}
-use Rattle.model.specs.Sets.{divisionOf, queryBits, readsOf}
+use Rattle.model.specs.Sets.{divisionOf, keyDepth, queryBits, readsOf}
 use Rattle.model.proofs.InsertLaws.{next-insert-other}
 use Rattle.store.specs.Store.{Store}
 use Rattle.store.specs.Fresh.{FreshPromise}
 use Rattle.history.specs.History.{Run, History}
 use Rattle.table.specs.Table.{twoTwo, key, fourInserts}
 use Rattle.refutation.specs.Stores.{ones, allFree, givenSecond}
-use Rattle.refutation.proofs.ChangeLaws.{refused-not-accepted, listed-total, listed-reads}
+use Rattle.refutation.proofs.ChangeLaws.{refusal-not-accepted, listed-total, listed-reads}
 
 -- ---- what the model answers
 
@@ -33,24 +34,24 @@ abbrev pub answerAt : ℕ → List Outcome → Answer Reply
 answerAt i os = getD os i (record { answer = refused 0; output = [] }) .answer
 
 -- on the store that a Fresh of 8 words and 3 pages left
-abbrev fixed : Fixed
+abbrev pub fixed : Fixed
 fixed = fixedBy twoTwo (length (ones .words)) (length (ones .bytes))
 
-abbrev modelAnswer : List Call → ℕ → Answer Reply
+abbrev pub modelAnswer : List Call → ℕ → Answer Reply
 modelAnswer calls i = answerAt i (run fixed [] calls)
 
 -- of a lookup and a query after the insert of one record
 record AfterFirst (content : Content) (out : List ℕ) : Type 0 where
-  found-first : modelAnswer (insertCall (key 0 0) content ∷ lookupCall (key 0 0) ∷ []) 1 ≡ accepted (found content 1)
+  found-first : modelAnswer (insertCall (key 0 0) content ∷ lookupCall (key 0 0) ∷ []) 1 ≡ accepted (found content 1 0)
   listed-first : modelAnswer (insertCall (key 0 0) content ∷ queryCall allFree out ∷ []) 1
       ≡ accepted (listed (min 1 (length out / recordSize)) 1 1)
 
 after-first : (content : Content) → (content .payload ≡ 0 → ⊥) → (out : List ℕ) → AfterFirst content out
 unfolding
-    firstNumber widthsOf keyFits encodings namesUnused queryFits valueFits encode
+    firstNumber answeredBy widthsOf keyFits encodings namesUnused queryFits valueFits encode
     stepsBelow steps step stepNumber stepsOf attributeDepth splitBit matches
     logarithm pageLimitOf depthLimitOf freshShape fixedBy
-    addNumber numberFor replyTo outcome run divisionOf queryBits readsOf marked
+    addNumber numberFor replyTo outcome run divisionOf keyDepth queryBits readsOf marked
 after-first content some out =
     record { found-first = second (lookupCall (key 0 0)); listed-first = second (queryCall allFree out) }
   where
@@ -61,32 +62,33 @@ after-first content some out =
 
 -- and after the table's four
 record AfterFour (out : List ℕ) : Type 0 where
-  found-third : modelAnswer (fourInserts ++ lookupCall (key 3 1) ∷ []) 4 ≡ accepted (found (record { payload = 12 }) 1)
+  found-third : modelAnswer (fourInserts ++ lookupCall (key 3 1) ∷ []) 4
+      ≡ accepted (found (record { payload = 12 }) 1 3)
   listed-four : modelAnswer (fourInserts ++ queryCall (givenSecond 1) out ∷ []) 4
       ≡ accepted (listed (min 2 (length out / recordSize)) 2 3)
 
 after-four : (out : List ℕ) → AfterFour out
 unfolding
-    firstNumber widthsOf keyFits encodings namesUnused queryFits valueFits encode
+    firstNumber answeredBy widthsOf keyFits encodings namesUnused queryFits valueFits encode
     stepsBelow steps step stepNumber stepsOf attributeDepth splitBit matches
     logarithm pageLimitOf depthLimitOf freshShape fixedBy
-    numberFor replyTo setAfter outcome next run divisionOf queryBits readsOf marked
+    numberFor replyTo setAfter outcome next run divisionOf keyDepth queryBits readsOf marked
 after-four out = record { found-third = refl; listed-four = refl }
 
 -- ---- runs that there are not
 
-module _ (demand : History) (fresh after : Store) (p : FreshPromise twoTwo ones (accepted changed) fresh) where
-  as-model : {calls : List Call} {outcomes : List Outcome} (i : ℕ) → Run fresh calls outcomes after
+module _ (demand : History) (fresh after : Store) (p : FreshPromise twoTwo ones (accepted tt) fresh) where
+  pub as-model : {calls : List Call} {outcomes : List Outcome} (i : ℕ) → Run fresh calls outcomes after
       → answerAt i outcomes ≡ modelAnswer calls i
   as-model i r = ap (answerAt i) (demand twoTwo ones fresh p _ _ after r .0)
 
   module _ (o : Outcome) (output : List ℕ) where
     -- "an insert that accepts and stores nothing" (review, 3): the key that was inserted is absent
-    pub stores-nothing : (content : Content) → (content .payload ≡ 0 → ⊥)
-        → Run fresh (insertCall (key 0 0) content ∷ lookupCall (key 0 0) ∷ [])
-        (o ∷ record { answer = refused 5; output = output } ∷ []) after → ⊥
-    stores-nothing content some r =
-        refused-not-accepted _ 5 (as-model 1 r ∙ after-first content some [] .found-first)
+    pub stores-nothing : (content : Content) → (content .payload ≡ 0 → ⊥) → (answer : Answer Reply)
+        → isRefused answer ≡ true → Run fresh (insertCall (key 0 0) content ∷ lookupCall (key 0 0) ∷ [])
+        (o ∷ record { answer = answer; output = output } ∷ []) after → ⊥
+    stores-nothing content some answer refusal r =
+        refusal-not-accepted _ answer refusal (as-model 1 r ∙ after-first content some [] .found-first)
 
     -- "a query that returns an empty list each time" (review, 3)
     pub empty-list : (content : Content) → (content .payload ≡ 0 → ⊥) → (out : List ℕ) (written n : ℕ)
@@ -99,9 +101,11 @@ module _ (demand : History) (fresh after : Store) (p : FreshPromise twoTwo ones 
   module _ (a b c d : Outcome) (output : List ℕ) where
     -- "one that divides correctly the first time and later only sets T" (review, 3): after the fourth insert the cell
     -- of (3,1) has no page
-    pub only-sets-depth : Run fresh (fourInserts ++ lookupCall (key 3 1) ∷ [])
-        (a ∷ b ∷ c ∷ d ∷ record { answer = refused 5; output = output } ∷ []) after → ⊥
-    only-sets-depth r = refused-not-accepted _ 5 (as-model 4 r ∙ after-four [] .found-third)
+    pub only-sets-depth : (answer : Answer Reply) → isRefused answer ≡ true
+        → Run fresh (fourInserts ++ lookupCall (key 3 1) ∷ [])
+        (a ∷ b ∷ c ∷ d ∷ record { answer = answer; output = output } ∷ []) after → ⊥
+    only-sets-depth answer refusal r =
+        refusal-not-accepted _ answer refusal (as-model 4 r ∙ after-four [] .found-third)
 
     module _ (out : List ℕ) (written total n : ℕ)
         (r : Run fresh (fourInserts ++ queryCall (givenSecond 1) out ∷ [])

@@ -10,20 +10,20 @@ use lib.ListN.{length, getD}
 use lib.Seq.{getD-drop}
 use Rattle.lists.proofs.Numbers.{eq-or-ne}
 use Rattle.shape.specs.Key.{marked, bias, encode, decode, encodeField}
-use Rattle.shape.specs.Refusal.{Answer, refused}
+use Rattle.shape.specs.Refusal.{Answer, refused, isRefused}
 use Rattle.region.specs.Strings.{emptyString, listBit}
 use Rattle.record.specs.declared.Content.{Content}
 use Rattle.record.specs.Bytes.{recordBytes, recordOf}
 use Rattle.page.specs.Page.{countOf, recordsOf, pageAt}
 use Rattle.directory_word.specs.Word.{wordOf}
 use Rattle.directory_word.specs.declared.Leaf.the-variants.{Page}
-use Rattle.model.specs.Model.{Reply, changed, contentOf}
+use Rattle.model.specs.Model.{Reply, contentOf}
 use Rattle.store.specs.Store.{Store, wordAt}
 use Rattle.store.specs.Promises.{InsertPromise}
 use Rattle.table.specs.Table.{twoTwo, key}
 use Rattle.refutation.specs.Stores.{recordAt, noRecord, oneRecord, setOfOne, twoRecords, setOfTwo, threeRecords}
 use Rattle.refutation.specs.Stores.{setOfThree}
-use Rattle.refutation.proofs.ChangeLaws.{refused-not-accepted, refused-number, depth-after, shows-after}
+use Rattle.refutation.proofs.ChangeLaws.{refusal-not-accepted, refused-number, depth-after, shows-after}
 use Rattle.refutation.proofs.ChangeLaws.{kept-after, taken-after, answer-of-zero, store-of-zero}
 use Rattle.refutation.proofs.ComputedLaws.{first-leaf, leaves-of-three, fitting, inserts, cells}
 use Rattle.refutation.proofs.OneLeafSound.{noRecord-sound, oneRecord-sound, twoRecords-sound}
@@ -34,16 +34,16 @@ use Rattle.refutation.proofs.TwoLeavesSound.{threeRecords-sound-2, thre
 
 module _ (content : Content) (after : Store) where
   -- "a store that turns down every insert" (review, 2)
-  pub turned-down : (content .payload ≡ 0 → ⊥) → (n : ℕ)
-      → InsertPromise noRecord (key 0 0) content (refused n) after → ⊥
-  turned-down some n p =
-      refused-not-accepted changed n (p .answered-as [] noRecord-sound ∙ inserts content some .first-answer)
+  pub turned-down : (content .payload ≡ 0 → ⊥) → (answer : Answer Reply) → isRefused answer ≡ true
+      → InsertPromise noRecord (key 0 0) content answer after → ⊥
+  turned-down some answer refusal p =
+      refusal-not-accepted _ answer refusal (p .answered-as [] noRecord-sound ∙ inserts content some .first-answer)
 
   -- any number but 11, that of payload 0
   other-number : (n : ℕ) → (n ≡ 11 → ⊥) → InsertPromise noRecord (key 0 0) content (refused n) after → ⊥
   other-number n apart p =
       ⊎-elim (λ zero. apart (refused-number (answer-of-zero content p (fitting .first) zero)))
-      (λ some. turned-down some n p) (eq-or-ne (content .payload) 0)
+      (λ some. turned-down some (refused n) refl p) (eq-or-ne (content .payload) 0)
 
   -- "an insert that replies "no page" without looking" (review, 2)
   pub no-page : InsertPromise noRecord (key 0 0) content (refused 7) after → ⊥
@@ -113,7 +113,8 @@ module _ (content : Content) (answer : Answer Reply) (after : Store) where
   unchanged-when-full : InsertPromise (threeRecords 2) (key 2 1) content answer after → after ≡ threeRecords 2
   unchanged-when-full p =
       ⊎-elim (λ zero. store-of-zero content p (fitting .fourth-full) zero)
-      (λ some. p .unchanged 7 (p .answered-as setOfThree threeRecords-sound-2 ∙ inserts content some .fourth-refused))
+      (λ some. p .unchanged
+      (ap isRefused (p .answered-as setOfThree threeRecords-sound-2 ∙ inserts content some .fourth-refused)))
       (eq-or-ne (content .payload) 0)
 
   -- "The directory doubles before 7 is found" (faults): T is one more, or word 2 is the copy of word 0

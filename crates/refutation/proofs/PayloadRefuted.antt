@@ -7,8 +7,7 @@ use mathlib.Core.List.{List, [], _∷_, _++_}
 use mathlib.Core.Logic.{⊎-elim}
 use native.Mathlib.Omega.{arith}
 use lib.ListN.{length, getD}
-use Rattle.lists.specs.Members.{Member}
-use Rattle.shape.specs.Refusal.{Answer, accepted, refused, firstNumber}
+use Rattle.shape.specs.Refusal.{Answer, accepted, refused, isRefused, firstNumber, answeredBy}
 use Rattle.shape.specs.Shape.{inBounds, shapeConditions, widthsOf}
 use Rattle.shape.specs.Key.{marked, valueFits, encode, keyFits, encodings, namesUnused, queryFits}
 use Rattle.shape.specs.Range.{rangeFits, rangeRises}
@@ -21,9 +20,9 @@ use Rattle.record.specs.Bytes.{recordSize, recordBytes}
 use Rattle.range_box.specs.Box.{boxOf, inBox, number, boxMeets}
 use Rattle.model.specs.Limits.{freshShape, fixedBy}
 use Rattle.model.specs.Model.{Fixed, Call, insertCall, deleteCall, lookupCall, queryCall, rangeCall, Reply, changed}
-use Rattle.model.specs.Model.{found, listed, Outcome, numberFor, replyTo, outcome, next, run, lastSet}
+use Rattle.model.specs.Model.{found, listed, Outcome, setAfter, replyTo, outcome, next, run, lastSet}
 use Rattle.model.specs.Add.{addNumber}
-use Rattle.model.specs.Sets.{divisionOf, queryBits, readsOf, rangeReadsOf}
+use Rattle.model.specs.Sets.{divisionOf, keyDepth, queryBits, readsOf, rangeReadsOf}
 use Rattle.model.proofs.InsertLaws.{setInserts}
 use Rattle.store.specs.Store.{Store, Memory, lentConditions}
 use Rattle.store.specs.Fresh.{FreshPromise}
@@ -34,8 +33,8 @@ use Rattle.history.specs.History.{Run, History}
 use Rattle.table.specs.Table.{twoTwo, key}
 use Rattle.refutation.specs.Stores.{noRecord, oneRecord, threeRecords, wordPastPages, zeroStored, setOfZero}
 use Rattle.refutation.specs.Stores.{allFree, firstWithin, outcomeOn}
-use Rattle.refutation.proofs.ChangeLaws.{refused-not-accepted, refused-number, listed-total, answer-of-early}
-use Rattle.refutation.proofs.ChangeLaws.{answer-of-zero, store-of-zero}
+use Rattle.refutation.proofs.ChangeLaws.{refused-not-accepted, refusal-not-accepted, refused-number}
+use Rattle.refutation.proofs.ChangeLaws.{listed-total, answer-of-early, answer-of-zero, store-of-zero}
 use Rattle.refutation.proofs.ComputedLaws.{fitting}
 use Rattle.refutation.proofs.OneLeafSound.{noRecord-sound, zeroStored-sound}
 use Rattle.refutation.proofs.CheckRefuted.{same-verdict, yes-of-sound}
@@ -69,8 +68,8 @@ module _ (store after : Store) (values : List ℕ) (content : Content) (answer :
 
 module _ (after : Store) where
   -- "An insert with payload 0 is to be turned down": it is accepted
-  pub accepts-zero : InsertPromise noRecord (key 0 0) noPayload (accepted changed) after → ⊥
-  accepts-zero p = refused-not-accepted changed 11 (sym (answer-of-zero noPayload p (fitting .first) refl))
+  pub accepts-zero : (r : Reply) → InsertPromise noRecord (key 0 0) noPayload (accepted r) after → ⊥
+  accepts-zero r p = refused-not-accepted r 11 (sym (answer-of-zero noPayload p (fitting .first) refl))
 
   -- ".. even when its key is stored already": 4
   pub four-before-eleven : InsertPromise oneRecord (key 0 0) noPayload (refused 4) after → ⊥
@@ -104,37 +103,38 @@ module _ (after : Store) where
 pub eleven-when-added : (store after : Store) (values : List ℕ) (content : Content) → keyNumber store values ≡ 0
     → AddPromise store values content (refused 11) after → ⊥
 eleven-when-added store after values content fits p =
-    ⊎-elim (refused-not-accepted changed 11)
-    (λ k. none (k .0) (refused-number (k .1)) (k .2)) (p .ordinary fits)
+    ⊎-elim (refused-not-accepted _ 11)
+    (⊎-elim (other 4 (λ e. omega (arith, e))) (⊎-elim (other 6 (λ e. omega (arith, e)))
+    (⊎-elim (other 7 (λ e. omega (arith, e))) (⊎-elim (other 9 (λ e. omega (arith, e))) (λ none. none)))))
+    (p .ordinary fits)
   where
-    none : (n : ℕ) → 11 ≡ n → Member n (4 ∷ 6 ∷ 7 ∷ 9 ∷ []) → ⊥
-    none n e =
-        ⊎-elim (λ d. omega arith) (⊎-elim (λ d. omega arith)
-        (⊎-elim (λ d. omega arith) (⊎-elim (λ d. omega arith) (λ d. d))))
+    other : (n : ℕ) → (11 ≡ n → ⊥) → _≡_ {A = Answer Reply} (refused 11) (refused n) → ⊥
+    other n apart same = apart (refused-number same)
 
 -- any refusal, where the leaf has room
-pub not-added : (n : ℕ) (after : Store) → AddPromise noRecord (key 0 0) noPayload (refused n) after → ⊥
+pub not-added : (answer : Answer Reply) (after : Store) → isRefused answer ≡ true
+    → AddPromise noRecord (key 0 0) noPayload answer after → ⊥
 unfolding
     firstNumber widthsOf keyFits encodings stepsBelow steps step stepNumber stepsOf attributeDepth splitBit valueFits
     addNumber divisionOf encode marked
-not-added n after p = refused-not-accepted changed n (p .answered-as [] noRecord-sound)
+not-added answer after refusal p = refusal-not-accepted _ answer refusal (p .answered-as [] noRecord-sound)
 
 -- ---- "Stores that already hold such payloads stay sound and are listed as before."
 
 -- what the model answers
 record ModelAnswers (out : List ℕ) : Type 0 where
-  found-zero : outcomeOn zeroStored setOfZero (lookupCall (key 0 0)) .answer ≡ accepted (found noPayload 1)
+  found-zero : outcomeOn zeroStored setOfZero (lookupCall (key 0 0)) .answer ≡ accepted (found noPayload 1 0)
   listed-zero : outcomeOn zeroStored setOfZero (queryCall allFree out) .answer
       ≡ accepted (listed (min 1 (length out / recordSize)) 1 1)
   inside-zero : outcomeOn zeroStored setOfZero (rangeCall (firstWithin 0 3) out) .answer
       ≡ accepted (listed (min 1 (length out / recordSize)) 1 1)
-  deleted-zero : outcomeOn zeroStored setOfZero (deleteCall (key 0 0)) .answer ≡ accepted changed
+  deleted-zero : outcomeOn zeroStored setOfZero (deleteCall (key 0 0)) .answer ≡ accepted (changed 0)
 
 model-answers : (out : List ℕ) → ModelAnswers out
 unfolding
-    firstNumber widthsOf keyFits encodings namesUnused queryFits rangeFits rangeRises valueFits encode
+    answeredBy widthsOf keyFits encodings namesUnused queryFits rangeFits rangeRises valueFits encode
     stepsBelow steps step stepNumber stepsOf attributeDepth matches
-    boxOf inBox number boxMeets numberFor replyTo outcome divisionOf queryBits readsOf rangeReadsOf marked
+    boxOf inBox number boxMeets setAfter replyTo outcome divisionOf keyDepth queryBits readsOf rangeReadsOf marked
 model-answers out =
     record { found-zero = refl; listed-zero = refl; inside-zero = refl; deleted-zero = refl }
 
@@ -148,14 +148,15 @@ called-unsound p = other-than-sound (accepted false) p (λ e. false≢true (same
 
 -- a lookup that does not give payload 0 and 1 read, as one that is refused with 5, 9 or 11
 pub other-than-found : (answer : Answer Reply) → LookupPromise zeroStored (key 0 0) answer
-    → (answer ≡ accepted (found noPayload 1) → ⊥) → ⊥
+    → (answer ≡ accepted (found noPayload 1 0) → ⊥) → ⊥
 other-than-found answer p apart =
     apart
     (p .answered-as setOfZero (soundWhereRead-of-sound zeroStored _ setOfZero zeroStored-sound)
     ∙ model-answers [] .found-zero)
 
-pub refused-in-lookup : (n : ℕ) → LookupPromise zeroStored (key 0 0) (refused n) → ⊥
-refused-in-lookup n p = other-than-found (refused n) p (refused-not-accepted _ n)
+pub refused-in-lookup : (answer : Answer Reply) → isRefused answer ≡ true → LookupPromise zeroStored (key 0 0) answer
+    → ⊥
+refused-in-lookup answer refusal p = other-than-found answer p (refusal-not-accepted _ answer refusal)
 
 module _ (out out′ : List ℕ) (written n : ℕ) where
   -- a query or a range that leaves it out
@@ -173,9 +174,11 @@ module _ (out out′ : List ℕ) (written n : ℕ) where
       omega (arith, same)
 
 -- a delete that is refused
-pub not-deleted : (n : ℕ) (after : Store) → DeletePromise zeroStored (key 0 0) (refused n) after → ⊥
-not-deleted n after p =
-    refused-not-accepted changed n (p .answered-as setOfZero zeroStored-sound ∙ model-answers [] .deleted-zero)
+pub not-deleted : (answer : Answer Reply) (after : Store) → isRefused answer ≡ true
+    → DeletePromise zeroStored (key 0 0) answer after → ⊥
+not-deleted answer after refusal p =
+    refusal-not-accepted _ answer refusal
+    (p .answered-as setOfZero zeroStored-sound ∙ model-answers [] .deleted-zero)
 
 -- ---- demand 3: an insert with payload 0 that is accepted, wherever in the list
 
@@ -186,7 +189,7 @@ answerAt-run f S [] calls c = refl
 answerAt-run f S (b ∷ before) calls c = answerAt-run f (next f S b) before calls c
 
 pub accepted-in-run : History → (s : Shape) (m : Memory) (fresh after : Store)
-    → FreshPromise s m (accepted changed) fresh
+    → FreshPromise s m (accepted tt) fresh
     → (values : List ℕ) (content : Content) → keyFits (freshShape s) values ≡ true → content .payload ≡ 0
     → (before calls : List Call) (outcomes : List Outcome) (r : Reply)
     → Run fresh (before ++ insertCall values content ∷ calls) outcomes after

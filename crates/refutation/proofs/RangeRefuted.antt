@@ -9,7 +9,7 @@ use native.Mathlib.Omega.{arith}
 use lib.Dec.{leb}
 use lib.ListN.{length, getD}
 use Rattle.lists.specs.Filter.{filter, nonEmpty}
-use Rattle.shape.specs.Refusal.{Answer, accepted, refused, firstNumber}
+use Rattle.shape.specs.Refusal.{Answer, accepted, refused, firstNumber, answeredBy}
 use Rattle.shape.specs.Shape.{inBounds, shapeConditions, widthsOf, allBelow}
 use Rattle.shape.specs.Key.{marked, valueFits, encode, ifGiven, namesUnused}
 use Rattle.shape.specs.Range.{Interval, rangeFits, rangeRises}
@@ -22,7 +22,7 @@ use Rattle.record.specs.Record.{Record}
 use Rattle.record.specs.Bytes.{recordSize, recordBytes}
 use Rattle.range_box.specs.Box.{Box, boxOf, inBox, number, lowest, highest, boxMeets}
 use Rattle.page.specs.Page.{pageSize}
-use Rattle.model.specs.Model.{Reply, listed, rangeCall, numberFor, replyTo, outcome}
+use Rattle.model.specs.Model.{Reply, listed, rangeCall, replyTo, outcome}
 use Rattle.model.specs.Sets.{divisionOf, rangeReadsOf}
 use Rattle.store.specs.Store.{lentConditions}
 use Rattle.store.specs.Promises.{rangeNumber, RangePromise, SoundWhere, SameWhere, meeting}
@@ -65,9 +65,9 @@ record Ranges (out : List ℕ) : Type 0 where
 
 ranges : (out : List ℕ) → Ranges out
 unfolding
-    firstNumber namesUnused rangeFits rangeRises widthsOf
+    answeredBy namesUnused rangeFits rangeRises widthsOf
     stepsBelow steps step stepNumber stepsOf attributeDepth splitBit recordBytes valueFits encode
-    boxOf inBox number boxMeets numberFor replyTo outcome divisionOf rangeReadsOf marked
+    boxOf inBox number boxMeets replyTo outcome divisionOf rangeReadsOf marked
 ranges out =
     record {
       edge-listed = refl;

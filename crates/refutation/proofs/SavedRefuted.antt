@@ -2,12 +2,13 @@
 -- Assumes nothing.
 use Prim.Native.Nat.{ℕ, suc, _+_, _-_, _*_}
 use mathlib.Core.Path.{_≡_, refl, sym, ap, _∙_}
+use mathlib.Core.Bool.{true}
 use mathlib.Core.List.{List, _++_}
 use mathlib.Core.Logic.{⊎-elim}
 use native.Mathlib.Omega.{arith}
 use lib.ListN.{length, getD, drop, replicate}
 use lib.Seq.{getD-append-add}
-use Rattle.shape.specs.Refusal.{Answer, accepted, refused, answered, firstNumber}
+use Rattle.shape.specs.Refusal.{Answer, accepted, refused, isRefused, answered, firstNumber}
 use Rattle.shape.specs.Shape.{inBounds, shapeConditions, widthsOf}
 use Rattle.shape.specs.Key.{marked, bias, decode, encodeField}
 use Rattle.split.specs.Steps.{stepsBelow, steps, step}
@@ -15,7 +16,6 @@ use Rattle.split.specs.Bits.{splitBit}
 use Rattle.record.specs.Record.{Record}
 use Rattle.record.specs.Bytes.{recordSize, recordBytes, recordOf}
 use Rattle.model.specs.Limits.{logarithm, pageLimitOf, depthLimitOf, freshShape, fixedBy}
-use Rattle.model.specs.Model.{Reply, changed}
 use Rattle.model.specs.Sets.{isSet, divisionOf}
 use Rattle.store.specs.Store.{Store, Memory, lentConditions}
 use Rattle.store.specs.Sound.{Sound}
@@ -30,7 +30,7 @@ use Rattle.table.specs.Table.{twoTwo}
 use Rattle.refutation.specs.Files.{fileWith, shapeWith, sameKeys, falling, countWraps, slices}
 use Rattle.refutation.specs.Stores.{setOfOne, setOfZero, setOfFour, fourRecords, twoTwoMarked}
 use Rattle.refutation.specs.Stores.{wordPastMarked}
-use Rattle.refutation.proofs.ChangeLaws.{refused-not-accepted, refused-number}
+use Rattle.refutation.proofs.ChangeLaws.{refused-not-accepted, refusal-not-accepted, refused-number}
 use Rattle.refutation.proofs.FourLeavesSound.{fourRecords-sound}
 
 -- ---- the numbers of small files, computed from the definitions
@@ -81,18 +81,19 @@ four-pages = refl
 
 -- ---- load
 
-module _ {file : List ℕ} {m : Memory} {answer : Answer Reply} {after : Store}
+module _ {file : List ℕ} {m : Memory} {answer : Answer (Unit {0})} {after : Store}
     (p : LoadPromise file m answer after) where
-  answer-accepted : loadNumber file m ≡ 0 → answer ≡ accepted changed
-  answer-accepted e = p .answered-as ∙ ap (λ n. answered n changed) e
+  answer-accepted : loadNumber file m ≡ 0 → answer ≡ accepted tt
+  answer-accepted e = p .answered-as ∙ ap (λ n. answered n tt) e
 
   answer-refused : (n : ℕ) → loadNumber file m ≡ suc n → answer ≡ refused (suc n)
-  answer-refused n e = p .answered-as ∙ ap (λ k. answered k changed) e
+  answer-refused n e = p .answered-as ∙ ap (λ k. answered k tt) e
 
 module _ (after : Store) where
   -- "A stored payload of 0 loads.": a load by the public insert, which gives 11, or any other number
-  pub zero-refused : (n : ℕ) → LoadPromise (fileOf twoTwo setOfZero) (slices 8 78) (refused n) after → ⊥
-  zero-refused n p = refused-not-accepted changed n (answer-accepted p (loads .zero-payload))
+  pub zero-refused : (answer : Answer (Unit {0})) → isRefused answer ≡ true
+      → LoadPromise (fileOf twoTwo setOfZero) (slices 8 78) answer after → ⊥
+  zero-refused answer refusal p = refusal-not-accepted tt answer refusal (answer-accepted p (loads .zero-payload))
 
   -- "then 13, straight before 2": 2 for slices of length 0, where the shape's last byte is not 0
   pub two-before-thirteen : LoadPromise (fileWith setOfOne (shapeWith 0 1)) (slices 0 0) (refused 2) after → ⊥
@@ -102,20 +103,20 @@ module _ (after : Store) where
       apart e = omega (arith, e)
 
   -- "records not strictly rising": equal keys, or falling ones, accepted
-  pub equal-keys : LoadPromise sameKeys (slices 8 78) (accepted changed) after → ⊥
-  equal-keys p = refused-not-accepted changed 13 (sym (answer-refused p 12 (loads .same-keys)))
+  pub equal-keys : LoadPromise sameKeys (slices 8 78) (accepted tt) after → ⊥
+  equal-keys p = refused-not-accepted tt 13 (sym (answer-refused p 12 (loads .same-keys)))
 
-  pub falling-keys : LoadPromise falling (slices 8 78) (accepted changed) after → ⊥
-  falling-keys p = refused-not-accepted changed 13 (sym (answer-refused p 12 (loads .not-rising)))
+  pub falling-keys : LoadPromise falling (slices 8 78) (accepted tt) after → ⊥
+  falling-keys p = refused-not-accepted tt 13 (sym (answer-refused p 12 (loads .not-rising)))
 
   -- "a mark bit without an attribute that is not 0": cleared as by Fresh, and accepted
-  pub mark-cleared : LoadPromise (fileWith setOfOne (shapeWith 4 0)) (slices 8 78) (accepted changed) after → ⊥
-  mark-cleared p = refused-not-accepted changed 13 (sym (answer-refused p 12 (loads .stray-mark)))
+  pub mark-cleared : LoadPromise (fileWith setOfOne (shapeWith 4 0)) (slices 8 78) (accepted tt) after → ⊥
+  mark-cleared p = refused-not-accepted tt 13 (sym (answer-refused p 12 (loads .stray-mark)))
 
   -- 7 with empty leaves counted: the four records have three non-empty leaves and an empty one, and there are three
   -- pages
   pub empty-leaves-counted : LoadPromise (fileOf twoTwo setOfFour) (slices 8 78) (refused 7) after → ⊥
-  empty-leaves-counted p = refused-not-accepted changed 7 (answer-accepted p (loads .four))
+  empty-leaves-counted p = refused-not-accepted tt 7 (answer-accepted p (loads .four))
 
   -- "6 and 7 at the first record that meets them": 7 where one record meets both
   pub seven-before-six : LoadPromise (fileOf twoTwo setOfFour) (slices 7 77) (refused 7) after → ⊥
@@ -124,7 +125,7 @@ module _ (after : Store) where
       apart : _≡_ {A = ℕ} 7 6 → ⊥
       apart e = omega (arith, e)
 
-module _ (answer : Answer Reply) (after : Store) where
+module _ (answer : Answer (Unit {0})) (after : Store) where
   -- "distances not those of its count": 24 + 12n made modulo 2^32
   pub count-wraps : LoadPromise countWraps (slices 8 78) answer after → (answer ≡ refused 12 → ⊥) → ⊥
   count-wraps p other = other (answer-refused p 11 (loads .wraps))

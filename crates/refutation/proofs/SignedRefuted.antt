@@ -27,7 +27,7 @@ use Rattle.record.specs.Record.{Record, recordBit, matches}
 use Rattle.record.specs.Bytes.{recordBytes, recordOf}
 use Rattle.page.specs.Page.{countOf, recordsOf, pageAt}
 use Rattle.model.specs.Limits.{freshShape}
-use Rattle.model.specs.Model.{Reply, changed, numberFor, outputOf, outputAfter, outcome}
+use Rattle.model.specs.Model.{Reply, numberFor, outputOf, outputAfter, outcome}
 use Rattle.model.specs.Sets.{inShape, divisionOf, queryBits}
 use Rattle.model.proofs.SetLaws.{inShape-of-isSet}
 use Rattle.store.specs.Store.{Store, wordAt, lentConditions}
@@ -43,7 +43,7 @@ use Rattle.table.specs.Table.{twoTwo, key}
 use Rattle.refutation.specs.Stores.{ones, allFree, firstWithin, fourRecords, setOfFour, minus}
 use Rattle.refutation.specs.Stores.{twoTwoMarked, fourMarked, wordPastMarked, signLeftOut}
 use Rattle.refutation.proofs.AddressRefuted.{same-value}
-use Rattle.refutation.proofs.ChangeLaws.{refused-not-accepted, refused-number, answer-of-early}
+use Rattle.refutation.proofs.ChangeLaws.{refused-not-accepted, refused-not-with, refused-number, answer-of-early}
 use Rattle.refutation.proofs.CheckRefuted.{one-leaf, yes-to-unsound}
 use Rattle.refutation.proofs.ComputedLaws.{cells}
 use Rattle.refutation.proofs.FourLeavesSound.{fourRecords-sound}
@@ -78,34 +78,33 @@ fourMarked-sound =
 -- ---- number 3, on a store that is not sound
 
 -- "any other value below 0 gets it too": -1 of an attribute without a mark, accepted
-pub negative-unmarked : (content : Content) (after : Store)
-    → InsertPromise (wordPastMarked 0) (minus 1 ∷ 0 ∷ 0 ∷ 0 ∷ []) content (accepted changed) after → ⊥
+pub negative-unmarked : (content : Content) (r : Reply) (after : Store)
+    → InsertPromise (wordPastMarked 0) (minus 1 ∷ 0 ∷ 0 ∷ 0 ∷ []) content (accepted r) after → ⊥
 unfolding firstNumber inBounds shapeConditions keyFits recordBytes lentConditions keyNumber valueFits encode marked
-negative-unmarked content after p = refused-not-accepted changed 3 (sym (answer-of-early content p 2 refl))
+negative-unmarked content r after p = refused-not-accepted r 3 (sym (answer-of-early content p 2 refl))
 
 -- "Number 3 uses these bounds": -3, and 2, of an attribute that takes -2 to 1
-pub one-below : (content : Content) (after : Store)
-    → InsertPromise (wordPastMarked 1) (minus 3 ∷ 0 ∷ 0 ∷ 0 ∷ []) content (accepted changed) after → ⊥
+pub one-below : (content : Content) (r : Reply) (after : Store)
+    → InsertPromise (wordPastMarked 1) (minus 3 ∷ 0 ∷ 0 ∷ 0 ∷ []) content (accepted r) after → ⊥
 unfolding
     firstNumber inBounds shapeConditions keyFits recordBytes lentConditions keyNumber valueFits encode marked bias
-one-below content after p = refused-not-accepted changed 3 (sym (answer-of-early content p 2 refl))
+one-below content r after p = refused-not-accepted r 3 (sym (answer-of-early content p 2 refl))
 
-pub one-beyond : (content : Content) (after : Store)
-    → InsertPromise (wordPastMarked 1) (2 ∷ 0 ∷ 0 ∷ 0 ∷ []) content (accepted changed) after → ⊥
+pub one-beyond : (content : Content) (r : Reply) (after : Store)
+    → InsertPromise (wordPastMarked 1) (2 ∷ 0 ∷ 0 ∷ 0 ∷ []) content (accepted r) after → ⊥
 unfolding
     firstNumber inBounds shapeConditions keyFits recordBytes lentConditions keyNumber valueFits encode marked bias
-one-beyond content after p = refused-not-accepted changed 3 (sym (answer-of-early content p 2 refl))
+one-beyond content r after p = refused-not-accepted r 3 (sym (answer-of-early content p 2 refl))
 
 -- a lookup that no early number refuses is not refused with 3
 three-not-given : (store : Store) (values : List ℕ) → keyNumber store values ≡ 0
     → LookupPromise store values (refused 3) → ⊥
 three-not-given store values e p =
     ⊎-elim (λ content. refused-not-accepted _ 3 (content .1))
-    (⊎-elim (λ five. other 5 five (λ same. omega (arith, same))) (λ nine. other 9 nine (λ same. omega (arith, same))))
-    (p .ordinary e)
+    (⊎-elim (refused-not-with 3 5 _) (λ nine. apart (refused-number nine))) (p .ordinary e)
   where
-    other : (n : ℕ) → _≡_ {A = Answer Reply} (refused 3) (refused n) → (3 ≡ n → ⊥) → ⊥
-    other n same apart = apart (refused-number same)
+    apart : _≡_ {A = ℕ} 3 9 → ⊥
+    apart same = omega (arith, same)
 
 -- a value within the bounds refused: -2, the least
 pub least-refused : LookupPromise (wordPastMarked 1) (minus 2 ∷ 0 ∷ 0 ∷ 0 ∷ []) (refused 3) → ⊥
@@ -144,7 +143,7 @@ falling-listed out out′ reply p = refused-not-accepted reply 10 (sym (p .early
 -- ---- Fresh
 
 -- "and Fresh clears it": the mark of attribute 2 is kept
-pub keeps-mark : (answer : Answer Reply) (after : Store) → FreshPromise (twoTwoMarked 5) ones answer after
+pub keeps-mark : (answer : Answer (Unit {0})) (after : Store) → FreshPromise (twoTwoMarked 5) ones answer after
     → after .state .shape .signs ≡ 5 → ⊥
 unfolding freshNumber shapeConditions inBounds firstNumber freshState freshShape
 keeps-mark answer after p e =

@@ -7,7 +7,7 @@ use Rattle.shape.specs.Refusal.{Answer, accepted, refused}
 use Rattle.shape.specs.declared.Shape.{Shape}
 use Rattle.record.specs.Record.{Record}
 use Rattle.model.specs.Limits.{fixedBy}
-use Rattle.model.specs.Model.{Fixed, Call, Reply, changed, Outcome, run, lastSet}
+use Rattle.model.specs.Model.{Fixed, Call, Outcome, run, lastSet}
 use Rattle.store.specs.Store.{Store, Memory, fixedOf}
 use Rattle.store.specs.Sound.{Sound}
 use Rattle.store.specs.Fresh.{freshNumber, noState}
@@ -33,13 +33,13 @@ modelRun f S words answers out = run f S (modelCalls words answers out)
 -- Shut out: a call left out, an answer at another's place, an output begun late (answers-as, outputs-as); a delete that
 -- only looks (shown)
 pub record ReplayedFrom (number : ℕ) (f : Fixed) (S : List Record) (m : Memory) (words answers out : List ℕ)
-    (answer : Answer Reply) (after : Store) (answers′ out′ : List ℕ) : Type 0 where
+    (answer : Answer (Unit {0})) (after : Store) (answers′ out′ : List ℕ) : Type 0 where
   -- it is refused, and nothing is changed; there is no state to go on with
   pub refused-as : (n : ℕ) → number ≡ suc n
       → (answer ≡ refused (suc n)) × (after ≡ record { state = noState; memory = m }) × (answers′ ≡ answers)
       × (out′ ≡ out)
   -- it is accepted, and the calls are answered as the model answers them
-  pub accepted-as : number ≡ 0 → answer ≡ accepted changed
+  pub accepted-as : number ≡ 0 → answer ≡ accepted tt
   pub fixed-as : number ≡ 0 → fixedOf (after .state) ≡ f
   pub answers-as : number ≡ 0
       → answers′ ≡ answersOf (modelRun f S words answers out) ++ drop (answerSize * callCount words answers) answers
@@ -51,12 +51,14 @@ pub record ReplayedFrom (number : ℕ) (f : Fixed) (S : List Record) (m : Memory
   pub shown : number ≡ 0 → Sound after (lastSet f S (modelCalls words answers out))
 
 -- from a fresh store: no record
-abbrev pub Replayed : Shape → Memory → List ℕ → List ℕ → List ℕ → Answer Reply → Store → List ℕ → List ℕ → Type 0
+abbrev pub Replayed : Shape → Memory → List ℕ → List ℕ → List ℕ → Answer (Unit {0}) → Store → List ℕ → List ℕ
+    → Type 0
 Replayed s m words answers out answer after answers′ out′ =
     ReplayedFrom (freshNumber s m) (modelFixed s m) [] m words answers out answer after answers′ out′
 
 -- from a loaded store: the file's records
-abbrev pub ReplayedFile : List ℕ → Memory → List ℕ → List ℕ → List ℕ → Answer Reply → Store → List ℕ → List ℕ → Type 0
+abbrev pub ReplayedFile : List ℕ → Memory → List ℕ → List ℕ → List ℕ → Answer (Unit {0}) → Store → List ℕ → List ℕ
+    → Type 0
 ReplayedFile file m words answers out answer after answers′ out′ =
     ReplayedFrom (loadNumber file m) (loadFixed file m) (fileRecords file) m words answers out answer after answers′
     out′

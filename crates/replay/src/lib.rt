@@ -11,11 +11,11 @@ use replay_encoding::put_answer;
 use replay_encoding::read_request;
 use replay_encoding::request_size;
 use shape::Shape;
-use store::Change;
-use store::Changed;
+use store::Made;
+use store::Making;
 use store::State;
 ghost use Rattle.store.specs.Store.{memory, store};
-ghost use Rattle.store.specs.Answers.{changedAnswer};
+ghost use Rattle.store.specs.Answers.{madeAnswer};
 ghost use Rattle.replay_encoding.specs.Encoding.{callCount};
 ghost use Rattle.replay.specs.Private.{CallsRan};
 ghost use Rattle.replay.specs.Replayed.{Replayed, ReplayedFile};
@@ -29,20 +29,20 @@ pub fn replay(
     calls: &[u32],
     answers: &mut [u64],
     out: &mut [u8],
-) -> Change
+) -> Making
     ensures { λ r. ⌜ Replayed shape (memory (now (dir .entry)) (now (pages .entry)))
-        (now (calls .entry)) (now (answers .entry)) (now (out .entry)) (changedAnswer (r .answer))
+        (now (calls .entry)) (now (answers .entry)) (now (out .entry)) (madeAnswer (r .answer))
         (store (r .state) (now (dir .exit)) (now (pages .exit))) (now (answers .exit)) (now (out .exit)) ⌝ }
 {
     let made = fresh(shape, dir, pages);
     let answer = made.answer;
-    let Changed::Done = answer else {
+    let Made::Done = answer else {
         return made;
     };
     let empty = made.state;
     let state = run_calls(empty, dir, pages, calls, answers, out);
-    Change {
-        answer: Changed::Done,
+    Making {
+        answer: Made::Done,
         state,
     }
 }
@@ -55,20 +55,20 @@ pub fn replay_file(
     calls: &[u32],
     answers: &mut [u64],
     out: &mut [u8],
-) -> Change
+) -> Making
     ensures { λ r. ⌜ ReplayedFile (now (file .entry)) (memory (now (dir .entry)) (now (pages .entry)))
-        (now (calls .entry)) (now (answers .entry)) (now (out .entry)) (changedAnswer (r .answer))
+        (now (calls .entry)) (now (answers .entry)) (now (out .entry)) (madeAnswer (r .answer))
         (store (r .state) (now (dir .exit)) (now (pages .exit))) (now (answers .exit)) (now (out .exit)) ⌝ }
 {
     let made = load(file, dir, pages);
     let answer = made.answer;
-    let Changed::Done = answer else {
+    let Made::Done = answer else {
         return made;
     };
     let loaded = made.state;
     let state = run_calls(loaded, dir, pages, calls, answers, out);
-    Change {
-        answer: Changed::Done,
+    Making {
+        answer: Made::Done,
         state,
     }
 }

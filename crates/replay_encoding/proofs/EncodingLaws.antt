@@ -7,7 +7,7 @@ use mathlib.Core.Option.{some}
 use native.Mathlib.Omega.{arith}
 use lib.ListN.{length, take, drop, getD, set}
 use lib.Seq.{sets-eq}
-use Rattle.shape.specs.Refusal.{Answer, accepted, refused}
+use Rattle.shape.specs.Refusal.{Answer, accepted, refused, refusedWith}
 use Rattle.model.specs.Model.{insertCall, deleteCall, lookupCall, queryCall, rangeCall, Reply, changed, found, listed}
 use Rattle.model.specs.Model.{Outcome}
 use Rattle.replay_encoding.specs.declared.Request.{Request}
@@ -116,17 +116,19 @@ no-output r out h e = none-of out (e ∙ requestSize-none r (length out) h)
 
 length-answerWords : (a : Answer Reply) → length (answerWords a) ≡ 4
 unfolding answerWords
-length-answerWords (accepted changed) = refl
-length-answerWords (accepted (found content reads)) = refl
+length-answerWords (accepted (changed depth)) = refl
+length-answerWords (accepted (found content reads depth)) = refl
 length-answerWords (accepted (listed written total reads)) = refl
 length-answerWords (refused n) = refl
+length-answerWords (refusedWith n x) = refl
 
 fourAt-answerWords : (a : Answer Reply) → fourAt (answerWords a) 0 ≡ answerWords a
 unfolding answerWords
-fourAt-answerWords (accepted changed) = refl
-fourAt-answerWords (accepted (found content reads)) = refl
+fourAt-answerWords (accepted (changed depth)) = refl
+fourAt-answerWords (accepted (found content reads depth)) = refl
 fourAt-answerWords (accepted (listed written total reads)) = refl
 fourAt-answerWords (refused n) = refl
+fourAt-answerWords (refusedWith n x) = refl
 
 -- the words of an answer are four
 pub fourAt-answer : (ws : List ℕ) (a : Answer Reply) → ws ≡ answerWords a

@@ -1,11 +1,11 @@
--- Calls and answers as numbers (document 01, "The plain model of demand 3"; document 02, request 1).
+-- Calls and answers as numbers (document 01, "The plain model of demand 3"; document 02, requests 1 and 6).
 --
 --     a call is 15 words                                       an answer is 4 words
 --     0      kind: 0 insert, 1 delete, 2 lookup, 3 query,      0    number of the refusal, 0 for an accepted call
---            else range                                        1-3  lookup: payload, reads, 0
+--            else range                                        1-3  lookup: payload, reads, depth
 --     1-4    values of attributes 0 to 3; range: low ends           query, range: written, total, reads
---     5-8    query, range: not 0 where an attribute is given        other calls, and a refused one: 0, 0, 0
---     9      insert: payload
+--     5-8    query, range: not 0 where an attribute is given        insert, delete, and refused with 5: 0, 0, depth
+--     9      insert: payload                                        any other refused call: 0, 0, 0
 --     10     query, range: bytes of its output
 --     11-14  range: high ends of attributes 0 to 3
 --
@@ -18,7 +18,7 @@ use Prim.Native.Nat.{ℕ, zero, suc, _+_, _-_, _*_, _/_, min}
 use mathlib.Core.List.{List, [], _∷_, _++_}
 use mathlib.Core.Option.{Option, none, some}
 use lib.ListN.{length, take, drop, getD}
-use Rattle.shape.specs.Refusal.{Answer, accepted, refused}
+use Rattle.shape.specs.Refusal.{Answer, accepted, refused, refusedWith}
 use Rattle.shape.specs.Key.{perAttribute}
 use Rattle.shape.specs.Range.{Interval, intervalsOf}
 use Rattle.model.specs.Model.{Call, insertCall, deleteCall, lookupCall, queryCall, rangeCall}
@@ -110,13 +110,14 @@ abbrev pub answerSize : ℕ
 answerSize = 4
 
 abbrev pub replyWords : Reply → List ℕ
-replyWords changed = 0 ∷ 0 ∷ 0 ∷ 0 ∷ []
-replyWords (found content reads) = 0 ∷ content .payload ∷ reads ∷ 0 ∷ []
+replyWords (changed depth) = 0 ∷ 0 ∷ 0 ∷ depth ∷ []
+replyWords (found content reads depth) = 0 ∷ content .payload ∷ reads ∷ depth ∷ []
 replyWords (listed written total reads) = 0 ∷ written ∷ total ∷ reads ∷ []
 
 unfoldable pub answerWords : Answer Reply → List ℕ
 answerWords (accepted reply) = replyWords reply
 answerWords (refused n) = n ∷ 0 ∷ 0 ∷ 0 ∷ []
+answerWords (refusedWith n x) = n ∷ 0 ∷ 0 ∷ x ∷ []
 
 -- the answers of some calls, one after the other, and their outputs
 unfoldable pub answersOf : List Outcome → List ℕ

@@ -1,5 +1,5 @@
 // Calls and answers as numbers, as a replay takes and gives them (document 01, "The plain model of
-// demand 3"; document 02, request 1).
+// demand 3"; document 02, requests 1 and 6).
 use numbers::smaller_length;
 use shape::Attribute;
 use shape::Query;
@@ -100,10 +100,11 @@ pub fn range_of(request: Request) -> Range
 pub fn changed_words(answer: Changed) -> [u64; 4]
     ensures { λ r. ⌜ r ≡ answerWords (changedAnswer answer) ⌝ }
 {
-    let Changed::Refused(number) = answer else {
-        return [0, 0, 0, 0];
-    };
-    [number as u64, 0, 0, 0]
+    match answer {
+        Changed::Done(depth) => [0, 0, 0, depth as u64],
+        Changed::Absent(depth) => [5, 0, 0, depth as u64],
+        Changed::Refused(number) => [number as u64, 0, 0, 0],
+    }
 }
 
 // The words of a lookup's answer.
@@ -111,7 +112,10 @@ pub fn found_words(answer: Found) -> [u64; 4]
     ensures { λ r. ⌜ r ≡ answerWords (foundAnswer answer) ⌝ }
 {
     match answer {
-        Found::Content(content, reads) => [0, content.payload as u64, reads as u64, 0],
+        Found::Content(content, reads, depth) => {
+            [0, content.payload as u64, reads as u64, depth as u64]
+        }
+        Found::Absent(depth) => [5, 0, 0, depth as u64],
         Found::Refused(number) => [number as u64, 0, 0, 0],
     }
 }

@@ -4,7 +4,6 @@ use mathlib.Core.Path.{_≡_, refl}
 use mathlib.Core.List.{List}
 use Rattle.shape.specs.Refusal.{accepted}
 use Rattle.model.specs.Limits.{fixedBy}
-use Rattle.model.specs.Model.{changed}
 use Rattle.store.specs.Store.{Store, Memory, fixedOf}
 use Rattle.store.specs.Fresh.{freshState}
 use Rattle.history.proofs.HistoryLaws.{listed-as}
@@ -16,7 +15,7 @@ use Rattle.file.proofs.PlainLaws.{freshShape-fileShape}
 use Rattle.saved.specs.Again.{LoadedHistory}
 
 -- what an accepted load fixes is what the model is given
-pub fixedOf-loaded : (file : List ℕ) (m : Memory) (loaded : Store) → LoadPromise file m (accepted changed) loaded
+pub fixedOf-loaded : (file : List ℕ) (m : Memory) (loaded : Store) → LoadPromise file m (accepted tt) loaded
     → fixedOf (loaded .state) ≡ loadFixed file m
 unfolding fixedBy freshState
 fixedOf-loaded file m loaded p =

@@ -20,7 +20,7 @@ use Rattle.region.proofs.DivideLaws.{greatestDepth-divide-le}
 use Rattle.record.specs.Record.{Record, recordBit}
 use Rattle.page.specs.Page.{pageSize}
 use Rattle.model.specs.Limits.{logarithm, pageLimitOf, depthLimitOf, freshShape, fixedBy}
-use Rattle.model.specs.Model.{Fixed, changed}
+use Rattle.model.specs.Model.{Fixed}
 use Rattle.model.specs.Sets.{isSet, divisionOf}
 use Rattle.model.proofs.LimitLaws.{widthsOf-freshShape, inBounds-freshShape}
 use Rattle.store.specs.Store.{Store, Memory}
@@ -153,7 +153,7 @@ module _ (s : Shape) (good : shapeNumber s ≡ 0) (S : List Record) (set : isSet
 
   -- ---- an accepted load
 
-  module _ (after : Store) (p : LoadPromise (fileOf s S) m (accepted changed) after) where
+  module _ (after : Store) (p : LoadPromise (fileOf s S) m (accepted tt) after) where
     pub shown-fileOf : Sound after S
     shown-fileOf = rw (fileRecords-fileOf s S few good set small) at (p .shown refl)
 
@@ -191,7 +191,7 @@ loads-again store S sound bytes m =
       exactly = λ answer after p. (
         λ e. largeEnough-of-accepted s good S (sound .set) small few m after
             (subst (λ a. LoadPromise (fileOf s S) m a after) e p),
-        λ large. p .answered-as ∙ ap (λ n. answered n changed) (none-met large),
+        λ large. p .answered-as ∙ ap (λ n. answered n tt) (none-met large),
       );
       shown = shown-fileOf s good S (sound .set) small few m;
     }

@@ -10,7 +10,7 @@ use Rattle.shape.proofs.ShapeLaws.{shapeNumber-true}
 use Rattle.record.specs.Record.{Record}
 use Rattle.record.proofs.ByteLaws.{AreBytes}
 use Rattle.model.specs.Limits.{freshShape}
-use Rattle.model.specs.Model.{changed, ifAccepted}
+use Rattle.model.specs.Model.{ifAccepted}
 use Rattle.model.specs.Sets.{isSet}
 use Rattle.model.proofs.LimitLaws.{inBounds-freshShape}
 use Rattle.store.specs.Store.{Store, Memory}
@@ -69,7 +69,7 @@ equal-bytes one other S U S-sound U-sound S-bytes U-bytes same n k out out′ ot
 -- ---- saving after a load
 
 module _ (file : List ℕ) (bytes : AreBytes file) (m : Memory) (loaded : Store)
-    (load : LoadPromise file m (accepted changed) loaded) where
+    (load : LoadPromise file m (accepted tt) loaded) where
   abbrev S : List Record
   S = fileRecords file
 

@@ -8,7 +8,7 @@ use Rattle.shape.specs.Refusal.{Answer, accepted, answered}
 use Rattle.shape.specs.declared.Shape.{Shape}
 use Rattle.record.specs.Record.{Record}
 use Rattle.model.specs.Limits.{fixedBy}
-use Rattle.model.specs.Model.{Fixed, Call, changed, Outcome, outcome, next, ifAccepted}
+use Rattle.model.specs.Model.{Fixed, Call, Outcome, outcome, next, ifAccepted}
 use Rattle.store.specs.Store.{Store, Memory}
 use Rattle.store.specs.Sound.{Sound}
 use Rattle.store.specs.Fresh.{FreshPromise}
@@ -91,7 +91,7 @@ AsModel f S store =
 -- from a store that Fresh made, and from one that a load made: "a sound store of the file's shape and records .., with
 -- P and L set as by Fresh"
 pub record SavedHistory : Type 0 where
-  pub from-fresh : (s : Shape) (m : Memory) (fresh : Store) → FreshPromise s m (accepted changed) fresh
+  pub from-fresh : (s : Shape) (m : Memory) (fresh : Store) → FreshPromise s m (accepted tt) fresh
       → AsModel (fixedBy s (length (m .words)) (length (m .bytes))) [] fresh
-  pub from-loaded : (file : List ℕ) (m : Memory) (loaded : Store) → LoadPromise file m (accepted changed) loaded
+  pub from-loaded : (file : List ℕ) (m : Memory) (loaded : Store) → LoadPromise file m (accepted tt) loaded
       → AsModel (loadFixed file m) (fileRecords file) loaded

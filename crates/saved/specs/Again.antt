@@ -12,7 +12,7 @@ use Rattle.shape.specs.declared.Shape.{Shape}
 use Rattle.region.specs.Division.{greatestDepth, nonEmptyLeaves}
 use Rattle.record.specs.Record.{Record}
 use Rattle.page.specs.Page.{pageSize}
-use Rattle.model.specs.Model.{Call, insertCall, deleteCall, lookupCall, queryCall, rangeCall, Reply, changed, Outcome}
+use Rattle.model.specs.Model.{Call, insertCall, deleteCall, lookupCall, queryCall, rangeCall, Outcome}
 use Rattle.model.specs.Model.{run, lastSet}
 use Rattle.model.specs.Sets.{divisionOf}
 use Rattle.store.specs.Store.{Store, Memory, pagesSize}
@@ -30,7 +30,7 @@ use Rattle.file.specs.Promises.{LoadPromise}
 -- left shows the model's set
 abbrev pub LoadedHistory : Type 0
 LoadedHistory =
-    (file : List ℕ) (m : Memory) (loaded : Store) → LoadPromise file m (accepted changed) loaded
+    (file : List ℕ) (m : Memory) (loaded : Store) → LoadPromise file m (accepted tt) loaded
     → (calls : List Call) (outcomes : List Outcome) (after : Store) → Run loaded calls outcomes after
     → (outcomes ≡ run (loadFixed file m) (fileRecords file) calls)
     × WithinBounds (loadFixed file m) (fileRecords file) calls outcomes
@@ -49,10 +49,10 @@ pub record LargeEnough (s : Shape) (S : List Record) (m : Memory) : Type 0 where
 pub record Reloads (s : Shape) (S : List Record) (m : Memory) : Type 0 where
   -- slices that are large enough meet no condition for refusal, so that the load is accepted exactly in these ..
   pub no-refusal : LargeEnough s S m → loadNumber (fileOf s S) m ≡ 0
-  pub exactly : (answer : Answer Reply) (after : Store) → LoadPromise (fileOf s S) m answer after
-      → (answer ≡ accepted changed) ↔ LargeEnough s S m
+  pub exactly : (answer : Answer (Unit {0})) (after : Store) → LoadPromise (fileOf s S) m answer after
+      → (answer ≡ accepted tt) ↔ LargeEnough s S m
   -- .. and leaves a store that shows the set
-  pub shown : (after : Store) → LoadPromise (fileOf s S) m (accepted changed) after → Sound after S
+  pub shown : (after : Store) → LoadPromise (fileOf s S) m (accepted tt) after → Sound after S
 
 -- the set of every sound store loads again; the store's page bytes are below 256, as those of a slice are
 abbrev pub LoadsAgain : Type 0
@@ -77,10 +77,10 @@ readsOnly (lookupCall values) = true
 readsOnly (queryCall q out) = true
 readsOnly (rangeCall r out) = true
 
--- into slices of any lengths: calls that read are answered alike, payloads, lists, totals and reads
+-- into slices of any lengths: calls that read are answered alike, payloads, depths, lists, totals and reads
 abbrev pub LoadedAlike : Type 0
 LoadedAlike =
-    (file : List ℕ) (m m′ : Memory) (one other : Store) → LoadPromise file m (accepted changed) one
-    → LoadPromise file m′ (accepted changed) other → (calls : List Call) → all readsOnly calls ≡ true
+    (file : List ℕ) (m m′ : Memory) (one other : Store) → LoadPromise file m (accepted tt) one
+    → LoadPromise file m′ (accepted tt) other → (calls : List Call) → all readsOnly calls ≡ true
     → (outcomes outcomes′ : List Outcome) (after after′ : Store) → Run one calls outcomes after
     → Run other calls outcomes′ after′ → outcomes ≡ outcomes′

@@ -12,7 +12,6 @@ use Rattle.shape.specs.Refusal.{Answer, accepted, refused}
 use Rattle.shape.specs.declared.Shape.{Shape}
 use Rattle.record.specs.Record.{Record}
 use Rattle.model.specs.Limits.{freshShape}
-use Rattle.model.specs.Model.{changed}
 use Rattle.model.specs.Sets.{isSet}
 use Rattle.store.specs.Store.{Store, Memory}
 use Rattle.store.specs.Sound.{Sound}
@@ -40,7 +39,7 @@ EqualSets =
 abbrev pub SavedAgain : Type 0
 SavedAgain =
     (file : List ℕ) → ((i : ℕ) → getD file i 0 < 256) → (m : Memory) (loaded : Store)
-    → LoadPromise file m (accepted changed) loaded
+    → LoadPromise file m (accepted tt) loaded
     → (out : List ℕ) (answer : Answer ℕ) (out′ : List ℕ) → SavePromise loaded out answer out′
     → (length file ≤ length out → (answer ≡ accepted (length file)) × (out′ ≡ file ++ drop (length file) out))
     × (length out < length file → (answer ≡ refused 2) × (out′ ≡ out))

@@ -1,8 +1,8 @@
 // The session that command lines are read in.
-use store::Change;
-use store::Changed;
+use store::Made;
+use store::Making;
 use store::State;
-ghost use Rattle.store.specs.Answers.{changedAnswer};
+ghost use Rattle.store.specs.Answers.{madeAnswer};
 ghost use Rattle.stock_command.specs.Session.{Begun};
 
 // The state of the store, if a shape was accepted.
@@ -12,13 +12,13 @@ pub struct Session {
 }
 
 // The session after Fresh: the new store if it was accepted, otherwise the one that there was.
-pub fn begin(session: Session, change: Change) -> Session
-    ensures { λ r. ⌜ Begun session (changedAnswer (change .answer)) (change .state) r ⌝ }
+pub fn begin(session: Session, making: Making) -> Session
+    ensures { λ r. ⌜ Begun session (madeAnswer (making .answer)) (making .state) r ⌝ }
 {
-    let answer = change.answer;
-    let state = change.state;
+    let answer = making.answer;
+    let state = making.state;
     match answer {
-        Changed::Done => Session { begun: true, state },
-        Changed::Refused(_) => session,
+        Made::Done => Session { begun: true, state },
+        Made::Refused(_) => session,
     }
 }

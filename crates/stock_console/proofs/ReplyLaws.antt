@@ -8,7 +8,7 @@ use mathlib.Core.Logic.{⊎-elim}
 use mathlib.Core.Option.{Option}
 use native.Mathlib.Omega.{arith}
 use lib.ListN.{length}
-use Rattle.shape.specs.Refusal.{Answer, accepted, refused, firstNumber}
+use Rattle.shape.specs.Refusal.{Answer, accepted, refused, refusedWith, isRefused, firstNumber}
 use Rattle.shape.specs.Shape.{inBounds, shapeConditions}
 use Rattle.shape.proofs.BoundsLaws.{attributes-le}
 use Rattle.record.specs.Bytes.{recordSize}
@@ -21,7 +21,7 @@ use Rattle.stock_line.specs.declared.Line.{Line}
 use Rattle.stock_text.specs.Text.{Grown}
 use Rattle.stock_command.specs.Asked.{Asked, put, cut, list, valuesFrom, itemsOf, contentIn, asked}
 use Rattle.stock_command.specs.declared.session.Session.{Session}
-use Rattle.stock_replies.specs.Replies.{outputRecords, outputSize, changedText, listedText}
+use Rattle.stock_replies.specs.Replies.{outputRecords, outputSize, answerText, listedText}
 use Rattle.stock_replies.specs.Printed.{Printable}
 use Rattle.stock_console.specs.Console.{StockMemory, stockMemory, ReplyPromise}
 use Rattle.stock_console.specs.declared.Next.{Next}
@@ -40,14 +40,14 @@ module _ (session : Session) (line : Line) (words bytes text : List ℕ) (at : �
   changedNext after = record { session = record { begun = true; state = after }; end = end }
 
   module _ (answer : Answer Reply) (after : State) (words′ bytes′ : List ℕ) (values : List ℕ)
-      (e : values ≡ valuesFrom line d 0) (grown : Grown text at (changedText answer) text′ end) where
+      (e : values ≡ valuesFrom line d 0) (grown : Grown text at (answerText answer) text′ end) where
     pub reply-put : (content : Content) → content ≡ contentIn line d
         → InsertPromise (store state words bytes) values content answer (store after words′ bytes′) → (out : List ℕ)
         → ReplyPromise (put (valuesFrom line d 0) (contentIn line d)) session (stockMemory words bytes out) text at
         (changedNext after) (stockMemory words′ bytes′ out) text′
     reply-put content f promise out =
         record {
-          bytes = changedText answer;
+          bytes = answerText answer;
           grown = grown;
           replied = (answer, rw (← e, ← f) promise, refl, refl, refl);
         }
@@ -56,7 +56,7 @@ module _ (session : Session) (line : Line) (words bytes text : List ℕ) (at : �
         → ReplyPromise (cut (valuesFrom line d 0)) session (stockMemory words bytes out) text at (changedNext after)
         (stockMemory words′ bytes′ out) text′
     reply-cut promise out =
-        record { bytes = changedText answer; grown = grown; replied = (answer, rw (← e) promise, refl, refl, refl) }
+        record { bytes = answerText answer; grown = grown; replied = (answer, rw (← e) promise, refl, refl, refl) }
 
   pub reply-list : (answer : Answer Reply) (q : List (Option ℕ)) (out out′ : List ℕ) → q ≡ itemsOf line d
       → QueryPromise (store state words bytes) q out answer out′ → Grown text at (listedText d answer out′) text′ end
@@ -91,19 +91,17 @@ module _ (state : State) (words bytes : List ℕ) (q : List (Option ℕ)) where
     -- how many records an answer wrote
     abbrev writtenIn : Answer Reply → ℕ
     writtenIn (refused n) = 0
-    writtenIn (accepted changed) = 0
-    writtenIn (accepted (found content reads)) = 0
+    writtenIn (refusedWith n x) = 0
+    writtenIn (accepted (changed depth)) = 0
+    writtenIn (accepted (found content reads depth)) = 0
     writtenIn (accepted (listed written total reads)) = written
-
-    abbrev isRefused : Answer Reply → Bool
-    isRefused (refused n) = true
-    isRefused (accepted reply) = false
 
     pub printable : (answer : Answer Reply) → QueryPromise (store state words bytes) q out answer out′
         → Printable (state .shape .attributes) answer out′
     printable (refused n) promise = tt
-    printable (accepted changed) promise = tt
-    printable (accepted (found content reads)) promise = tt
+    printable (refusedWith n x) promise = tt
+    printable (accepted (changed depth)) promise = tt
+    printable (accepted (found content reads depth)) promise = tt
     printable (accepted (listed written total reads)) promise = by-number (queryNumber (store state words bytes) q) refl
       where
         by-number : (n : ℕ) → queryNumber (store state words bytes) q ≡ n

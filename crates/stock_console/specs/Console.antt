@@ -13,7 +13,7 @@ use Rattle.stock_text.specs.Text.{Grown, badText, refusedText}
 use Rattle.stock_command.specs.Asked.{Asked, nothing, noShape, newShape, put, cut, list}
 use Rattle.stock_command.specs.Session.{Begun}
 use Rattle.stock_command.specs.declared.session.Session.{Session}
-use Rattle.stock_replies.specs.Replies.{changedText, listedText}
+use Rattle.stock_replies.specs.Replies.{answerText, listedText}
 use Rattle.stock_console.specs.declared.Next.{Next}
 
 -- the memory that the program lends: words, pages, output
@@ -30,19 +30,19 @@ abbrev pub Replied : Asked → Session → StockMemory → List ℕ → Session 
 Replied nothing before m text after m′ = (text ≡ badText) × (after ≡ before) × (m′ ≡ m)
 Replied noShape before m text after m′ = (text ≡ refusedText 1) × (after ≡ before) × (m′ ≡ m)
 Replied (newShape s) before m text after m′ =
-    (answer : Answer Reply) × (fresh : State)
+    (answer : Answer (Unit {0})) × (fresh : State)
     × FreshPromise s (memory (m .words) (m .bytes)) answer (store fresh (m′ .words) (m′ .bytes))
-    × Begun before answer fresh after × (text ≡ changedText answer) × (m′ .output ≡ m .output)
+    × Begun before answer fresh after × (text ≡ answerText answer) × (m′ .output ≡ m .output)
 Replied (put values content) before m text after m′ =
     (answer : Answer Reply)
     × InsertPromise (store (before .state) (m .words) (m .bytes)) values content answer
     (store (after .state) (m′ .words) (m′ .bytes))
-    × (text ≡ changedText answer) × (after .begun ≡ true) × (m′ .output ≡ m .output)
+    × (text ≡ answerText answer) × (after .begun ≡ true) × (m′ .output ≡ m .output)
 Replied (cut values) before m text after m′ =
     (answer : Answer Reply)
     × DeletePromise (store (before .state) (m .words) (m .bytes)) values answer
     (store (after .state) (m′ .words) (m′ .bytes))
-    × (text ≡ changedText answer) × (after .begun ≡ true) × (m′ .output ≡ m .output)
+    × (text ≡ answerText answer) × (after .begun ≡ true) × (m′ .output ≡ m .output)
 Replied (list q) before m text after m′ =
     (answer : Answer Reply)
     × QueryPromise (store (before .state) (m .words) (m .bytes)) q (m .output) answer (m′ .output)

@@ -16,6 +16,7 @@ use stock_command::session::begin;
 use stock_line::Line;
 use stock_replies::put_changed;
 use stock_replies::put_listed;
+use stock_replies::put_made;
 use stock_text::put_bad;
 use stock_text::put_refused;
 ghost use mathlib.Core.List.{List};
@@ -97,10 +98,10 @@ fn reply_shape(
         (stockMemory (now (dir .exit)) (now (pages .exit)) out)
         (now (text .exit))) ⌝ }
 {
-    let change = fresh(shape, dir, pages);
-    let after = begin(session, change);
-    let answer = change.answer;
-    let end = put_changed(text, at, answer);
+    let making = fresh(shape, dir, pages);
+    let after = begin(session, making);
+    let answer = making.answer;
+    let end = put_made(text, at, answer);
     Next {
         session: after,
         end,

@@ -1,7 +1,7 @@
 -- The replies to the store's answers (document 01, "Proof table and the printed run"). Assumes nothing.
 use Prim.Native.Nat.{ℕ, _+_, _*_}
 use mathlib.Core.List.{List, _++_}
-use Rattle.shape.specs.Refusal.{Answer, accepted, refused}
+use Rattle.shape.specs.Refusal.{Answer, accepted, refused, refusedWith}
 use Rattle.model.specs.Model.{Reply, changed, found, listed}
 use Rattle.record.specs.Bytes.{recordSize}
 use Rattle.stock_text.specs.Text.{lineSize, okText, refusedText, recordsText, sumText}
@@ -18,14 +18,16 @@ outputSize = outputRecords * recordSize
 abbrev pub replySize : ℕ
 replySize = (outputRecords + 1) * lineSize
 
--- "It prints `ok`, `no` and the number"
-abbrev pub changedText : Answer Reply → List ℕ
-changedText (accepted reply) = okText
-changedText (refused n) = refusedText n
+-- "It prints `ok`, `no` and the number", and no depth
+abbrev pub answerText : {A : Type 0} → Answer A → List ℕ
+answerText (accepted x) = okText
+answerText (refused n) = refusedText n
+answerText (refusedWith n x) = refusedText n
 
 -- "for `list`, the records (values, payload), then `=`, total, reads"
 abbrev pub listedText : ℕ → Answer Reply → List ℕ → List ℕ
 listedText d (refused n) out = refusedText n
+listedText d (refusedWith n x) out = refusedText n
 listedText d (accepted (listed written total reads)) out = recordsText d written out ++ sumText total reads
-listedText d (accepted changed) out = okText
-listedText d (accepted (found content reads)) out = okText
+listedText d (accepted (changed depth)) out = okText
+listedText d (accepted (found content reads depth)) out = okText

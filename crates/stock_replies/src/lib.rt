@@ -8,13 +8,14 @@ use stock_text::put_sum;
 use store::Changed;
 use store::Counts;
 use store::Listed;
+use store::Made;
 ghost use mathlib.Core.List.{_++_};
 ghost use Prim.Native.Nat.{_+_, _*_, _≤_};
 ghost use lib.ListN.{length};
 ghost use Rattle.record.specs.Bytes.{recordSize};
-ghost use Rattle.store.specs.Answers.{changedAnswer, listedAnswer};
+ghost use Rattle.store.specs.Answers.{madeAnswer, changedAnswer, listedAnswer};
 ghost use Rattle.stock_text.specs.Text.{Grown, recordsText, sumText};
-ghost use Rattle.stock_replies.specs.Replies.{outputRecords, replySize, changedText, listedText};
+ghost use Rattle.stock_replies.specs.Replies.{outputRecords, replySize, answerText, listedText};
 ghost use Rattle.stock_replies.specs.Printed.{Printable};
 
 // The records that the output of a list holds.
@@ -26,13 +27,25 @@ pub const OUTPUT_SIZE: usize = OUTPUT_RECORDS * RECORD_SIZE;
 // The bytes that the longest reply is given: a line for each of these records, and one for the sum.
 pub const REPLY_SIZE: usize = (OUTPUT_RECORDS + 1) * LINE_SIZE;
 
-// Writes `ok`, or `no` and the number.
-pub fn put_changed(text: &mut [u8], at: usize, answer: Changed) -> usize
+// Writes `ok`, or `no` and the number, for a shape.
+pub fn put_made(text: &mut [u8], at: usize, answer: Made) -> usize
     requires { ⌜ at + replySize ≤ length (now text) ⌝ }
-    ensures { λ r. ⌜ Grown (now (text .entry)) at (changedText (changedAnswer answer)) (now (text .exit)) r ⌝ }
+    ensures { λ r. ⌜ Grown (now (text .entry)) at (answerText (madeAnswer answer)) (now (text .exit)) r ⌝ }
 {
     match answer {
-        Changed::Done => put_ok(text, at),
+        Made::Done => put_ok(text, at),
+        Made::Refused(number) => put_refused(text, at, number),
+    }
+}
+
+// Writes `ok`, or `no` and the number, for a record that is put or cut; depths are not printed.
+pub fn put_changed(text: &mut [u8], at: usize, answer: Changed) -> usize
+    requires { ⌜ at + replySize ≤ length (now text) ⌝ }
+    ensures { λ r. ⌜ Grown (now (text .entry)) at (answerText (changedAnswer answer)) (now (text .exit)) r ⌝ }
+{
+    match answer {
+        Changed::Done(_) => put_ok(text, at),
+        Changed::Absent(_) => put_refused(text, at, 5),
         Changed::Refused(number) => put_refused(text, at, number),
     }
 }

@@ -1,5 +1,5 @@
--- What each call on a store promises (document 01, "Calls", "Refused calls", "Lent memory"; document 02, requests 1 and
--- 2). Each promise of a call is one definition, which the call's `ensures` and demand 3 both cite. Assumes nothing.
+-- What each call on a store promises (document 01, "Calls", "Refused calls", "Lent memory"; document 02, requests 1, 2
+-- and 6). Each promise of a call is one definition, which the call's `ensures` and demand 3 both cite. Assumes nothing.
 use Prim.Native.Nat.{ℕ, suc, _-_, _*_, _^_, _≤_, _<_}
 use mathlib.Core.Path.{_≡_}
 use mathlib.Core.Bool.{Bool, true, false}
@@ -9,7 +9,7 @@ use mathlib.Core.Option.{Option, some}
 use lib.ListN.{length, drop, getD}
 use Rattle.lists.specs.Filter.{nonEmpty}
 use Rattle.lists.specs.Members.{Member}
-use Rattle.shape.specs.Refusal.{Answer, accepted, refused, firstNumber}
+use Rattle.shape.specs.Refusal.{Answer, accepted, refused, refusedWith, isRefused, firstNumber}
 use Rattle.shape.specs.Key.{perAttribute, encodings}
 use Rattle.shape.specs.Range.{Interval}
 use Rattle.shape.specs.Shape.{widthsOf}
@@ -22,7 +22,7 @@ use Rattle.record.specs.Record.{Record}
 use Rattle.record.specs.Bytes.{recordSize}
 use Rattle.range_box.specs.Box.{Box, boxOf, boxMeets}
 use Rattle.page.specs.Page.{countOf, pageAt}
-use Rattle.directory_word.specs.Word.{wordOf}
+use Rattle.directory_word.specs.Word.{wordOf, depthField}
 use Rattle.directory_word.specs.declared.Leaf.the-variants.{Page}
 use Rattle.model.specs.Model.{insertCall, deleteCall, lookupCall, queryCall, rangeCall}
 use Rattle.model.specs.Model.{Reply, changed, found, listed, Outcome, outcome, next}
@@ -78,21 +78,30 @@ module _ (before after : Store) (D D′ : Division Record) where
       ⊎ ((countOf (pageAt (before .state .shape .capacity) (before .memory .bytes) g) ≡ 0)
       ⊎ ((q : ℕ → Bool) × (y : ℕ) × (wordBefore q ≡ wordOf (Page g y)) × (leafDepth q 0 D ≡ leafDepth q 0 D′ → ⊥)))
 
+-- ---- depths
+
+-- the depth that the word at the cell of a call's values names, on any store
+abbrev pub depthAt : Store → List ℕ → ℕ
+depthAt s values =
+    let sh = s .state .shape in
+    depthField (wordAt sh (s .state .deepest) (s .memory .words) (splitBit (widthsOf sh) (encodings sh values)))
+
 -- ---- calls that change the store
 
 -- `joins` says whether the call may join leaves, `values` are those of its key, `early` is the number of the refusals
--- above, `numbers` are the others that it may give; `modelAnswer S` and `modelNext S` are what the model answers where
--- it has the set S, and the set that it has then. Left free on an accepted change of a store that is not sound: T and
--- the tally; the words of the key's leaf and of the leaves joined with it, with those at the new 2^T and above; the
--- bytes of their pages and of the page newly taken. All else is said by the fields from `shape-kept` to `contained`
-pub record ChangePromise (joins : Bool) (values : List ℕ) (early : ℕ) (numbers : List ℕ)
+-- above, `answers x` are the others that it may give with the depth x; `modelAnswer S` and `modelNext S` are what the
+-- model answers where it has the set S, and the set that it has then. Left free on an accepted change of a store that
+-- is not sound: T and the tally; the words of the key's leaf and of the leaves joined with it, with those at the new
+-- 2^T and above; the bytes of their pages and of the page newly taken. All else is said by the fields from `ordinary`
+-- to `contained`
+pub record ChangePromise (joins : Bool) (values : List ℕ) (early : ℕ) (answers : ℕ → List (Answer Reply))
     (modelAnswer : List Record → Answer Reply) (modelNext : List Record → List Record) (before : Store)
     (answer : Answer Reply) (after : Store) : Type 0 where
   pub early-refused : (n : ℕ) → early ≡ suc n → answer ≡ refused (suc n)
   -- "All of them return the number and change nothing."
-  pub unchanged : (n : ℕ) → answer ≡ refused n → after ≡ before
-  -- on any store "9 or ordinary"
-  pub ordinary : early ≡ 0 → (answer ≡ accepted changed) ⊎ ((n : ℕ) × (answer ≡ refused n) × Member n numbers)
+  pub unchanged : isRefused answer ≡ true → after ≡ before
+  -- on any store "9 or ordinary"; a depth is that of the word at the key's cell afterwards
+  pub ordinary : early ≡ 0 → Member answer (answers (depthAt after values))
   -- shape, P and L are kept whole
   pub shape-kept : after .state .shape ≡ before .state .shape
   pub limits-kept : after .state .limits ≡ before .state .limits
@@ -117,28 +126,38 @@ pub record ChangePromise (joins : Bool) (values : List ℕ) (early : ℕ) (numbe
   pub pages-taken : (S : List Record) → Sound before S
       → TakesPages before after (divisionOf (before .state .shape) S) (divisionOf (before .state .shape) (modelNext S))
 
+-- an insert's answers after the early ones, with the depth x
+abbrev pub insertAnswers : ℕ → List (Answer Reply)
+insertAnswers x = accepted (changed x) ∷ refused 4 ∷ refused 6 ∷ refused 7 ∷ refused 9 ∷ []
+
+-- a delete's: "number 5 carries the depth"
+abbrev pub deleteAnswers : ℕ → List (Answer Reply)
+deleteAnswers x = accepted (changed x) ∷ refusedWith 5 x ∷ refused 9 ∷ []
+
 -- a record is added whatever its payload: an insert once 11 is judged, and no call of demand 3. Shut out: an `add` that
 -- judges payloads (ordinary, answered-as)
 abbrev pub AddPromise : Store → List ℕ → Content → Answer Reply → Store → Type 0
 AddPromise before values content answer after =
     let f = fixedOf (before .state) in
-    ChangePromise false values (keyNumber before values) (4 ∷ 6 ∷ 7 ∷ 9 ∷ []) (λ S. addAnswer f S values content)
+    ChangePromise false values (keyNumber before values) insertAnswers (λ S. addAnswer f S values content)
     (λ S. addNext f S values content) before answer after
 
 -- "An insert with payload 0 is to be turned down even when its key is stored already." Shut out: "no page" without
--- looking, an insert that stores nothing (answered-as, shown); payload 0 accepted, 11 after 4 (early-refused)
+-- looking, an insert that stores nothing (answered-as, shown); payload 0 accepted, 11 after 4 (early-refused); T or the
+-- depth before the change (answered-as, ordinary), a depth with 4 or 6 (ordinary)
 abbrev pub InsertPromise : Store → List ℕ → Content → Answer Reply → Store → Type 0
 InsertPromise before values content answer after =
     let f = fixedOf (before .state) in
-    ChangePromise false values (insertNumber before values content) (4 ∷ 6 ∷ 7 ∷ 9 ∷ [])
+    ChangePromise false values (insertNumber before values content) insertAnswers
     (λ S. outcome f S (insertCall values content) .answer) (λ S. next f S (insertCall values content)) before answer
     after
 
--- Shut out: a delete that joins one level only, one that joins with a divided sibling (shown)
+-- Shut out: a delete that joins one level only, one that joins with a divided sibling (shown); the depth before a join,
+-- or 5 with 0 for an empty leaf (answered-as, ordinary)
 abbrev pub DeletePromise : Store → List ℕ → Answer Reply → Store → Type 0
 DeletePromise before values answer after =
     let f = fixedOf (before .state) in
-    ChangePromise true values (keyNumber before values) (5 ∷ 9 ∷ []) (λ S. outcome f S (deleteCall values) .answer)
+    ChangePromise true values (keyNumber before values) deleteAnswers (λ S. outcome f S (deleteCall values) .answer)
     (λ S. next f S (deleteCall values)) before answer after
 
 -- ---- calls that read
@@ -177,12 +196,14 @@ SoundWhereRead s q S = SoundWhere s (agreeing q) S
 abbrev pub keyQuery : Shape → List ℕ → ℕ → QueryBit
 keyQuery s values = queryBits s (perAttribute (λ j. some (getD values j 0)))
 
--- Shut out: "absent" without reading (answered-as)
+-- Shut out: "absent" without reading, 5 with 0 for an empty leaf (answered-as); 5 without a depth, or another than that
+-- of the word, on any store (ordinary)
 pub record LookupPromise (store : Store) (values : List ℕ) (answer : Answer Reply) : Type 0 where
   pub early-refused : (n : ℕ) → keyNumber store values ≡ suc n → answer ≡ refused (suc n)
-  -- on any store a content with 1 read, 5 or 9
+  -- on any store a content with 1 read or 5, with the depth of the word at the key's cell; or 9
   pub ordinary : keyNumber store values ≡ 0
-      → ((content : Content) × (answer ≡ accepted (found content 1))) ⊎ ((answer ≡ refused 5) ⊎ (answer ≡ refused 9))
+      → ((content : Content) × (answer ≡ accepted (found content 1 (depthAt store values))))
+      ⊎ ((answer ≡ refusedWith 5 (depthAt store values)) ⊎ (answer ≡ refused 9))
   -- on a sound store the model's answer, whatever the pages hold that other keys' leaves have
   pub answered-as : (S : List Record) → SoundWhereRead store (keyQuery (store .state .shape) values) S
       → answer ≡ outcome (fixedOf (store .state)) S (lookupCall values) .answer

@@ -1,7 +1,7 @@
 -- The proof table holds, by computing each entry from the definitions. Assumes nothing.
 use mathlib.Core.Path.{refl}
 use mathlib.Core.List.{flatten}
-use Rattle.shape.specs.Refusal.{firstNumber}
+use Rattle.shape.specs.Refusal.{firstNumber, answeredBy}
 use Rattle.shape.specs.Shape.{inBounds, shapeConditions, widthsOf}
 use Rattle.shape.specs.Key.{marked, valueFits, encode, decode, keyFits, encodings, namesUnused, queryFits}
 use Rattle.split.specs.Steps.{stepsBelow, steps, step, stepNumber, stepsOf, attributeDepth}
@@ -19,7 +19,8 @@ use Rattle.table.specs.Table.{TableHolds}
 
 pub table-holds : TableHolds
 unfolding
-    firstNumber inBounds shapeConditions widthsOf marked valueFits encode decode keyFits encodings namesUnused queryFits
+    firstNumber answeredBy inBounds shapeConditions widthsOf
+    marked valueFits encode decode keyFits encodings namesUnused queryFits
     stepsBelow steps step stepNumber stepsOf attributeDepth splitBit
     highestBit createdBy latestStep formula addressFrom address addressNumber addressAnswer indexNumber indexAnswer
     layers box sides appended doublingArray sumBits cell cellAddress matches recordBytes flatten

@@ -8,7 +8,7 @@ use mathlib.Core.Option.{Option, none, some}
 use lib.Dec.{eqb}
 use lib.ListN.{length, replicate}
 use Rattle.lists.specs.Filter.{all, nonEmpty}
-use Rattle.shape.specs.Refusal.{Answer, accepted, refused}
+use Rattle.shape.specs.Refusal.{Answer, accepted, refused, refusedWith}
 use Rattle.shape.specs.Shape.{widthsOf, total}
 use Rattle.shape.specs.Key.{encodings}
 use Rattle.shape.specs.declared.Shape.{Shape}
@@ -39,17 +39,20 @@ sameNumbers (x ∷ xs) (y ∷ ys) = eqb x y && sameNumbers xs ys
 abbrev pub acceptedAs : {A : Type 0} → (A → Bool) → Answer A → Bool
 acceptedAs test (accepted x) = test x
 acceptedAs test (refused n) = false
+acceptedAs test (refusedWith n x) = false
 
 abbrev pub numberOfAnswer : Answer Reply → ℕ
 numberOfAnswer (accepted x) = 0
 numberOfAnswer (refused n) = n
+numberOfAnswer (refusedWith n x) = n
 
 -- written, total and reads of an accepted query
 abbrev pub countsIn : Answer Reply → List ℕ
 countsIn (accepted (listed written total reads)) = written ∷ total ∷ reads ∷ []
-countsIn (accepted changed) = []
-countsIn (accepted (found content reads)) = []
+countsIn (accepted (changed depth)) = []
+countsIn (accepted (found content reads depth)) = []
 countsIn (refused n) = []
+countsIn (refusedWith n x) = []
 
 -- ---- the sets of the table
 

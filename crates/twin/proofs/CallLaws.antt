@@ -1,5 +1,5 @@
--- A call on a marked shape and the call with encodings on the unmarked one: the same number, reply, set and list; and
--- lists of calls. Assumes nothing.
+-- A call on a marked shape and the call with encodings on the unmarked one: the same conditions, reply, set and list;
+-- and lists of calls. Assumes nothing.
 use Prim.Native.Nat.{ℕ, _^_, _<_}
 use mathlib.Core.Path.{_≡_, refl, sym, ap, _∙_}
 use mathlib.Core.Bool.{not, _&&_, _||_}
@@ -8,7 +8,7 @@ use mathlib.Core.Option.{Option, none, some}
 use lib.Dec.{ltb, leb, eqb}
 use lib.ListN.{getD, length, take}
 use Rattle.lists.specs.Filter.{filter, nonEmpty}
-use Rattle.shape.specs.Refusal.{firstNumber, refusal, answered}
+use Rattle.shape.specs.Refusal.{Condition, refusal, refusalWith, firstNumber, answeredBy}
 use Rattle.shape.specs.Shape.{widthOf, widthsOf}
 use Rattle.shape.specs.Key.{encode, valueFits, keyFits, encodings, encodeWanted, encodedWanted, isGiven, ifGiven}
 use Rattle.shape.specs.Key.{namesUnused, queryFits}
@@ -25,10 +25,12 @@ use Rattle.region.specs.Query.{reads}
 use Rattle.record.specs.Record.{Record, matches}
 use Rattle.range_box.specs.Box.{encodeEnds, boxOf, inBox, boxMeets}
 use Rattle.range_box.proofs.RangeLaws.{getD-boxOf}
-use Rattle.model.specs.Sets.{stored, withRecord, withoutKey, divisionOf, queryBitOf, queryBits, readsOf, rangeReadsOf}
+use Rattle.model.specs.Sets.{stored, withRecord, withoutKey, divisionOf, keyDepth, queryBitOf, queryBits, readsOf}
+use Rattle.model.specs.Sets.{rangeReadsOf}
 use Rattle.model.specs.Model.{Fixed, Call, insertCall, deleteCall, lookupCall, queryCall, rangeCall}
-use Rattle.model.specs.Model.{payloadConditions, addConditions, numberFor, replyTo, setAfter, outcome, next}
-use Rattle.model.specs.Model.{found, listed, contentOf, writtenFor, ifAccepted, run, lastSet}
+use Rattle.model.specs.Model.{payloadConditions, addConditions, conditionsFor, numberFor, replyTo}
+use Rattle.model.specs.Model.{changed, found, listed, contentOf, writtenFor, setAfter, ifAccepted, outcome, next, run}
+use Rattle.model.specs.Model.{lastSet}
 use Rattle.twin.specs.Twin.{unmarked, unmarkedFixed, encodedCall, recordsListed, CallTwin, answersOf, RunTwin}
 
 -- ---- values
@@ -189,43 +191,27 @@ module _ (f : Fixed) (S : List Record) where
   abbrev s : Shape
   s = f .shape
 
-  number-twin : (c : Call) → numberFor (unmarkedFixed f) S (encodedCall s c) ≡ numberFor f S c
-  unfolding numberFor divisionOf widthsOf
-  number-twin (insertCall values content) =
-      λ i.
-      firstNumber
-      (refusal 3 (not (keyFits-twin s values i))
-      ∷ payloadConditions content
-      ++ addConditions f S (record { key = encodings-twin s values i; content = content }))
-  number-twin (deleteCall values) =
-      λ i.
-      firstNumber
-      (refusal 3 (not (keyFits-twin s values i))
-      ∷ refusal 5 (not (nonEmpty (stored (encodings-twin s values i) S))) ∷ [])
-  number-twin (lookupCall values) =
-      λ i.
-      firstNumber
-      (refusal 3 (not (keyFits-twin s values i))
-      ∷ refusal 5 (not (nonEmpty (stored (encodings-twin s values i) S))) ∷ [])
-  number-twin (queryCall q out) =
-      λ i. firstNumber (refusal 8 (unused-query s q i) ∷ refusal 3 (not (queryFits-twin s q i)) ∷ [])
-  number-twin (rangeCall r out) =
-      λ i.
-      firstNumber
-      (refusal 8 (unused-range s r i) ∷ refusal 3 (not (rangeFits-twin s r i))
-      ∷ refusal 10 (not (rangeRises-twin s r i)) ∷ [])
+  -- 5, for a key by its encodings
+  abbrev absent : List ℕ → Condition
+  absent key = refusalWith 5 (not (nonEmpty (stored key S))) (keyDepth s key S)
 
-  reply-twin : (c : Call) → replyTo (unmarkedFixed f) S (encodedCall s c) ≡ replyTo f S c
-  unfolding replyTo
-  reply-twin (insertCall values content) = refl
-  reply-twin (deleteCall values) = refl
-  reply-twin (lookupCall values) = λ i. found (contentOf (stored (encodings-twin s values i) S)) 1
-  reply-twin (queryCall q out) =
+  conditions-twin : (c : Call) → conditionsFor (unmarkedFixed f) S (encodedCall s c) ≡ conditionsFor f S c
+  unfolding keyDepth divisionOf widthsOf
+  conditions-twin (insertCall values content) =
       λ i.
-      listed (writtenFor (matching-twin s q S i) out) (length (matching-twin s q S i)) (readsOf-twin s q S i)
-  reply-twin (rangeCall r out) =
+      refusal 3 (not (keyFits-twin s values i))
+      ∷ payloadConditions content
+      ++ addConditions f S (record { key = encodings-twin s values i; content = content })
+  conditions-twin (deleteCall values) =
+      λ i. refusal 3 (not (keyFits-twin s values i)) ∷ absent (encodings-twin s values i) ∷ []
+  conditions-twin (lookupCall values) =
+      λ i. refusal 3 (not (keyFits-twin s values i)) ∷ absent (encodings-twin s values i) ∷ []
+  conditions-twin (queryCall q out) =
+      λ i. refusal 8 (unused-query s q i) ∷ refusal 3 (not (queryFits-twin s q i)) ∷ []
+  conditions-twin (rangeCall r out) =
       λ i.
-      listed (writtenFor (inside-twin s r S i) out) (length (inside-twin s r S i)) (rangeReadsOf-twin s r S i)
+      refusal 8 (unused-range s r i) ∷ refusal 3 (not (rangeFits-twin s r i))
+      ∷ refusal 10 (not (rangeRises-twin s r i)) ∷ []
 
   set-twin : (c : Call) → setAfter (unmarkedFixed f) S (encodedCall s c) ≡ setAfter f S c
   unfolding setAfter widthsOf
@@ -236,6 +222,22 @@ module _ (f : Fixed) (S : List Record) where
   set-twin (queryCall q out) = refl
   set-twin (rangeCall r out) = refl
 
+  reply-twin : (c : Call) → replyTo (unmarkedFixed f) S (encodedCall s c) ≡ replyTo f S c
+  unfolding replyTo keyDepth divisionOf widthsOf
+  reply-twin (insertCall values content) =
+      λ i. changed (keyDepth s (encodings-twin s values i) (set-twin (insertCall values content) i))
+  reply-twin (deleteCall values) =
+      λ i. changed (keyDepth s (encodings-twin s values i) (set-twin (deleteCall values) i))
+  reply-twin (lookupCall values) =
+      λ i.
+      found (contentOf (stored (encodings-twin s values i) S)) 1 (keyDepth s (encodings-twin s values i) S)
+  reply-twin (queryCall q out) =
+      λ i.
+      listed (writtenFor (matching-twin s q S i) out) (length (matching-twin s q S i)) (readsOf-twin s q S i)
+  reply-twin (rangeCall r out) =
+      λ i.
+      listed (writtenFor (inside-twin s r S i) out) (length (inside-twin s r S i)) (rangeReadsOf-twin s r S i)
+
   list-twin : (c : Call) → recordsListed f S c ≡ recordsListed (unmarkedFixed f) S (encodedCall s c)
   list-twin (insertCall values content) = refl
   list-twin (deleteCall values) = refl
@@ -244,11 +246,11 @@ module _ (f : Fixed) (S : List Record) where
   list-twin (rangeCall r out) = ap (λ rs. take (writtenFor rs out) rs) (sym (inside-twin s r S))
 
   pub call-twin : (c : Call) → CallTwin f S c
-  unfolding outcome next
+  unfolding outcome next numberFor
   call-twin c =
       record {
-        same-answer = λ i. answered (sym (number-twin c) i) (sym (reply-twin c) i);
-        same-set = λ i. ifAccepted (sym (number-twin c) i) (sym (set-twin c) i) S;
+        same-answer = λ i. answeredBy (sym (conditions-twin c) i) (sym (reply-twin c) i);
+        same-set = λ i. ifAccepted (firstNumber (sym (conditions-twin c) i)) (sym (set-twin c) i) S;
         same-list = list-twin c;
       }
 

@@ -50,7 +50,8 @@ recordsListed f S (lookupCall values) = []
 recordsListed f S (queryCall q out) = take (writtenFor (matching f S q) out) (matching f S q)
 recordsListed f S (rangeCall r out) = take (writtenFor (inside f S r) out) (inside f S r)
 
--- number, payload, written, total and reads; the set afterwards; the records in the output, whose fields alone differ
+-- number, payload, depth, written, total and reads; the set afterwards; the records in the output, whose fields alone
+-- differ
 pub record CallTwin (f : Fixed) (S : List Record) (c : Call) : Type 0 where
   pub same-answer : outcome f S c .answer ≡ outcome (unmarkedFixed f) S (encodedCall (f .shape) c) .answer
   pub same-set : next f S c ≡ next (unmarkedFixed f) S (encodedCall (f .shape) c)

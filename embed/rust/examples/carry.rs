@@ -58,7 +58,7 @@ fn workshop(path: &Path) -> Result<(), Box<dyn Error>> {
     let mut pages = [0; 100 * SHAPE.page_bytes()];
     // a file that was cut off is refused, and the memory left as it is
     let cut = Store::load(&file[..file.len() - 1], &mut directory, &mut pages);
-    println!("workshop: one byte less: {}", told(cut.map(|_| ())));
+    println!("workshop: one byte less: {}", told(cut));
     let mut store = Store::load(&file, &mut directory, &mut pages)?;
     println!("workshop: loaded {} records", store.query(Query::all(), &mut [])?.total);
     println!("workshop: one record more: {}", told(store.insert(MORE.0, MORE.1)));
@@ -71,6 +71,6 @@ fn workshop(path: &Path) -> Result<(), Box<dyn Error>> {
 }
 
 /// What a call answered, in words.
-fn told(answer: Result<(), Refusal>) -> String {
-    answer.map_or_else(|refusal| refusal.to_string(), |()| "accepted".into())
+fn told<T>(answer: Result<T, Refusal>) -> String {
+    answer.map_or_else(|refusal| refusal.to_string(), |_| "accepted".into())
 }

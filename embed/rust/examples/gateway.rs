@@ -1,5 +1,6 @@
 //! A gateway's records: which display code came from which container slot under which image release, and how often.
-//! Fills a store, checks it, asks for code 30, then for its releases from 400 to 479, and prints the slots and releases.
+//! Fills a store, says how deep its keys lie, checks it, asks for code 30, then for its releases from 400 to 479, and
+//! prints the slots and releases.
 use mdeh::{Listing, Query, Range, Refusal, Shape, Store, RECORD_BYTES};
 
 /// Codes are below 2^7, slots below 2^5, releases below 2^9, none is signed; a page holds four records.
@@ -32,12 +33,15 @@ const SEEN: [([i32; 3], u32); 22] = [
 ];
 
 fn main() -> Result<(), Refusal> {
-    let mut directory = [0; 256];
+    let mut directory = [0; 1024];
     let mut pages = [0; 24 * SHAPE.page_bytes()];
     let mut store = Store::fresh(SHAPE, &mut directory, &mut pages)?;
+    let mut deepest = 0;
     for (key, count) in SEEN {
-        store.insert(key, count)?;
+        deepest = deepest.max(store.insert(key, count)?.depth);
     }
+    // whoever sizes the gateway: near L, word 7 of the state, a longer directory is due
+    println!("filled: depths up to {deepest} of {}", store.state()[7]);
     // people act on the list: check, then ask
     if !store.check()? {
         return Err(Refusal::Unsound);

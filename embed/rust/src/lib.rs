@@ -36,6 +36,38 @@
 //! ([`Store::state`], [`Store::directory`], [`Store::pages`]); [`Store::reopen`] takes them up again.
 //! The layouts are in `embed/mdeh.h`.
 //!
+//! # Depths
+//!
+//! Every key falls in one leaf of a store, stored or not: that of all keys with its first x split bits, x being the
+//! leaf's depth. A leaf holds at most b records; with one more it is divided. [`Store::insert`] and [`Store::delete`]
+//! return the depth of the key's leaf afterwards, once leaves are divided or joined, [`Store::lookup`] that of the
+//! key's leaf, and [`Refusal::Absent`] carries that of the leaf in which the absent key falls, with records or without.
+//! No other refusal carries a depth.
+//!
+//! ```
+//! use mdeh::{Refusal, Shape, Store};
+//!
+//! let (mut directory, mut pages) = ([0; 8], [0; 4 * 26]);
+//! let mut store = Store::fresh(Shape::new(&[2, 2], 2), &mut directory, &mut pages)?;
+//! assert_eq!(store.lookup([2, 1]), Err(Refusal::Absent { depth: 0 }));
+//!
+//! // split bits 0000, 1000, 1011, 1001
+//! assert_eq!(store.insert([0, 0], 10)?.depth, 0);
+//! assert_eq!(store.insert([2, 0], 11)?.depth, 0);
+//! assert_eq!(store.insert([3, 1], 12)?.depth, 1); // leaves 0 and 1
+//! assert_eq!(store.insert([2, 1], 13)?.depth, 3); // leaves 0, 100, 101 and 11, which is empty
+//! assert_eq!(store.lookup([0, 0])?.depth, 1);
+//! assert_eq!(store.lookup([3, 3]), Err(Refusal::Absent { depth: 2 })); // 1111
+//!
+//! assert_eq!(store.delete([2, 1])?.depth, 1); // leaves 0 and 1
+//! # Ok::<(), Refusal>(())
+//! ```
+//!
+//! To size a store, fill it and look at the depths. None is above L, the smallest of 12, the sum of the widths and the
+//! base-2 logarithm of the directory's length, rounded down (word 7 of [`Store::state`]). A full leaf of depth L cannot
+//! be divided: an insert into it is refused with [`Refusal::Depth`], so depths near L mean that this is near. It comes
+//! at lesser depths too, where keys agree in many of their first split bits.
+//!
 //! # Files
 //!
 //! [`Store::save`] writes the records of a store as the bytes of a file, and [`Store::load`] makes a store of these
@@ -131,7 +163,7 @@
 //! assert_eq!(store.query(Query::all(), &mut [])?.total, 1);
 //! assert_eq!(store.insert([3, 9], 0), Err(Refusal::Payload));
 //! store.delete([3, 9])?;
-//! # assert_eq!((store.check(), store.lookup([3, 9])), (Ok(true), Err(Refusal::Absent)));
+//! # assert_eq!((store.check(), store.lookup([3, 9])), (Ok(true), Err(Refusal::Absent { depth: 0 })));
 //! # Ok::<(), Refusal>(())
 //! ```
 //!
@@ -190,7 +222,7 @@ pub use range::Range;
 pub use record::{Record, Records, RECORD_BYTES};
 pub use refusal::Refusal;
 pub use shape::Shape;
-pub use store::{Found, Listing, Store, STATE_WORDS};
+pub use store::{Deleted, Found, Inserted, Listing, Store, STATE_WORDS};
 
 /// The address of an index vector in the directory of a shape.
 ///

@@ -1,5 +1,6 @@
-//! The calls of the C interface on slices, safe and nothing more: a refusal is its number, and the state lies in words
-//! that the caller lends. [`Store`](crate::Store) stands on them, and so do tests that want every slice in their hands.
+//! The calls of the C interface on slices, safe and nothing more: a refusal is its number, of insert, delete and lookup
+//! with the depth that 5 carries ([`Refused`]), and the state lies in words that the caller lends.
+//! [`Store`](crate::Store) stands on them, and so do tests that want every slice in their hands.
 //!
 //! Here is the address map; `store` has Fresh and the calls that read, `range` the range call, `changes` insert and
 //! delete, `files` save and load.

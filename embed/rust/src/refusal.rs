@@ -1,4 +1,5 @@
 //! Why a call is refused.
+use crate::raw::Refused;
 use core::error::Error;
 use core::fmt::{self, Display, Formatter};
 
@@ -16,59 +17,87 @@ use core::fmt::{self, Display, Formatter};
 /// assert_eq!(refusal, Refusal::Value);
 /// assert_eq!(refusal.number(), 3);
 /// assert_eq!(refusal.to_string(), "a value, index or address is outside its bounds, or an unused value is not 0");
+///
+/// let refusal = store.delete([3, 8]).unwrap_err();
+/// assert_eq!(refusal, Refusal::Absent { depth: 0 });
+/// assert_eq!((refusal.number(), refusal.to_string()), (5, "the key is not stored".into()));
 /// # Ok::<(), Refusal>(())
 /// ```
-#[repr(u32)]
 #[derive(Clone, Copy, Debug, PartialEq, Eq, Hash)]
 pub enum Refusal {
-    /// A shape outside its bounds, also in the state of a reopened store and in a file.
-    Shape = 1,
-    /// Fresh and load: no directory word or no whole page. Later: fewer words or pages than the store has use for. Save:
-    /// an output that is shorter than the file.
-    Memory = 2,
-    /// A number that is no value of its attribute ([`Shape::values`](crate::Shape::values)), an index past its
-    /// attribute's width, an address past the last, or an unused value other than 0.
-    Value = 3,
-    /// Insert: the key is stored already.
-    Stored = 4,
-    /// Lookup and delete: the key is not stored.
-    Absent = 5,
-    /// Insert: a full page holds keys that the directory cannot tell from this one at its greatest depth. Load: so of
-    /// some record and those before it.
-    Depth = 6,
-    /// Insert and load: the records would need more pages than are lent.
-    Pages = 7,
-    /// Query and range: an attribute is given that the shape does not have.
-    Attribute = 8,
-    /// The memory does not hold a sound store, as [`Store::check`](crate::Store::check) finds it: it was damaged, and
-    /// the store is to be rebuilt from the event records.
-    Unsound = 9,
-    /// Range: the low end of an interval is above its high end.
-    Interval = 10,
-    /// Insert: the payload is 0, which hosts read as "no log line".
-    Payload = 11,
-    /// Load: the bytes are no whole file: they are too few, or the letters, the distances or the length are others.
-    File = 12,
-    /// Load: a stray byte in the shape, a value outside its bounds, or records that do not strictly rise in split order.
-    Content = 13,
+    /// Number 1: a shape outside its bounds, also in the state of a reopened store and in a file.
+    Shape,
+    /// Number 2. Fresh and load: no directory word or no whole page. Later: fewer words or pages than the store has use
+    /// for. Save: an output that is shorter than the file.
+    Memory,
+    /// Number 3: a number that is no value of its attribute ([`Shape::values`](crate::Shape::values)), an index past
+    /// its attribute's width, an address past the last, or an unused value other than 0.
+    Value,
+    /// Number 4. Insert: the key is stored already.
+    Stored,
+    /// Number 5. Lookup and delete: the key is not stored.
+    Absent {
+        /// the depth of the leaf in which the key falls, which may have no records
+        depth: u32,
+    },
+    /// Number 6. Insert: a full page holds keys that the directory cannot tell from this one at its greatest depth.
+    /// Load: so of some record and those before it.
+    Depth,
+    /// Number 7. Insert and load: the records would need more pages than are lent.
+    Pages,
+    /// Number 8. Query and range: an attribute is given that the shape does not have.
+    Attribute,
+    /// Number 9: the memory does not hold a sound store, as [`Store::check`](crate::Store::check) finds it: it was
+    /// damaged, and the store is to be rebuilt from the event records.
+    Unsound,
+    /// Number 10. Range: the low end of an interval is above its high end.
+    Interval,
+    /// Number 11. Insert: the payload is 0, which hosts read as "no log line".
+    Payload,
+    /// Number 12. Load: the bytes are no whole file: they are too few, or the letters, the distances or the length are
+    /// others.
+    File,
+    /// Number 13. Load: a stray byte in the shape, a value outside its bounds, or records that do not strictly rise in
+    /// split order.
+    Content,
 }
 
 impl Refusal {
     /// The number of the C interface.
     #[inline]
     pub const fn number(self) -> u32 {
-        self as u32
+        match self {
+            Refusal::Shape => 1,
+            Refusal::Memory => 2,
+            Refusal::Value => 3,
+            Refusal::Stored => 4,
+            Refusal::Absent { .. } => 5,
+            Refusal::Depth => 6,
+            Refusal::Pages => 7,
+            Refusal::Attribute => 8,
+            Refusal::Unsound => 9,
+            Refusal::Interval => 10,
+            Refusal::Payload => 11,
+            Refusal::File => 12,
+            Refusal::Content => 13,
+        }
     }
 
-    /// The reason with a number from 1 to 13; the library gives no other.
+    /// The reason with a number from 1 to 13, of a call that never gives 5; the library gives no other.
     #[inline]
     pub(crate) fn of(number: u32) -> Refusal {
+        Refusal::with_depth(Refused { number, depth: 0 })
+    }
+
+    /// The reason with a number from 1 to 13, and the depth that 5 carries; the library gives no other.
+    #[inline]
+    pub(crate) fn with_depth(Refused { number, depth }: Refused) -> Refusal {
         match number {
             1 => Refusal::Shape,
             2 => Refusal::Memory,
             3 => Refusal::Value,
             4 => Refusal::Stored,
-            5 => Refusal::Absent,
+            5 => Refusal::Absent { depth },
             6 => Refusal::Depth,
             7 => Refusal::Pages,
             8 => Refusal::Attribute,
@@ -88,7 +117,7 @@ impl Display for Refusal {
             Refusal::Memory => "too few words or bytes are lent",
             Refusal::Value => "a value, index or address is outside its bounds, or an unused value is not 0",
             Refusal::Stored => "the key is stored already",
-            Refusal::Absent => "the key is not stored",
+            Refusal::Absent { .. } => "the key is not stored",
             Refusal::Depth => "the directory cannot grow deep enough to tell the keys apart",
             Refusal::Pages => "there are too few pages",
             Refusal::Attribute => "the query or range gives an attribute that the shape does not have",
@@ -105,10 +134,19 @@ impl Error for Refusal {}
 
 #[cfg(test)]
 mod tests {
-    use super::Refusal;
+    use super::{Refusal, Refused};
 
     #[test]
     fn each_number_names_its_reason() {
         (1..=13).for_each(|number| assert_eq!(Refusal::of(number).number(), number));
+    }
+
+    #[test]
+    fn number_5_alone_carries_its_depth() {
+        for number in 1..=13 {
+            let refusals = [0, 3].map(|depth| Refusal::with_depth(Refused { number, depth }));
+            assert_eq!(refusals[0] == refusals[1], number != 5);
+        }
+        assert_eq!(Refusal::with_depth(Refused { number: 5, depth: 3 }), Refusal::Absent { depth: 3 });
     }
 }

@@ -2,7 +2,7 @@
 use crate::key::Key;
 use crate::query::Query;
 use crate::range::Range;
-use crate::raw::{self, LookupResult, QueryResult};
+use crate::raw::{self, QueryResult};
 use crate::record::{Record, Records};
 use crate::refusal::Refusal;
 use crate::shape::Shape;
@@ -22,6 +22,20 @@ pub struct Store<'m> {
     pages: &'m mut [u8],
 }
 
+/// What an insert tells of the record that is stored now.
+#[derive(Clone, Copy, Debug, PartialEq, Eq)]
+pub struct Inserted {
+    /// how deep it lies: the depth of its leaf, once leaves are divided
+    pub depth: u32,
+}
+
+/// What a delete tells of the key that is not stored any more.
+#[derive(Clone, Copy, Debug, PartialEq, Eq)]
+pub struct Deleted {
+    /// the depth of the leaf in which it falls, once leaves are joined
+    pub depth: u32,
+}
+
 /// What a lookup finds.
 #[derive(Clone, Copy, Debug, PartialEq, Eq)]
 pub struct Found {
@@ -29,6 +43,8 @@ pub struct Found {
     pub payload: u32,
     /// how many pages were read: 1
     pub reads: u32,
+    /// how deep the record lies: the depth of its leaf
+    pub depth: u32,
 }
 
 /// What a query or a range finds: its counts, and the records that fit the output.
@@ -115,7 +131,7 @@ impl<'m> Store<'m> {
         Ok(Store { state, directory, pages })
     }
 
-    /// Adds a record, whose payload is not 0.
+    /// Adds a record, whose payload is not 0, and returns how deep it lies then.
     ///
     /// Refused with [`Refusal::Shape`], [`Refusal::Memory`], [`Refusal::Value`], [`Refusal::Payload`],
     /// [`Refusal::Stored`], [`Refusal::Depth`], [`Refusal::Pages`] or [`Refusal::Unsound`]. A payload of 0 is refused
@@ -127,7 +143,7 @@ impl<'m> Store<'m> {
     /// let (mut directory, mut pages) = ([0; 8], [0; 60]);
     /// let mut store = Store::fresh(Shape::new(&[2, 2], 2), &mut directory, &mut pages)?;
     /// assert_eq!(store.insert([2, 1], 0), Err(Refusal::Payload));
-    /// store.insert([2, 1], 1)?; // payloads start at 1
+    /// assert_eq!(store.insert([2, 1], 1)?.depth, 0); // payloads start at 1
     ///
     /// assert_eq!(store.insert([2, 4], 0), Err(Refusal::Value));
     /// assert_eq!(store.insert([2, 1], 0), Err(Refusal::Payload));
@@ -135,30 +151,45 @@ impl<'m> Store<'m> {
     /// # Ok::<(), Refusal>(())
     /// ```
     #[inline]
-    pub fn insert(&mut self, key: impl Into<Key>, payload: u32) -> Result<(), Refusal> {
+    pub fn insert(&mut self, key: impl Into<Key>, payload: u32) -> Result<Inserted, Refusal> {
         raw::insert(&mut self.state, self.directory, self.pages, key.into().values, payload)
-            .map_err(Refusal::of)
+            .map(|depth| Inserted { depth })
+            .map_err(Refusal::with_depth)
     }
 
-    /// Removes the record of a key.
+    /// Removes the record of a key, and returns the depth of the leaf in which the key falls then.
     ///
     /// Refused with [`Refusal::Shape`], [`Refusal::Memory`], [`Refusal::Value`], [`Refusal::Absent`] or
     /// [`Refusal::Unsound`].
+    ///
+    /// ```
+    /// use mdeh::{Refusal, Shape, Store};
+    ///
+    /// let (mut directory, mut pages) = ([0; 16], [0; 60]);
+    /// let mut store = Store::fresh(Shape::new(&[2, 2], 1), &mut directory, &mut pages)?;
+    /// store.insert([2, 0], 11)?;
+    /// assert_eq!(store.insert([2, 1], 13)?.depth, 4); // two keys that differ in their last split bit
+    ///
+    /// assert_eq!(store.delete([2, 1])?.depth, 0); // one key, one leaf
+    /// assert_eq!(store.delete([2, 1]), Err(Refusal::Absent { depth: 0 }));
+    /// # Ok::<(), Refusal>(())
+    /// ```
     #[inline]
-    pub fn delete(&mut self, key: impl Into<Key>) -> Result<(), Refusal> {
-        raw::delete(&mut self.state, self.directory, self.pages, key.into().values).map_err(Refusal::of)
+    pub fn delete(&mut self, key: impl Into<Key>) -> Result<Deleted, Refusal> {
+        raw::delete(&mut self.state, self.directory, self.pages, key.into().values)
+            .map(|depth| Deleted { depth })
+            .map_err(Refusal::with_depth)
     }
 
-    /// The payload of a key's record.
+    /// The payload of a key's record, and how deep it lies.
     ///
     /// Refused with [`Refusal::Shape`], [`Refusal::Memory`], [`Refusal::Value`], [`Refusal::Absent`] or
     /// [`Refusal::Unsound`].
     #[inline]
     pub fn lookup(&self, key: impl Into<Key>) -> Result<Found, Refusal> {
-        match raw::lookup_result(&self.state, self.directory, self.pages, key.into().values) {
-            LookupResult { number: 0, payload, reads } => Ok(Found { payload, reads }),
-            LookupResult { number, .. } => Err(Refusal::of(number)),
-        }
+        raw::lookup(&self.state, self.directory, self.pages, key.into().values)
+            .map(|(payload, reads, depth)| Found { payload, reads, depth })
+            .map_err(Refusal::with_depth)
     }
 
     /// Writes the records that match a query into `out`, in split order, while whole ones fit.

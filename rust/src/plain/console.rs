@@ -1,6 +1,6 @@
 //! The program `stock` in plain Rust (document 01, "Proof table and the printed run"): a line, and the reply to it.
 use super::model::Model;
-use crate::host::Shape;
+use crate::host::{Refused, Shape};
 
 /// "It lends 4,096 words, 32,768 page bytes and 256 output records."
 const WORDS: usize = 4096;
@@ -32,11 +32,11 @@ impl Console {
         match word {
             b"put" => {
                 let values = numbers(&items)?;
-                (values.len() == d + 1).then(|| changed(model.insert(key(&values[..d]), values[d])))
+                (values.len() == d + 1).then(|| changed(number(model.insert(key(&values[..d]), values[d]))))
             }
             b"cut" => {
                 let values = numbers(&items)?;
-                (values.len() == d).then(|| changed(model.delete(key(&values))))
+                (values.len() == d).then(|| changed(number(model.delete(key(&values)))))
             }
             b"list" => {
                 (items.len() == d).then(|| listed(model, four(&items, None).map(|item| item.map(value))))
@@ -92,6 +92,11 @@ fn key(values: &[u32]) -> [i32; 4] {
 /// One thing for each of the four attributes.
 fn four<T: Copy>(items: &[T], rest: T) -> [T; 4] {
     std::array::from_fn(|j| items.get(j).copied().unwrap_or(rest))
+}
+
+/// The number of a refusal; no depth is printed.
+fn number(answer: Result<u32, Refused>) -> Result<(), u32> {
+    answer.map(|_| ()).map_err(|refused| refused.number)
 }
 
 fn changed(answer: Result<(), u32>) -> String {

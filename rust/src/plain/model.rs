@@ -1,9 +1,11 @@
-//! The plain model (document 01, "The plain model of demand 3"): a list of records, scanned in full for every answer.
+//! The plain model (document 01, "The plain model of demand 3"; document 02, request 6): a list of records, scanned in
+//! full for every answer.
 use super::leaves::{greatest_depth, leaves, Leaf, Record};
 use super::range::{range_refused, Intervals};
-use super::refusal::{insert_refused, key_refused, page_size, query_refused, shape_refused, used_widths};
+use super::refusal::{absent, insert_refused, key_refused, page_size, query_refused};
+use super::refusal::{refusal, shape_refused, used_widths};
 use super::value::{encoding, used_signs, value_of};
-use crate::host::Shape;
+use crate::host::{Refused, Shape};
 use crate::reference::steps;
 
 /// A fixed shape, P and L, and a set of records in any order.
@@ -82,6 +84,15 @@ impl Model {
         leaves(self.shape.capacity as usize, &self.records)
     }
 
+    /// "how deep a key lies": the least x such that at most b stored keys begin with its first x split bits. A region
+    /// is "divided exactly if more than b keys begin with it", so that every shorter beginning is.
+    pub fn depth(&self, key: [i32; 4]) -> u32 {
+        let bits = self.split_bits(key);
+        let beginning = |x| self.records.iter().filter(|record| record.bits.starts_with(&bits[..x])).count();
+        let x = (0..=bits.len()).find(|&x| beginning(x) <= self.shape.capacity as usize);
+        x.expect("no two keys have all split bits in common") as u32
+    }
+
     /// Whether a store of these limits can hold a set: T at most L, and a page for each leaf that is not empty.
     pub fn holds(&self) -> bool {
         let leaves = self.leaves();
@@ -106,11 +117,12 @@ impl Model {
 
     // ---- calls
 
-    pub fn insert(&mut self, key: [i32; 4], payload: u32) -> Result<(), u32> {
+    /// The depth of the key's leaf "afterwards".
+    pub fn insert(&mut self, key: [i32; 4], payload: u32) -> Result<u32, Refused> {
         if let Some(number) = insert_refused(self.shape, key, payload) {
-            return Err(number);
+            return Err(refusal(number));
         }
-        self.join(key, payload)
+        self.join(key, payload).map(|()| self.depth(key)).map_err(refusal)
     }
 
     /// An insert of a key within its bounds, after 11: 4, 6 or 7.
@@ -133,21 +145,24 @@ impl Model {
         Ok(())
     }
 
-    pub fn delete(&mut self, key: [i32; 4]) -> Result<(), u32> {
+    /// The depth of the key's leaf "afterwards"; with 5 of the present one.
+    pub fn delete(&mut self, key: [i32; 4]) -> Result<u32, Refused> {
         if key_refused(self.shape, key) {
-            return Err(3);
+            return Err(refusal(3));
         }
-        let place = self.records.iter().position(|record| record.key == key).ok_or(5u32)?;
-        self.records.remove(place);
-        Ok(())
+        let place = self.records.iter().position(|record| record.key == key);
+        self.records.remove(place.ok_or_else(|| absent(self.depth(key)))?);
+        Ok(self.depth(key))
     }
 
-    /// The payload, and 1 page read.
-    pub fn lookup(&self, key: [i32; 4]) -> Result<(u32, u32), u32> {
+    /// The payload, 1 page read, and the depth of the key's leaf, which 5 carries too.
+    pub fn lookup(&self, key: [i32; 4]) -> Result<(u32, u32, u32), Refused> {
         if key_refused(self.shape, key) {
-            return Err(3);
+            return Err(refusal(3));
         }
-        self.records.iter().find(|record| record.key == key).map(|record| (record.payload, 1)).ok_or(5)
+        let record = self.records.iter().find(|record| record.key == key);
+        let depth = self.depth(key);
+        record.map(|record| (record.payload, 1, depth)).ok_or(absent(depth))
     }
 
     /// Written, total and reads.

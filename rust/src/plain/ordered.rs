@@ -4,14 +4,18 @@ use super::image::{SIGNS, STATE, TALLY};
 use super::leaves::Record;
 use super::model::Model;
 use super::range::{range_refused, Intervals};
-use super::refusal::{insert_refused, key_refused, query_refused};
+use super::refusal::{absent, insert_refused, key_refused, query_refused, refusal};
+use crate::host::Refused;
 
 /// The model's shape, P and L; its own list of records is not used.
 pub struct Ordered {
     pub model: Model,
-    /// the split bits, the first one highest, with key and payload, in split order
-    records: Vec<(u64, [i32; 4], u32)>,
+    /// in split order
+    records: Vec<Entry>,
 }
+
+/// The split bits, the first one highest, with key and payload.
+type Entry = (u64, [i32; 4], u32);
 
 /// The leaves of a set: how many at each depth, and how many that are not empty.
 #[derive(Default)]
@@ -59,6 +63,19 @@ impl Ordered {
         extent
     }
 
+    /// How deep a key lies: regions are divided by their next bit while more than b records begin with them.
+    pub fn depth(&self, key: [i32; 4]) -> u32 {
+        let code = self.code(key);
+        let mut records = &self.records[..];
+        let mut x = 0;
+        while records.len() > self.model.shape.capacity as usize {
+            let (zeros, ones) = halves(records, x);
+            records = if code >> (63 - x) & 1 == 0 { zeros } else { ones };
+            x += 1;
+        }
+        x as u32
+    }
+
     /// The state's words.
     pub fn state(&self) -> [u32; STATE] {
         let Extent { tally, .. } = self.extent();
@@ -76,7 +93,7 @@ impl Ordered {
     }
 
     /// Adds the leaves of a region of depth x with these records.
-    fn add_leaves(&self, records: &[(u64, [i32; 4], u32)], x: usize, extent: &mut Extent) {
+    fn add_leaves(&self, records: &[Entry], x: usize, extent: &mut Extent) {
         if records.len() <= self.model.shape.capacity as usize {
             // deeper leaves than the tally has come with a set that no store holds
             if let Some(leaves) = extent.tally.get_mut(x) {
@@ -85,50 +102,52 @@ impl Ordered {
             extent.pages += usize::from(!records.is_empty());
             return;
         }
-        let (zeros, ones) = records.split_at(records.partition_point(|record| record.0 >> (63 - x) & 1 == 0));
+        let (zeros, ones) = halves(records, x);
         self.add_leaves(zeros, x + 1, extent);
         self.add_leaves(ones, x + 1, extent);
     }
 
     // ---- calls
 
-    pub fn insert(&mut self, key: [i32; 4], payload: u32) -> Result<(), u32> {
+    /// The depth of the key's leaf afterwards.
+    pub fn insert(&mut self, key: [i32; 4], payload: u32) -> Result<u32, Refused> {
         if let Some(number) = insert_refused(self.model.shape, key, payload) {
-            return Err(number);
+            return Err(refusal(number));
         }
         let code = self.code(key);
         let Err(place) = self.find(code) else {
-            return Err(4);
+            return Err(refusal(4));
         };
         let first = |code: u64| code.checked_shr(64 - self.model.depth_limit as u32).unwrap_or(0);
         let sharing = self.records.iter().filter(|record| first(record.0) == first(code)).count();
         if sharing >= self.model.shape.capacity as usize {
-            return Err(6);
+            return Err(refusal(6));
         }
         self.records.insert(place, (code, key, payload));
         if self.extent().pages > self.model.page_limit {
             self.records.remove(place);
-            return Err(7);
+            return Err(refusal(7));
         }
-        Ok(())
+        Ok(self.depth(key))
     }
 
-    pub fn delete(&mut self, key: [i32; 4]) -> Result<(), u32> {
+    /// The depth of the key's leaf afterwards; with 5 of the present one.
+    pub fn delete(&mut self, key: [i32; 4]) -> Result<u32, Refused> {
         if key_refused(self.model.shape, key) {
-            return Err(3);
+            return Err(refusal(3));
         }
-        let place = self.find(self.code(key)).map_err(|_| 5u32)?;
+        let place = self.find(self.code(key)).map_err(|_| absent(self.depth(key)))?;
         self.records.remove(place);
-        Ok(())
+        Ok(self.depth(key))
     }
 
-    /// The payload, and 1 page read.
-    pub fn lookup(&self, key: [i32; 4]) -> Result<(u32, u32), u32> {
+    /// The payload, 1 page read, and the depth of the key's leaf, which 5 carries too.
+    pub fn lookup(&self, key: [i32; 4]) -> Result<(u32, u32, u32), Refused> {
         if key_refused(self.model.shape, key) {
-            return Err(3);
+            return Err(refusal(3));
         }
-        let place = self.find(self.code(key)).map_err(|_| 5u32)?;
-        Ok((self.records[place].2, 1))
+        let place = self.find(self.code(key)).map_err(|_| absent(self.depth(key)))?;
+        Ok((self.records[place].2, 1, self.depth(key)))
     }
 
     /// Written, total and reads.
@@ -174,7 +193,7 @@ impl Ordered {
     }
 
     /// The same below a region of depth x that agrees, with the bits that are given and what they are.
-    fn reads_below(&self, records: &[(u64, [i32; 4], u32)], x: usize, given: u64, wanted: u64) -> u64 {
+    fn reads_below(&self, records: &[Entry], x: usize, given: u64, wanted: u64) -> u64 {
         if records.len() <= self.model.shape.capacity as usize {
             return u64::from(!records.is_empty());
         }
@@ -190,7 +209,7 @@ impl Ordered {
     /// The leaves that are not empty and meet a range, below a region of depth x with these least and greatest values.
     fn reads_met(
         &self,
-        records: &[(u64, [i32; 4], u32)],
+        records: &[Entry],
         x: usize,
         least: [i32; 4],
         greatest: [i32; 4],
@@ -202,7 +221,7 @@ impl Ordered {
         if records.len() <= self.model.shape.capacity as usize {
             return u64::from(!records.is_empty());
         }
-        let (zeros, ones) = records.split_at(records.partition_point(|record| record.0 >> (63 - x) & 1 == 0));
+        let (zeros, ones) = halves(records, x);
         let (j, counts) = self.model.split_step(x);
         let (mut middle, mut next) = (greatest, least);
         middle[j] -= counts;
@@ -215,4 +234,9 @@ impl Ordered {
     fn find(&self, code: u64) -> Result<usize, usize> {
         self.records.binary_search_by_key(&code, |record| record.0)
     }
+}
+
+/// The records of a region of depth x, in split order, with 0 and with 1 in their next bit.
+fn halves(records: &[Entry], x: usize) -> (&[Entry], &[Entry]) {
+    records.split_at(records.partition_point(|record| record.0 >> (63 - x) & 1 == 0))
 }

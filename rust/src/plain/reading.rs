@@ -30,6 +30,11 @@ impl Reading<'_> {
         self.image.dir[self.cells.address(&string[..string.len().min(self.depth())])]
     }
 
+    /// The depth in the word of a key's cell.
+    pub fn depth_at(&self, key: [i32; 4]) -> u32 {
+        depth_of(self.word(&self.model.split_bits(key))) as u32
+    }
+
     /// "Every cell whose split bits begin with a leaf holds that leaf's word": whether they hold this one.
     pub fn holds(&self, string: &[bool], word: u32) -> bool {
         self.cells.region(string, self.depth()).iter().all(|cell| self.image.dir[cell.address] == word)

@@ -1,7 +1,18 @@
 //! The refusals that need no look into words and pages, from the table of document 01, "Refused calls", and from
-//! document 02, requests 2 and 4.
+//! document 02, requests 2 and 4; and what refusals carry, from its request 6.
 use super::value::is_value;
-use crate::host::Shape;
+use crate::host::{Refused, Shape};
+
+/// A refusal without a depth: "no other number carries a depth".
+pub const fn refusal(number: u32) -> Refused {
+    assert!(number != 5, "5 carries a depth");
+    Refused { number, depth: 0 }
+}
+
+/// "number 5 carries the depth of the present leaf that the absent key's split bits begin with".
+pub const fn absent(depth: u32) -> Refused {
+    Refused { number: 5, depth }
+}
 
 /// A page's bytes: "A page has 2 + 12b bytes".
 pub fn page_size(shape: Shape) -> usize {

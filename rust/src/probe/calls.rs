@@ -6,7 +6,7 @@ use crate::plain::image::STATE;
 /// The words of a call.
 pub const CALL_SIZE: usize = 15;
 
-/// The words of an answer.
+/// The words of an answer: its number, and three more. Of an insert, a delete and a lookup the last one is the depth.
 pub const ANSWER_SIZE: usize = 4;
 
 /// The number of Fresh's or the load's refusal, 0 where it is accepted, and the words of the state after the calls.

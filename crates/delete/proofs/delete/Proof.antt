@@ -57,20 +57,20 @@ called p X told =
     told (start p .args .key .values) (early (p .before .before .before .before)) (sym (encoding p .encode-key .ensures))
 
 -- the plan of a leaf that stays
-kept : (c : tie.After-plan2)
+kept : (c : tie.After-plan3)
     → let p = c .before .before in
-    KeepPlanned (given (start p)) (encoded p) (c .plan2 .given .0 .0)
+    KeepPlanned (given (start p)) (encoded p) (c .plan3 .given .0 .0)
 kept c =
     let p = c .before .before in
-    subst (DeletePlanned (given (start p)) (encoded p)) (c .plan2 .given .1) (p .plan-delete .ensures)
+    subst (DeletePlanned (given (start p)) (encoded p)) (c .plan3 .given .1) (p .plan-delete .ensures)
 
 -- and of one that is joined
-joined : (c : tie.After-plan3)
+joined : (c : tie.After-plan4)
     → let p = c .before .before in
-    JoinPlanned (given (start p)) (encoded p) (c .plan3 .given .0 .0) (c .plan3 .given .0 .1 .0)
+    JoinPlanned (given (start p)) (encoded p) (c .plan4 .given .0 .0) (c .plan4 .given .0 .1 .0)
 joined c =
     let p = c .before .before in
-    subst (DeletePlanned (given (start p)) (encoded p)) (c .plan3 .given .1) (p .plan-delete .ensures)
+    subst (DeletePlanned (given (start p)) (encoded p)) (c .plan4 .given .1) (p .plan-delete .ensures)
 
 lent-number-requires : tie.Need-lent-number-requires
 lent-number-requires c κs = search needs
@@ -120,6 +120,9 @@ enum-known-plan c = search needs
 enum-known-plan-2 : tie.Need-enum-known-plan-2
 enum-known-plan-2 c = search needs
 
+enum-known-plan-3 : tie.Need-enum-known-plan-3
+enum-known-plan-3 c = search needs
+
 removal-keeps-requires : tie.Need-removal-keeps-requires
 removal-keeps-requires c κs =
     let p = c .before .before .before .before in
@@ -157,8 +160,8 @@ keep-leaf-requires c κs =
       own = recordLent (given s) (encoded p) _ f;
     }
 
-enum-known-plan-3 : tie.Need-enum-known-plan-3
-enum-known-plan-3 c = search needs
+enum-known-plan-4 : tie.Need-enum-known-plan-4
+enum-known-plan-4 c = search needs
 
 join-keeps-requires : tie.Need-join-keeps-requires
 join-keeps-requires c κs =
@@ -223,15 +226,9 @@ same-length-8 c = search needs
 returns-6 : tie.Need-returns-6
 unfolding changedAnswer
 returns-6 c =
-    let p = c .before .before .before .before .before .before .before .before .before .before .before .before
-    .before in
-    let k = kept (c .before .before .before .before .before .before .before .before .before .before .before) in
-    let test = c .before .before .before .before .before .before .before in
-    let done = c .before .before .before .before .keep-leaf in
+    let p = c .before .before .before in
     called p _
-    (promise-kept (given (start p)) (encoded p) _ (k .found) _ _ (done .ensures .words-are)
-    (done .ensures .bytes-are) (k .alone)
-    (test .before .removal-keeps .ensures .yes (not-false _ (test .if3 .left))))
+    (subst (DeletePlanned (given (start p)) (encoded p)) (c .before .plan2 .given .1) (p .plan-delete .ensures))
 
 same-length-9 : tie.Need-same-length-9
 same-length-9 c = search needs
@@ -242,6 +239,25 @@ same-length-10 c = search needs
 returns-7 : tie.Need-returns-7
 unfolding changedAnswer
 returns-7 c =
+    let p = c .before .before .before .before .before .before .before .before .before .before .before .before
+    .before in
+    let k = kept (c .before .before .before .before .before .before .before .before .before .before .before) in
+    let test = c .before .before .before .before .before .before .before in
+    let done = c .before .before .before .before .keep-leaf in
+    called p _
+    (promise-kept (given (start p)) (encoded p) _ (k .found) _ _ (done .ensures .words-are)
+    (done .ensures .bytes-are) (k .alone)
+    (test .before .removal-keeps .ensures .yes (not-false _ (test .if3 .left))))
+
+same-length-11 : tie.Need-same-length-11
+same-length-11 c = search needs
+
+same-length-12 : tie.Need-same-length-12
+same-length-12 c = search needs
+
+returns-8 : tie.Need-returns-8
+unfolding changedAnswer
+returns-8 c =
     let p = c .before .before .before .before .before .before .before .before .before .before .before .before
     .before in
     let k = joined (c .before .before .before .before .before .before .before .before .before .before .before) in
@@ -264,12 +280,13 @@ delete-spec =
     plan-delete-requires
     enum-known-plan
     enum-known-plan-2
+    enum-known-plan-3
     removal-keeps-requires
     same-length
     same-length-2
     returns-3
     keep-leaf-requires
-    enum-known-plan-3
+    enum-known-plan-4
     join-keeps-requires
     same-length-3
     same-length-4
@@ -283,4 +300,7 @@ delete-spec =
     returns-6
     same-length-9
     same-length-10
-    returns-7)
+    returns-7
+    same-length-11
+    same-length-12
+    returns-8)

@@ -5,7 +5,7 @@ use mathlib.Core.Bool.{true}
 use native.Mathlib.Nat.{le-trans}
 use lib.Pow.{pow-mono}
 use borrow.Author.Tests.{not-true, not-false}
-use Rattle.directory_word.specs.Word.{leafOf}
+use Rattle.directory_word.specs.Word.{depthField, leafOf}
 use Rattle.directory_word.specs.declared.Leaf.the-variants.{Page}
 use Rattle.record.specs.Packed.{unpackedKey}
 use Rattle.store.specs.Store.{store}
@@ -40,11 +40,11 @@ back c =
 found : (c : tie.After-key-word)
     → let a = c .before .before .before .before .before .before .before .before .args in
     let before = store (a .state) (a .dir .now) (a .pages .now) in
-    c .key-word .result ≡ wordOn before (keyString before (a .encoded .values))
+    c .key-word .result .word ≡ wordOn before (keyString before (a .encoded .values))
 found c =
     let a = c .before .before .before .before .before .before .before .before .args in
     key-word-is (a .state .shape) _ (c .before .before .before .widths-of .ensures) (a .state .deepest) (a .dir .now)
-    (a .encoded .values) _ _ (back (c .before)) (c .key-word .ensures)
+    (a .encoded .values) _ _ (back (c .before)) (c .key-word .ensures .0)
 
 -- it holds
 held : (c : tie.Else2)
@@ -125,11 +125,10 @@ returns-3 c =
     let s = c .before .before .before .before .before .before .before .before .before .before .before .before .before in
     let a = s .args in
     let before = store (a .state) (a .dir .now) (a .pages .now) in
-    refused-empty before (a .encoded .values) _
-    (ap leafOf (sym (found (c .before .before .before .before .before)))
-    ∙ sym (c .before .before .unpack .ensures)
-    ∙ c .enum-told .given .1)
-    (held (c .before .before .before))
+    let at = c .before .before .before .before .before in
+    refused-empty before (a .encoded .values) _ (at .key-word .result .depth)
+    (ap leafOf (sym (found at)) ∙ sym (c .before .before .unpack .ensures) ∙ c .enum-told .given .1)
+    (held (c .before .before .before)) (at .key-word .ensures .1 ∙ ap depthField (found at))
 
 plan-leaf-requires : tie.Need-plan-leaf-requires
 plan-leaf-requires c κs =

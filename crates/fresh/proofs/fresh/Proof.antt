@@ -5,7 +5,7 @@ use native.Mathlib.Omega.{arith}
 use borrow.Author.Needs.{needs}
 use lib.ListN.{length}
 use Rattle.shape.specs.Shape.{shapeNumber}
-use Rattle.store.specs.Answers.{changedAnswer}
+use Rattle.store.specs.Answers.{madeAnswer}
 use Rattle.fresh.proofs.LimitLaws.{pageLimitOf-fits}
 use Rattle.fresh.proofs.PromiseLaws.{word-of-lent, freshNumber-shape-out, freshNumber-lacks, freshNumber-none}
 use Rattle.fresh.proofs.PromiseLaws.{promise-refused, freshState-of, promise-accepted}
@@ -78,7 +78,7 @@ same-length-2 : tie.Need-same-length-2
 same-length-2 c = search needs
 
 returns-3 : tie.Need-returns-3
-unfolding changedAnswer
+unfolding madeAnswer
 returns-3 c =
     let cleared = c .before .before .before .before in
     let limits = cleared .before .before in

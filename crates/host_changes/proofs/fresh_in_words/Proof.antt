@@ -46,8 +46,9 @@ returns-3 c =
     let done = c .before .before .before .before .before .before .before .before in
     let lent = done .before .before .before in
     let s = lent .before .before .before .before .before .before .args in
-    fresh-settled (s .shape) (s .state .now) (s .dir .now) (s .pages .now) (lent .if2 .left) _ _ _
-    (done .fresh .ensures) _ _ (c .before .before .settle .ensures)
+    let settled = c .before .before .settle .ensures in
+    fresh-settled (s .shape) (s .state .now) (s .dir .now) (s .pages .now) (lent .if2 .left) _ _ _ _
+    (done .fresh .ensures) _ _ (settled .0) (settled .1)
 
 pub fresh-in-words-spec : {M : Type 1} → statement M
 fresh-in-words-spec =

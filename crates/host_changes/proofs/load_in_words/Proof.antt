@@ -25,8 +25,9 @@ returns c =
     let call = c .before .before .before .before .before .before .before .before in
     let long = call .before .before .before in
     let a = long .before .before .before .before .before .args in
-    long-settled (a .file .now) (a .state .now) (a .dir .now) (a .pages .now) (long .if1 .taken) _ _ _
-    (call .load .ensures) _ _ (c .before .before .settle .ensures)
+    let settled = c .before .before .settle .ensures in
+    long-settled (a .file .now) (a .state .now) (a .dir .now) (a .pages .now) (long .if1 .taken) _ _ _ _
+    (call .load .ensures) _ _ (settled .0) (settled .1)
 
 sub-load : tie.Need-sub-load
 sub-load c = search needs
@@ -55,7 +56,7 @@ settle-requires-2 c κs =
     let short = call .before .before .before in
     let a = short .before .before .before .before .before .args in
     λ done. absurd
-    (short-not-done (a .file .now) (a .state .now) (a .dir .now) (a .pages .now) (short .if1 .left) _ _ _
+    (short-not-done (a .file .now) (a .state .now) (a .dir .now) (a .pages .now) (short .if1 .left) _ _ _ _
     (call .load2 .ensures) done)
 
 same-length-4 : tie.Need-same-length-4
@@ -72,8 +73,9 @@ returns-2 c =
     let call = c .before .before .before .before .before .before .before .before in
     let short = call .before .before .before in
     let a = short .before .before .before .before .before .args in
-    short-settled (a .file .now) (a .state .now) (a .dir .now) (a .pages .now) (short .if1 .left) _ _ _
-    (call .load2 .ensures) _ _ (c .before .before .settle2 .ensures)
+    let settled = c .before .before .settle2 .ensures in
+    short-settled (a .file .now) (a .state .now) (a .dir .now) (a .pages .now) (short .if1 .left) _ _ _ _
+    (call .load2 .ensures) _ _ (settled .0) (settled .1)
 
 pub load-in-words-spec : {M : Type 1} → statement M
 load-in-words-spec =

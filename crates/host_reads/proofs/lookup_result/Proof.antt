@@ -4,8 +4,8 @@ use Rattle.store.specs.Answers.{foundAnswer}
 use Rattle.store.specs.Store.{store}
 use Rattle.store.specs.Promises.{LookupPromise}
 use Rattle.store.specs.declared.State.{State}
-use Rattle.host_results.proofs.ResultLaws.{keeps-reported}
-use Rattle.host_reads.proofs.RefusalLaws.{lookup-not-zero}
+use Rattle.host_results.proofs.ResultLaws.{keepsDepth-told}
+use Rattle.host_reads.proofs.RefusalLaws.{lookup-numbers}
 use borrow.Author.Needs.{needs}
 use Rattle.host_reads.proofs.lookup_result.Statement.{statement}
 use Rattle.host_reads.proofs.lookup_result.Tie as tie
@@ -23,12 +23,12 @@ lookup-requires : tie.Need-lookup-requires
 lookup-requires c κs = search needs
 
 found-result-requires : tie.Need-found-result-requires
-found-result-requires c κs = lookup-not-zero _ _ _ (c .lookup .ensures)
+found-result-requires c κs = lookup-numbers _ _ _ (c .lookup .ensures)
 
 returns : tie.Need-returns
 returns c =
     let s = c .before in
-    keeps-reported _ _ _ _ _ (subst (Promise s) (s .before .state-in .ensures) (s .lookup .ensures))
+    keepsDepth-told _ _ _ _ _ _ (subst (Promise s) (s .before .state-in .ensures) (s .lookup .ensures))
     (c .found-result .ensures)
 
 pub lookup-result-spec : {M : Type 1} → statement M

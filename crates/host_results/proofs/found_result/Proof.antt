@@ -1,7 +1,8 @@
 -- `host_results::found_result` meets its contract: by the case of the answer. Assumes nothing.
-use mathlib.Core.Path.{sym, ap}
+use mathlib.Core.Path.{sym, ap, _∙_}
+use Rattle.shape.specs.Refusal.{refused}
 use Rattle.store.specs.Answers.{foundAnswer}
-use Rattle.host_results.proofs.ResultLaws.{reports-accepted, reports-refused}
+use Rattle.host_results.proofs.ResultLaws.{keepsDepth-accepted, keepsDepth-absent, keepsDepth-refused}
 use borrow.Author.Needs.{needs}
 use Rattle.host_results.proofs.found_result.Statement.{statement}
 use Rattle.host_results.proofs.found_result.Tie as tie
@@ -12,14 +13,31 @@ enum-known-answer c = search needs
 enum-known-answer-2 : tie.Need-enum-known-answer-2
 enum-known-answer-2 c = search needs
 
+enum-known-answer-3 : tie.Need-enum-known-answer-3
+enum-known-answer-3 c = search needs
+
 returns : tie.Need-returns
 unfolding foundAnswer
-returns c = reports-accepted _ _ _ (ap foundAnswer (sym (c .before .answer .given .1)))
+returns c = keepsDepth-accepted _ _ _ _ (ap foundAnswer (sym (c .before .answer .given .1)))
 
 returns-2 : tie.Need-returns-2
 unfolding foundAnswer
-returns-2 c =
-    reports-refused _ _ _ (c .before .before .before .pre) (ap foundAnswer (sym (c .before .answer2 .given .1)))
+returns-2 c = keepsDepth-absent _ _ _ (ap foundAnswer (sym (c .before .answer2 .given .1)))
+
+returns-3 : tie.Need-returns-3
+unfolding foundAnswer
+returns-3 c =
+    let never = c .before .before .before .pre in
+    let told = ap foundAnswer (c .before .answer3 .given .1) in
+    keepsDepth-refused _ _ _ (λ e. never .0 (told ∙ ap refused e)) (λ e. never .1 (told ∙ ap refused e)) (sym told)
 
 pub found-result-spec : {M : Type 1} → statement M
-found-result-spec = tie.close (tie.spec enum-known-answer enum-known-answer-2 returns returns-2)
+found-result-spec =
+    tie.close
+    (tie.spec
+    enum-known-answer
+    enum-known-answer-2
+    enum-known-answer-3
+    returns
+    returns-2
+    returns-3)

@@ -1,29 +1,32 @@
--- `host_results::settle` meets its contract: each arm is a law of the words after a change. Assumes nothing.
+-- `host_results::settle` meets its contract: each arm is a law of the words after a store is made. Assumes nothing.
 use mathlib.Core.Path.{_≡_, sym, ap, _∙_}
 use lib.ListN.{length, length-map}
-use Rattle.store.specs.Answers.{changedAnswer}
+use Rattle.shape.specs.Refusal.{isRefused}
+use Rattle.store.specs.Answers.{madeAnswer}
+use Rattle.host_results.specs.Settled.{numberTold}
 use Rattle.host_results.proofs.SettledLaws.{settled-done, settled-refused}
 use borrow.Author.Needs.{needs}
 use Rattle.host_results.proofs.settle.Statement.{statement}
 use Rattle.host_results.proofs.settle.Tie as tie
 
--- the state's arrays: what owning the change tells
-four : (c : tie.Start) → length (c .args .change .state .shape .widths) ≡ 4
+-- the state's arrays: what owning the making tells
+four : (c : tie.Start) → length (c .args .making .state .shape .widths) ≡ 4
 four c =
-    sym (length-map (c .args .change .state .shape .widths) (λ v. v))
+    sym (length-map (c .args .making .state .shape .widths) (λ v. v))
     ∙ c .good .1 .0 .1 .1 .1 .0 .1 .1 .0 .1 .1 .1 .0 .1 .0 .1
 
-thirteen : (c : tie.Start) → length (c .args .change .state .tally .leaves) ≡ 13
+thirteen : (c : tie.Start) → length (c .args .making .state .tally .leaves) ≡ 13
 thirteen c =
-    sym (length-map (c .args .change .state .tally .leaves) (λ v. v))
+    sym (length-map (c .args .making .state .tally .leaves) (λ v. v))
     ∙ c .good .1 .0 .1 .1 .1 .0 .1 .1 .1 .1 .1 .0 .1 .1 .0 .1 .0 .1
 
 enum-told : tie.Need-enum-told
 enum-told c = search needs
 
 put-state-requires : tie.Need-put-state-requires
-unfolding changedAnswer
-put-state-requires c κs = c .before .before .before .before .pre (ap changedAnswer (c .before .enum-told .given .1))
+unfolding madeAnswer
+put-state-requires c κs =
+    c .before .before .before .before .pre (ap (λ a. isRefused (madeAnswer a)) (c .before .enum-told .given .1))
 
 enum-known-answer : tie.Need-enum-known-answer
 enum-known-answer c = search needs
@@ -32,18 +35,23 @@ same-length : tie.Need-same-length
 same-length c = search needs
 
 returns : tie.Need-returns
-unfolding changedAnswer
+unfolding madeAnswer
 returns c =
     let told = c .before .before .before .before in
     let start = told .before .before .before in
-    settled-done (start .args .change) (start .args .words .now) (ap changedAnswer (told .enum-told .given .1))
-    (four start) (thirteen start) _ (c .before .before .put-state .ensures)
+    let made = told .enum-told .given .1 in (
+      ap (λ a. numberTold (madeAnswer a)) (sym made),
+      settled-done _ _ _ (ap (λ a. isRefused (madeAnswer a)) made) (four start) (thirteen start) _
+          (c .before .before .put-state .ensures),
+    )
 
 returns-2 : tie.Need-returns-2
-unfolding changedAnswer
+unfolding madeAnswer
 returns-2 c =
-    let s = c .before .before .before .before .args in
-    settled-refused (s .change) (s .words .now) _ (ap changedAnswer (c .before .answer .given .1))
+    let made = c .before .answer .given .1 in (
+      ap (λ a. numberTold (madeAnswer a)) (sym made),
+      settled-refused _ _ _ (ap (λ a. isRefused (madeAnswer a)) made),
+    )
 
 pub settle-spec : {M : Type 1} → statement M
 settle-spec =

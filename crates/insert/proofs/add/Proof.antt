@@ -113,7 +113,7 @@ insert-record-requires c κs =
     let plan = c .before .before in
     let p = allocated (plan .before .before .before) in
     let s = start p in
-    lent-taken (given s) (encoded p) (s .args .content) (small s) _ refl _ _ _
+    lent-taken (given s) (encoded p) (s .args .content) (small s) _ refl _ _ _ _
     (planned p _ (plan .plan2 .given .1))
 
 same-length-3 : tie.Need-same-length-3
@@ -131,7 +131,7 @@ returns-2 c =
     let p = allocated f in
     let s = start p in
     called p _
-    (by-taken (given s) (encoded p) (s .args .content) (small s) _ (written f) _ _ _
+    (by-taken (given s) (encoded p) (s .args .content) (small s) _ (written f) _ _ _ _
     (planned p _ (plan .plan2 .given .1)) _ (inserted .insert-record .ensures))
 
 -- ---- the page was null
@@ -231,6 +231,25 @@ divide-pages-requires c κs =
       cut-fits (given s) (encoded p) (s .args .content) (small s) _ refl _ _ _ (told .0) (told .1),
     )
 
+-- where the plan was taken, once the pages are divided
+abbrev dividing : tie.After-struct-known3 → tie.After-plan4
+dividing c =
+    c .before .before .before .before .before .before .before .before .before .before .before .before .before .before
+    .before .before
+
+-- the step's number is below L
+short : (c : tie.After-struct-known3) → dividing c .plan4 .given .0 .0 .step < 12
+short c =
+    let plan = dividing c in
+    let found = planned (allocated (plan .before .before .before)) _ (plan .plan4 .given .1) .0 .found in
+    omega (arith, found .met .deep, found .asked .short)
+
+cast-depth : tie.Need-cast-depth
+cast-depth c = omega (arith, short c)
+
+add-depth : tie.Need-add-depth
+add-depth c = omega (arith, short c)
+
 same-length-7 : tie.Need-same-length-7
 same-length-7 c = search needs
 
@@ -240,7 +259,7 @@ same-length-8 c = search needs
 returns-4 : tie.Need-returns-4
 unfolding changedAnswer
 returns-4 c =
-    let pages = c .before .before in
+    let pages = c .before .before .before in
     let counted = pages .before .before .before in
     let set = counted .before .before .before in
     let doubled = set .before .before .before .before in
@@ -289,6 +308,8 @@ add-spec =
     cast-divide-pages
     cast-divide-pages-2
     divide-pages-requires
+    cast-depth
+    add-depth
     same-length-7
     same-length-8
     returns-4)

@@ -49,13 +49,13 @@ back c = ap unpackedKey (c .pack-key .ensures) ∙ unpackedKey-passed _ _ (told 
 -- the word that was found, of the state's own shape
 found : (c : tie.After-key-word)
     → let a = c .before .before .before .before .before .before .before .before .args in
-    c .key-word .result
+    c .key-word .result .word
     ≡ wordAt (a .state .shape) (a .state .deepest) (a .dir .now)
     (splitBit (widthsOf (a .state .shape)) (a .encoded .values))
 found c =
     let a = c .before .before .before .before .before .before .before .before .args in
     key-word-is (a .state .shape) _ (c .before .before .widths-of .ensures) (a .state .deepest) (a .dir .now)
-    (a .encoded .values) _ _ (back (c .before .before .before)) (c .key-word .ensures)
+    (a .encoded .values) _ _ (back (c .before .before .before)) (c .key-word .ensures .0)
 
 widths-of-requires : tie.Need-widths-of-requires
 widths-of-requires c κs = search needs

@@ -3,6 +3,7 @@ use Prim.Native.Nat.{_^_, _<_}
 use mathlib.Core.Path.{ap}
 use native.Mathlib.Omega.{arith}
 use lib.ListN.{getD}
+use borrow.Author.Needs.{needs}
 use Rattle.shape.specs.Shape.{widthList}
 use Rattle.split.specs.Bits.{splitBit}
 use Rattle.cell.proofs.CellLaws.{cell-laws}
@@ -21,17 +22,20 @@ below c =
 find-cell-requires : tie.Need-find-cell-requires
 find-cell-requires c κs = let s = c .before in (s .pre .fit, s .pre .deep)
 
-mul-result : tie.Need-mul-result
-mul-result c = record { fits = omega (arith, below c, c .before .before .pre .lent) }
+mul-word : tie.Need-mul-word
+mul-word c = record { fits = omega (arith, below c, c .before .before .pre .lent) }
 
-shared-slice-read-result : tie.Need-shared-slice-read-result
-shared-slice-read-result c = omega (arith, below (c .before), c .before .before .before .pre .lent)
+shared-slice-read-word : tie.Need-shared-slice-read-word
+shared-slice-read-word c = omega (arith, below (c .before), c .before .before .before .pre .lent)
+
+depth-of-requires : tie.Need-depth-of-requires
+depth-of-requires c κs = search needs
 
 returns : tie.Need-returns
 returns c =
-    let a = c .before .before .before .args in
-    ap (λ i. getD (a .dir .now) i 0) (c .before .find-cell .ensures)
+    let a = c .before .before .before .before .args in
+    (ap (λ i. getD (a .dir .now) i 0) (c .before .before .find-cell .ensures), c .depth-of .ensures .0)
 
 pub key-word-spec : {M : Type 1} → statement M
 key-word-spec =
-    tie.close (tie.spec find-cell-requires mul-result shared-slice-read-result returns)
+    tie.close (tie.spec find-cell-requires mul-word shared-slice-read-word depth-of-requires returns)

@@ -1,7 +1,7 @@
 -- `load::load` meets its contract: a refused load changes nothing, an accepted one joins the file's records to a fresh
 -- store. Assumes nothing.
 use mathlib.Core.Path.{_≡_, refl, sym, _∙_}
-use Rattle.store.specs.Answers.{changedAnswer}
+use Rattle.store.specs.Answers.{madeAnswer}
 use Rattle.store.specs.Store.{memory}
 use Rattle.file.specs.Loading.{loadNumber}
 use Rattle.file.proofs.AcceptedLaws.{passed-of-loadNumber}
@@ -71,7 +71,7 @@ same-length-2 : tie.Need-same-length-2
 same-length-2 c = search needs
 
 returns-2 : tie.Need-returns-2
-unfolding changedAnswer
+unfolding madeAnswer
 returns-2 c =
     let added = c .before .before .before .before in
     let counted = added .before .before .before in

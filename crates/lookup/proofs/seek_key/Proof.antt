@@ -49,13 +49,13 @@ back c = ap unpackedKey (c .pack-key .ensures) ∙ unpackedKey-passed _ _ (early
 -- the word that was found, of the state's own shape
 found : (c : tie.After-key-word)
     → let a = c .before .before .before .before .before .before .before .before .args in
-    c .key-word .result
+    c .key-word .result .word
     ≡ wordAt (a .state .shape) (a .state .deepest) (a .dir .now)
     (splitBit (widthsOf (a .state .shape)) (a .encoded .values))
 found c =
     let a = c .before .before .before .before .before .before .before .before .args in
     key-word-is (a .state .shape) _ (c .before .before .widths-of .ensures) (a .state .deepest) (a .dir .now)
-    (a .encoded .values) _ _ (back (c .before .before .before)) (c .key-word .ensures)
+    (a .encoded .values) _ _ (back (c .before .before .before)) (c .key-word .ensures .0)
 
 widths-of-requires : tie.Need-widths-of-requires
 widths-of-requires c κs = search needs
@@ -77,16 +77,18 @@ seek-by-word-requires c κs =
     let s = packed .before .before .before .before .before in
     let st = s .args .state in
     let p = early (packed .before .before .before) in
-    let l = limited st (held (packed .before)) in
-    record {
-      shape = p .shape;
-      few = l .most-pages;
-      short = le-trans (l .depth-within) (l .depth-limit);
-      bits = le-trans (l .depth-within) (l .depth-bits);
-      lent = p .pages-lent;
-      fits = subst (λ k. indexFits (widthsOf (st .shape)) (unpackedKey k) ≡ true) (sym (packed .pack-key .ensures))
-          (indexFits-passed _ _ p);
-    }
+    let l = limited st (held (packed .before)) in (
+      record {
+        shape = p .shape;
+        few = l .most-pages;
+        short = le-trans (l .depth-within) (l .depth-limit);
+        bits = le-trans (l .depth-within) (l .depth-bits);
+        lent = p .pages-lent;
+        fits = subst (λ k. indexFits (widthsOf (st .shape)) (unpackedKey k) ≡ true) (sym (packed .pack-key .ensures))
+            (indexFits-passed _ _ p);
+      },
+      c .key-word .ensures .1,
+    )
 
 returns-2 : tie.Need-returns-2
 returns-2 c =

@@ -1,7 +1,7 @@
 -- `replay::replay` meets its contract: Fresh is refused, or the calls on the fresh store give the model's run. Assumes
 -- nothing.
 use mathlib.Core.Path.{ap}
-use Rattle.store.specs.Answers.{changedAnswer}
+use Rattle.store.specs.Answers.{madeAnswer}
 use Rattle.store.specs.Store.{memory}
 use Rattle.replay.proofs.ReplayedLaws.{replayed-refused, replayed-accepted}
 use borrow.Author.Needs.{needs}
@@ -24,12 +24,12 @@ same-length-2 : tie.Need-same-length-2
 same-length-2 c = search needs
 
 returns : tie.Need-returns
-unfolding changedAnswer
+unfolding madeAnswer
 returns c =
     let call = c .before .before .before .before .before .before in
     let a = call .before .before .before .before .before .before .before .before .args in
     replayed-refused (a .shape) (memory (a .dir .now) (a .pages .now)) (a .calls .now) (a .answers .now) (a .out .now)
-    (changedAnswer (call .fresh .result .answer)) _ _ (ap changedAnswer (c .enum-told2 .given .1))
+    (madeAnswer (call .fresh .result .answer)) _ _ (ap madeAnswer (c .enum-told2 .given .1))
     (call .fresh .ensures)
 
 run-calls-requires : tie.Need-run-calls-requires
@@ -48,14 +48,14 @@ same-length-6 : tie.Need-same-length-6
 same-length-6 c = search needs
 
 returns-2 : tie.Need-returns-2
-unfolding changedAnswer
+unfolding madeAnswer
 returns-2 c =
     let ran = c .before .before .before .before .before .before .before .before in
     let told = ran .before .before .before .before .before .before in
     let call = told .before .before .before .before .before .before in
     let a = call .before .before .before .before .before .before .before .before .args in
     replayed-accepted (a .shape) (memory (a .dir .now) (a .pages .now)) (a .calls .now) (a .answers .now) (a .out .now)
-    (changedAnswer (call .fresh .result .answer)) _ _ _ _ (ap changedAnswer (told .enum-told .given .1))
+    (madeAnswer (call .fresh .result .answer)) _ _ _ _ (ap madeAnswer (told .enum-told .given .1))
     (call .fresh .ensures) (ran .run-calls .ensures)
 
 pub replay-spec : {M : Type 1} → statement M

@@ -9,19 +9,35 @@ use Rattle.replay_encoding.proofs.changed_words.Tie as tie
 enum-known-answer : tie.Need-enum-known-answer
 enum-known-answer c = search needs
 
-enum-told : tie.Need-enum-told
-enum-told c = search needs
+cast-t6 : tie.Need-cast-t6
+cast-t6 c = search needs
+
+enum-known-answer-2 : tie.Need-enum-known-answer-2
+enum-known-answer-2 c = search needs
+
+cast-t7 : tie.Need-cast-t7
+cast-t7 c = search needs
+
+enum-known-answer-3 : tie.Need-enum-known-answer-3
+enum-known-answer-3 c = search needs
+
+cast-t8 : tie.Need-cast-t8
+cast-t8 c = search needs
 
 returns : tie.Need-returns
 unfolding answerWords changedAnswer
-returns c = ap (λ a. answerWords (changedAnswer a)) (sym (c .enum-told .given .1))
-
-cast-t3 : tie.Need-cast-t3
-cast-t3 c = search needs
+returns c = ap (λ a. answerWords (changedAnswer a)) (sym (c .before .answer .given .1))
 
 returns-2 : tie.Need-returns-2
 unfolding answerWords changedAnswer
-returns-2 c = ap (λ a. answerWords (changedAnswer a)) (sym (c .before .answer .given .1))
+returns-2 c = ap (λ a. answerWords (changedAnswer a)) (sym (c .before .answer2 .given .1))
+
+returns-3 : tie.Need-returns-3
+unfolding answerWords changedAnswer
+returns-3 c = ap (λ a. answerWords (changedAnswer a)) (sym (c .before .answer3 .given .1))
 
 pub changed-words-spec : {M : Type 1} → statement M
-changed-words-spec = tie.close (tie.spec enum-known-answer enum-told returns cast-t3 returns-2)
+changed-words-spec =
+    tie.close
+    (tie.spec enum-known-answer cast-t6 enum-known-answer-2 cast-t7 enum-known-answer-3 cast-t8 returns returns-2
+    returns-3)

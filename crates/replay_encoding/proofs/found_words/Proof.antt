@@ -9,17 +9,26 @@ use Rattle.replay_encoding.proofs.found_words.Tie as tie
 enum-known-answer : tie.Need-enum-known-answer
 enum-known-answer c = search needs
 
-cast-t6 : tie.Need-cast-t6
-cast-t6 c = search needs
+cast-t8 : tie.Need-cast-t8
+cast-t8 c = search needs
 
-cast-t7 : tie.Need-cast-t7
-cast-t7 c = search needs
+cast-t9 : tie.Need-cast-t9
+cast-t9 c = search needs
+
+cast-t10 : tie.Need-cast-t10
+cast-t10 c = search needs
 
 enum-known-answer-2 : tie.Need-enum-known-answer-2
 enum-known-answer-2 c = search needs
 
-cast-t8 : tie.Need-cast-t8
-cast-t8 c = search needs
+cast-t11 : tie.Need-cast-t11
+cast-t11 c = search needs
+
+enum-known-answer-3 : tie.Need-enum-known-answer-3
+enum-known-answer-3 c = search needs
+
+cast-t12 : tie.Need-cast-t12
+cast-t12 c = search needs
 
 returns : tie.Need-returns
 unfolding answerWords foundAnswer
@@ -29,7 +38,12 @@ returns-2 : tie.Need-returns-2
 unfolding answerWords foundAnswer
 returns-2 c = ap (λ a. answerWords (foundAnswer a)) (sym (c .before .answer2 .given .1))
 
+returns-3 : tie.Need-returns-3
+unfolding answerWords foundAnswer
+returns-3 c = ap (λ a. answerWords (foundAnswer a)) (sym (c .before .answer3 .given .1))
+
 pub found-words-spec : {M : Type 1} → statement M
 found-words-spec =
     tie.close
-    (tie.spec enum-known-answer cast-t6 cast-t7 enum-known-answer-2 cast-t8 returns returns-2)
+    (tie.spec enum-known-answer cast-t8 cast-t9 cast-t10 enum-known-answer-2 cast-t11 enum-known-answer-3 cast-t12
+    returns returns-2 returns-3)

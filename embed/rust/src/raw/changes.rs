@@ -1,6 +1,26 @@
 //! The calls that change a store over lent memory: insert and delete.
 use super::Key;
 
+/// Of an insert or a delete: number 0 and the depth of the key's leaf afterwards, or the number of the refusal and 0;
+/// with number 5 the depth of the leaf in which the absent key falls.
+#[repr(C)]
+#[derive(Clone, Copy, Debug, PartialEq, Eq)]
+pub struct ChangeResult {
+    /// 0, or the refusal's number
+    pub number: u32,
+    /// of the key's leaf
+    pub depth: u32,
+}
+
+/// Why an insert, a delete or a lookup is refused.
+#[derive(Clone, Copy, Debug, PartialEq, Eq)]
+pub struct Refused {
+    /// the refusal's number
+    pub number: u32,
+    /// with number 5 that of the leaf in which the absent key falls, otherwise 0
+    pub depth: u32,
+}
+
 extern "C" {
     fn mdeh_insert(
         state: *mut u32,
@@ -11,7 +31,7 @@ extern "C" {
         bytes: usize,
         key: Key,
         payload: u32,
-    ) -> u32;
+    ) -> ChangeResult;
     fn mdeh_delete(
         state: *mut u32,
         state_words: usize,
@@ -20,21 +40,21 @@ extern "C" {
         pages: *mut u8,
         bytes: usize,
         key: Key,
-    ) -> u32;
+    ) -> ChangeResult;
 }
 
-/// Adds a record, or returns the number of the refusal.
+/// Adds a record, with what the library returns.
 #[inline]
-pub fn insert(
+pub fn insert_result(
     state: &mut [u32],
     dir: &mut [u32],
     pages: &mut [u8],
     key: [i32; 4],
     payload: u32,
-) -> Result<(), u32> {
+) -> ChangeResult {
     // SAFETY: each pointer and length are of one slice, the slices do not overlap, and the function has no
     // `requires`.
-    let number = unsafe {
+    unsafe {
         mdeh_insert(
             state.as_mut_ptr(),
             state.len(),
@@ -45,16 +65,15 @@ pub fn insert(
             Key { values: key },
             payload,
         )
-    };
-    done(number)
+    }
 }
 
-/// Removes the record of a key, or returns the number of the refusal.
+/// Removes the record of a key, with what the library returns.
 #[inline]
-pub fn delete(state: &mut [u32], dir: &mut [u32], pages: &mut [u8], key: [i32; 4]) -> Result<(), u32> {
+pub fn delete_result(state: &mut [u32], dir: &mut [u32], pages: &mut [u8], key: [i32; 4]) -> ChangeResult {
     // SAFETY: each pointer and length are of one slice, the slices do not overlap, and the function has no
     // `requires`.
-    let number = unsafe {
+    unsafe {
         mdeh_delete(
             state.as_mut_ptr(),
             state.len(),
@@ -64,8 +83,34 @@ pub fn delete(state: &mut [u32], dir: &mut [u32], pages: &mut [u8], key: [i32; 4
             pages.len(),
             Key { values: key },
         )
-    };
-    done(number)
+    }
+}
+
+/// Adds a record, and returns the depth of its leaf then, or the refusal.
+#[inline]
+pub fn insert(
+    state: &mut [u32],
+    dir: &mut [u32],
+    pages: &mut [u8],
+    key: [i32; 4],
+    payload: u32,
+) -> Result<u32, Refused> {
+    changed(insert_result(state, dir, pages, key, payload))
+}
+
+/// Removes the record of a key, and returns the depth of the leaf in which the key falls then, or the refusal.
+#[inline]
+pub fn delete(state: &mut [u32], dir: &mut [u32], pages: &mut [u8], key: [i32; 4]) -> Result<u32, Refused> {
+    changed(delete_result(state, dir, pages, key))
+}
+
+/// The depth beside number 0, otherwise the refusal.
+#[inline]
+fn changed(result: ChangeResult) -> Result<u32, Refused> {
+    match result {
+        ChangeResult { number: 0, depth } => Ok(depth),
+        ChangeResult { number, depth } => Err(Refused { number, depth }),
+    }
 }
 
 /// 0 for an accepted call, otherwise the number of the refusal.

@@ -1,6 +1,6 @@
 //! Fresh and the calls that read, over lent memory. The state lies in 32-bit words, the directory too, the pages in
 //! bytes.
-use super::changes::done;
+use super::changes::{done, Refused};
 use super::{Key, Shape};
 
 /// The words of a state: d, the four widths, b, P, L, T, the tally of depths 0 to 12, and the marks of signed
@@ -17,7 +17,8 @@ pub struct HostQuery {
     pub values: [i32; 4],
 }
 
-/// Number 0, the payload and the pages read, or the number of the refusal and zeros.
+/// Number 0, the payload, the pages read and the depth of the key's leaf, or the number of the refusal and zeros; with
+/// number 5 the depth of the leaf in which the absent key falls.
 #[repr(C)]
 #[derive(Clone, Copy, Debug, PartialEq, Eq)]
 pub struct LookupResult {
@@ -27,6 +28,8 @@ pub struct LookupResult {
     pub payload: u32,
     /// pages read
     pub reads: u32,
+    /// of the key's leaf
+    pub depth: u32,
 }
 
 /// Of a query or a range: number 0 and how many records were written, how many match, how many pages were read, or the
@@ -133,7 +136,7 @@ pub fn fresh(shape: Shape, state: &mut [u32], dir: &mut [u32], pages: &mut [u8])
     done(number)
 }
 
-/// The payload of a key's record and the pages read, as the library returns them.
+/// The payload of a key's record, the pages read and the depth of its leaf, as the library returns them.
 #[inline]
 pub fn lookup_result(state: &[u32], dir: &[u32], pages: &[u8], key: [i32; 4]) -> LookupResult {
     // SAFETY: each pointer and length are of one slice, and the function has no `requires`.
@@ -183,12 +186,12 @@ pub fn check_result(state: &[u32], dir: &[u32], pages: &[u8]) -> CheckResult {
     unsafe { mdeh_check(state.as_ptr(), state.len(), dir.as_ptr(), dir.len(), pages.as_ptr(), pages.len()) }
 }
 
-/// The payload of a key's record and the pages read, or the number of the refusal.
+/// The payload of a key's record, the pages read and the depth of its leaf, or the refusal.
 #[inline]
-pub fn lookup(state: &[u32], dir: &[u32], pages: &[u8], key: [i32; 4]) -> Result<(u32, u32), u32> {
+pub fn lookup(state: &[u32], dir: &[u32], pages: &[u8], key: [i32; 4]) -> Result<(u32, u32, u32), Refused> {
     match lookup_result(state, dir, pages, key) {
-        LookupResult { number: 0, payload, reads } => Ok((payload, reads)),
-        LookupResult { number, .. } => Err(number),
+        LookupResult { number: 0, payload, reads, depth } => Ok((payload, reads, depth)),
+        LookupResult { number, depth, .. } => Err(Refused { number, depth }),
     }
 }
 

@@ -1,6 +1,6 @@
 -- `stock_command::session::begin` meets its contract, variant by variant. Assumes nothing.
 use mathlib.Core.Path.{refl}
-use Rattle.store.specs.Answers.{changedAnswer}
+use Rattle.store.specs.Answers.{madeAnswer}
 use borrow.Author.Needs.{needs}
 use Rattle.stock_command.proofs.session.begin.Statement.{statement}
 use Rattle.stock_command.proofs.session.begin.Tie as tie
@@ -12,11 +12,11 @@ enum-told-2 : tie.Need-enum-told-2
 enum-told-2 c = search needs
 
 returns : tie.Need-returns
-unfolding changedAnswer
+unfolding madeAnswer
 returns c = rw (c .enum-told .given .1) refl
 
 returns-2 : tie.Need-returns-2
-unfolding changedAnswer
+unfolding madeAnswer
 returns-2 c = rw (c .enum-told2 .given .1) refl
 
 pub begin-spec : {M : Type 1} → statement M
