@@ -30,8 +30,8 @@ static const MdehKey more = {{30, 10, 431, 0}};
 static uint8_t file[MDEH_FILE_BYTES(RECORDS)];
 
 /* Says why a call is refused, as the program's status. */
-static int refused(const char *call, uint32_t number) {
-    fprintf(stderr, "%s: %s\n", call, mdeh_reason(number));
+static int refused(const char *call, uint32_t number, uint32_t attribute) {
+    fprintf(stderr, "%s: %s\n", call, mdeh_reason_of(number, attribute));
     return 1;
 }
 
@@ -42,18 +42,19 @@ static int gateway(const char *path) {
     MdehSaveResult saved;
     FILE *stream;
     size_t i;
-    uint32_t number = mdeh_fresh(shape, state, MDEH_STATE_WORDS, directory, 128, pages, sizeof pages);
+    MdehMakeResult made = mdeh_fresh(shape, state, MDEH_STATE_WORDS, directory, 128, pages, sizeof pages);
+    uint32_t number = made.number;
     for (i = 0; number == MDEH_ACCEPTED && i < RECORDS; i++) {
         MdehKey key = {{seen[i].code, seen[i].slot, seen[i].release, 0}};
         number = mdeh_insert(state, MDEH_STATE_WORDS, directory, 128, pages, sizeof pages, key, seen[i].count).number;
     }
     if (number != MDEH_ACCEPTED)
-        return refused("fill", number);
+        return refused("fill", number, made.attribute);
     number = mdeh_insert(state, MDEH_STATE_WORDS, directory, 128, pages, sizeof pages, more, 1).number;
     printf("gateway: one record more: %s\n", mdeh_reason(number));
     saved = mdeh_save(state, MDEH_STATE_WORDS, directory, 128, pages, sizeof pages, file, sizeof file);
     if (saved.number != MDEH_ACCEPTED)
-        return refused("save", saved.number);
+        return refused("save", saved.number, saved.attribute);
     stream = fopen(path, "wb");
     if (!stream || fwrite(file, 1, (size_t)saved.size, stream) != saved.size || fclose(stream) != 0) {
         perror(path);
@@ -74,23 +75,24 @@ static int workshop(const char *path) {
     size_t size = stream ? fread(file, 1, sizeof file, stream) : 0;
     uint64_t i;
     uint32_t number;
+    MdehMakeResult loaded;
     if (!stream || ferror(stream) || fclose(stream) != 0) {
         perror(path);
         return 1;
     }
     /* a file that was cut off is refused, and the memory left as it is */
-    number = mdeh_load(file, size - 1, state, MDEH_STATE_WORDS, directory, MDEH_MOST_WORDS, pages, sizeof pages);
-    printf("workshop: one byte less: %s\n", mdeh_reason(number));
-    number = mdeh_load(file, size, state, MDEH_STATE_WORDS, directory, MDEH_MOST_WORDS, pages, sizeof pages);
-    if (number != MDEH_ACCEPTED)
-        return refused("load", number);
+    loaded = mdeh_load(file, size - 1, state, MDEH_STATE_WORDS, directory, MDEH_MOST_WORDS, pages, sizeof pages);
+    printf("workshop: one byte less: %s\n", mdeh_reason_of(loaded.number, loaded.attribute));
+    loaded = mdeh_load(file, size, state, MDEH_STATE_WORDS, directory, MDEH_MOST_WORDS, pages, sizeof pages);
+    if (loaded.number != MDEH_ACCEPTED)
+        return refused("load", loaded.number, loaded.attribute);
     found = mdeh_query(state, MDEH_STATE_WORDS, directory, MDEH_MOST_WORDS, pages, sizeof pages, all, NULL, 0);
     printf("workshop: loaded %" PRIu64 " records\n", found.total);
     number = mdeh_insert(state, MDEH_STATE_WORDS, directory, MDEH_MOST_WORDS, pages, sizeof pages, more, 1).number;
     printf("workshop: one record more: %s\n", mdeh_reason(number));
     found = mdeh_query(state, MDEH_STATE_WORDS, directory, MDEH_MOST_WORDS, pages, sizeof pages, code, out, sizeof out);
     if (found.number != MDEH_ACCEPTED)
-        return refused("code 30", found.number);
+        return refused("code 30", found.number, found.attribute);
     for (i = 0; i < found.written; i++) {
         MdehRecord record = mdeh_record(mdeh_shape(state), out, i);
         printf("slot %" PRId32 ", release %" PRId32 ", count %" PRIu32 "\n", record.values[1], record.values[2],

@@ -34,36 +34,37 @@ static const struct {
 };
 
 /* Says why a call is refused, as the program's status. */
-static int refused(const char *call, uint32_t number) {
-    fprintf(stderr, "%s: %s\n", call, mdeh_reason(number));
+static int refused(const char *call, uint32_t number, uint32_t attribute) {
+    fprintf(stderr, "%s: %s\n", call, mdeh_reason_of(number, attribute));
     return 1;
 }
 
 /* Stores what was seen. */
-static uint32_t fill(void) {
+static MdehChangeResult fill(void) {
     size_t i;
-    MdehChangeResult inserted = {0, 0};
-    inserted.number = mdeh_fresh(shape, state, MDEH_STATE_WORDS, directory, WORDS, pages, sizeof pages);
+    MdehMakeResult made = mdeh_fresh(shape, state, MDEH_STATE_WORDS, directory, WORDS, pages, sizeof pages);
+    MdehChangeResult inserted = {made.number, made.attribute, 0};
     for (i = 0; inserted.number == MDEH_ACCEPTED && i < sizeof seen / sizeof *seen; i++) {
         MdehKey key = {{seen[i].code, seen[i].slot, seen[i].release, 0}};
         inserted = mdeh_insert(state, MDEH_STATE_WORDS, directory, WORDS, pages, sizeof pages, key, seen[i].count);
         if (inserted.depth > deepest)
             deepest = inserted.depth;
     }
-    return inserted.number;
+    return inserted;
 }
 
 /* People act on the list: check, then ask. A store whose memory was damaged is filled again from what was seen. */
-static uint32_t ready(void) {
+static MdehChangeResult ready(void) {
+    static const MdehChangeResult accepted = {MDEH_ACCEPTED, 0, 0};
     MdehCheckResult found = mdeh_check(state, MDEH_STATE_WORDS, directory, WORDS, pages, sizeof pages);
-    return found.number == MDEH_ACCEPTED && found.sound ? MDEH_ACCEPTED : fill();
+    return found.number == MDEH_ACCEPTED && found.sound ? accepted : fill();
 }
 
 /* Prints what a list has of slots and releases, or why it was refused, as the program's status. */
 static int show(const char *asked, MdehQueryResult found, const uint8_t *out) {
     uint64_t i;
     if (found.number != MDEH_ACCEPTED)
-        return refused(asked, found.number);
+        return refused(asked, found.number, found.attribute);
     printf("%s: %" PRIu64 " records, %" PRIu64 " pages read\n", asked, found.total, found.reads);
     for (i = 0; i < found.written; i++) {
         MdehRecord record = mdeh_record(shape, out, i);
@@ -81,11 +82,11 @@ int main(void) {
     uint8_t out[16 * MDEH_RECORD_BYTES];
     MdehQueryResult found;
     int status;
-    uint32_t number = fill();
-    if (number == MDEH_ACCEPTED)
-        number = ready();
-    if (number != MDEH_ACCEPTED)
-        return refused("fill", number);
+    MdehChangeResult filled = fill();
+    if (filled.number == MDEH_ACCEPTED)
+        filled = ready();
+    if (filled.number != MDEH_ACCEPTED)
+        return refused("fill", filled.number, filled.attribute);
     /* whoever sizes the gateway: near L, word 7 of the state, a longer directory is due */
     printf("filled: depths up to %" PRIu32 " of %" PRIu32 "\n", deepest, state[7]);
     found = mdeh_query(state, MDEH_STATE_WORDS, directory, WORDS, pages, sizeof pages, code, out, sizeof out);

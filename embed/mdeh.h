@@ -19,9 +19,22 @@
  * Later calls need at least 2^L words and P pages, and may be lent more. Directory words past the first 2^L, bytes past
  * the P pages and words past those of the state are never changed. The host changes none of a store itself.
  *
- * NUMBERS. Every call returns a number, alone or first in a struct: 0 for an accepted call, otherwise the reason for
- * its refusal (enum below). A refused call has changed nothing, and the values beside its number are 0, but for the
- * depth beside 5. Where several reasons hold, the first in the order that stands at the call is given.
+ * NUMBERS. Every call returns a number, first in a struct: 0 for an accepted call, otherwise the reason for its refusal
+ * (enum below; in words: mdeh_reason_of). A refused call has changed nothing, and the values beside its number are 0,
+ * but for the attribute beside 14 and the depth beside 5. Where several reasons hold, the first in the order that
+ * stands at the call is given.
+ *
+ * SHAPES. Three numbers tell what to correct in a shape. Every call looks for them in this order, before 2, in the
+ * shape that it is given or in the state that is passed in, and mdeh_load, after 12, in the file:
+ *   1   the attribute count is outside 1 to 4
+ *   14  the width of an attribute is outside 1 to 16: `attribute` is that attribute, counted from 0, the lowest where
+ *       there are several; widths[attribute] is to be corrected
+ *   15  the page capacity is outside 1 to 16
+ * Once it is corrected, the next call tells the next fault: of {3, {9, 17, 99}, 0} 14 with attribute 1, then 14 with
+ * attribute 2, then 15. Widths past the attribute count are ignored: {2, {9, 7, 99}, 4} is in bounds. From a call on a
+ * store these numbers say that the state is none that mdeh_fresh or mdeh_load made: its words were overwritten, or
+ * others are lent. Fewer words than MDEH_STATE_WORDS show no shape and give 1; mdeh_fresh and mdeh_load, which write
+ * them, give 2.
  *
  * DEPTHS. Every key falls in one leaf, stored or not: that of all keys with its first x split bits (LAYOUTS), x being
  * the leaf's depth, from 0 for the only leaf of a small store to L. mdeh_lookup gives the depth of the key's leaf,
@@ -85,7 +98,7 @@
  * and the order of their calls, and saving after an accepted load gives the same bytes. Read from its end, a file tells
  * its length: where it stands behind other bytes, hand mdeh_load its own alone. The numbers of mdeh_load, in order:
  *   12  fewer than 24 bytes, other letters, or distances that are not those of n and of the file's length
- *   1   shape outside its bounds
+ *   1   attribute count outside 1 to 4; then 14 with its attribute for a width, 15 for the capacity outside 1 to 16
  *   13  last shape byte, unused width or mark past d not 0; value outside its bounds, unused value not 0; records that
  *       do not strictly rise in split order
  *   2   as of mdeh_fresh: fewer words than a state has, no directory word, no whole page
@@ -146,8 +159,8 @@ extern "C" {
 /* What a number says. */
 enum {
     MDEH_ACCEPTED = 0,          /* the call did what it was asked */
-    MDEH_REFUSED_SHAPE = 1,     /* shape outside its bounds, also that of a state or a file; all but fresh and load:
-                                   fewer words than a state has, which show no shape */
+    MDEH_REFUSED_SHAPE = 1,     /* attribute count outside 1 to 4, also that of a state or a file; all but fresh and
+                                   load: fewer words than a state has, which show no shape */
     MDEH_REFUSED_MEMORY = 2,    /* fresh, load: fewer words than a state has, no directory word, no whole page; later:
                                    fewer than 2^L words or P pages; save: an output that is shorter than the file */
     MDEH_REFUSED_VALUE = 3,     /* value or end of an interval outside its attribute's bounds, index of 2^width or more,
@@ -163,10 +176,13 @@ enum {
     MDEH_REFUSED_INTERVAL = 10, /* range: the low end of an interval is above its high end */
     MDEH_REFUSED_PAYLOAD = 11,  /* insert: the payload is 0, which hosts read as "no log line" */
     MDEH_REFUSED_FILE = 12,     /* load: the bytes are no whole file: too few, other letters, distances or length */
-    MDEH_REFUSED_CONTENT = 13   /* load: a stray byte in the shape, a value outside its bounds, records out of order */
+    MDEH_REFUSED_CONTENT = 13,  /* load: a stray byte in the shape, a value outside its bounds, records out of order */
+    MDEH_REFUSED_WIDTH = 14,    /* width of an attribute outside 1 to 16, also in a state or a file; the lowest such
+                                   attribute stands beside it (SHAPES) */
+    MDEH_REFUSED_CAPACITY = 15  /* page capacity outside 1 to 16, also that of a state or a file */
 };
 
-/* What records look like. In bounds: 1 to 4 attributes, widths of 1 to 16 bits, a capacity of 1 to 16 records. A shape
+/* What records look like. In bounds: 1 to 4 attributes, widths of 1 to 16 bits, a capacity of 1 to 16 records (SHAPES).
    {3, {7, 5, 9}, 16} marks no attribute. */
 typedef struct {
     uint32_t attributes;
@@ -203,97 +219,112 @@ typedef struct {
     uint64_t indices[4];
 } MdehIndex;
 
+/* Of mdeh_fresh and mdeh_load. */
 typedef struct {
     uint32_t number;
-    uint32_t depth; /* of the key's leaf afterwards; with 5 of the leaf in which the absent key falls; otherwise 0 */
+    uint32_t attribute; /* with 14: the attribute whose width is out of bounds; otherwise 0 */
+} MdehMakeResult;
+
+typedef struct {
+    uint32_t number;
+    uint32_t attribute; /* with 14: the attribute whose width is out of bounds; otherwise 0 */
+    uint32_t depth;     /* of the key's leaf afterwards; with 5 that in which the absent key falls; otherwise 0 */
 } MdehChangeResult;
 
 typedef struct {
     uint32_t number;
-    uint32_t payload; /* of the key's record; 0 may be stored (PAYLOADS) */
-    uint32_t reads;   /* pages read: 1 */
-    uint32_t depth;   /* of the key's leaf; with 5 of the leaf in which the absent key falls; otherwise 0 */
+    uint32_t attribute; /* with 14: the attribute whose width is out of bounds; otherwise 0 */
+    uint32_t payload;   /* of the key's record; 0 may be stored (PAYLOADS) */
+    uint32_t reads;     /* pages read: 1 */
+    uint32_t depth;     /* of the key's leaf; with 5 of the leaf in which the absent key falls; otherwise 0 */
 } MdehLookupResult;
 
 typedef struct {
     uint32_t number;
-    uint64_t written; /* records in the output */
-    uint64_t total;   /* records that match: more than written where the output is short */
-    uint64_t reads;   /* pages read */
+    uint32_t attribute; /* with 14: the attribute whose width is out of bounds; otherwise 0 */
+    uint64_t written;   /* records in the output */
+    uint64_t total;     /* records that match: more than written where the output is short */
+    uint64_t reads;     /* pages read */
 } MdehQueryResult;
 
 typedef struct {
     uint32_t number;
-    uint32_t sound; /* 1 for a sound store, 0 for any other */
+    uint32_t attribute; /* with 14: the attribute whose width is out of bounds; otherwise 0 */
+    uint32_t sound;     /* 1 for a sound store, 0 for any other */
 } MdehCheckResult;
 
 typedef struct {
     uint32_t number;
-    uint64_t size; /* bytes of the file */
+    uint32_t attribute; /* with 14: the attribute whose width is out of bounds; otherwise 0 */
+    uint64_t size;      /* bytes of the file */
 } MdehSaveResult;
 
 typedef struct {
     uint32_t number;
+    uint32_t attribute; /* with 14: the attribute whose width is out of bounds; otherwise 0 */
     uint64_t address;
 } MdehAddressResult;
 
 typedef struct {
     uint32_t number;
+    uint32_t attribute; /* with 14: the attribute whose width is out of bounds; otherwise 0 */
     MdehIndex index;
 } MdehIndexResult;
 
 /* Makes a store without records, whatever the slices held: writes the words of the state, directory word 0 and the
-   count of each of the P pages. Refused with 1, 2. */
-uint32_t mdeh_fresh(MdehShape shape, uint32_t *state, size_t state_words, uint32_t *directory, size_t words,
-                    uint8_t *pages, size_t bytes);
+   count of each of the P pages. Refused with 1, 14, 15, 2. */
+MdehMakeResult mdeh_fresh(MdehShape shape, uint32_t *state, size_t state_words, uint32_t *directory, size_t words,
+                          uint8_t *pages, size_t bytes);
 
-/* Adds a record, and gives the depth of its leaf afterwards. Refused with 1, 2, 3, 11, 4, 6, 7, 9: 11 for a payload of 0,
-   whatever the directory and pages hold, also where the key is stored already or has no room. */
+/* Adds a record, and gives the depth of its leaf afterwards. Refused with 1, 14, 15, 2, 3, 11, 4, 6, 7, 9: 11 for a
+   payload of 0, whatever the directory and pages hold, also where the key is stored already or has no room. */
 MdehChangeResult mdeh_insert(uint32_t *state, size_t state_words, uint32_t *directory, size_t words,
                              uint8_t *pages, size_t bytes, MdehKey key, uint32_t payload);
 
-/* Removes the record of a key, and gives the depth of the key's leaf afterwards. Refused with 1, 2, 3, 5, 9:
+/* Removes the record of a key, and gives the depth of the key's leaf afterwards. Refused with 1, 14, 15, 2, 3, 5, 9:
    5 with a depth too. */
 MdehChangeResult mdeh_delete(uint32_t *state, size_t state_words, uint32_t *directory, size_t words,
                              uint8_t *pages, size_t bytes, MdehKey key);
 
-/* The payload of a key's record, and the depth of its leaf. Writes nothing. Refused with 1, 2, 3, 5, 9: 5 with a depth
-   too. */
+/* The payload of a key's record, and the depth of its leaf. Writes nothing. Refused with 1, 14, 15, 2, 3, 5, 9:
+   5 with a depth too. */
 MdehLookupResult mdeh_lookup(const uint32_t *state, size_t state_words, const uint32_t *directory, size_t words,
                              const uint8_t *pages, size_t bytes, MdehKey key);
 
 /* Writes the matching records into the output, in split order, while whole ones fit; leaves its other bytes and the
-   store as they are. A short output is no refusal. Refused with 1, 2, 8, 3, 9. */
+   store as they are. A short output is no refusal. Refused with 1, 14, 15, 2, 8, 3, 9. */
 MdehQueryResult mdeh_query(const uint32_t *state, size_t state_words, const uint32_t *directory, size_t words,
                            const uint8_t *pages, size_t bytes, MdehQuery query, uint8_t *out, size_t out_bytes);
 
 /* The same for a range: the records whose values all lie in their intervals. Reads the non-empty leaves whose box of
    values, that of all keys with their split bits, meets the range's: with equal ends as many pages as the query, in
-   general up to all in use. Refused with 1, 2, 8, 3, 10, 9: 8 whatever the ends are, 10 where no end gives 3. */
+   general up to all in use. Refused with 1, 14, 15, 2, 8, 3, 10, 9: 8 whatever the ends are, 10 where no end gives
+   3. */
 MdehQueryResult mdeh_range(const uint32_t *state, size_t state_words, const uint32_t *directory, size_t words,
                            const uint8_t *pages, size_t bytes, MdehRange range, uint8_t *out, size_t out_bytes);
 
 /* Whether the slices hold a sound store: to be asked before people act on a list. Reads all of it, writes nothing.
-   Refused with 1, 2. */
+   Refused with 1, 14, 15, 2. */
 MdehCheckResult mdeh_check(const uint32_t *state, size_t state_words, const uint32_t *directory, size_t words,
                            const uint8_t *pages, size_t bytes);
 
 /* Writes the file of the store's records into the output, from its first byte on, and says how many bytes it has;
-   leaves the bytes behind it and the store as they are. Refused with 1, 2, 9, then with 2 for an output that is shorter
-   than the file, which one of MDEH_FILE_BYTES(MDEH_MOST_RECORDS) bytes never is; the output is then as it was. */
+   leaves the bytes behind it and the store as they are. Refused with 1, 14, 15, 2, 9, then with 2 for an output that is
+   shorter than the file, which one of MDEH_FILE_BYTES(MDEH_MOST_RECORDS) bytes never is; the output is then as it
+   was. */
 MdehSaveResult mdeh_save(const uint32_t *state, size_t state_words, const uint32_t *directory, size_t words,
                          const uint8_t *pages, size_t bytes, uint8_t *out, size_t out_bytes);
 
 /* Makes a store of a file's shape and records, whatever the slices held: all its bytes are the file's. Refused with 12,
-   1, 13, 2, then with 6 or 7 at the first record that meets one (FILES); the slices are then as they were. */
-uint32_t mdeh_load(const uint8_t *file, size_t file_bytes, uint32_t *state, size_t state_words,
-                   uint32_t *directory, size_t words, uint8_t *pages, size_t bytes);
+   1, 14, 15, 13, 2, then with 6 or 7 at the first record that meets one (FILES); the slices are then as they were. */
+MdehMakeResult mdeh_load(const uint8_t *file, size_t file_bytes, uint32_t *state, size_t state_words,
+                         uint32_t *directory, size_t words, uint8_t *pages, size_t bytes);
 
 /* The directory address of an index vector, below 2 to the sum of the widths; the same at every size of the directory
-   and whatever the marks. Refused with 1, 3. */
+   and whatever the marks. Refused with 1, 14, 15, 3. */
 MdehAddressResult mdeh_address(MdehShape shape, MdehIndex index);
 
-/* The index vector at a directory address. Refused with 1, 3. */
+/* The index vector at a directory address. Refused with 1, 14, 15, 3. */
 MdehIndexResult mdeh_index(MdehShape shape, uint64_t address);
 
 /* The shape in the words of a state. */
@@ -334,7 +365,7 @@ static inline MdehRecord mdeh_record(MdehShape shape, const uint8_t *records, si
 static inline const char *mdeh_reason(uint32_t number) {
     switch (number) {
     case MDEH_ACCEPTED: return "accepted";
-    case MDEH_REFUSED_SHAPE: return "the shape is outside its bounds";
+    case MDEH_REFUSED_SHAPE: return "the attribute count is outside 1 to 4, or the words of a state are too few";
     case MDEH_REFUSED_MEMORY: return "too few words or bytes are lent";
     case MDEH_REFUSED_VALUE: return "a value, index or address is outside its bounds, or an unused value is not 0";
     case MDEH_REFUSED_STORED: return "the key is stored already";
@@ -347,8 +378,18 @@ static inline const char *mdeh_reason(uint32_t number) {
     case MDEH_REFUSED_PAYLOAD: return "the payload is 0";
     case MDEH_REFUSED_FILE: return "the bytes are no whole file";
     case MDEH_REFUSED_CONTENT: return "the file has a stray byte, a value out of bounds or records out of order";
+    case MDEH_REFUSED_WIDTH: return "the width of an attribute is outside 1 to 16";
+    case MDEH_REFUSED_CAPACITY: return "the page capacity is outside 1 to 16";
     default: return "no number of this library";
     }
+}
+
+/* What a number says with the attribute beside it, which the text of 14 names. */
+static inline const char *mdeh_reason_of(uint32_t number, uint32_t attribute) {
+    static const char *const widths[4] = {
+        "the width of attribute 0 is outside 1 to 16", "the width of attribute 1 is outside 1 to 16",
+        "the width of attribute 2 is outside 1 to 16", "the width of attribute 3 is outside 1 to 16"};
+    return number == MDEH_REFUSED_WIDTH && attribute < 4 ? widths[attribute] : mdeh_reason(number);
 }
 
 #ifdef __cplusplus

@@ -3,9 +3,11 @@ use crate::dynamic::{function, Address, Library};
 use crate::packed::Intervals;
 use crate::step::{EARLIER, PROVED};
 use mdeh_tests::host::{
-    ChangeResult, CheckResult, HostQuery, HostRange, Key, LookupResult, QueryResult, SaveResult, Shape,
+    ChangeResult, CheckResult, HostQuery, HostRange, Key, LookupResult, MakeResult, QueryResult, SaveResult,
+    Shape,
 };
 use std::ffi::{CStr, CString};
+use std::ptr::null_mut;
 
 /// The variable that names a shared library with the calls of another build.
 const EARLIER_BUILD: &str = "MDEH_EARLIER";
@@ -28,12 +30,14 @@ pub struct Build {
     lookup: Lookup,
     query: Query,
     check: Check,
+    /// its lookup and check where it names no attribute
+    nameless: Option<(NamelessLookup, NamelessCheck)>,
     /// which earlier builds may lack
     range: Option<Range>,
     files: Option<(Save, Load)>,
 }
 
-type Fresh = unsafe extern "C" fn(Shape, *mut u32, usize, *mut u32, usize, *mut u8, usize) -> u32;
+type Fresh = unsafe extern "C" fn(Shape, *mut u32, usize, *mut u32, usize, *mut u8, usize) -> MakeResult;
 #[rustfmt::skip]
 type Insert = unsafe extern "C" fn(
     *mut u32, usize, *mut u32, usize, *mut u8, usize, Key, u32,
@@ -56,8 +60,28 @@ type Save = unsafe extern "C" fn(
 #[rustfmt::skip]
 type Load = unsafe extern "C" fn(
     *const u8, usize, *mut u32, usize, *mut u32, usize, *mut u8, usize,
-) -> u32;
+) -> MakeResult;
 type Check = unsafe extern "C" fn(*const u32, usize, *const u32, usize, *const u8, usize) -> CheckResult;
+type NamelessLookup =
+    unsafe extern "C" fn(*const u32, usize, *const u32, usize, *const u8, usize, Key) -> NamelessFound;
+type NamelessCheck =
+    unsafe extern "C" fn(*const u32, usize, *const u32, usize, *const u8, usize) -> NamelessChecked;
+
+/// What a lookup returns in a build whose results have no attribute behind their number.
+#[repr(C)]
+struct NamelessFound {
+    number: u32,
+    payload: u32,
+    _reads: u32,
+    _depth: u32,
+}
+
+/// What its check returns.
+#[repr(C)]
+struct NamelessChecked {
+    number: u32,
+    sound: u32,
+}
 
 // The functions of the linked library, for their addresses.
 extern "C" {
@@ -107,22 +131,27 @@ impl Build {
     /// They have the types that the store's header gives them, and no `requires`. A build whose shape and state have no
     /// marks of signed attributes, which come last in both, is called alike: it leaves them alone. So is one that gives
     /// no depths, which come last in what insert, delete and lookup return: it has the other numbers where this one has.
+    /// One that names no attribute refuses a width of 0 with 1. Its lookup and check return less; the number and, of a
+    /// query, a range and a save, the counts are where this one has them.
     unsafe fn at(
         name: &'static str,
         [fresh, insert, delete, lookup, query, check]: [Address; 6],
         range: Option<Address>,
         files: Option<[Address; 2]>,
     ) -> Build {
-        // SAFETY: as above.
+        // SAFETY: as above; Fresh is lent nothing.
         unsafe {
+            let make: Fresh = function(fresh);
+            let made = make(Shape::new(&[0], 1), null_mut(), 0, null_mut(), 0, null_mut(), 0);
             Build {
                 name,
-                fresh: function(fresh),
+                fresh: make,
                 insert: function(insert),
                 delete: function(delete),
                 lookup: function(lookup),
                 query: function(query),
                 check: function(check),
+                nameless: (made.number == 1).then(|| (function(lookup), function(check))),
                 range: range.map(|range| function(range)),
                 files: files.map(|[save, load]| (function(save), function(load))),
             }
@@ -133,9 +162,10 @@ impl Build {
     pub fn fresh(&self, shape: Shape, Lent { state, dir, pages }: &mut Lent) -> bool {
         let (state, words) = (state.as_mut_ptr(), state.len());
         // SAFETY: each pointer and length are of one slice, and the slices do not overlap; so in all calls.
-        0 == unsafe {
+        let made = unsafe {
             (self.fresh)(shape, state, words, dir.as_mut_ptr(), dir.len(), pages.as_mut_ptr(), pages.len())
-        }
+        };
+        made.number == 0
     }
 
     /// 1 for an accepted insert, 0 for a refused one.
@@ -163,11 +193,22 @@ impl Build {
     #[inline]
     pub fn lookup(&self, Lent { state, dir, pages }: &Lent, values: [i32; 4]) -> Result<u32, u32> {
         let (state, words, key) = (state.as_ptr(), state.len(), Key { values });
+        let (dir, size) = (dir.as_ptr(), dir.len());
         // SAFETY: see `fresh`.
-        let found =
-            unsafe { (self.lookup)(state, words, dir.as_ptr(), dir.len(), pages.as_ptr(), pages.len(), key) };
-        match found.number {
-            0 => Ok(found.payload),
+        let (number, payload) = unsafe {
+            match self.nameless {
+                None => {
+                    let found = (self.lookup)(state, words, dir, size, pages.as_ptr(), pages.len(), key);
+                    (found.number, found.payload)
+                }
+                Some((lookup, _)) => {
+                    let found = lookup(state, words, dir, size, pages.as_ptr(), pages.len(), key);
+                    (found.number, found.payload)
+                }
+            }
+        };
+        match number {
+            0 => Ok(payload),
             number => Err(number),
         }
     }
@@ -227,16 +268,27 @@ impl Build {
         let (dir, size) = (dir.as_mut_ptr(), dir.len());
         let (pages, bytes) = (pages.as_mut_ptr(), pages.len());
         // SAFETY: see `fresh`.
-        let number = unsafe { call(file.as_ptr(), file.len(), state, words, dir, size, pages, bytes) };
-        (number == 0).into()
+        let made = unsafe { call(file.as_ptr(), file.len(), state, words, dir, size, pages, bytes) };
+        (made.number == 0).into()
     }
 
     /// Whether the store is sound.
     pub fn check(&self, Lent { state, dir, pages }: &Lent) -> bool {
         let (state, words) = (state.as_ptr(), state.len());
+        let (dir, size) = (dir.as_ptr(), dir.len());
         // SAFETY: see `fresh`.
-        let found =
-            unsafe { (self.check)(state, words, dir.as_ptr(), dir.len(), pages.as_ptr(), pages.len()) };
-        found == CheckResult { number: 0, sound: 1 }
+        let (number, sound) = unsafe {
+            match self.nameless {
+                None => {
+                    let found = (self.check)(state, words, dir, size, pages.as_ptr(), pages.len());
+                    (found.number, found.sound)
+                }
+                Some((_, check)) => {
+                    let found = check(state, words, dir, size, pages.as_ptr(), pages.len());
+                    (found.number, found.sound)
+                }
+            }
+        };
+        (number, sound) == (0, 1)
     }
 }

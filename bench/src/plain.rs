@@ -2,7 +2,8 @@
 //! the program runs. No step is inlined, since those of a static library are not.
 //!
 //! The pair (bit k, attribute j) has place 4k + j.
-use mdeh_tests::host::Shape;
+use mdeh_tests::host::{Refused, Shape};
+use mdeh_tests::plain::refusal::{bad_width, refusal};
 use std::cmp::Ordering;
 
 /// Widths of at most 16 bits: how many, the width of each attribute, 0 past them, and the sum.
@@ -32,22 +33,25 @@ impl Widths {
 
 // ---- address map
 
-/// The address of an index vector, or the number of the refusal.
+/// The address of an index vector, or the refusal.
 #[inline(never)]
-pub fn address(shape: Shape, index: [u64; 4]) -> Result<u64, u32> {
+pub fn address(shape: Shape, index: [u64; 4]) -> Result<u64, Refused> {
     let Shape { attributes, widths, capacity, .. } = shape;
-    if !(1..=4).contains(&attributes) || !(1..=16).contains(&capacity) {
-        return Err(1);
+    if !(1..=4).contains(&attributes) {
+        return Err(refusal(1));
     }
     let mut bits = [0; 4];
     for j in 0..attributes as usize {
         if !(1..=16).contains(&widths[j]) {
-            return Err(1);
+            return Err(bad_width(j as u32));
         }
         bits[j] = widths[j] as usize;
     }
+    if !(1..=16).contains(&capacity) {
+        return Err(refusal(15));
+    }
     if (0..4).any(|j| index[j] >> bits[j] != 0) {
-        return Err(3);
+        return Err(refusal(3));
     }
     Ok(locate(&bits, &index))
 }

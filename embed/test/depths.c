@@ -3,6 +3,7 @@
 #include "layout.h"
 #include "lent.h"
 #include "model.h"
+#include "shapes.h"
 
 #include <string.h>
 
@@ -39,7 +40,7 @@ static void fill(Memory *memory, uint32_t capacity, uint32_t m, int anchor) {
     MdehShape shape = {2, {16, 16, 0, 0}, 0, 0};
     uint32_t i, depth = anchor ? 1 : 0;
     shape.capacity = capacity;
-    HOLDS(mdeh_fresh(shape, STORE(memory)) == MDEH_ACCEPTED);
+    HOLDS(made(mdeh_fresh(shape, STORE(memory)), MDEH_ACCEPTED));
     for (i = 0; anchor && i < capacity; i++)
         HOLDS(gave(mdeh_insert(STORE(memory), key_of(i), 1), MDEH_ACCEPTED, 0));
     for (i = 0; i < capacity; i++)
@@ -83,7 +84,7 @@ void depths_of_the_table(void) {
     };
     static Memory memory;
     uint32_t i;
-    HOLDS(mdeh_fresh(small, STORE(&memory)) == MDEH_ACCEPTED);
+    HOLDS(made(mdeh_fresh(small, STORE(&memory)), MDEH_ACCEPTED));
     for (i = 0; i < 4; i++)
         HOLDS(gave(mdeh_insert(STORE(&memory), keys[i], 10 + i), MDEH_ACCEPTED, inserted[i]));
     for (i = 0; i < 8; i++)
@@ -157,7 +158,7 @@ static void compare_empty(Memory *memory, uint32_t capacity, uint32_t m, int anc
     }
     compare_absent(memory, beginning(m, 0, 0), 0);
     compare_absent(memory, 3, 0);
-    HOLDS(mdeh_fresh(mdeh_shape(memory->state), STORE(memory)) == MDEH_ACCEPTED);
+    HOLDS(made(mdeh_fresh(mdeh_shape(memory->state), STORE(memory)), MDEH_ACCEPTED));
     compare_absent(memory, beginning(m, 1, 0), 0);
 }
 

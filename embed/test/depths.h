@@ -4,14 +4,15 @@
 
 #include "../mdeh.h"
 
-/* Whether a change gave this number and this depth. */
+/* Whether a change gave this number and this depth, and no attribute. */
 static inline int gave(MdehChangeResult found, uint32_t number, uint32_t depth) {
-    return found.number == number && found.depth == depth;
+    return found.number == number && found.attribute == 0 && found.depth == depth;
 }
 
-/* Whether a lookup was refused with this number and gave this depth. */
+/* Whether a lookup was refused with this number and gave this depth, and nothing else. */
 static inline int missed(MdehLookupResult found, uint32_t number, uint32_t depth) {
-    return found.number == number && found.depth == depth && found.payload == 0 && found.reads == 0;
+    return found.number == number && found.attribute == 0 && found.depth == depth && found.payload == 0
+        && found.reads == 0;
 }
 
 /* The four records of document 01's table, one after the other, and the deletes back. */

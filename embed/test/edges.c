@@ -4,6 +4,7 @@
 #include "layout.h"
 #include "lent.h"
 #include "model.h"
+#include "shapes.h"
 
 #include <string.h>
 
@@ -14,15 +15,20 @@ LAID(marks_laid, offsetof(MdehShape, signs) == 24);
 LAID(key_laid, sizeof(MdehKey) == 16 && sizeof(MdehIndex) == 32);
 LAID(query_laid, sizeof(MdehQuery) == 32 && offsetof(MdehQuery, values) == 16);
 LAID(range_laid, sizeof(MdehRange) == 48 && offsetof(MdehRange, low) == 16 && offsetof(MdehRange, high) == 32);
-LAID(change_laid, sizeof(MdehChangeResult) == 8 && offsetof(MdehChangeResult, depth) == 4);
-LAID(lookup_laid, sizeof(MdehLookupResult) == 16 && offsetof(MdehLookupResult, reads) == 8);
-LAID(found_laid, offsetof(MdehLookupResult, payload) == 4 && offsetof(MdehLookupResult, depth) == 12);
+LAID(make_laid, sizeof(MdehMakeResult) == 8 && offsetof(MdehMakeResult, attribute) == 4);
+LAID(change_laid, sizeof(MdehChangeResult) == 12 && offsetof(MdehChangeResult, depth) == 8);
+LAID(changed_laid, offsetof(MdehChangeResult, attribute) == 4 && offsetof(MdehLookupResult, attribute) == 4);
+LAID(lookup_laid, sizeof(MdehLookupResult) == 20 && offsetof(MdehLookupResult, reads) == 12);
+LAID(found_laid, offsetof(MdehLookupResult, payload) == 8 && offsetof(MdehLookupResult, depth) == 16);
 LAID(listed_laid, sizeof(MdehQueryResult) == 32 && offsetof(MdehQueryResult, written) == 8);
 LAID(counts_laid, offsetof(MdehQueryResult, total) == 16 && offsetof(MdehQueryResult, reads) == 24);
-LAID(check_laid, sizeof(MdehCheckResult) == 8 && offsetof(MdehCheckResult, sound) == 4);
+LAID(check_laid, sizeof(MdehCheckResult) == 12 && offsetof(MdehCheckResult, sound) == 8);
+LAID(checked_laid, offsetof(MdehCheckResult, attribute) == 4 && offsetof(MdehQueryResult, attribute) == 4);
 LAID(save_laid, sizeof(MdehSaveResult) == 16 && offsetof(MdehSaveResult, size) == 8);
 LAID(address_laid, sizeof(MdehAddressResult) == 16 && offsetof(MdehAddressResult, address) == 8);
 LAID(index_laid, sizeof(MdehIndexResult) == 40 && offsetof(MdehIndexResult, index) == 8);
+LAID(saved_laid, offsetof(MdehSaveResult, attribute) == 4 && offsetof(MdehAddressResult, attribute) == 4);
+LAID(indexed_laid, offsetof(MdehIndexResult, attribute) == 4);
 
 static const MdehShape small = {2, {2, 2, 0, 0}, 2, 0};
 static const MdehKey key = {{2, 1, 0, 0}};
@@ -44,7 +50,7 @@ static Memory filled(uint32_t count, size_t words, size_t pages) {
     Memory memory;
     uint32_t i;
     memset(&memory, 0, sizeof memory);
-    HOLDS(mdeh_fresh(small, LENT(memory, words, pages * MDEH_PAGE_BYTES(2))) == MDEH_ACCEPTED);
+    HOLDS(made(mdeh_fresh(small, LENT(memory, words, pages * MDEH_PAGE_BYTES(2))), MDEH_ACCEPTED));
     for (i = 0; i < count; i++)
         HOLDS(mdeh_insert(STORE(memory), keys[i], 10 + i).number == MDEH_ACCEPTED);
     return memory;
@@ -58,8 +64,8 @@ void empty_slices(void) {
         uint32_t *s = gone == 0 ? NULL : state, *d = gone == 1 ? NULL : directory, number = gone == 0 ? 1 : 2;
         uint8_t *p = gone == 2 ? NULL : pages;
         size_t words = gone == 1 ? 0 : 8, bytes = gone == 2 ? 0 : sizeof pages, n = gone == 0 ? 0 : MDEH_STATE_WORDS;
-        HOLDS(mdeh_fresh(small, s, n, d, words, p, bytes) == MDEH_REFUSED_MEMORY);
-        HOLDS(mdeh_fresh(small, state, MDEH_STATE_WORDS, directory, 8, pages, sizeof pages) == MDEH_ACCEPTED);
+        HOLDS(made(mdeh_fresh(small, s, n, d, words, p, bytes), MDEH_REFUSED_MEMORY));
+        HOLDS(made(mdeh_fresh(small, state, MDEH_STATE_WORDS, directory, 8, pages, sizeof pages), MDEH_ACCEPTED));
         HOLDS(gave(mdeh_insert(s, n, d, words, p, bytes, key, 13), number, 0));
         HOLDS(gave(mdeh_delete(s, n, d, words, p, bytes, key), number, 0));
         HOLDS(missed(mdeh_lookup(s, n, d, words, p, bytes, key), number, 0));
@@ -68,7 +74,7 @@ void empty_slices(void) {
         HOLDS(mdeh_range(s, n, d, words, p, bytes, any, out, sizeof out).number == number);
         HOLDS(mdeh_save(s, n, d, words, p, bytes, out, sizeof out).number == number);
         HOLDS(mdeh_save(state, MDEH_STATE_WORDS, directory, 8, pages, sizeof pages, out, sizeof out).size == 24);
-        HOLDS(mdeh_load(out, 24, s, n, d, words, p, bytes) == MDEH_REFUSED_MEMORY);
+        HOLDS(made(mdeh_load(out, 24, s, n, d, words, p, bytes), MDEH_REFUSED_MEMORY));
     }
     HOLDS(gave(mdeh_insert(state, MDEH_STATE_WORDS, directory, 8, pages, sizeof pages, key, 13), MDEH_ACCEPTED, 0));
     found = mdeh_query(state, MDEH_STATE_WORDS, directory, 8, pages, sizeof pages, all, NULL, 0);
@@ -76,7 +82,7 @@ void empty_slices(void) {
     found = mdeh_range(state, MDEH_STATE_WORDS, directory, 8, pages, sizeof pages, any, NULL, 0);
     HOLDS(found.number == MDEH_ACCEPTED && found.written == 0 && found.total == 1 && found.reads == 1);
     HOLDS(mdeh_save(state, MDEH_STATE_WORDS, directory, 8, pages, sizeof pages, NULL, 0).number == MDEH_REFUSED_MEMORY);
-    HOLDS(mdeh_load(NULL, 0, state, MDEH_STATE_WORDS, directory, 8, pages, sizeof pages) == MDEH_REFUSED_FILE);
+    HOLDS(made(mdeh_load(NULL, 0, state, MDEH_STATE_WORDS, directory, 8, pages, sizeof pages), MDEH_REFUSED_FILE));
 }
 
 /* Ranges over a store of the leaves 0 (one record), 100 (two), 101 (one) and 11 (none). */

@@ -2,6 +2,7 @@
 
 #include "lent.h"
 #include "model_file.h"
+#include "shapes.h"
 
 #include <string.h>
 
@@ -20,7 +21,7 @@ typedef struct {
 static uint64_t seed = 1;
 
 /* How often each number came since the last `all_came`. */
-static unsigned long came[MDEH_REFUSED_CONTENT + 1];
+static unsigned long came[MDEH_REFUSED_CAPACITY + 1];
 
 /* Numbers that have to have come. */
 static void all_came(const uint32_t *numbers, size_t count) {
@@ -88,12 +89,12 @@ static void compare_loaded(Slices *slices, const Model *model, const uint8_t *fi
     compare_save(slices, size + below(&seed, 30), file, size);
 }
 
-/* Loads a file into memory of these lengths: the number, and all that is written. Returns the number. */
+/* Loads a file into memory of these lengths: number and attribute, and all that is written. Returns the number. */
 static uint32_t compare_load(const uint8_t *file, size_t size, size_t state, size_t words, size_t bytes) {
     static Model model;
     Slices slices = lend_slices(state, words, bytes);
     Lent lent = lend_bytes(&seed, size);
-    uint32_t number, wanted;
+    MdehMakeResult loaded, wanted;
     /* a state that is too short is refused where no memory would be */
     if (state < MDEH_STATE_WORDS)
         wanted = model_load(&model, file, size, 0, 0);
@@ -101,17 +102,17 @@ static uint32_t compare_load(const uint8_t *file, size_t size, size_t state, siz
         wanted = model_load(&model, file, size, words, bytes);
     memcpy(bytes_of(&lent), file, size);
     lend_again(&lent);
-    number = mdeh_load(bytes_of(&lent), size, STORE(slices));
-    HOLDS(number == wanted);
+    loaded = mdeh_load(bytes_of(&lent), size, STORE(slices));
+    HOLDS(loaded.number == wanted.number && loaded.attribute == wanted.attribute);
     HOLDS(unchanged_from(&lent, 0));
-    if (number == MDEH_ACCEPTED)
+    if (loaded.number == MDEH_ACCEPTED)
         compare_loaded(&slices, &model, file, size);
     else
         HOLDS(slices_unchanged(&slices));
-    came[number]++;
+    came[loaded.number]++;
     take_back(&lent);
     take_slices_back(&slices);
-    return number;
+    return loaded.number;
 }
 
 /* A shape within its bounds, with marks in one of two. */
@@ -136,7 +137,7 @@ static MdehKey random_key(const MdehShape *shape) {
 
 /* A set of so many records, less those that are refused, one payload in four 0. */
 static void random_set(Model *model, MdehShape shape, uint32_t most) {
-    HOLDS(model_fresh(model, shape, 4096, 100 * MDEH_PAGE_BYTES(shape.capacity)) == MDEH_ACCEPTED);
+    HOLDS(made(model_fresh(model, shape, 4096, 100 * MDEH_PAGE_BYTES(shape.capacity)), MDEH_ACCEPTED));
     for (; most > 0; most--)
         model_join(model, random_key(&shape), below(&seed, 4) ? 1 + below(&seed, 1000) : 0);
 }
@@ -160,7 +161,7 @@ void file_layout(void) {
     Slices slices = lend_slices(MDEH_STATE_WORDS, 8, 4 * MDEH_PAGE_BYTES(3));
     uint32_t i;
     HOLDS(MDEH_FILE_BYTES(0) == 24 && MDEH_FILE_BYTES(4) == 72);
-    HOLDS(mdeh_fresh(drives, STORE(slices)) == MDEH_ACCEPTED);
+    HOLDS(made(mdeh_fresh(drives, STORE(slices)), MDEH_ACCEPTED));
     lend_slices_again(&slices);
     compare_save(&slices, 100, empty, 24);
     HOLDS(mdeh_insert(STORE(slices), drive, 0x11223344).number == MDEH_ACCEPTED);
@@ -169,7 +170,7 @@ void file_layout(void) {
     words_of(&slices.state)[MDEH_STATE_WORDS - 1] |= 0xfffffffc;
     lend_slices_again(&slices);
     compare_save(&slices, 100, one, 36);
-    HOLDS(mdeh_fresh(small, STORE(slices)) == MDEH_ACCEPTED);
+    HOLDS(made(mdeh_fresh(small, STORE(slices)), MDEH_ACCEPTED));
     for (i = 0; i < 4; i++)
         HOLDS(mdeh_insert(STORE(slices), keys[i], 10 + i).number == MDEH_ACCEPTED);
     lend_slices_again(&slices);
@@ -181,7 +182,7 @@ void file_layout(void) {
 static Slices filled(const Model *model, size_t words, size_t bytes) {
     Slices slices = lend_slices(MDEH_STATE_WORDS + below(&seed, 2), words, bytes);
     uint32_t order[MOST_RECORDS], i, k;
-    HOLDS(mdeh_fresh(model->shape, STORE(slices)) == MDEH_ACCEPTED);
+    HOLDS(made(mdeh_fresh(model->shape, STORE(slices)), MDEH_ACCEPTED));
     for (i = 0; i < model->count; i++) {
         k = below(&seed, i + 1);
         order[i] = order[k];
@@ -240,7 +241,7 @@ void file_outputs(void) {
         size = model_save(&model, file);
         for (room = 0; room < size + 30; room++)
             compare_save(&slices, room, file, size);
-        /* 1 for a shape out of bounds or too few state words, then 2 for too few words or pages, into any output */
+        /* 1 for too few state words, then 2 for too few words or pages, into any output */
         words = ((size_t)1 << model.depth_limit) - 1;
         bytes = model.page_limit * pages - 1;
         for (room = 0; room < 5; room++) {
@@ -272,8 +273,9 @@ static uint32_t load_somewhere(const uint8_t *file, size_t size, const MdehShape
 }
 
 void file_changes(void) {
-    static const uint32_t numbers[6] = {MDEH_ACCEPTED, MDEH_REFUSED_SHAPE, MDEH_REFUSED_DEPTH, MDEH_REFUSED_PAGES,
-                                        MDEH_REFUSED_FILE, MDEH_REFUSED_CONTENT};
+    static const uint32_t numbers[8] = {MDEH_ACCEPTED,         MDEH_REFUSED_SHAPE, MDEH_REFUSED_WIDTH,
+                                        MDEH_REFUSED_CAPACITY, MDEH_REFUSED_DEPTH, MDEH_REFUSED_PAGES,
+                                        MDEH_REFUSED_FILE,     MDEH_REFUSED_CONTENT};
     static Model model;
     uint8_t file[ROOM];
     uint32_t i, n;
@@ -293,7 +295,7 @@ void file_changes(void) {
             file[place] = before;
         }
     }
-    all_came(numbers, 6);
+    all_came(numbers, 8);
 }
 
 void file_lengths(void) {
@@ -360,8 +362,8 @@ void file_counts(void) {
 }
 
 void file_memory(void) {
-    static const uint32_t numbers[6] = {MDEH_ACCEPTED, MDEH_REFUSED_SHAPE, MDEH_REFUSED_MEMORY, MDEH_REFUSED_DEPTH,
-                                        MDEH_REFUSED_PAGES, MDEH_REFUSED_CONTENT};
+    static const uint32_t numbers[5] = {MDEH_ACCEPTED, MDEH_REFUSED_MEMORY, MDEH_REFUSED_DEPTH, MDEH_REFUSED_PAGES,
+                                        MDEH_REFUSED_CONTENT};
     static Model model;
     uint8_t file[ROOM];
     uint32_t i, words, pages;
@@ -381,14 +383,18 @@ void file_memory(void) {
             file[size - 17] = 1;
             HOLDS(compare_load(file, size, state, 4096, 100 * page) == MDEH_REFUSED_CONTENT);
             file[size - 19] = 17;
+            HOLDS(compare_load(file, size, state, 4096, 100 * page) == MDEH_REFUSED_CAPACITY);
+            file[size - 24 + model.shape.attributes] = 0;
+            HOLDS(compare_load(file, size, state, 4096, 100 * page) == MDEH_REFUSED_WIDTH);
+            file[size - 24] = 5;
             HOLDS(compare_load(file, size, state, 4096, 100 * page) == MDEH_REFUSED_SHAPE);
             HOLDS(compare_load(file, size - 1, state, 4096, 100 * page) == MDEH_REFUSED_FILE);
             model_save(&model, file);
         }
-        HOLDS(mdeh_load(file, size, NULL, 0, NULL, 0, NULL, 0) == MDEH_REFUSED_MEMORY);
-        HOLDS(mdeh_load(NULL, 0, NULL, 0, NULL, 0, NULL, 0) == MDEH_REFUSED_FILE);
+        HOLDS(made(mdeh_load(file, size, NULL, 0, NULL, 0, NULL, 0), MDEH_REFUSED_MEMORY));
+        HOLDS(made(mdeh_load(NULL, 0, NULL, 0, NULL, 0, NULL, 0), MDEH_REFUSED_FILE));
     }
-    all_came(numbers, 6);
+    all_came(numbers, 5);
 }
 
 /* A file of random keys, one in three out of order or with a key twice, and up to two bits changed. */
@@ -426,8 +432,9 @@ static size_t random_bytes(uint8_t *file, size_t right) {
 }
 
 void file_bytes(void) {
-    static const uint32_t numbers[7] = {MDEH_ACCEPTED,      MDEH_REFUSED_SHAPE, MDEH_REFUSED_MEMORY, MDEH_REFUSED_DEPTH,
-                                        MDEH_REFUSED_PAGES, MDEH_REFUSED_FILE,  MDEH_REFUSED_CONTENT};
+    static const uint32_t numbers[9] = {MDEH_ACCEPTED,         MDEH_REFUSED_SHAPE,  MDEH_REFUSED_WIDTH,
+                                        MDEH_REFUSED_CAPACITY, MDEH_REFUSED_MEMORY, MDEH_REFUSED_DEPTH,
+                                        MDEH_REFUSED_PAGES,    MDEH_REFUSED_FILE,   MDEH_REFUSED_CONTENT};
     static const size_t right[4] = {0, 12, 16, 24};
     uint8_t file[ROOM];
     uint32_t i;
@@ -436,7 +443,7 @@ void file_bytes(void) {
         size_t size = i % 2 ? nearly_a_file(file) : random_bytes(file, right[i / 2 % 4]);
         load_somewhere(file, size, &shape);
     }
-    all_came(numbers, 7);
+    all_came(numbers, 9);
 }
 
 /* ---- damage */
@@ -470,6 +477,7 @@ static void compare_any(Slices *slices) {
         int ordinary = saved.number == MDEH_REFUSED_MEMORY || (saved.number == MDEH_REFUSED_UNSOUND && !check.sound);
         HOLDS(saved.size == 0 && unchanged_from(&out, 0));
         HOLDS(check.number == MDEH_ACCEPTED ? ordinary : saved.number == check.number);
+        HOLDS(saved.attribute == check.attribute);
     } else {
         uint8_t end[ROOM];
         HOLDS(check.number == MDEH_ACCEPTED);
@@ -485,7 +493,8 @@ static void compare_any(Slices *slices) {
 }
 
 void file_damage(void) {
-    static const uint32_t numbers[4] = {MDEH_ACCEPTED, MDEH_REFUSED_SHAPE, MDEH_REFUSED_MEMORY, MDEH_REFUSED_UNSOUND};
+    static const uint32_t numbers[6] = {MDEH_ACCEPTED,         MDEH_REFUSED_SHAPE,  MDEH_REFUSED_WIDTH,
+                                        MDEH_REFUSED_CAPACITY, MDEH_REFUSED_MEMORY, MDEH_REFUSED_UNSOUND};
     static Model model;
     uint8_t file[ROOM];
     uint32_t i, n;
@@ -496,7 +505,7 @@ void file_damage(void) {
         random_set(&model, shape, below(&seed, 61));
         size = model_save(&model, file);
         slices = lend_slices(MDEH_STATE_WORDS, 4096, 100 * MDEH_PAGE_BYTES(shape.capacity));
-        HOLDS(mdeh_load(file, size, STORE(slices)) == MDEH_ACCEPTED);
+        HOLDS(made(mdeh_load(file, size, STORE(slices)), MDEH_ACCEPTED));
         lend_slices_again(&slices);
         compare_any(&slices);
         for (n = 0; n < 20; n++) {
@@ -505,5 +514,5 @@ void file_damage(void) {
         }
         take_slices_back(&slices);
     }
-    all_came(numbers, 4);
+    all_came(numbers, 6);
 }

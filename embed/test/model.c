@@ -43,14 +43,22 @@ static int is_value(const MdehShape *shape, uint32_t j, int32_t number) {
     return model_least(shape, j) <= number && number <= model_greatest(shape, j);
 }
 
-int model_in_bounds(const MdehShape *shape) {
-    uint32_t j;
-    if (shape->attributes < 1 || shape->attributes > 4 || shape->capacity < 1 || shape->capacity > 16)
-        return 0;
-    for (j = 0; j < shape->attributes; j++)
-        if (shape->widths[j] < 1 || shape->widths[j] > 16)
-            return 0;
-    return 1;
+MdehMakeResult model_shape(const MdehShape *shape) {
+    MdehMakeResult amiss = {MDEH_ACCEPTED, 0};
+    uint32_t j = 0;
+    if (shape->attributes < 1 || shape->attributes > 4) {
+        amiss.number = MDEH_REFUSED_SHAPE;
+        return amiss;
+    }
+    while (j < shape->attributes && shape->widths[j] >= 1 && shape->widths[j] <= 16)
+        j++;
+    if (j < shape->attributes) {
+        amiss.number = MDEH_REFUSED_WIDTH;
+        amiss.attribute = j;
+    } else if (shape->capacity < 1 || shape->capacity > 16) {
+        amiss.number = MDEH_REFUSED_CAPACITY;
+    }
+    return amiss;
 }
 
 /* The split bits of four encodings, the first one highest: bit k of each attribute in turn, the most significant
@@ -130,14 +138,17 @@ static size_t leaves(const Model *model, Leaf *found) {
     return (size_t)(put_leaves(model, 0, model->count, 0, found) - found);
 }
 
-uint32_t model_fresh(Model *model, MdehShape shape, size_t words, size_t bytes) {
+MdehMakeResult model_fresh(Model *model, MdehShape shape, size_t words, size_t bytes) {
+    MdehMakeResult made = model_shape(&shape);
     size_t pages;
     uint32_t bits, j, signs = 0;
-    if (!model_in_bounds(&shape))
-        return MDEH_REFUSED_SHAPE;
+    if (made.number != MDEH_ACCEPTED)
+        return made;
     pages = bytes / MDEH_PAGE_BYTES(shape.capacity);
-    if (words == 0 || pages == 0)
-        return MDEH_REFUSED_MEMORY;
+    if (words == 0 || pages == 0) {
+        made.number = MDEH_REFUSED_MEMORY;
+        return made;
+    }
     bits = model_bits(&shape);
     for (j = 0; j < 4; j++)
         signs |= (uint32_t)is_marked(&shape, j) << j;
@@ -148,7 +159,7 @@ uint32_t model_fresh(Model *model, MdehShape shape, size_t words, size_t bytes) 
     model->depth_limit = 0;
     while (model->depth_limit < 12 && model->depth_limit < bits && words >> (model->depth_limit + 1))
         model->depth_limit++;
-    return MDEH_ACCEPTED;
+    return made;
 }
 
 /* How many stored keys share their first x split bits with a code. */
@@ -184,7 +195,7 @@ static void drop(Model *model, uint64_t code) {
 }
 
 MdehChangeResult model_insert(Model *model, MdehKey key, uint32_t payload) {
-    MdehChangeResult result = {0, 0};
+    MdehChangeResult result = {MDEH_ACCEPTED, 0, 0};
     if (!model_fits(&model->shape, key))
         result.number = MDEH_REFUSED_VALUE;
     else if (payload == 0)
@@ -211,7 +222,7 @@ uint32_t model_join(Model *model, MdehKey key, uint32_t payload) {
 }
 
 MdehChangeResult model_delete(Model *model, MdehKey key) {
-    MdehChangeResult result = {MDEH_REFUSED_VALUE, 0};
+    MdehChangeResult result = {MDEH_REFUSED_VALUE, 0, 0};
     uint64_t code = model_code(&model->shape, key);
     if (!model_fits(&model->shape, key))
         return result;
@@ -223,7 +234,7 @@ MdehChangeResult model_delete(Model *model, MdehKey key) {
 }
 
 MdehLookupResult model_lookup(const Model *model, MdehKey key) {
-    MdehLookupResult result = {MDEH_REFUSED_VALUE, 0, 0, 0};
+    MdehLookupResult result = {MDEH_REFUSED_VALUE, 0, 0, 0, 0};
     uint64_t code = model_code(&model->shape, key);
     if (!model_fits(&model->shape, key))
         return result;
@@ -274,7 +285,7 @@ static void list(MdehQueryResult *result, const MdehRecord *record, uint8_t *out
 }
 
 MdehQueryResult model_query(const Model *model, MdehQuery query, uint8_t *out, size_t out_bytes) {
-    MdehQueryResult result = {0, 0, 0, 0};
+    MdehQueryResult result = {MDEH_ACCEPTED, 0, 0, 0, 0};
     uint32_t given[4], wanted[4], j;
     Leaf found[MOST_RECORDS];
     size_t i, count = leaves(model, found);
@@ -325,7 +336,7 @@ static int leaf_meets(const MdehShape *shape, const MdehRange *range, const Leaf
 }
 
 MdehQueryResult model_range(const Model *model, MdehRange range, uint8_t *out, size_t out_bytes) {
-    MdehQueryResult result = {0, 0, 0, 0};
+    MdehQueryResult result = {MDEH_ACCEPTED, 0, 0, 0, 0};
     Leaf found[MOST_RECORDS];
     size_t i, count = leaves(model, found);
     result.number = range_number(&model->shape, &range);

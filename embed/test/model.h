@@ -20,8 +20,9 @@ typedef struct {
     ModelRecord records[MOST_RECORDS];
 } Model;
 
-/* Whether a shape is within its bounds. */
-int model_in_bounds(const MdehShape *shape);
+/* What is amiss in a shape: 1 for the attribute count, then 14 with the lowest attribute whose width is out of bounds,
+   then 15 for the capacity; 0 for nothing. */
+MdehMakeResult model_shape(const MdehShape *shape);
 
 /* The sum of the widths in use. */
 uint32_t model_bits(const MdehShape *shape);
@@ -43,8 +44,8 @@ uint64_t model_code(const MdehShape *shape, MdehKey key);
 /* The bytes of a record, its values in two's complement. */
 void model_put(uint8_t *place, const MdehRecord *record);
 
-/* The number of Fresh; where it is 0, the model has no records, and its shape no marks but those of attributes. */
-uint32_t model_fresh(Model *model, MdehShape shape, size_t words, size_t bytes);
+/* What Fresh gives; with 0 the model has no records, and its shape no marks but those of attributes. */
+MdehMakeResult model_fresh(Model *model, MdehShape shape, size_t words, size_t bytes);
 
 /* How deep a key that fits lies: the least x such that at most as many stored keys as the capacity says begin with its
    first x split bits. */

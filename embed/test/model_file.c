@@ -80,13 +80,14 @@ static int is_rising(const MdehShape *shape, const uint8_t *file, size_t count) 
     return 1;
 }
 
-uint32_t model_load(Model *model, const uint8_t *file, size_t size, size_t words, size_t bytes) {
+MdehMakeResult model_load(Model *model, const uint8_t *file, size_t size, size_t words, size_t bytes) {
+    MdehMakeResult made = {MDEH_REFUSED_FILE, 0};
     const uint8_t *end;
     MdehShape shape;
     size_t i, count;
-    uint32_t j, number;
+    uint32_t j;
     if (!is_whole(file, size))
-        return MDEH_REFUSED_FILE;
+        return made;
     end = file + size - 24;
     count = (size - 24) / 12;
     shape.attributes = end[0];
@@ -94,12 +95,15 @@ uint32_t model_load(Model *model, const uint8_t *file, size_t size, size_t words
         shape.widths[j] = end[1 + j];
     shape.capacity = end[5];
     shape.signs = end[6];
-    if (!model_in_bounds(&shape))
-        return MDEH_REFUSED_SHAPE;
-    if (!is_plain(&shape, end[7]) || !is_rising(&shape, file, count))
-        return MDEH_REFUSED_CONTENT;
-    number = model_fresh(model, shape, words, bytes);
-    for (i = 0; number == MDEH_ACCEPTED && i < count; i++)
-        number = model_join(model, key_at(&shape, file, i), (uint32_t)number32(file + 12 * i + 8));
-    return number;
+    made = model_shape(&shape);
+    if (made.number != MDEH_ACCEPTED)
+        return made;
+    if (!is_plain(&shape, end[7]) || !is_rising(&shape, file, count)) {
+        made.number = MDEH_REFUSED_CONTENT;
+        return made;
+    }
+    made = model_fresh(model, shape, words, bytes);
+    for (i = 0; made.number == MDEH_ACCEPTED && i < count; i++)
+        made.number = model_join(model, key_at(&shape, file, i), (uint32_t)number32(file + 12 * i + 8));
+    return made;
 }

@@ -10,6 +10,7 @@
 #include "lent.h"
 #include "model.h"
 #include "model_file.h"
+#include "shapes.h"
 #include "signs.h"
 
 #include <stdio.h>
@@ -24,7 +25,7 @@ typedef struct {
 } Run;
 
 /* How often each number came. */
-static unsigned long came[MDEH_REFUSED_CONTENT + 1];
+static unsigned long came[MDEH_REFUSED_CAPACITY + 1];
 
 /* The three slices of a store. */
 #define STORE(run) SLICE((run)->state), SLICE((run)->directory), bytes_of(&(run)->pages), (run)->pages.bytes
@@ -133,7 +134,7 @@ static size_t lent_pages(const Run *run) {
 
 /* After a call that lists records: its counts, and its output whole, whose copy the model wrote. */
 static void compare_listed(Run *run, Lent *out, MdehQueryResult found, MdehQueryResult model) {
-    HOLDS(found.number == model.number);
+    HOLDS(found.number == model.number && found.attribute == model.attribute);
     came[found.number]++;
     HOLDS(found.written == model.written && found.total == model.total && found.reads == model.reads);
     HOLDS(unchanged_from(out, 0));
@@ -175,7 +176,7 @@ static uint32_t depth_of(const Run *run, MdehKey key, uint32_t number) {
 static void compare_lookup(Run *run, MdehKey key) {
     MdehLookupResult found = mdeh_lookup(STORE(run), key), model = model_lookup(&run->model, key);
     HOLDS(found.number == model.number && found.payload == model.payload && found.reads == model.reads);
-    HOLDS(found.depth == model.depth);
+    HOLDS(found.attribute == model.attribute && found.depth == model.depth);
     came[found.number]++;
     HOLDS(unchanged(run));
     if (model.number != MDEH_REFUSED_VALUE) {
@@ -201,12 +202,19 @@ static void compare_change(Run *run, uint32_t number, uint32_t wanted) {
     HOLDS(unchanged_from(&run->pages, lent_pages(run)));
     keep(run);
     check = mdeh_check(STORE(run));
-    HOLDS(check.number == MDEH_ACCEPTED && check.sound == 1);
+    HOLDS(check.number == MDEH_ACCEPTED && check.attribute == 0 && check.sound == 1);
     compare_query(run, all, MDEH_RECORD_BYTES * (uint32_t)run->model.count + 5);
 }
 
-/* The same of an insert or a delete of a key, with its depth. */
+/* The same of a Fresh or a load, with the attribute. */
+static void compare_made(Run *run, MdehMakeResult found, MdehMakeResult model) {
+    HOLDS(found.attribute == model.attribute);
+    compare_change(run, found.number, model.number);
+}
+
+/* The same of an insert or a delete of a key, with attribute and depth. */
 static void compare_changed(Run *run, MdehKey key, MdehChangeResult found, MdehChangeResult model) {
+    HOLDS(found.attribute == model.attribute);
     HOLDS(found.depth == model.depth && found.depth == depth_of(run, key, found.number));
     compare_change(run, found.number, model.number);
 }
@@ -236,7 +244,7 @@ static size_t save(Run *run, Lent *out) {
     MdehSaveResult saved;
     *out = lend_bytes(&run->seed, size + below(&run->seed, 40));
     saved = mdeh_save(STORE(run), bytes_of(out), out->bytes);
-    HOLDS(saved.number == MDEH_ACCEPTED && saved.size == size);
+    HOLDS(saved.number == MDEH_ACCEPTED && saved.attribute == 0 && saved.size == size);
     HOLDS(memcmp(bytes_of(out), file, size) == 0);
     HOLDS(unchanged_from(out, size) && unchanged(run));
     if (below(&run->seed, 4) == 0)
@@ -250,7 +258,7 @@ static void carry(Run *run) {
     Run moved = *run;
     Lent out;
     size_t size = save(run, &out);
-    uint32_t number, wanted;
+    MdehMakeResult loaded, wanted;
     int whole;
     moved.state = lend_words(&run->seed, MDEH_STATE_WORDS - 1 + below(&run->seed, 8));
     moved.directory = lend_words(&run->seed, below(&run->seed, 400));
@@ -259,12 +267,12 @@ static void carry(Run *run) {
     whole = moved.state.bytes >= 4 * MDEH_STATE_WORDS;
     wanted = model_load(&moved.model, bytes_of(&out), size, whole ? moved.directory.bytes / 4 : 0,
                         whole ? moved.pages.bytes : 0);
-    number = mdeh_load(bytes_of(&out), size, STORE(&moved));
+    loaded = mdeh_load(bytes_of(&out), size, STORE(&moved));
     HOLDS(unchanged_from(&out, 0));
     take_back(&out);
-    compare_change(&moved, number, wanted);
+    compare_made(&moved, loaded, wanted);
     run->seed = moved.seed;
-    if (number != MDEH_ACCEPTED) {
+    if (loaded.number != MDEH_ACCEPTED) {
         take_store_back(&moved);
         return;
     }
@@ -309,10 +317,18 @@ static void call(Run *run) {
     }
 }
 
+/* Whether a call on a damaged store gave what is amiss in its shape; where nothing is, a number up to `most`. */
+static int told(const Run *run, uint32_t number, uint32_t attribute, uint32_t most) {
+    MdehShape shape = mdeh_shape(words_of(&run->state));
+    MdehMakeResult amiss = model_shape(&shape);
+    int right = amiss.number == MDEH_ACCEPTED ? number != MDEH_REFUSED_SHAPE && number <= most : number == amiss.number;
+    return right && attribute == amiss.attribute;
+}
+
 /* After a change on a damaged store: a number of the table, the depth in the word of the key's cell, a refused call
    changes nothing, the guards stay. */
 static void compare_damaged(Run *run, MdehKey key, MdehChangeResult found) {
-    HOLDS(found.number <= MDEH_REFUSED_PAYLOAD);
+    HOLDS(told(run, found.number, found.attribute, MDEH_REFUSED_PAYLOAD));
     came[found.number]++;
     HOLDS(found.depth == depth_of(run, key, found.number));
     HOLDS(found.number == MDEH_ACCEPTED || unchanged(run));
@@ -331,6 +347,7 @@ static void calls_on_damage(Run *run) {
     MdehLookupResult looked;
     MdehChangeResult inserted;
     MdehSaveResult saved;
+    MdehCheckResult check;
     uint32_t payload = random_payload(run), early;
     uint32_t small = below(&run->seed, 5), word = below(&run->seed, 2) ? small : (uint32_t)number64(&run->seed);
     switch (below(&run->seed, 3)) {
@@ -340,23 +357,28 @@ static void calls_on_damage(Run *run) {
     }
     keep(run);
     found = mdeh_query(STORE(run), query, out, sizeof out);
-    HOLDS(found.number <= MDEH_REFUSED_UNSOUND && found.written <= found.total && found.written <= sizeof out / 12);
+    HOLDS(told(run, found.number, found.attribute, MDEH_REFUSED_UNSOUND));
+    HOLDS(found.written <= found.total && found.written <= sizeof out / 12);
     found = mdeh_range(STORE(run), range, out, sizeof out);
-    HOLDS(found.number <= MDEH_REFUSED_INTERVAL && found.written <= found.total && found.written <= sizeof out / 12);
+    HOLDS(told(run, found.number, found.attribute, MDEH_REFUSED_INTERVAL));
+    HOLDS(found.written <= found.total && found.written <= sizeof out / 12);
     saved = mdeh_save(STORE(run), out, sizeof out);
-    HOLDS(saved.number <= MDEH_REFUSED_UNSOUND && saved.size <= sizeof out);
+    HOLDS(told(run, saved.number, saved.attribute, MDEH_REFUSED_UNSOUND) && saved.size <= sizeof out);
     HOLDS(saved.number == MDEH_ACCEPTED ? saved.size >= 24 : saved.size == 0);
     looked = mdeh_lookup(STORE(run), key);
-    HOLDS(looked.number <= MDEH_REFUSED_UNSOUND && looked.depth == depth_of(run, key, looked.number));
-    HOLDS(mdeh_check(STORE(run)).number <= MDEH_REFUSED_MEMORY);
+    HOLDS(told(run, looked.number, looked.attribute, MDEH_REFUSED_UNSOUND));
+    HOLDS(looked.depth == depth_of(run, key, looked.number));
+    check = mdeh_check(STORE(run));
+    HOLDS(told(run, check.number, check.attribute, MDEH_REFUSED_MEMORY));
     HOLDS(unchanged(run));
     inserted = mdeh_insert(STORE(run), key, payload);
     compare_damaged(run, key, inserted);
-    /* 1, 2 and 3 are those of lookup; then a payload of 0 gives 11 whatever the store holds, and no other does */
+    /* 1, 14, 15, 2 and 3 are those of lookup; then a payload of 0 gives 11 whatever the store holds, and no other
+       does */
     early = looked.number;
-    if (payload == 0 && (early == MDEH_ACCEPTED || early > MDEH_REFUSED_VALUE))
+    if (payload == 0 && (early == MDEH_ACCEPTED || (early > MDEH_REFUSED_VALUE && early <= MDEH_REFUSED_UNSOUND)))
         early = MDEH_REFUSED_PAYLOAD;
-    HOLDS(payload == 0 ? inserted.number == early : inserted.number <= MDEH_REFUSED_UNSOUND);
+    HOLDS(payload == 0 ? inserted.number == early : inserted.number != MDEH_REFUSED_PAYLOAD);
     compare_damaged(run, key, mdeh_delete(STORE(run), key));
 }
 
@@ -364,20 +386,21 @@ static void calls_on_damage(Run *run) {
 static void list(uint64_t seed) {
     Run run;
     MdehShape shape;
-    uint32_t turn, wanted, number;
+    MdehMakeResult made, wanted;
+    uint32_t turn;
+    int whole;
     first_seed = run.seed = seed;
     shape = random_shape(&run.seed);
     run.state = lend_words(&run.seed, MDEH_STATE_WORDS - 1 + below(&run.seed, 8));
     run.directory = lend_words(&run.seed, below(&run.seed, below(&run.seed, 8) ? 300 : 6000));
     run.pages = lend_bytes(&run.seed, below(&run.seed, 5000));
-    wanted = model_fresh(&run.model, shape, run.directory.bytes / 4, run.pages.bytes);
-    if (wanted == MDEH_ACCEPTED && run.state.bytes < 4 * MDEH_STATE_WORDS)
-        wanted = MDEH_REFUSED_MEMORY;
-    number = mdeh_fresh(shape, STORE(&run));
-    compare_change(&run, number, wanted);
-    for (turn = 0; number == MDEH_ACCEPTED && turn < 300; turn++)
+    whole = run.state.bytes >= 4 * MDEH_STATE_WORDS;
+    wanted = model_fresh(&run.model, shape, whole ? run.directory.bytes / 4 : 0, whole ? run.pages.bytes : 0);
+    made = mdeh_fresh(shape, STORE(&run));
+    compare_made(&run, made, wanted);
+    for (turn = 0; made.number == MDEH_ACCEPTED && turn < 300; turn++)
         call(&run);
-    for (turn = 0; number == MDEH_ACCEPTED && turn < 20; turn++)
+    for (turn = 0; made.number == MDEH_ACCEPTED && turn < 20; turn++)
         calls_on_damage(&run);
     take_store_back(&run);
 }
@@ -416,9 +439,14 @@ int main(int count, char **arguments) {
     file_memory();
     file_bytes();
     file_damage();
+    shapes_made();
+    shapes_of_states();
+    shapes_of_files();
+    shapes_of_addresses();
+    shape_reasons();
     for (seed = 1; seed <= 1500; seed++)
         list(seed * 0x9e3779b97f4a7c15);
-    for (number = MDEH_ACCEPTED; number <= MDEH_REFUSED_CONTENT; number++)
+    for (number = MDEH_ACCEPTED; number <= MDEH_REFUSED_CAPACITY; number++)
         HOLDS(came[number] > 0);
     printf("%lu comparisons\n", compared);
     return 0;

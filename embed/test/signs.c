@@ -3,6 +3,7 @@
 #include "depths.h"
 #include "lent.h"
 #include "model.h"
+#include "shapes.h"
 
 #include <string.h>
 
@@ -20,7 +21,7 @@ static const MdehQuery all = {{0, 0, 0, 0}, {0, 0, 0, 0}};
 
 static void fresh(Memory *memory, MdehShape shape) {
     memset(memory, 0x5a, sizeof *memory);
-    HOLDS(mdeh_fresh(shape, STORE(memory)) == MDEH_ACCEPTED);
+    HOLDS(made(mdeh_fresh(shape, STORE(memory)), MDEH_ACCEPTED));
 }
 
 /* ---- bounds */

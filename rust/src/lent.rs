@@ -1,6 +1,6 @@
 //! Slices lent to calls, between guards that no call may change.
 use crate::host::{self, CheckResult, HostQuery, HostRange, QueryResult, Refused, SaveResult, Shape};
-use crate::host::{ChangeResult, LookupResult};
+use crate::host::{ChangeResult, LookupResult, MakeResult};
 use crate::plain::image::{Image, Laid, DEPTH, DEPTH_LIMIT, PAGE_LIMIT, SIGNS, STATE};
 use crate::plain::kept::Change;
 use crate::plain::model::Model;
@@ -107,17 +107,18 @@ impl LentStore {
         store
     }
 
-    /// A store that a load makes of a file in memory, or the number of the refusal, with nothing changed. "Words past the
-    /// first 2^L and bytes past the P pages are never changed", and neither is what lies past the state.
-    pub fn load(random: &mut Random, file: &[u8], memory: &Image) -> Result<LentStore, u32> {
+    /// A store that a load makes of a file in memory, or the refusal, with nothing changed. "Words past the first 2^L
+    /// and bytes past the P pages are never changed", and neither is what lies past the state.
+    pub fn load(random: &mut Random, file: &[u8], memory: &Image) -> Result<LentStore, Refused> {
         let mut store = LentStore::new(random, memory);
         let file = lend_bytes(random, file);
         let LentStore { state, dir, pages } = &mut store;
-        let answer = host::load(file.slice(), state.slice_mut(), dir.slice_mut(), pages.slice_mut());
+        let MakeResult { number, attribute } =
+            host::load_result(file.slice(), state.slice_mut(), dir.slice_mut(), pages.slice_mut());
         assert!(file.unchanged(), "the file is changed");
-        if let Err(number) = answer {
+        if let Err(refused) = answer(number, attribute, (), ()) {
             store.assert_unchanged();
-            return Err(number);
+            return Err(refused);
         }
         let (p, l) = (state.slice()[PAGE_LIMIT] as usize, state.slice()[DEPTH_LIMIT]);
         let size = 2 + 12 * state.slice()[5] as usize;
@@ -130,31 +131,31 @@ impl LentStore {
         Ok(store)
     }
 
-    /// The bytes of the file, or the number of the refusal, which leaves the output alone.
-    pub fn save(&self, out: &mut Lent<u8>) -> Result<u64, u32> {
+    /// The bytes of the file, or the refusal, which leaves the output alone.
+    pub fn save(&self, out: &mut Lent<u8>) -> Result<u64, Refused> {
         let (state, dir, pages) = (self.state.slice(), self.dir.slice(), self.pages.slice());
-        let SaveResult { number, size } = host::save_result(state, dir, pages, out.slice_mut());
+        let SaveResult { number, attribute, size } = host::save_result(state, dir, pages, out.slice_mut());
         self.assert_unchanged();
         match number {
             0 => assert!(out.unchanged_from(size as usize), "what lies behind the file is changed"),
             _ => assert!(out.unchanged(), "the output is changed"),
         }
-        answer(number, size, 0)
+        answer(number, attribute, size, 0)
     }
 
     /// The payload, the reads and the depth, or the refusal.
     pub fn lookup(&self, key: [i32; 4]) -> Result<(u32, u32, u32), Refused> {
-        let LookupResult { number, payload, reads, depth } =
+        let LookupResult { number, attribute, payload, reads, depth } =
             host::lookup_result(self.state.slice(), self.dir.slice(), self.pages.slice(), key);
         self.assert_unchanged();
-        let (payload, reads) =
-            answer(number, (payload, reads), (0, 0)).map_err(|number| with_depth(number, depth))?;
+        let found = answer(number, attribute, (payload, reads), (0, 0));
+        let (payload, reads) = found.map_err(|refused| with_depth(refused, depth))?;
         Ok((payload, reads, depth))
     }
 
-    /// Written, total and reads, or the number of the refusal. Attributes are given by any number but 0, and have
-    /// any value where they are free.
-    pub fn query(&self, query: [Option<i32>; 4], out: &mut Lent<u8>) -> Result<(u64, u64, u64), u32> {
+    /// Written, total and reads, or the refusal. Attributes are given by any number but 0, and have any value where
+    /// they are free.
+    pub fn query(&self, query: [Option<i32>; 4], out: &mut Lent<u8>) -> Result<(u64, u64, u64), Refused> {
         let given = [0, 1, 2, 3].map(|j| if query[j].is_some() { [1, 2, 1 << 31, u32::MAX][j] } else { 0 });
         let values = [0, 1, 2, 3].map(|j| query[j].unwrap_or([-1, 1, 1 << 16, i32::MIN][j]));
         let query = HostQuery { given, values };
@@ -163,9 +164,9 @@ impl LentStore {
         self.listed(result, out)
     }
 
-    /// Written, total and reads, or the number of the refusal. Attributes are given by any number but 0, and have
-    /// any ends where they are free.
-    pub fn range(&self, range: Intervals, out: &mut Lent<u8>) -> Result<(u64, u64, u64), u32> {
+    /// Written, total and reads, or the refusal. Attributes are given by any number but 0, and have any ends where they
+    /// are free.
+    pub fn range(&self, range: Intervals, out: &mut Lent<u8>) -> Result<(u64, u64, u64), Refused> {
         let given = [0, 1, 2, 3].map(|j| if range[j].is_some() { [u32::MAX, 1 << 31, 2, 1][j] } else { 0 });
         let any = [(1, 0), (i32::MAX, i32::MIN), (-1, 1 << 16), (5, -2)];
         let ends = [0, 1, 2, 3].map(|j| range[j].unwrap_or(any[j]));
@@ -176,20 +177,20 @@ impl LentStore {
     }
 
     /// What a query or a range returned, which leaves the store and the output's guards alone.
-    fn listed(&self, result: QueryResult, out: &Lent<u8>) -> Result<(u64, u64, u64), u32> {
-        let QueryResult { number, written, total, reads } = result;
+    fn listed(&self, result: QueryResult, out: &Lent<u8>) -> Result<(u64, u64, u64), Refused> {
+        let QueryResult { number, attribute, written, total, reads } = result;
         self.assert_unchanged();
         assert!(out.guards_stay(), "a guard of the output is changed");
-        answer(number, (written, total, reads), (0, 0, 0))
+        answer(number, attribute, (written, total, reads), (0, 0, 0))
     }
 
-    /// Whether the store is sound, or the number of the refusal.
-    pub fn check(&self) -> Result<bool, u32> {
-        let CheckResult { number, sound } =
+    /// Whether the store is sound, or the refusal.
+    pub fn check(&self) -> Result<bool, Refused> {
+        let CheckResult { number, attribute, sound } =
             host::check_result(self.state.slice(), self.dir.slice(), self.pages.slice());
         self.assert_unchanged();
         assert!(sound <= 1, "check says {sound}");
-        answer(number, sound == 1, false)
+        answer(number, attribute, sound == 1, false)
     }
 
     /// Adds a record: the depth of the key's leaf afterwards, or the refusal.
@@ -217,10 +218,10 @@ impl LentStore {
 
     /// After a change: "All of them return the number and change nothing"; "Words past the first 2^L and bytes past the
     /// P pages are never changed", and neither are shape, P, L and what lies past the state.
-    fn settle(&mut self, ChangeResult { number, depth }: ChangeResult) -> Result<u32, Refused> {
-        if number != 0 {
+    fn settle(&mut self, ChangeResult { number, attribute, depth }: ChangeResult) -> Result<u32, Refused> {
+        if let Err(refused) = answer(number, attribute, (), ()) {
             self.assert_unchanged();
-            return Err(with_depth(number, depth));
+            return Err(with_depth(refused, depth));
         }
         let state = self.state.before();
         let (p, l) = (state[PAGE_LIMIT] as usize, state[DEPTH_LIMIT]);
@@ -244,19 +245,20 @@ impl LentStore {
     }
 }
 
-/// Values beside number 0; any other number, which has zeros beside it.
-fn answer<T: PartialEq + Debug>(number: u32, values: T, zeros: T) -> Result<T, u32> {
+/// Values beside number 0; any other number, which has zeros beside it. An attribute stands beside 14 alone.
+fn answer<T: PartialEq + Debug>(number: u32, attribute: u32, values: T, zeros: T) -> Result<T, Refused> {
+    assert!(number == 14 || attribute == 0, "attribute {attribute} beside number {number}");
     if number == 0 {
         return Ok(values);
     }
     assert_eq!(values, zeros, "values beside number {number}");
-    Err(number)
+    Err(Refused { number, attribute, depth: 0 })
 }
 
 /// A refusal with a depth beside its number: "no other number carries a depth" than 5.
-fn with_depth(number: u32, depth: u32) -> Refused {
-    assert!(number == 5 || depth == 0, "depth {depth} beside number {number}");
-    Refused { number, depth }
+fn with_depth(refused: Refused, depth: u32) -> Refused {
+    assert!(refused.number == 5 || depth == 0, "depth {depth} beside number {}", refused.number);
+    Refused { depth, ..refused }
 }
 
 /// A record that a lookup found in another leaf before an accepted change, and that it does not find with the same

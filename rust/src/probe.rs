@@ -141,7 +141,7 @@ pub fn insert_double(state: &mut [u32], dir: &mut [u32], split: Split) -> Option
     let words: &mut [u32; STATE] = state.first_chunk_mut()?;
     let before = State::of(words);
     let (limit, t) = (u64::from(before.depth_limit), u64::from(before.depth));
-    if shape_refused(before.shape) || t > limit || split.step >= limit {
+    if shape_refused(before.shape).is_some() || t > limit || split.step >= limit {
         return None;
     }
     if !Widths::new(&used_widths(before.shape))?.directory_fits(limit, dir.len()) {

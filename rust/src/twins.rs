@@ -100,7 +100,7 @@ impl Twins {
     fn compare_lists(
         &self,
         count: &mut Comparisons,
-        found: [Result<(u64, u64, u64), u32>; 2],
+        found: [Result<(u64, u64, u64), Refused>; 2],
         outs: &[Lent<u8>; 2],
         about: Arguments,
     ) -> u32 {
@@ -108,7 +108,7 @@ impl Twins {
         let written = found[0].map_or(0, |(written, ..)| RECORD * written as usize);
         let (listed, rest) = outs[0].slice().split_at(written);
         count.same(&[&self.encoded_records(listed), rest].concat()[..], outs[1].slice(), about);
-        found[0].err().unwrap_or(0)
+        found[0].map_or_else(|refused| refused.number, |_| 0)
     }
 
     /// A key near those stored, one in sixteen with a bit changed that may be past a width.

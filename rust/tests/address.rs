@@ -1,7 +1,8 @@
 //! The address map and its inverse, compared with the doubling array and with the formula of document 01, which know no
 //! marks.
 use mdeh_tests::compare::Comparisons;
-use mdeh_tests::host::{self, AddressResult, Index, IndexResult, Shape};
+use mdeh_tests::host::{self, AddressResult, Index, IndexResult, Refused, Shape};
+use mdeh_tests::plain::refusal::{bad_width, refusal};
 use mdeh_tests::random::Random;
 use mdeh_tests::reference::{formula, steps, DoublingArray};
 use mdeh_tests::shapes::{all_widths, marked, random_widths};
@@ -37,11 +38,11 @@ fn every_entry_of_every_shape_of_up_to_ten_bits() {
             let array = DoublingArray::new(&widths, total as usize);
             assert_eq!(array.vectors.len(), 1 << total);
             compare_with_array(&mut count, shape, &array);
-            index_refused(&mut count, shape, 1 << total, 3);
+            index_refused(&mut count, shape, 1 << total, refusal(3));
             for j in 0..4 {
                 let mut index = [0; 4];
                 index[j] = 1 << shape.widths[j];
-                address_refused(&mut count, shape, index, 3);
+                address_refused(&mut count, shape, index, refusal(3));
             }
         }
     }
@@ -102,8 +103,7 @@ fn random_addresses_of_shapes_of_11_to_64_bits() {
             for _ in 0..500 {
                 let a = random.short(total);
                 let about = format_args!("{shape:?}, address {a}");
-                let index =
-                    host::index(shape, a).unwrap_or_else(|number| panic!("{about}: refused with {number}"));
+                let index = host::index(shape, a).unwrap_or_else(|refused| panic!("{about}: {refused:?}"));
                 count.same(formula(&steps, index), a as u128, about);
                 count.same(host::address(shape, index), Ok(a), about);
             }
@@ -128,7 +128,7 @@ fn last_vector_and_first_address_past_it() {
             count.same(host::index(shape, last), Ok(ones), about);
             if total < 64 {
                 for past in [last + 1, last + 2, last + (1 << 32), u64::MAX] {
-                    index_refused(&mut count, shape, past, 3);
+                    index_refused(&mut count, shape, past, refusal(3));
                 }
             }
         }
@@ -141,38 +141,40 @@ fn last_vector_and_first_address_past_it() {
 
 // ---- refused calls
 
-/// Both calls are refused with this number, and return zeros beside it.
-fn both_refused(count: &mut Comparisons, shape: Shape, index: [u64; 4], address: u64, number: u32) {
-    address_refused(count, shape, index, number);
-    index_refused(count, shape, address, number);
+/// Both calls are refused so, and return zeros beside the number and the attribute.
+fn both_refused(count: &mut Comparisons, shape: Shape, index: [u64; 4], address: u64, refused: Refused) {
+    address_refused(count, shape, index, refused);
+    index_refused(count, shape, address, refused);
 }
 
-fn address_refused(count: &mut Comparisons, shape: Shape, index: [u64; 4], number: u32) {
-    let expected = AddressResult { number, address: 0 };
+fn address_refused(count: &mut Comparisons, shape: Shape, index: [u64; 4], refused: Refused) {
+    let Refused { number, attribute, .. } = refused;
+    let expected = AddressResult { number, attribute, address: 0 };
     count.same(host::address_result(shape, index), expected, format_args!("{shape:?}, {index:?}"));
 }
 
-fn index_refused(count: &mut Comparisons, shape: Shape, address: u64, number: u32) {
-    let expected = IndexResult { number, index: Index { i0: 0, i1: 0, i2: 0, i3: 0 } };
+fn index_refused(count: &mut Comparisons, shape: Shape, address: u64, refused: Refused) {
+    let Refused { number, attribute, .. } = refused;
+    let expected = IndexResult { number, attribute, index: Index { i0: 0, i1: 0, i2: 0, i3: 0 } };
     count.same(host::index_result(shape, address), expected, format_args!("{shape:?}, address {address}"));
 }
 
-/// Shapes with one number outside its bounds.
-fn bad_shapes() -> Vec<Shape> {
+/// Shapes with one number outside its bounds, and the refusal of each.
+fn bad_shapes() -> Vec<(Shape, Refused)> {
     let mut shapes = Vec::new();
     for attributes in [0, 5, 6, 257, 65_536 + 2, 1 << 31, u32::MAX] {
-        shapes.push(Shape { attributes, ..Shape::new(&[2; 4], 2) });
+        shapes.push((Shape { attributes, ..Shape::new(&[2; 4], 2) }, refusal(1)));
     }
     for attributes in 1..=4 {
-        for j in 0..attributes as usize {
+        for j in 0..attributes {
             for width in BAD_WIDTHS {
                 let mut widths = [2; 4];
-                widths[j] = width;
-                shapes.push(Shape { attributes, ..Shape::new(&widths, 2) });
+                widths[j as usize] = width;
+                shapes.push((Shape { attributes, ..Shape::new(&widths, 2) }, bad_width(j)));
             }
         }
         for capacity in [0, 17, 257, 65_536 + 1, u32::MAX] {
-            shapes.push(Shape { attributes, ..Shape::new(&[2; 4], capacity) });
+            shapes.push((Shape { attributes, ..Shape::new(&[2; 4], capacity) }, refusal(15)));
         }
     }
     assert_eq!(shapes.len(), 7 + 10 * 5 + 4 * 5);
@@ -180,21 +182,21 @@ fn bad_shapes() -> Vec<Shape> {
 }
 
 #[test]
-fn shape_outside_its_bounds_is_refused_with_1() {
+fn shape_outside_its_bounds_is_refused() {
     let mut count = Comparisons::default();
-    for shape in bad_shapes() {
-        both_refused(&mut count, shape, [0; 4], 0, 1);
-        both_refused(&mut count, shape, [1; 4], 1, 1);
+    for (shape, refused) in bad_shapes() {
+        both_refused(&mut count, shape, [0; 4], 0, refused);
+        both_refused(&mut count, shape, [1; 4], 1, refused);
     }
     count.end(77 * 4);
 }
 
 #[test]
-fn refusal_1_comes_before_3() {
+fn refusals_1_14_and_15_come_before_3() {
     let mut count = Comparisons::default();
-    for shape in bad_shapes() {
+    for (shape, refused) in bad_shapes() {
         for huge in HUGE {
-            both_refused(&mut count, shape, [huge; 4], huge, 1);
+            both_refused(&mut count, shape, [huge; 4], huge, refused);
         }
     }
     count.end(77 * 5 * 2);
@@ -230,11 +232,11 @@ fn widths_past_d_are_ignored() {
                     }
                 }
                 compare_with_array(&mut count, shape, &array);
-                index_refused(&mut count, shape, 1 << (3 * d), 3);
+                index_refused(&mut count, shape, 1 << (3 * d), refusal(3));
                 for j in d..4 {
                     let mut index = [0; 4];
                     index[j] = 1;
-                    address_refused(&mut count, shape, index, 3);
+                    address_refused(&mut count, shape, index, refusal(3));
                 }
             }
         }
@@ -261,7 +263,7 @@ fn index_out_of_range_is_refused_with_3() {
                         [1 << width, (1 << width) + 1, (1 << width) + (1 << 32)].into_iter().chain(HUGE)
                     {
                         index[j] = past;
-                        address_refused(&mut count, shape, index, 3);
+                        address_refused(&mut count, shape, index, refusal(3));
                     }
                 }
             }
@@ -280,7 +282,7 @@ fn unused_index_other_than_0_is_refused_with_3() {
             for mut index in [[0; 4], ones] {
                 for value in [1, 2, 65_535].into_iter().chain(HUGE) {
                     index[j] = value;
-                    address_refused(&mut count, shape, index, 3);
+                    address_refused(&mut count, shape, index, refusal(3));
                 }
             }
         }

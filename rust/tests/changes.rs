@@ -7,13 +7,13 @@ use mdeh_tests::compare::Comparisons;
 use mdeh_tests::host::Refused;
 use mdeh_tests::lent::{record_lost, LentStore};
 use mdeh_tests::plain::image::{Image, Laid};
-use mdeh_tests::plain::judge::{early_number, limits_hold};
+use mdeh_tests::plain::judge::{early_refusal, limits_hold};
 use mdeh_tests::plain::kept::Change;
 use mdeh_tests::plain::met::{each_damaged_count, each_damaged_word, DAMAGED_COUNTS, DAMAGED_WORDS};
 use mdeh_tests::plain::model::Model;
 use mdeh_tests::plain::reading::Reading;
 use mdeh_tests::plain::refusal::{absent, key_refused, refusal};
-use mdeh_tests::plain::samples::{early_refused, outside, random_key, random_model};
+use mdeh_tests::plain::samples::{early_refused, outside, random_key, random_model, EARLY};
 use mdeh_tests::plain::unsound;
 use mdeh_tests::random::Random;
 
@@ -26,7 +26,7 @@ type Call = fn(&mut LentStore, [i32; 4]) -> Result<u32, Refused>;
 const CALLS: [(&str, Call); 2] =
     [("insert", |store, key| store.insert(key, 0x1234_5678)), ("delete", |store, key| store.delete(key))];
 
-// ---- 1, 2, 3
+// ---- 1, 14, 15, 2, 3
 
 #[test]
 fn values_out_of_range_are_refused_with_3() {
@@ -50,23 +50,23 @@ fn values_out_of_range_are_refused_with_3() {
 }
 
 #[test]
-fn refusals_1_and_2_come_before_3() {
+fn refusals_1_14_15_and_2_come_before_3() {
     let mut count = Comparisons::default();
     let mut random = Random::new(SEED);
     for _ in 0..200 {
         let model = random_model(&mut random);
         let laid = Laid::new(&mut random, &model);
-        for (image, number) in early_refused(&laid.image, &model) {
+        for (image, refused) in early_refused(&laid.image, &model) {
             let mut store = LentStore::new(&mut random, &image);
             for key in [random_key(&mut random, &model), [i32::MIN; 4]] {
                 for (name, call) in CALLS {
                     let about = format_args!("{name}: {:?}", image.state);
-                    count.same(call(&mut store, key), Err(refusal(number)), about);
+                    count.same(call(&mut store, key), Err(refused), about);
                 }
             }
         }
     }
-    count.end(200 * 8 * 2 * 2);
+    count.end(200 * EARLY * 2 * 2);
 }
 
 // ---- damage that a call meets
@@ -112,15 +112,16 @@ const COMPARED: u64 = 8;
 /// otherwise accepted, or refused with 9 or another of the call's numbers.
 fn ordinary_calls(count: &mut Comparisons, random: &mut Random, model: &Model, image: &Image) {
     let mut store = LentStore::new(random, image);
-    let early = early_number(image);
+    let early = early_refusal(image);
     let cells = (early.is_none() && limits_hold(image)).then(|| Cells::of_store(image));
     for turn in 0..COMPARED {
         let key = random_key(random, model);
         let (name, call) = CALLS[random.below(2)];
         let before = store.image();
         let found = call(&mut store, key);
-        let right = match (early.or_else(|| key_refused(image.shape(), key).then_some(3)), &cells) {
-            (Some(number), _) => found == Err(refusal(number)),
+        let value_refused = || key_refused(image.shape(), key).then_some(refusal(3));
+        let right = match (early.or_else(value_refused), &cells) {
+            (Some(refused), _) => found == Err(refused),
             (None, None) => found == Err(refusal(9)),
             (None, Some(cells)) => is_ordinary(name, key, found, cells, &before, &store.image()),
         };
@@ -129,7 +130,7 @@ fn ordinary_calls(count: &mut Comparisons, random: &mut Random, model: &Model, i
     }
 }
 
-/// Whether a change of a key may be answered so after 1, 2 and 3, and keeps what is other leaves'.
+/// Whether a change of a key may be answered so after the early numbers and 3, and keeps what is other leaves'.
 fn is_ordinary(
     name: &str,
     key: [i32; 4],

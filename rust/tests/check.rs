@@ -4,6 +4,7 @@ use mdeh_tests::lent::LentStore;
 use mdeh_tests::plain::damage::WAYS;
 use mdeh_tests::plain::image::{Image, Laid, DEPTH, SIGNS, STATE};
 use mdeh_tests::plain::judge::judge;
+use mdeh_tests::plain::refusal::{bad_width, refusal};
 use mdeh_tests::plain::samples::random_model;
 use mdeh_tests::random::Random;
 
@@ -135,7 +136,8 @@ fn early_refusals() {
         let bytes = random.below(laid.image.clone().page(0).len() * model.page_limit);
         let mut images = vec![laid.image; 8];
         images[0].state[0] = [0, 5, 257, u32::MAX][random.below(4)];
-        images[1].state[1 + random.below(model.widths().len())] = [0, 17, 257, u32::MAX][random.below(4)];
+        let j = random.below(model.widths().len());
+        images[1].state[1 + j] = [0, 17, 257, u32::MAX][random.below(4)];
         images[2].state[5] = [0, 17, 257, u32::MAX][random.below(4)];
         images[3].dir.truncate(words);
         images[4].pages.truncate(bytes);
@@ -146,13 +148,19 @@ fn early_refusals() {
         images[6].state[6] = [5000, 1 << 16, 1 << 31, u32::MAX][random.below(4)];
         images[7].state[7] = [20, 31, 32, 33, 63, 64, 65, 128, 256, u32::MAX][random.below(10)];
         for (i, image) in images.iter().enumerate() {
-            let expected = if i < 3 || i == 5 { Err(1) } else { Err(2) };
+            let expected = Err(match i {
+                0 => refusal(1),
+                1 => bad_width(j as u32),
+                2 | 5 => refusal(15),
+                _ => refusal(2),
+            });
             let about = format_args!("{:?}", image.state);
             count.same(judge(image), expected, about);
             count.same(LentStore::new(&mut random, image).check(), expected, about);
         }
         let short = Image { state: images[0].state[..random.below(STATE)].to_vec(), ..images[0].clone() };
-        count.same(LentStore::new(&mut random, &short).check(), Err(1), format_args!("{:?}", short.state));
+        let found = LentStore::new(&mut random, &short).check();
+        count.same(found, Err(refusal(1)), format_args!("{:?}", short.state));
     }
     count.end(200 * (8 * 2 + 1));
 }

@@ -3,9 +3,10 @@
 //! depth is that in the word of the key's cell.
 use mdeh_tests::cells::Cells;
 use mdeh_tests::compare::Comparisons;
+use mdeh_tests::host::Refused;
 use mdeh_tests::lent::{lend_bytes, Lent, LentStore};
 use mdeh_tests::plain::image::Image;
-use mdeh_tests::plain::judge::{early_number, judge, limits_hold};
+use mdeh_tests::plain::judge::{early_refusal, judge, limits_hold};
 use mdeh_tests::plain::model::Model;
 use mdeh_tests::plain::range::range_refused;
 use mdeh_tests::plain::reading::Reading;
@@ -26,14 +27,15 @@ fn all_calls(count: &mut Comparisons, random: &mut Random, model: &Model, image:
     let store = LentStore::new(random, image);
     let about = format_args!("{model:?}, state {:?}", image.state);
     count.same(store.check(), judge(image), about);
-    let early = early_number(image);
+    let early = early_refusal(image);
     let cells = (early.is_none() && limits_hold(image)).then(|| Cells::of_store(image));
     let reading = cells.as_ref().map(|cells| Reading::new(image, cells));
     for _ in 0..4 {
         let key = random_key(random, model);
         let found = store.lookup(key);
-        let right = match (early.or_else(|| key_refused(image.shape(), key).then_some(3)), &reading) {
-            (Some(number), _) => found == Err(refusal(number)),
+        let value_refused = || key_refused(image.shape(), key).then_some(refusal(3));
+        let right = match (early.or_else(value_refused), &reading) {
+            (Some(refused), _) => found == Err(refused),
             (None, Some(reading)) if !reading.lookup_told(key) => {
                 let depth = reading.depth_at(key);
                 found.is_ok_and(|(_, reads, found)| (reads, found) == (1, depth))
@@ -57,23 +59,23 @@ fn all_calls(count: &mut Comparisons, random: &mut Random, model: &Model, image:
     }
 }
 
-/// A query or a range, which is to be refused with a number before any look into words and pages, or has to tell damage,
+/// A query or a range, which is to be refused before any look into words and pages, or has to tell damage,
 /// or neither.
 fn list_is_ordinary(
     count: &mut Comparisons,
     random: &mut Random,
-    refused: Option<u32>,
+    refused: Option<Refused>,
     told: bool,
     about: Arguments,
-    call: impl FnOnce(&mut Lent<u8>) -> Result<(u64, u64, u64), u32>,
+    call: impl FnOnce(&mut Lent<u8>) -> Result<(u64, u64, u64), Refused>,
 ) {
     let length = random.below(200);
     let content = random.bytes(length);
     let mut out = lend_bytes(random, &content);
     let found = call(&mut out);
     let right = match (refused, found) {
-        (Some(number), _) => found == Err(number) && out.unchanged(),
-        (None, Err(number)) => number == 9 && out.unchanged(),
+        (Some(refused), _) => found == Err(refused) && out.unchanged(),
+        (None, Err(refused)) => refused == refusal(9) && out.unchanged(),
         (None, Ok(_)) if told => false,
         (None, Ok((written, total, reads))) => {
             let fits = written <= total && written <= content.len() as u64 / 12;

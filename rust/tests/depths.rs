@@ -10,7 +10,7 @@ use mdeh_tests::plain::image::{page_of, word_of, Image, Laid, DEPTH};
 use mdeh_tests::plain::leaves::leaf_of;
 use mdeh_tests::plain::model::Model;
 use mdeh_tests::plain::reading::{sibling, Reading};
-use mdeh_tests::plain::refusal::{absent, refusal};
+use mdeh_tests::plain::refusal::{absent, bad_width, refusal};
 use mdeh_tests::plain::samples::{given_payload, random_key, random_model};
 use mdeh_tests::random::Random;
 use mdeh_tests::shapes::marked;
@@ -20,7 +20,7 @@ const SEED: u64 = 0x6d64_6568_2d30_3233;
 /// The depth that a lookup gives, of a stored key or beside 5.
 fn looked_up(store: &LentStore, key: [i32; 4]) -> Option<u32> {
     match store.lookup(key) {
-        Ok((_, _, depth)) | Err(Refused { number: 5, depth }) => Some(depth),
+        Ok((_, _, depth)) | Err(Refused { number: 5, depth, .. }) => Some(depth),
         Err(_) => None,
     }
 }
@@ -311,7 +311,7 @@ fn all_numbers(store: &mut LentStore, key: [i32; 4]) -> [Result<u32, Refused>; 3
     [store.insert(key, 7), store.delete(key), store.lookup(key).map(|(_, _, depth)| depth)]
 }
 
-/// "no other number carries a depth": 1, 2, 3, 4, 6, 9 and 11 for keys of leaves that lie deep.
+/// "no other number carries a depth": 1, 14, 15, 2, 3, 4, 6, 9 and 11 for keys of leaves that lie deep.
 #[test]
 fn no_other_number_carries_a_depth() {
     let mut count = Comparisons::default();
@@ -332,17 +332,19 @@ fn no_other_number_carries_a_depth() {
             count.same(store.insert(key, 7), Err(refusal(6)), about);
         }
         let image = store.image();
-        let mut changed = |change: &dyn Fn(&mut Image), number: u32| {
+        let mut changed = |change: &dyn Fn(&mut Image), refused: Refused| {
             let mut image = image.clone();
             change(&mut image);
             let mut store = LentStore::new(random, &image);
-            count.same(all_numbers(&mut store, last), [Err(refusal(number)); 3], about);
+            count.same(all_numbers(&mut store, last), [Err(refused); 3], about);
         };
-        changed(&|image| image.state[0] = 5, 1);
-        changed(&|image| image.dir.truncate((1 << 12) - 1), 2);
-        changed(&|image| image.dir.iter_mut().for_each(|word| *word |= 0xffff), 9);
+        changed(&|image| image.state[0] = 5, refusal(1));
+        changed(&|image| image.state[2] = 0, bad_width(1));
+        changed(&|image| image.state[5] = 17, refusal(15));
+        changed(&|image| image.dir.truncate((1 << 12) - 1), refusal(2));
+        changed(&|image| image.dir.iter_mut().for_each(|word| *word |= 0xffff), refusal(9));
     });
-    count.end(stores * (COMPARED + 2 + 1 + 3) + sixes);
+    count.end(stores * (COMPARED + 2 + 1 + 5) + sixes);
 }
 
 /// 7, where no page is free, for keys of empty leaves.
@@ -397,8 +399,8 @@ fn another_depth_in_the_words_of_a_leaf() {
                 let after = store.image();
                 let told = Reading::new(&after, &cells).depth_at(key);
                 let right = match answer {
-                    Ok(depth) | Err(Refused { number: 5, depth }) => depth == told,
-                    Err(Refused { number, depth }) => depth == 0 && matches!(number, 4 | 6 | 7 | 9),
+                    Ok(depth) | Err(Refused { number: 5, depth, .. }) => depth == told,
+                    Err(Refused { number, depth, .. }) => depth == 0 && matches!(number, 4 | 6 | 7 | 9),
                 };
                 let about = format_args!("call {call}, {key:?}, depth {depth}: {model:?}");
                 count.same((right, answer), (true, answer), about);

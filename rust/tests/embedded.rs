@@ -8,9 +8,9 @@ use mdeh_tests::plain::file::{file_of, load};
 use mdeh_tests::plain::image::{state_words, Image, Laid, STATE};
 use mdeh_tests::plain::model::Model;
 use mdeh_tests::plain::range::Intervals;
-use mdeh_tests::plain::refusal::{absent, refusal};
+use mdeh_tests::plain::refusal::{absent, bad_width, refusal};
 use mdeh_tests::plain::samples::{
-    early_refused, query_of, random_key, random_model, random_payload, range_of,
+    early_refused, query_of, random_key, random_model, random_payload, range_of, EARLY,
 };
 use mdeh_tests::plain::unsound;
 use mdeh_tests::plain::value::{bounds, number_in};
@@ -116,13 +116,13 @@ impl From<Listing<'_>> for Listed {
 fn compare_list(
     count: &mut Comparisons,
     found: Result<Listed, Refusal>,
-    answer: Result<(u64, u64, u64), u32>,
+    answer: Result<(u64, u64, u64), Refused>,
     out: &Lent<u8>,
     expected: &[u8],
     model: &Model,
     about: Arguments,
 ) {
-    let counts = found.as_ref().map(|listed| listed.counts).map_err(|refusal| refusal.number());
+    let counts = found.as_ref().map(|listed| listed.counts).map_err(|&refusal| refused(refusal));
     count.same(counts, answer, about);
     count.same(out.slice(), expected, about);
     assert!(out.guards_stay(), "a guard of the output is changed");
@@ -142,11 +142,12 @@ fn read(shape: Shape, bytes: &[u8]) -> Record {
 /// The comparisons of one turn.
 const COMPARED: u64 = 1 + 1 + 4 + 3 + 2;
 
-/// A refusal of a call on a key: its number, and the depth that it carries.
+/// A refusal by its number, and what it carries.
 fn refused(refusal: Refusal) -> Refused {
     match refusal {
         Refusal::Absent { depth } => absent(depth),
-        other => Refused { number: other.number(), depth: 0 },
+        Refusal::Width { attribute } => bad_width(attribute as u32),
+        other => Refused { number: other.number(), attribute: 0, depth: 0 },
     }
 }
 
@@ -182,11 +183,14 @@ fn turn(
 fn lists_of_calls() {
     let mut count = Comparisons::default();
     let mut random = Random::new(SEED);
-    let (mut accepted, mut refused) = (0, 0);
+    let (mut accepted, mut elevens) = (0, 0);
     for _ in 0..250 {
         let mut shape = random_shape(&mut random, 18, 5);
         if random.below(16) == 0 {
             shape.capacity = [0, 17, u32::MAX][random.below(3)];
+        }
+        if random.below(16) == 0 {
+            shape.widths[random.below(4)] = [0, 17, u32::MAX][random.below(3)];
         }
         let (words, bytes) = (random.below(100), random.below(800));
         let content = (random.words(words), random.bytes(bytes));
@@ -194,19 +198,15 @@ fn lists_of_calls() {
         let fresh = Store::fresh(shape, memory.0.slice_mut(), memory.1.slice_mut());
         let state = fresh.map(|store| *store.state());
         let model = Model::fresh(shape, words, bytes);
-        count.same(
-            state.err().map(Refusal::number),
-            model.as_ref().err().copied(),
-            format_args!("{shape:?}"),
-        );
+        count.same(state.err().map(refused), model.as_ref().err().copied(), format_args!("{shape:?}"));
         if let (Ok(state), Ok(mut model)) = (state, model) {
-            refused += sessions(&mut count, &mut random, state, &mut memory, &mut model);
+            elevens += sessions(&mut count, &mut random, state, &mut memory, &mut model);
             accepted += 1;
         }
         assert!(memory.0.guards_stay() && memory.1.guards_stay(), "a guard is changed");
     }
-    println!("{refused} refused with 11");
-    assert!(refused > 1000);
+    println!("{elevens} refused with 11");
+    assert!(elevens > 1000);
     count.end(250 + accepted * SESSIONS * TURNS * COMPARED);
 }
 
@@ -247,7 +247,7 @@ fn same_answers(
     let mut store = Store::reopen(state, &mut dir, &mut pages);
     let Image { state, dir, pages } = &mut image.clone();
     let about = format_args!("{:?}, {model:?}", image.state);
-    count.same(store.check().map_err(Refusal::number), host::check(state, dir, pages), about);
+    count.same(store.check().map_err(refused), host::check(state, dir, pages), about);
     let key = any_key(random, model);
     let found = store.lookup(key).map(|found| (found.payload, found.reads, found.depth));
     count.same(found.map_err(refused), host::lookup(state, dir, pages, key), about);
@@ -259,7 +259,7 @@ fn same_answers(
     let plain = host::query(state, dir, pages, wanted, &mut expected);
     count.same(records, plain.map_or(0, |plain| plain.written), about);
     let plain = plain.map(|plain| (plain.written, plain.total, plain.reads));
-    count.same(counts.map_err(Refusal::number), plain, about);
+    count.same(counts.map_err(refused), plain, about);
     count.same(out, expected, about);
     let keys = [key, any_key(random, model)];
     let subset = random.below(16);
@@ -271,11 +271,11 @@ fn same_answers(
     let counts = found.map(|listing| (listing.written, listing.total, listing.reads));
     let plain = host::range(state, dir, pages, wanted, &mut expected);
     let plain = plain.map(|plain| (plain.written, plain.total, plain.reads));
-    count.same(counts.map_err(Refusal::number), plain, about);
+    count.same(counts.map_err(refused), plain, about);
     count.same(out, expected, about);
     let (mut out, mut expected) = ([7; 400], [7; 400]);
     let found = store.save(&mut out).map(|size| size as u64);
-    count.same(found.map_err(Refusal::number), host::save(state, dir, pages, &mut expected), about);
+    count.same(found.map_err(refused), host::save(state, dir, pages, &mut expected), about);
     count.same(out, expected, about);
     let payload = random_payload(random);
     let found = store.insert(key, payload).map(|inserted| inserted.depth);
@@ -304,30 +304,30 @@ fn any_memory_as_the_calls_on_slices() {
     count.end(2000 * 12);
 }
 
-/// Files of random sets, half of them with a bit changed: the numbers and the memory of `Store` are those of the calls on
-/// slices, and the file of a loaded store has the bytes that came.
+/// Files of random sets, half of them with a bit changed, one in four in the shape: the refusals and the memory of
+/// `Store` are those of the calls on slices, and the file of a loaded store has the bytes that came.
 #[test]
 fn files_as_the_calls_on_slices() {
     let mut count = Comparisons::default();
     let mut random = Random::new(SEED);
-    let mut met = [0; 14];
+    let mut met = [0; 16];
     for _ in 0..2000 {
         let model = random_model(&mut random);
         let mut file = file_of(&model);
         if random.below(2) == 0 {
-            let place = random.below(file.len());
+            let place = [random.below(file.len()), file.len() - 24 + random.below(8)][random.below(2)];
             file[place] ^= 1 << random.below(8);
         }
         let (words, bytes) = (random.below(300), random.below(6000));
         let Image { mut state, mut dir, mut pages } = Image::random(&mut random, words, bytes);
         let (mut directory, mut lent) = (dir.clone(), pages.clone());
         let plain = host::load(&file, &mut state, &mut dir, &mut pages);
-        met[plain.err().unwrap_or(0) as usize] += 1;
+        met[plain.map_or_else(|refused| refused.number as usize, |()| 0)] += 1;
         let about = format_args!("{words} words, {bytes} bytes: {file:?}");
         let found = Store::load(&file, &mut directory, &mut lent);
         let loaded = found.as_ref().map(|store| (store.state().to_vec(), store.shape()));
         let expected = plain.and_then(|()| Ok((state, load(&file, words, bytes)?.shape)));
-        count.same(loaded.map_err(|refusal| refusal.number()), expected, about);
+        count.same(loaded.map_err(|&refusal| refused(refusal)), expected, about);
         if let Ok(store) = found {
             let mut out = vec![7; file.len() + 9];
             count.same(store.save(&mut out), Ok(file_bytes((file.len() - 24) / 12)), about);
@@ -336,7 +336,7 @@ fn files_as_the_calls_on_slices() {
         count.same((directory, lent), (dir, pages), about);
     }
     println!("answers by number: {met:?}");
-    assert!([0, 1, 2, 6, 7, 12, 13].iter().all(|&number| met[number] > 10));
+    assert!([0, 1, 2, 6, 7, 12, 13, 14, 15].iter().all(|&number| met[number] > 10));
     count.end(2000 * 2 + met[0] * 2);
 }
 
@@ -350,20 +350,21 @@ fn an_attribute_that_no_shape_has() {
         let model = random_model(&mut random);
         let image = Laid::new(&mut random, &model).image;
         let early = early_refused(&image, &model).into_iter().filter(|(image, _)| image.state.len() == STATE);
-        for (Image { state, mut dir, mut pages }, number) in early.chain([(image, 8)]) {
+        for (Image { state, mut dir, mut pages }, expected) in early.chain([(image, refusal(8))]) {
             let state = state[..].try_into().expect("the words of a state");
             let store = Store::reopen(state, &mut dir, &mut pages);
             for attribute in [4, 5, 1 << 32, usize::MAX] {
                 let query = Query::all().given(0, i32::MAX).given(attribute, 0);
                 let found = store.query(query, &mut []);
-                count.same(found.err().map(Refusal::number), Some(number), format_args!("{attribute}"));
+                count.same(found.err().map(refused), Some(expected), format_args!("{attribute}"));
                 let range = Range::all().within(0, i32::MAX..).within(attribute, ..);
                 let found = store.range(range, &mut []);
-                count.same(found.err().map(Refusal::number), Some(number), format_args!("{attribute}"));
+                count.same(found.err().map(refused), Some(expected), format_args!("{attribute}"));
             }
         }
     }
-    count.end(100 * 7 * 4 * 2);
+    // without the two stores whose state is too short
+    count.end(100 * (EARLY - 2 + 1) * 4 * 2);
 }
 
 /// Every form of a range of Rust on an attribute of four bits that has all its values, marked or not: the values in it
@@ -453,11 +454,24 @@ fn reasons_as_in_the_header() {
         ("PAYLOAD", Payload),
         ("FILE", File),
         ("CONTENT", Content),
+        ("WIDTH", Width { attribute: 0 }),
+        ("CAPACITY", Capacity),
     ];
     for (name, reason) in reasons {
         let numbered = format!("MDEH_REFUSED_{name} = {}", reason.number());
         assert!(header.contains(&numbered), "the header lacks {numbered}");
-        let told = format!("case MDEH_REFUSED_{name}: return \"{reason}\";");
+        let told = match reason {
+            // a state of fewer words is none of the crate's
+            Shape => format!("{reason}, or the words of a state are too few"),
+            // the number alone names no attribute
+            Width { .. } => reason.to_string().replace("attribute 0", "an attribute"),
+            _ => reason.to_string(),
+        };
+        let told = format!("case MDEH_REFUSED_{name}: return \"{told}\";");
+        assert!(header.contains(&told), "the header lacks {told}");
+    }
+    for attribute in 0..4 {
+        let told = format!("\"{}\"", Width { attribute });
         assert!(header.contains(&told), "the header lacks {told}");
     }
 }

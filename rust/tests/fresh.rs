@@ -1,7 +1,7 @@
 //! The call Fresh, compared with document 01's words: "sets the count of each of the P pages and word 0 to 0, T = 0, one
 //! leaf at depth 0 in the tally"; widths past d are held as 0, and marks past d are cleared (document 02, request 4).
 use mdeh_tests::compare::Comparisons;
-use mdeh_tests::host::{self, Shape};
+use mdeh_tests::host::{self, Refused, Shape};
 use mdeh_tests::lent::{lend_bytes, lend_words, LentStore};
 use mdeh_tests::plain::image::{Image, SIGNS, STATE, TALLY};
 use mdeh_tests::plain::model::Model;
@@ -12,13 +12,16 @@ use mdeh_tests::shapes::{marked, random_widths};
 
 const SEED: u64 = 0x6d64_6568_2d30_3034;
 
-/// What Fresh leaves of a store, or the number of the refusal, with nothing changed.
-fn expected(shape: Shape, before: &Image) -> (Result<(), u32>, Image) {
+/// What Fresh leaves of a store, or the refusal, with nothing changed.
+fn expected(shape: Shape, before: &Image) -> (Result<(), Refused>, Image) {
     let mut after = before.clone();
-    match Model::fresh(shape, before.dir.len(), before.pages.len()) {
-        Err(1) => (Err(1), after),
-        _ if before.state.len() < STATE => (Err(2), after),
-        Err(number) => (Err(number), after),
+    // fewer words than a state has are refused where no memory would be
+    let [words, bytes] = match before.state.len() < STATE {
+        true => [0, 0],
+        false => [before.dir.len(), before.pages.len()],
+    };
+    match Model::fresh(shape, words, bytes) {
+        Err(refused) => (Err(refused), after),
         Ok(Model { shape, page_limit, depth_limit, .. }) => {
             after.state[0] = shape.attributes;
             after.state[1..5].copy_from_slice(&shape.widths);
@@ -50,8 +53,8 @@ fn compare(
         pages: lent.pages.slice().to_vec(),
     };
     let about = format_args!("{shape:?}, {state} state words, {words} words, {bytes} bytes");
-    let (number, expected) = expected(shape, &before);
-    count.same(answer, number, about);
+    let (made, expected) = expected(shape, &before);
+    count.same(answer, made, about);
     count.same(after == expected, true, about);
     let guards = lent.state.guards_stay() && lent.dir.guards_stay() && lent.pages.guards_stay();
     count.same(guards, true, about);
@@ -138,7 +141,7 @@ fn a_fresh_store_is_sound_and_without_records() {
 }
 
 #[test]
-fn a_shape_outside_its_bounds_is_refused_with_1_before_2() {
+fn a_shape_outside_its_bounds_is_refused_before_2() {
     let mut count = Comparisons::default();
     let mut random = Random::new(SEED);
     let good = Shape { attributes: 3, widths: [2; 4], capacity: 2, signs: 0 };

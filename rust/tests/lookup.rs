@@ -6,7 +6,7 @@ use mdeh_tests::plain::image::{Image, Laid};
 use mdeh_tests::plain::met::{each_damaged_count, each_damaged_word, DAMAGED_COUNTS, DAMAGED_WORDS};
 use mdeh_tests::plain::model::Model;
 use mdeh_tests::plain::refusal::refusal;
-use mdeh_tests::plain::samples::{early_refused, outside, random_key, random_model, random_payload};
+use mdeh_tests::plain::samples::{early_refused, outside, random_key, random_model, random_payload, EARLY};
 use mdeh_tests::random::Random;
 
 const SEED: u64 = 0x6d64_6568_2d30_3035;
@@ -99,21 +99,21 @@ fn values_out_of_range_are_refused_with_3() {
 }
 
 #[test]
-fn refusals_1_and_2_come_before_3() {
+fn refusals_1_14_15_and_2_come_before_3() {
     let mut count = Comparisons::default();
     let mut random = Random::new(SEED);
     for _ in 0..200 {
         let model = random_model(&mut random);
         let laid = Laid::new(&mut random, &model);
         let bad_key = [i32::MIN; 4];
-        for (image, number) in early_refused(&laid.image, &model) {
+        for (image, refused) in early_refused(&laid.image, &model) {
             let store = LentStore::new(&mut random, &image);
             for key in [random_key(&mut random, &model), bad_key] {
-                count.same(store.lookup(key), Err(refusal(number)), format_args!("{:?}", image.state));
+                count.same(store.lookup(key), Err(refused), format_args!("{:?}", image.state));
             }
         }
     }
-    count.end(200 * 8 * 2);
+    count.end(200 * EARLY * 2);
 }
 
 // ---- damage that a lookup meets

@@ -6,7 +6,7 @@ use mdeh_tests::lent::{lend_bytes, LentStore};
 use mdeh_tests::plain::image::{Image, Laid, SIGNS};
 use mdeh_tests::plain::refusal::{page_size, refusal};
 use mdeh_tests::plain::samples::{
-    early_refused, query_of, random_key, random_model, random_payload, range_of,
+    early_refused, query_of, random_key, random_model, random_payload, range_of, EARLY,
 };
 use mdeh_tests::random::Random;
 use mdeh_tests::shapes::random_widths;
@@ -121,9 +121,9 @@ fn unused_values_other_than_0_are_refused() {
     count.end((3 + 2 + 1) * 4 * 7 * 3);
 }
 
-/// "shape outside its bounds" and memory that is too short, with numbers below 0.
+/// What is amiss in a shape, and memory that is too short, with numbers below 0.
 #[test]
-fn refusals_1_and_2_come_first() {
+fn refusals_1_14_15_and_2_come_first() {
     let mut count = Comparisons::default();
     let mut random = Random::new(SEED);
     for _ in 0..100 {
@@ -131,21 +131,21 @@ fn refusals_1_and_2_come_first() {
         model.shape.signs = u32::MAX;
         model.records.clear();
         let laid = Laid::new(&mut random, &model);
-        for (image, number) in early_refused(&laid.image, &model) {
+        for (image, refused) in early_refused(&laid.image, &model) {
             let mut store = LentStore::new(&mut random, &image);
             let about = format_args!("{:?}", image.state);
             let mut out = lend_bytes(&mut random, &[5; 20]);
             for key in [[-1; 4], [i32::MIN; 4], [i32::MAX; 4]] {
-                count.same(store.lookup(key), Err(refusal(number)), about);
-                count.same(store.insert(key, 0), Err(refusal(number)), about);
-                count.same(store.delete(key), Err(refusal(number)), about);
-                count.same(store.query(key.map(Some), &mut out), Err(number), about);
-                count.same(store.range(key.map(|value| Some((value, -2))), &mut out), Err(number), about);
+                count.same(store.lookup(key), Err(refused), about);
+                count.same(store.insert(key, 0), Err(refused), about);
+                count.same(store.delete(key), Err(refused), about);
+                count.same(store.query(key.map(Some), &mut out), Err(refused), about);
+                count.same(store.range(key.map(|value| Some((value, -2))), &mut out), Err(refused), about);
             }
-            count.same(store.check(), Err(number), about);
+            count.same(store.check(), Err(refused), about);
         }
     }
-    count.end(100 * 8 * (3 * 5 + 1));
+    count.end(100 * EARLY * (3 * 5 + 1));
 }
 
 // ---- free attributes

@@ -5,10 +5,10 @@ use mdeh_tests::followed::{Followed, COMPARED};
 use mdeh_tests::host::Shape;
 use mdeh_tests::lent::LentStore;
 use mdeh_tests::plain::image::{Image, Laid, STATE};
-use mdeh_tests::plain::judge::early_number;
+use mdeh_tests::plain::judge::early_refusal;
 use mdeh_tests::plain::met::{each_damaged_count, each_damaged_word, DAMAGED_COUNTS, DAMAGED_WORDS};
 use mdeh_tests::plain::model::Model;
-use mdeh_tests::plain::refusal::{insert_refused, page_size, refusal};
+use mdeh_tests::plain::refusal::{bad_width, insert_refused, page_size, refusal};
 use mdeh_tests::plain::samples::{given_payload, random_key, random_model};
 use mdeh_tests::plain::unsound;
 use mdeh_tests::random::Random;
@@ -18,7 +18,7 @@ const SEED: u64 = 0x6d64_6568_2d30_3139;
 // ---- the order of an insert's numbers
 
 /// The numbers in the order in which they are found.
-const ORDER: [u32; 7] = [1, 2, 3, 11, 4, 6, 7];
+const ORDER: [u32; 9] = [1, 14, 15, 2, 3, 11, 4, 6, 7];
 
 /// Which of 4, 6 and 7 hold together. 7 does not hold for a stored key, which adds nothing to the set.
 const SITUATIONS: [[bool; 3]; 6] = [
@@ -32,7 +32,7 @@ const SITUATIONS: [[bool; 3]; 6] = [
 
 /// The stores of each situation, and how often each combination with the other conditions is made of one.
 const STORES: usize = 60;
-const TURNS: usize = 4;
+const TURNS: usize = 2;
 
 /// Whether the key is stored, whether "b stored keys share their first L split bits with it", and whether "the new set
 /// has more than P non-empty leaves".
@@ -48,15 +48,32 @@ fn situation(model: &Model, key: [i32; 4]) -> [bool; 3] {
     [stored, sharing >= model.shape.capacity as usize, pages > model.page_limit]
 }
 
-/// A count, width or capacity out of bounds, or too few state words.
-fn break_shape(random: &mut Random, model: &Model, image: &mut Image) {
+/// A number of attributes, a width or a capacity out of bounds.
+fn out_of_bounds(random: &mut Random) -> u32 {
+    [0, 17, 257, u32::MAX][random.below(4)]
+}
+
+/// The chosen of a count out of bounds, which may be too few state words, some widths and the capacity. Returns the
+/// lowest attribute with such a width.
+fn break_shape(random: &mut Random, model: &Model, image: &mut Image, chosen: [bool; 3]) -> u32 {
+    let [attributes, widths, capacity] = chosen;
     let j = random.below(model.widths().len());
-    match random.below(4) {
-        0 => image.state[0] = [0, 5, 257, u32::MAX][random.below(4)],
-        1 => image.state[1 + j] = [0, 17, 257, u32::MAX][random.below(4)],
-        2 => image.state[5] = [0, 17, 257, u32::MAX][random.below(4)],
-        _ => image.state.truncate(random.below(STATE)),
+    if widths {
+        image.state[1 + j] = out_of_bounds(random);
+        for other in j + 1..4 {
+            image.state[1 + other] = [image.state[1 + other], out_of_bounds(random)][random.below(2)];
+        }
     }
+    if capacity {
+        image.state[5] = out_of_bounds(random);
+    }
+    if attributes {
+        match random.below(2) {
+            0 => image.state[0] = [5, out_of_bounds(random)][random.below(2)],
+            _ => image.state.truncate(random.below(STATE)),
+        }
+    }
+    j as u32
 }
 
 /// Fewer than 2^L words, fewer than P pages, or both.
@@ -76,20 +93,18 @@ fn edge_payload(random: &mut Random) -> u32 {
     [1, 1 << 8, 1 << 16, 1 << 24, u32::MAX, given_payload(random)][random.below(6)]
 }
 
-/// A store, a key and a payload for which the chosen of 1, 2, 3 and 11 hold. A number out of bounds keeps its lowest
-/// bits.
+/// A store, a key and a payload for which the chosen of 1, 14, 15, 2, 3 and 11 hold, and the attribute that 14 names. A
+/// number out of bounds keeps its lowest bits.
 fn spoiled(
     random: &mut Random,
     model: &Model,
     image: &Image,
     mut key: [i32; 4],
-    early: [bool; 4],
-) -> (Image, [i32; 4], u32) {
-    let [shape, memory, value, zero] = early;
+    early: [bool; 6],
+) -> (Image, [i32; 4], u32, u32) {
+    let [attributes, widths, capacity, memory, value, zero] = early;
     let mut image = image.clone();
-    if shape {
-        break_shape(random, model, &mut image);
-    }
+    let attribute = break_shape(random, model, &mut image, [attributes, widths, capacity]);
     if memory {
         shorten(random, model, &mut image);
     }
@@ -97,11 +112,11 @@ fn spoiled(
         let j = random.below(4);
         key[j] ^= 1 << random.between(model.shape.widths[j].into(), 31);
     }
-    (image, key, if zero { 0 } else { edge_payload(random) })
+    (image, key, if zero { 0 } else { edge_payload(random) }, attribute)
 }
 
-/// Each combination of 1, 2, 3 and 11 with a situation: the answer, and the model's where 1 and 2 do not hold. An
-/// accepted record is looked up. Returns the numbers, 0 where the record is accepted.
+/// Each combination of 1, 14, 15, 2, 3 and 11 with a situation: the answer, and the model's where the first four do not
+/// hold. An accepted record is looked up. Returns the numbers, 0 where the record is accepted.
 fn each_combination(
     count: &mut Comparisons,
     random: &mut Random,
@@ -111,19 +126,23 @@ fn each_combination(
 ) -> Vec<u32> {
     let laid = Laid::new(random, model);
     let mut numbers = vec![];
-    for turn in 0..16 * TURNS {
-        let early = [0, 1, 2, 3].map(|condition| turn >> condition & 1 == 1);
+    for turn in 0..64 * TURNS {
+        let early = [0, 1, 2, 3, 4, 5].map(|condition| turn >> condition & 1 == 1);
         let holds = [&early[..], &late].concat();
         let first = ORDER.into_iter().zip(&holds).find(|(_, &holds)| holds);
-        let (image, key, payload) = spoiled(random, model, &laid.image, key, early);
+        let (image, key, payload, attribute) = spoiled(random, model, &laid.image, key, early);
         let mut after = model.clone();
         let answer = after.insert(key, payload);
-        let expected = first.map_or_else(|| Ok(after.depth(key)), |(number, _)| Err(refusal(number)));
+        let expected = match first {
+            None => Ok(after.depth(key)),
+            Some((14, _)) => Err(bad_width(attribute)),
+            Some((number, _)) => Err(refusal(number)),
+        };
         let mut store = LentStore::new(random, &image);
         let found = store.insert(key, payload);
         let about = format_args!("{holds:?}: {key:?}, {payload}, state {:?}, {model:?}", image.state);
         count.same(found, expected, about);
-        if early[..2] == [false; 2] {
+        if early[..4] == [false; 4] {
             count.same(answer, expected, about);
         }
         if found.is_ok() {
@@ -134,13 +153,13 @@ fn each_combination(
     numbers
 }
 
-/// Every combination of the seven conditions that a store, a key and a payload can have.
+/// Every combination of the nine conditions that a store, a key and a payload can have.
 #[test]
 fn the_first_of_all_numbers_that_hold() {
     let mut count = Comparisons::default();
     let mut random = Random::new(SEED);
     let mut made = [0; SITUATIONS.len()];
-    let mut met = [0; 12];
+    let mut met = [0; 16];
     while made != [STORES; SITUATIONS.len()] {
         let model = random_model(&mut random);
         let key = random_key(&mut random, &model);
@@ -153,10 +172,11 @@ fn the_first_of_all_numbers_that_hold() {
         }
     }
     println!("answers by number: {met:?}");
-    // of the combinations, 8 in 16 have 1, 4 have 2 first, 2 have 3, 1 has 11, and 1 is left to the situation
+    // of the combinations, 32 in 64 have 1, 16 have 14 first, 8 have 15, 4 have 2, 2 have 3, 1 has 11, and 1 is left to
+    // the situation
     let each = STORES * TURNS;
-    assert_eq!(met, [1, 48, 24, 12, 2, 0, 2, 1, 0, 0, 0, 6].map(|share| share * each));
-    count.end(((16 + 4) * SITUATIONS.len() * each + each) as u64);
+    assert_eq!(met, [1, 192, 24, 12, 2, 0, 2, 1, 0, 0, 0, 6, 0, 0, 96, 48].map(|share| share * each));
+    count.end(((64 + 4) * SITUATIONS.len() * each + each) as u64);
 }
 
 // ---- any store
@@ -164,8 +184,8 @@ fn the_first_of_all_numbers_that_hold() {
 /// How often payload 0 is inserted into a store.
 const INSERTS: u64 = 4;
 
-/// Inserts payload 0 for keys near those of a model, one in eight with a bit changed: 1, 2, 3 or 11, whatever words and
-/// pages hold. Returns how many are refused with 11.
+/// Inserts payload 0 for keys near those of a model, one in eight with a bit changed: 1, 14, 15, 2, 3 or 11,
+/// whatever words and pages hold. Returns how many are refused with 11.
 fn refused(count: &mut Comparisons, random: &mut Random, model: &Model, image: &Image) -> u64 {
     let mut store = LentStore::new(random, image);
     let mut elevens = 0;
@@ -174,10 +194,10 @@ fn refused(count: &mut Comparisons, random: &mut Random, model: &Model, image: &
         if random.below(8) == 0 {
             key[random.below(4)] ^= 1 << random.below(32);
         }
-        let number = early_number(image).or_else(|| insert_refused(image.shape(), key, 0));
+        let refused = early_refusal(image).or_else(|| insert_refused(image.shape(), key, 0));
         let about = format_args!("{key:?}: {model:?}, state {:?}", image.state);
-        count.same(store.insert(key, 0).err(), number.map(refusal), about);
-        elevens += u64::from(number == Some(11));
+        count.same(store.insert(key, 0).err(), refused, about);
+        elevens += u64::from(refused == Some(refusal(11)));
     }
     elevens
 }

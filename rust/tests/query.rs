@@ -1,11 +1,12 @@
 //! The call query on sound stores and on what it meets of unsound ones, compared with a list scanned in full.
 use mdeh_tests::compare::Comparisons;
 use mdeh_tests::lent::{lend_bytes, LentStore};
-use mdeh_tests::plain::image::{Image, Laid, Placed, STATE};
+use mdeh_tests::plain::image::{Image, Laid, Placed};
 use mdeh_tests::plain::met::{each_damaged_count, each_damaged_word, each_shallow_word};
 use mdeh_tests::plain::met::{DAMAGED_COUNTS, DAMAGED_WORDS, SHALLOW_WORDS};
 use mdeh_tests::plain::model::Model;
-use mdeh_tests::plain::samples::{outside, query_of, random_key, random_model};
+use mdeh_tests::plain::refusal::refusal;
+use mdeh_tests::plain::samples::{early_refused, outside, query_of, random_key, random_model, EARLY};
 use mdeh_tests::random::Random;
 
 const SEED: u64 = 0x6d64_6568_2d30_3036;
@@ -129,34 +130,24 @@ fn refusal_8_comes_before_3() {
 }
 
 #[test]
-fn refusals_1_and_2_come_before_8_and_3() {
+fn refusals_1_14_15_and_2_come_before_8_and_3() {
     let mut count = Comparisons::default();
     let mut random = Random::new(SEED);
     for _ in 0..300 {
         let model = random_model(&mut random);
         let laid = Laid::new(&mut random, &model);
-        let words = (1 << model.depth_limit) - 1;
-        let bytes = laid.image.clone().page(0).len() * model.page_limit - 1;
-        let mut stores: Vec<(Image, u32)> = vec![(laid.image, 0); 6];
-        stores[0].0.state[0] = 0;
-        stores[1].0.state[1] = 0;
-        stores[2].0.state[5] = 17;
-        stores[3].0.state.truncate(STATE - 1);
-        stores[4].0.dir.truncate(words);
-        stores[5].0.pages.truncate(bytes);
-        for (i, (image, number)) in stores.iter_mut().enumerate() {
-            *number = if i < 4 { 1 } else { 2 };
-            let store = LentStore::new(&mut random, image);
+        for (image, refused) in early_refused(&laid.image, &model) {
+            let store = LentStore::new(&mut random, &image);
             for query in [[None; 4], [Some(0); 4], [Some(i32::MIN); 4], random_query(&mut random, &model)] {
                 let content = random.bytes(60);
                 let mut out = lend_bytes(&mut random, &content);
                 let about = format_args!("{:?}, {query:?}", image.state);
-                count.same(store.query(query, &mut out), Err(*number), about);
+                count.same(store.query(query, &mut out), Err(refused), about);
                 count.same(out.unchanged(), true, about);
             }
         }
     }
-    count.end(300 * 6 * 4 * 2);
+    count.end(300 * EARLY * 4 * 2);
 }
 
 // ---- damage that a query meets
@@ -171,7 +162,7 @@ fn all_damaged(count: &mut Comparisons, random: &mut Random, model: &Model, leaf
         let content = random.bytes(100);
         let mut out = lend_bytes(random, &content);
         let about = format_args!("{:?}, {query:?}, leaf {:?}", image.state, leaf.leaf.bits);
-        count.same(store.query(query, &mut out), Err(9), about);
+        count.same(store.query(query, &mut out), Err(refusal(9)), about);
         count.same(out.unchanged(), true, about);
     }
 }

@@ -1,13 +1,16 @@
 //! The call range on sound stores and on what it meets of unsound ones, compared with a list scanned in full.
 use mdeh_tests::compare::Comparisons;
-use mdeh_tests::host::Shape;
+use mdeh_tests::host::{Refused, Shape};
 use mdeh_tests::lent::{lend_bytes, LentStore};
 use mdeh_tests::plain::image::{Image, Laid, Placed};
 use mdeh_tests::plain::met::{each_damaged_count, each_damaged_word, each_shallow_word};
 use mdeh_tests::plain::met::{DAMAGED_COUNTS, DAMAGED_WORDS, SHALLOW_WORDS};
 use mdeh_tests::plain::model::Model;
 use mdeh_tests::plain::range::Intervals;
-use mdeh_tests::plain::samples::{early_refused, outside, query_of, random_key, random_model, range_of};
+use mdeh_tests::plain::refusal::refusal;
+use mdeh_tests::plain::samples::{
+    early_refused, outside, query_of, random_key, random_model, range_of, EARLY,
+};
 use mdeh_tests::plain::value::bounds;
 use mdeh_tests::random::Random;
 use mdeh_tests::shapes::{all_widths, marked};
@@ -317,12 +320,12 @@ fn compare_refused(
     random: &mut Random,
     store: &LentStore,
     range: Intervals,
-    number: u32,
+    refused: Refused,
 ) {
     let content = random.bytes(60);
     let mut out = lend_bytes(random, &content);
     let about = format_args!("{:?}, {range:?}", store.state.slice());
-    count.same(store.range(range, &mut out), Err(number), about);
+    count.same(store.range(range, &mut out), Err(refused), about);
     count.same(out.unchanged(), true, about);
 }
 
@@ -358,7 +361,7 @@ fn refusals_8_3_and_10_in_every_combination() {
                 _ => continue,
             };
             refused += 1;
-            compare_refused(&mut count, &mut random, &store, range, number);
+            compare_refused(&mut count, &mut random, &store, range, refusal(number));
         }
     }
     count.end(refused * 2);
@@ -383,29 +386,29 @@ fn refusal_3_in_attribute_1_beats_10_in_attribute_0() {
         ([reversed, None, None, reversed], 8),
         ([None, None, large, None], 8),
     ] {
-        compare_refused(&mut count, &mut random, &store, range, number);
+        compare_refused(&mut count, &mut random, &store, range, refusal(number));
     }
     count.end(10 * 2);
 }
 
 #[test]
-fn refusals_1_and_2_come_before_8_3_and_10() {
+fn refusals_1_14_15_and_2_come_before_8_3_and_10() {
     let mut count = Comparisons::default();
     let mut random = Random::new(SEED);
     for _ in 0..300 {
         let model = random_model(&mut random);
         let laid = Laid::new(&mut random, &model);
-        for (image, number) in early_refused(&laid.image, &model) {
+        for (image, refused) in early_refused(&laid.image, &model) {
             let store = LentStore::new(&mut random, &image);
             let random_one = random_range(&mut random, &model);
             for range in
                 [[None; 4], [Some((0, 0)); 4], [Some((1, 0)); 4], [Some((i32::MAX, i32::MIN)); 4], random_one]
             {
-                compare_refused(&mut count, &mut random, &store, range, number);
+                compare_refused(&mut count, &mut random, &store, range, refused);
             }
         }
     }
-    count.end(300 * 8 * 5 * 2);
+    count.end(300 * EARLY * 5 * 2);
 }
 
 // ---- damage that a range meets
@@ -419,7 +422,7 @@ fn all_damaged(count: &mut Comparisons, random: &mut Random, model: &Model, leaf
         let (inside, other) = (model.key_of(&bits), random_key(random, model));
         let ends = |j: usize| (inside[j].min(other[j]), inside[j].max(other[j]));
         let range = [0, 1, 2, 3].map(|j| (subset >> j & 1 == 1).then(|| ends(j)));
-        compare_refused(count, random, &store, range, 9);
+        compare_refused(count, random, &store, range, refusal(9));
     }
 }
 

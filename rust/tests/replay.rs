@@ -1,6 +1,6 @@
 //! Demand 3 on the running code: random lists of calls, encoded in words and replayed on lent memory, from a fresh store
 //! or from a loaded one, answer by answer and byte by byte as the plain model gives them (document 01, "The plain model
-//! of demand 3"; document 02, requests 1, 2, 4, 5 and 6).
+//! of demand 3"; document 02, requests 1, 2, 4, 5, 6 and 7).
 use mdeh_tests::cells::Cells;
 use mdeh_tests::compare::Comparisons;
 use mdeh_tests::host::{self, CheckResult, Refused, Shape};
@@ -9,7 +9,7 @@ use mdeh_tests::plain::file::{file_of, load};
 use mdeh_tests::plain::image::Image;
 use mdeh_tests::plain::model::Model;
 use mdeh_tests::plain::range::Intervals;
-use mdeh_tests::plain::refusal::{page_size, refusal};
+use mdeh_tests::plain::refusal::page_size;
 use mdeh_tests::plain::samples::{query_of, random_key, random_model, random_payload, range_of};
 use mdeh_tests::plain::shown::pages_shown;
 use mdeh_tests::probe::calls::{replay, replay_file, Replayed, ANSWER_SIZE, CALL_SIZE};
@@ -119,12 +119,14 @@ fn answer(model: &mut Model, call: Call, out: &mut [u8]) -> [u64; ANSWER_SIZE] {
         Call::Query(query, _) => listed(model.query(query, out)),
         Call::Range(range, _) => listed(model.range(range, out)),
     };
-    words.unwrap_or_else(|Refused { number, depth }| [number.into(), 0, 0, depth.into()])
+    words.unwrap_or_else(|Refused { number, attribute, depth }| {
+        [number.into(), attribute.into(), 0, depth.into()]
+    })
 }
 
 /// The words of an accepted query or range.
-fn listed(answer: Result<(u64, u64, u64), u32>) -> Result<[u64; ANSWER_SIZE], Refused> {
-    answer.map(|(written, total, reads)| [0, written, total, reads]).map_err(refusal)
+fn listed(answer: Result<(u64, u64, u64), Refused>) -> Result<[u64; ANSWER_SIZE], Refused> {
+    answer.map(|(written, total, reads)| [0, written, total, reads])
 }
 
 /// What a replay is lent beside the store, and what the model leaves of it.
@@ -186,8 +188,8 @@ enum Start {
 }
 
 impl Start {
-    /// The model that so many words and bytes begin with, or the number of the refusal.
-    fn model(&self, words: usize, bytes: usize) -> Result<Model, u32> {
+    /// The model that so many words and bytes begin with, or the refusal.
+    fn model(&self, words: usize, bytes: usize) -> Result<Model, Refused> {
         match self {
             Start::Fresh(shape) => Model::fresh(*shape, words, bytes),
             Start::Load(file) => load(file, words, bytes),
@@ -209,8 +211,8 @@ impl Start {
     }
 }
 
-/// Replays a list of calls on random memory of these lengths and compares the number, all answers and outputs, and the
-/// store with the model's leaves. Returns the numbers of the answers.
+/// Replays a list of calls on random memory of these lengths and compares number and attribute, all answers and
+/// outputs, and the store with the model's leaves. Returns the numbers of the answers.
 fn compare(
     count: &mut Comparisons,
     random: &mut Random,
@@ -230,10 +232,11 @@ fn compare(
     let mut answers = lend_numbers(random, &script.answers);
     let mut out = lend_bytes(random, &script.out);
     let (words, bytes) = (dir.slice_mut(), pages.slice_mut());
-    let Replayed { number, state } =
+    let Replayed { number, attribute, state } =
         start.replay(words, bytes, &script.calls, answers.slice_mut(), out.slice_mut());
-    count.same(number, first.as_ref().err().copied().unwrap_or(0), about);
-    if let Err(number) = first {
+    let told = first.as_ref().map_or_else(|refused| (refused.number, refused.attribute), |_| (0, 0));
+    count.same((number, attribute), told, about);
+    if first.is_err() {
         let unchanged = dir.unchanged() && pages.unchanged() && answers.unchanged() && out.unchanged();
         count.same(unchanged, true, about);
         return vec![number.into()];
@@ -243,8 +246,8 @@ fn compare(
     let Model { shape, page_limit, depth_limit, .. } = script.model;
     let kept = dir.unchanged_from(1 << depth_limit) && pages.unchanged_from(page_limit * page_size(shape));
     count.same(kept && answers.guards_stay() && out.guards_stay(), true, about);
-    let CheckResult { number, sound } = host::check_result(&state, dir.slice(), pages.slice());
-    count.same((number, sound), (0, 1), about);
+    let found = host::check_result(&state, dir.slice(), pages.slice());
+    count.same(found, CheckResult { number: 0, attribute: 0, sound: 1 }, about);
     let image = Image { state: state.to_vec(), dir: dir.slice().to_vec(), pages: pages.slice().to_vec() };
     let cells = Cells::new(script.model.widths(), depth_limit);
     count.same(pages_shown(&image, &script.model, &cells).err(), None, about);
@@ -256,12 +259,15 @@ fn compare(
 fn random_lists_on_small_stores() {
     let mut count = Comparisons::default();
     let mut random = Random::new(SEED);
-    let mut met = [0u64; 12];
+    let mut met = [0u64; 16];
     let mut expected = 0;
     for list in 0..1500 {
         let mut shape = random_shape(&mut random, 14, 4);
-        if list % 50 == 0 {
-            shape.capacity = 17;
+        match list % 50 {
+            0 => shape.capacity = 17,
+            1 => shape.widths[shape.attributes as usize - 1] = 0,
+            2 => shape.attributes = 5,
+            _ => {}
         }
         let words = random.below(100);
         let bytes = random.below(20 * page_size(shape));
@@ -274,8 +280,8 @@ fn random_lists_on_small_stores() {
     }
     println!("answers by number: {met:?}");
     assert!(
-        (0..12).all(|number| (met[number] > 0) == (number != 9)),
-        "a number is not met, or 9 is: {met:?}"
+        (0..16).all(|number| (met[number] > 0) == ![9, 12, 13].contains(&number)),
+        "a number is not met, or 9, 12 or 13 is: {met:?}"
     );
     count.end(expected);
 }
@@ -286,7 +292,7 @@ fn random_lists_on_small_stores() {
 fn random_lists_on_loaded_stores() {
     let mut count = Comparisons::default();
     let mut random = Random::new(SEED + 2);
-    let mut met = [0u64; 14];
+    let mut met = [0u64; 16];
     let mut expected = 0;
     for list in 0..1500 {
         let model = random_model(&mut random);
@@ -305,7 +311,7 @@ fn random_lists_on_loaded_stores() {
     }
     println!("answers by number: {met:?}");
     assert!(
-        (0..14).all(|number| (met[number] > 0) == (number != 9)),
+        (0..16).all(|number| (met[number] > 0) == (number != 9)),
         "a number is not met, or 9 is: {met:?}"
     );
     count.end(expected);

@@ -3,14 +3,16 @@
 //! bytes."
 use mdeh_tests::compare::Comparisons;
 use mdeh_tests::followed::{Followed, COMPARED};
-use mdeh_tests::host::Shape;
+use mdeh_tests::host::{Refused, Shape};
 use mdeh_tests::lent::{lend_bytes, Lent, LentStore};
 use mdeh_tests::plain::file::{end_of, file_of, load, size_of, END};
 use mdeh_tests::plain::image::{Image, Laid, SIGNS, STATE};
-use mdeh_tests::plain::judge::{early_number, judge};
+use mdeh_tests::plain::judge::{early_refusal, judge};
 use mdeh_tests::plain::model::Model;
-use mdeh_tests::plain::refusal::page_size;
-use mdeh_tests::plain::samples::{early_refused, given_payload, random_key, random_model, random_payload};
+use mdeh_tests::plain::refusal::{page_size, refusal};
+use mdeh_tests::plain::samples::{
+    early_refused, given_payload, random_key, random_model, random_payload, EARLY,
+};
 use mdeh_tests::plain::unsound;
 use mdeh_tests::plain::value::bounds;
 use mdeh_tests::random::Random;
@@ -20,15 +22,15 @@ use std::fmt::Arguments;
 const SEED: u64 = 0x6d64_6568_2d30_3232;
 
 /// How often each number came, 0 for accepted.
-type Met = [u64; 14];
+type Met = [u64; 16];
 
 // ---- loads
 
 /// The comparisons of a load.
 const LOADED: u64 = 3;
 
-/// Loads a file into random memory of these lengths. Compares the number with the plain reader's; of an accepted load the
-/// whole store with the reader's set, and its file with the bytes that came. Returns the number.
+/// Loads a file into random memory of these lengths. Compares the refusal with the plain reader's; of an accepted load
+/// the whole store with the reader's set, and its file with the bytes that came. Returns the number.
 fn compare_load(
     count: &mut Comparisons,
     random: &mut Random,
@@ -41,12 +43,12 @@ fn compare_load(
     let found = LentStore::load(random, file, &memory);
     // fewer words than a state has are refused where no memory would be
     let expected = if state < STATE { load(file, 0, 0) } else { load(file, words, bytes) };
-    let number = expected.as_ref().err().copied();
-    count.same(found.as_ref().err().copied(), number, about);
+    let refused = expected.as_ref().err().copied();
+    count.same(found.as_ref().err().copied(), refused, about);
     let (Ok(store), Ok(model)) = (found, expected) else {
-        count.same(number.is_some(), true, about);
-        count.same(number == Some(12) || file.len() >= END, true, about);
-        return number.unwrap_or(0);
+        count.same(refused.is_some(), true, about);
+        count.same(refused == Some(refusal(12)) || file.len() >= END, true, about);
+        return number_of(refused);
     };
     let length = file.len() + random.below(20);
     let content = random.bytes(length);
@@ -56,6 +58,11 @@ fn compare_load(
     // panics unless the store shows the model's set
     Followed::new(store, model);
     0
+}
+
+/// The number of a refusal, 0 for none.
+fn number_of(refused: Option<Refused>) -> u32 {
+    refused.map_or(0, |refused| refused.number)
 }
 
 /// Lengths of memory for a store of a shape: few words and pages are likely, and so are enough.
@@ -214,7 +221,7 @@ fn outputs_of_every_length() {
             let found = store.save(&mut out);
             let about = format_args!("{length} bytes: {model:?}");
             if length < expected.len() {
-                count.same(found, Err(2), about);
+                count.same(found, Err(refusal(2)), about);
                 short += 1;
             } else {
                 count.same(found, Ok(expected.len() as u64), about);
@@ -227,7 +234,7 @@ fn outputs_of_every_length() {
     count.end(2 * fits + short);
 }
 
-/// 1, then 2, whatever the output.
+/// 1, 14, 15, then 2, whatever the output.
 #[test]
 fn a_save_refused_before_a_look_into_the_store() {
     let mut count = Comparisons::default();
@@ -235,16 +242,16 @@ fn a_save_refused_before_a_look_into_the_store() {
     for _ in 0..200 {
         let model = random_model(&mut random);
         let image = Laid::new(&mut random, &model).image;
-        for (image, number) in early_refused(&image, &model) {
+        for (image, refused) in early_refused(&image, &model) {
             let store = LentStore::new(&mut random, &image);
             for length in [0, size_of(model.records.len())] {
                 let content = random.bytes(length);
                 let mut out = lend_bytes(&mut random, &content);
-                count.same(store.save(&mut out), Err(number), format_args!("{length} bytes: {image:?}"));
+                count.same(store.save(&mut out), Err(refused), format_args!("{length} bytes: {image:?}"));
             }
         }
     }
-    count.end(200 * 8 * 2);
+    count.end(200 * EARLY * 2);
 }
 
 /// Stores of any limits, with marks and payloads of any kind, saved, loaded elsewhere and saved again.
@@ -285,7 +292,7 @@ fn the_greatest_file() {
         let memory = Image::random(&mut random, words, pages * page_size(shape));
         let found = LentStore::load(&mut random, &file, &memory);
         let about = format_args!("{words} words, {pages} pages");
-        count.same(found.as_ref().err().copied(), expected, about);
+        count.same(found.as_ref().err().copied(), expected.map(refusal), about);
         if let Ok(store) = found {
             count.same(store.check(), Ok(true), about);
             count.same(store.state.slice()[6..9].to_vec(), vec![4096, 12, 12], about);
@@ -297,7 +304,7 @@ fn the_greatest_file() {
 
 // ---- refusals of a load
 
-/// Each number where those behind it are due too: 12, 1, 13, 2, then 6 or 7.
+/// Each number where those behind it are due too: 12, 1, 14, 15, 13, 2, then 6 or 7.
 #[test]
 fn the_numbers_of_a_load_in_their_order() {
     let mut count = Comparisons::default();
@@ -312,7 +319,7 @@ fn the_numbers_of_a_load_in_their_order() {
     let good = file_of(&model);
     let end = good.len();
     // each way to break a file: the number, and the bytes that are changed, from the end
-    let ways: [(u32, &[(usize, u8)]); 22] = [
+    let ways: [(u32, &[(usize, u8)]); 24] = [
         (12, &[(16, b'm')]),
         (12, &[(13, b'h')]),
         (12, &[(12, 25)]),
@@ -324,9 +331,11 @@ fn the_numbers_of_a_load_in_their_order() {
         (12, &[(1, 0x40)]),
         (1, &[(24, 0)]),
         (1, &[(24, 5)]),
-        (1, &[(23, 0)]),
-        (1, &[(22, 17)]),
-        (1, &[(19, 0)]),
+        (14, &[(23, 0)]),
+        (14, &[(22, 17)]),
+        (14, &[(23, 255), (22, 0)]),
+        (15, &[(19, 0)]),
+        (15, &[(19, 17)]),
         (13, &[(17, 1)]),
         (13, &[(21, 1)]),
         (13, &[(18, 0x06)]),
@@ -353,16 +362,16 @@ fn the_numbers_of_a_load_in_their_order() {
                 });
                 let about = format_args!("{first:?}, {second:?}");
                 let number = compare_load(&mut count, &mut random, &file, [state, words, bytes], about);
-                // the earlier of 12, 1, 13
-                let rank = |number: u32| [12, 1, 13].iter().position(|&other| other == number);
+                // the earlier of 12, 1, 14, 15, 13
+                let rank = |number: u32| [12, 1, 14, 15, 13].iter().position(|&other| other == number);
                 let expected = if rank(first.0) <= rank(second.0) { first.0 } else { second.0 };
                 count.same(number, expected, about);
                 met[number as usize] += 1;
             }
         }
     }
-    assert_met(&met, &[0, 1, 2, 6, 7, 12, 13], 1);
-    count.end(10 * (1 + 22 * 22) * (LOADED + 1));
+    assert_met(&met, &[0, 1, 2, 6, 7, 12, 13, 14, 15], 1);
+    count.end(10 * (1 + 24 * 24) * (LOADED + 1));
 }
 
 /// Every other value of each byte of shape and trailer, some of those of the records.
@@ -388,7 +397,7 @@ fn every_byte_changed() {
             }
         }
     }
-    assert_met(&met, &[0, 1, 2, 6, 7, 12, 13], 20);
+    assert_met(&met, &[0, 1, 2, 6, 7, 12, 13, 14, 15], 20);
     count.end(loads * LOADED);
 }
 
@@ -501,8 +510,8 @@ fn six_and_seven_at_the_first_record_that_meets_them() {
         met[number] += 1;
         // with more pages 6 comes at a later record; with more words and as many pages 7 would come
         let with = |words, pages| load(&file_of(&model), words, pages * page_size(model.shape)).err();
-        six_later += u64::from(number == 7 && with(memory[1], 40) == Some(6));
-        both += u64::from(number == 6 && with(256, pages) == Some(7));
+        six_later += u64::from(number == 7 && with(memory[1], 40) == Some(refusal(6)));
+        both += u64::from(number == 6 && with(256, pages) == Some(refusal(7)));
     }
     println!("7 before a later 6: {six_later}, 6 where 7 would come too: {both}");
     assert!(six_later > 100 && both > 100);
@@ -608,19 +617,21 @@ fn calls_on_a_loaded_store() {
 
 // ---- stores that are not sound
 
-/// A save of any store: 1 or 2 as the table says; then 9, 2 for an output that a file may not fit, or a file of what a
-/// query of everything lists, with the end of its shape and length. A sound store gives no 9.
+/// A save of any store: 1, 14, 15 or 2 as the table says; then 9, 2 for an output that a file may not fit, or a file of
+/// what a query of everything lists, with the end of its shape and length. A sound store gives no 9.
 fn save_any(count: &mut Comparisons, random: &mut Random, met: &mut Met, image: &Image) {
     let store = LentStore::new(random, image);
     let most = size_of(4096 * 16);
     let length = [random.below(30), random.below(400), most - 1, most][random.below(4)];
     let mut out = Lent::new(vec![1], &vec![random.number() as u8; length], vec![2]);
     let found = store.save(&mut out);
-    met[found.err().unwrap_or(0) as usize] += 1;
+    met[number_of(found.err()) as usize] += 1;
     let about = format_args!("{length} bytes, state {:?}", image.state);
-    let right = match (early_number(image), found) {
-        (Some(number), _) => found == Err(number),
-        (None, Err(number)) => number == 2 && length < most || number == 9 && judge(image) == Ok(false),
+    let right = match (early_refusal(image), found) {
+        (Some(refused), _) => found == Err(refused),
+        (None, Err(Refused { number, .. })) => {
+            number == 2 && length < most || number == 9 && judge(image) == Ok(false)
+        }
         (None, Ok(size)) => {
             let size = size as usize;
             let mut list = Lent::new(vec![1], &vec![0; most], vec![2]);
@@ -644,6 +655,6 @@ fn saves_of_unsound_stores() {
     unsound::random_memory(&mut random, 500, 0x0003_000f, &mut each);
     unsound::random_states(&mut random, 1000, &mut each);
     unsound::wild_limits(&mut random, &mut each);
-    assert_met(&met, &[0, 1, 2, 9], 50);
+    assert_met(&met, &[0, 1, 2, 9, 14, 15], 50);
     count.end(25 * 30 + 500 + 500 + 1000 + unsound::WILD);
 }

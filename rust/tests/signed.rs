@@ -86,9 +86,9 @@ impl Attribute {
         count.same(store.insert(key, 7), Err(refusal(3)), about);
         count.same(store.delete(key), Err(refusal(3)), about);
         let mut out = Lent::new(vec![1], &[2; 40], vec![3]);
-        count.same(store.query(query_of(1 << *j, key), &mut out), Err(3), about);
+        count.same(store.query(query_of(1 << *j, key), &mut out), Err(refusal(3)), about);
         for ends in [(number, *greatest), (*least, number), (number, number)] {
-            count.same(store.range(range_with(*j, ends), &mut out), Err(3), about);
+            count.same(store.range(range_with(*j, ends), &mut out), Err(refusal(3)), about);
         }
         count.same(out.unchanged(), true, about);
     }
@@ -193,7 +193,7 @@ fn the_numbers_of_ranges_in_their_order() {
         let content = random.bytes(50);
         let mut out = lend_bytes(&mut random, &content);
         let about = format_args!("{range:?}");
-        count.same(store.range(range, &mut out), expected, about);
+        count.same(store.range(range, &mut out), expected.map_err(refusal), about);
         count.same(out.unchanged(), true, about);
     }
     count.end(25 * 2);
@@ -215,6 +215,7 @@ fn the_numbers_of_queries_and_inserts_in_their_order() {
     ] {
         let content = random.bytes(50);
         let mut out = lend_bytes(&mut random, &content);
+        let expected = expected.map_err(refusal);
         count.same(store.query(query, &mut out), expected, format_args!("{query:?}"));
         count.same(out.unchanged(), true, format_args!("{query:?}"));
     }
@@ -268,7 +269,7 @@ fn every_field_of_a_page() {
                 let key = key_with(j, if is_value { number } else { 0 });
                 count.same(store.lookup(key), if is_value { Ok((7, 1, 0)) } else { Err(refusal(9)) }, about);
                 let mut out = Lent::new(vec![1, 2], &[3; 12], vec![4]);
-                let expected = if is_value { Ok((1, 1, 1)) } else { Err(9) };
+                let expected = if is_value { Ok((1, 1, 1)) } else { Err(refusal(9)) };
                 count.same(store.query(query_of(1 << j, key), &mut out), expected, about);
                 count.same(store.range(range_with(j, (least, greatest)), &mut out), expected, about);
                 count.same(out.unchanged(), !is_value, about);

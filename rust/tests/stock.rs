@@ -235,6 +235,63 @@ fn payload_0_in_a_full_store_prints_no_11() {
     replies(&lines);
 }
 
+// ---- what is amiss in a shape
+
+/// "Number 1 remains for the attribute count", whichever numbers follow; then 14, whose attribute is not printed, and
+/// 15. A refused shape leaves the store of the one before.
+#[test]
+fn a_shape_line_prints_what_is_amiss() {
+    replies(&[
+        ("shape 2 0 3 2", "no 14"),
+        ("list * *", "bad line"),
+        ("shape 2 3 3 17", "no 15"),
+        ("shape 5 3 3 3 3 3 2", "no 1"),
+        ("shape 2 2 2 2", "ok"),
+        ("put 2 1 13", "ok"),
+        ("shape 2 3 0 2", "no 14"),
+        ("shape 2 17 17 0", "no 14"),
+        ("shape 2 3 3 0", "no 15"),
+        ("shape 2 16 16 4294967295", "no 15"),
+        ("shape 4 16 16 16 17 17", "no 14"),
+        ("shape 1 4294967295 0", "no 14"),
+        ("shape 1 4294967296 0", "bad line"),
+        ("shape 257 2 2", "no 1"),
+        ("shape 5", "no 1"),
+        ("shape 0 0 0", "no 1"),
+        ("shape 0 *", "bad line"),
+        ("shape 2 0 3", "bad line"),
+        ("shape 2 0 3 2 2", "bad line"),
+        ("shape 2 3 3 17 ", "bad line"),
+        ("list * 2", "= 0 1"),
+        ("cut 2 1", "ok"),
+        ("shape 1 16 16", "ok"),
+        ("put 65535 1", "ok"),
+    ]);
+}
+
+/// All combinations of widths and capacities, in bounds and out, for each count.
+#[test]
+fn every_combination_in_a_shape_line() {
+    let (mut input, mut expected) = (String::new(), String::new());
+    for d in 0..=5 {
+        for turn in 0..4usize.pow(d + 1) {
+            let number = |place: u32| [0, 1, 16, 17][turn / 4usize.pow(place) % 4];
+            let numbers: Vec<u32> = (0..=d).map(number).collect();
+            let outside = |number: &u32| [0, 17].contains(number);
+            let (capacity, widths) = numbers.split_last().expect("there is a capacity");
+            let list: Vec<String> = numbers.iter().map(u32::to_string).collect();
+            input += &format!("shape {d} {}\n", list.join(" "));
+            expected += match widths {
+                _ if d == 0 || d == 5 => "no 1\n",
+                widths if widths.iter().any(outside) => "no 14\n",
+                _ if outside(capacity) => "no 15\n",
+                _ => "ok\n",
+            };
+        }
+    }
+    assert_eq!(compare(input.as_bytes(), &[65536]), expected);
+}
+
 // ---- minus signs
 
 /// "`stock` marks none and takes no minus sign": a number of 2^31 or more is no number below 0 either.

@@ -173,7 +173,7 @@ impl Damaged<'_> {
         assert!(found.is_ok() || out.unchanged(), "a refused query writes: {query:?}, {:?}", self.image);
         let told = Reading::new(self.image, self.cells).query_told(query);
         let right = self.model.query(query, &mut expected);
-        let answer = answer(found.map_err(refusal), right.map_err(refusal), told);
+        let answer = answer(found, right, told);
         Answer { right: answer.right && out.slice() == expected, ..answer }
     }
 
@@ -190,7 +190,7 @@ impl Damaged<'_> {
         let expected_answer = self.model.range(range, &mut expected);
         // 3 and 10 come first
         let told = expected_answer.is_ok() && Reading::new(self.image, self.cells).range_told(range);
-        let answer = answer(found.map_err(refusal), expected_answer.map_err(refusal), told);
+        let answer = answer(found, expected_answer, told);
         Answer { right: answer.right && out.slice() == expected, ..answer }
     }
 
@@ -290,9 +290,9 @@ fn word_0_zeroed_is_told_by_every_query_and_range() {
         for subset in 0..4 {
             let content = random.bytes(60);
             let mut out = lend_bytes(&mut random, &content);
-            count.same(store.query(query_of(subset, key), &mut out), Err(9), about);
+            count.same(store.query(query_of(subset, key), &mut out), Err(refusal(9)), about);
             let range = query_of(subset, key).map(|low| low.map(|low| (low, 3)));
-            count.same(store.range(range, &mut out), Err(9), about);
+            count.same(store.range(range, &mut out), Err(refusal(9)), about);
             count.same(out.unchanged(), true, about);
         }
     }

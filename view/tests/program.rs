@@ -27,7 +27,7 @@ fn lines_passed_over() {
     let expected = "\
 line 1: bad line
 line 4: no 4 (the key is stored already)
-line 5: no 1 (the shape is outside its bounds)
+line 5: no 14 (the width of attribute 0 is outside 1 to 16)
 line 6: no 5 (the key is not stored)
 line 7: no 3 (a value, index or address is outside its bounds, or an unused value is not 0)
 line 9: no 3 (a value, index or address is outside its bounds, or an unused value is not 0)

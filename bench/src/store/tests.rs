@@ -47,7 +47,7 @@ fn random_calls_are_answered_as_the_list_answers_them() {
             out[1] = out[0].clone();
             let found = store.query(query, &mut out[0]);
             let found = found.map(|(written, total, reads)| (written as u64, total as u64, reads as u64));
-            count.same(found, model.query(query, &mut out[1]), about);
+            count.same(found.map_err(refusal), model.query(query, &mut out[1]), about);
             count.same(&out[0], &out[1], about);
             let keys = [key, random_key(&mut random, &model)];
             let subset = random.below(16);
@@ -55,7 +55,7 @@ fn random_calls_are_answered_as_the_list_answers_them() {
             let about = format_args!("{shape:?}, {words} words, {bytes} bytes, turn {turn}, {range:?}");
             let found = store.range(range, &mut out[0]);
             let found = found.map(|(written, total, reads)| (written as u64, total as u64, reads as u64));
-            count.same(found, model.range(range, &mut out[1]), about);
+            count.same(found.map_err(refusal), model.range(range, &mut out[1]), about);
             count.same(&out[0], &out[1], about);
         }
     }
@@ -93,7 +93,7 @@ fn files_are_written_and_read_as_the_plain_model_does() {
         let (found, expected) = (other.load(&file), load(&file, words, bytes));
         met[found.err().unwrap_or(0) as usize] += 1;
         let about = format_args!("{words} words, {bytes} bytes: {file:?}");
-        count.same(found, expected.as_ref().map(|_| ()).map_err(|&number| number), about);
+        count.same(found.map_err(refusal), expected.as_ref().map(|_| ()).map_err(|&refused| refused), about);
         if expected.is_ok() {
             let (state, dir, pages) = other.image();
             count.same(judge(&Image { state, dir, pages }), Ok(true), about);

@@ -1,8 +1,8 @@
 -- The two calls of the address map accept the box at T = W and the addresses below 2^W, and each undoes the other.
 -- Assumes nothing.
-use Prim.Native.Nat.{ℕ, zero, suc, _^_, _<_}
+use Prim.Native.Nat.{ℕ, _^_, _<_}
 use mathlib.Core.Path.{_≡_, refl, sym, ap, _∙_, subst}
-use mathlib.Core.Bool.{Bool, true, false, not, false≢true}
+use mathlib.Core.Bool.{Bool, true, false, not}
 use mathlib.Core.List.{List, [], _∷_, _++_, map}
 use mathlib.Core.Logic.{_↔_}
 use native.Mathlib.Omega.{arith}
@@ -10,16 +10,17 @@ use lib.Dec.{ltb}
 use lib.ListN.{getD, length}
 use borrow.Author.Tests.{ltb-true, lt-ltb}
 use Rattle.lists.proofs.Bools.{and-split, and-both}
-use Rattle.shape.specs.Refusal.{accepted, answered, refusal, firstNumber}
+use Rattle.shape.specs.Refusal.{accepted, refusal, firstNumber}
 use Rattle.shape.specs.Shape.{shapeConditions, shapeNumber, widthsOf, total, Fit, indexFits}
 use Rattle.shape.specs.declared.Shape.{Shape}
-use Rattle.shape.proofs.RefusalLaws.{firstNumber-shape}
+use Rattle.shape.proofs.RefusalLaws.{firstNumber-shape, accepted-answeredBy}
 use Rattle.shape.proofs.ShapeLaws.{widthsOf-fit}
 use Rattle.split.specs.Steps.{attributeDepth}
 use Rattle.split.proofs.StepLaws.{length-steps}
 use Rattle.split.proofs.DepthLaws.{attributeDepth-all}
 use Rattle.address.specs.Address.{address}
-use Rattle.address_calls.specs.Answers.{addressNumber, addressAnswer, indexNumber, indexAnswer}
+use Rattle.address_calls.specs.Answers.{addressRefusals, addressNumber, addressAnswer}
+use Rattle.address_calls.specs.Answers.{indexRefusals, indexNumber, indexAnswer}
 use Rattle.address.specs.Doubling.{In, done, also, sides, doublingArray}
 use Rattle.address.specs.Map.{EqualsDoublingArray}
 use Rattle.address_calls.specs.RoundTrip.{InWholeBox, RoundTrip}
@@ -66,10 +67,6 @@ firstNumber-one s β n = (λ e. holds β (sym (firstNumber-shape s _ n) ∙ e), 
     holds true e = refl
     holds false e = absurd (omega arith)
 
-number-of-accepted : {A : Type 0} (n : ℕ) (x y : A) → answered n x ≡ accepted y → n ≡ 0
-number-of-accepted zero x y e = refl
-number-of-accepted (suc n) x y e = let z : false ≡ true = cc in absurd (false≢true z)
-
 accepted-same : {A : Type 0} (x y : A) → accepted x ≡ accepted y → x ≡ y
 accepted-same x y e = cc
 
@@ -104,13 +101,13 @@ module _ (s : Shape) (n : shapeNumber s ≡ 0) where
   box-of-fits is e f = subst (λ Js. In Js is) (sym whole-box) (In-of-indexFits ws is (e ∙ sym four) f)
 
   index-accepted : (is : List ℕ) → length is ≡ 4 → (addressNumber s is ≡ 0) ↔ InWholeBox s is
-  unfolding addressNumber
+  unfolding addressRefusals
   index-accepted is e =
       let one = firstNumber-one s (indexFits ws is) n in
       (λ h. box-of-fits is e (one .0 h), λ b. one .1 (fits-of-box is b))
 
   address-accepted : (a : ℕ) → (indexNumber s a ≡ 0) ↔ (a < 2 ^ W)
-  unfolding indexNumber
+  unfolding indexRefusals
   address-accepted a =
       let one = firstNumber-one s (ltb a (2 ^ W)) n in
       (λ h. ltb-true a (2 ^ W) (one .0 h), λ l. one .1 (lt-ltb a (2 ^ W) l))
@@ -135,14 +132,14 @@ module _ (s : Shape) (n : shapeNumber s ≡ 0) where
       → indexAnswer s a ≡ accepted is
   unfolding addressAnswer
   index-of-address is a e h =
-      let b = index-accepted is e .0 (number-of-accepted (addressNumber s is) (address ws is) a h) in
+      let b = index-accepted is e .0 (accepted-answeredBy a (address ws is) (addressRefusals s is) (sym h)) in
       let same = accepted-same (address ws is) a (sym (located is b) ∙ h) in
       subst (λ x. indexAnswer s x ≡ accepted is) same (back is b)
 
   address-of-index : (is : List ℕ) (a : ℕ) → indexAnswer s a ≡ accepted is → addressAnswer s is ≡ accepted a
   unfolding indexAnswer
   address-of-index is a h =
-      let l = address-accepted a .0 (number-of-accepted (indexNumber s a) (vector a) is h) in
+      let l = address-accepted a .0 (accepted-answeredBy is (vector a) (indexRefusals s a) (sym h)) in
       let same = accepted-same (vector a) is (sym (at-address a l) ∙ h) in
       subst (λ v. addressAnswer s v ≡ accepted a) same (forth a l)
 

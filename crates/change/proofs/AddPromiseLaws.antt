@@ -22,7 +22,7 @@ use Rattle.model.specs.Add.{addNumber, addAnswer}
 use Rattle.model.proofs.SetLaws.{inShape-recordFor}
 use Rattle.store.specs.Store.{Store, Memory, memory, store, fixedOf}
 use Rattle.store.specs.Sound.{Sound}
-use Rattle.store.specs.Promises.{keyNumber, depthAt, insertAnswers, AddPromise}
+use Rattle.store.specs.Promises.{keyRefusals, keyNumber, depthAt, insertAnswers, AddPromise}
 use Rattle.store.specs.declared.Tally.{Tally}
 use Rattle.store.proofs.ShownLaws.{wordOn}
 use Rattle.change.proofs.RegionLaws.{changedStore}
@@ -70,7 +70,7 @@ module _ (before : Store) (values : List ℕ) (content : Content) where
         → Member (refused (suc n)) (insertAnswers (depthAt before values))
         → AddPromise before values content (refused (suc n)) before
     refuse n number member =
-        promise-refused false values (keyNumber before values) insertAnswers modelAnswer modelNumber modelSet before
+        promise-refused false values (keyRefusals before values) insertAnswers modelAnswer modelNumber modelSet before
         (refused (suc n)) n (λ S sound. (rw (number S sound), number S sound)) early member
 
     -- 9: the store is not sound
@@ -127,7 +127,8 @@ module _ (before : Store) (values : List ℕ) (content : Content) where
         → ShowsNext before (changedStore before T′ tally′ m′) S (withRecord s r S))
         → AddPromise before values content (accepted (changed x)) (changedStore before T′ tally′ m′)
     accept T′ tally′ m′ x past others depth number shows =
-        promise-accepted false values (keyNumber before values) insertAnswers modelAnswer modelNumber modelSet before T′
+        promise-accepted false values (keyRefusals before values) insertAnswers modelAnswer modelNumber modelSet
+        before T′
         tally′ m′ x early past others depth (inl refl) (λ S sound. (rw (number S sound), number S sound)) shows
 
     -- the leaf's page takes the record

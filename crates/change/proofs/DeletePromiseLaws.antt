@@ -9,6 +9,7 @@ use mathlib.Core.Logic.{inl, inr}
 use native.Mathlib.Omega.{arith}
 use Rattle.lists.specs.Filter.{nonEmpty}
 use Rattle.lists.specs.Members.{Member}
+use Rattle.shape.specs.Amiss.{refusedFor}
 use Rattle.shape.specs.Refusal.{Answer, accepted, refused, refusedWith, answeredBy, firstNumber}
 use Rattle.shape.specs.Key.{keyFits, encodings}
 use Rattle.shape.specs.declared.Shape.{Shape}
@@ -23,9 +24,10 @@ use Rattle.model.proofs.AnswerLaws.{answer-unfit, answer-absent, answer-stored}
 use Rattle.model.proofs.SetLaws.{length-encodings, indexFits-encodings}
 use Rattle.store.specs.Store.{Store, Memory, memory, store, fixedOf}
 use Rattle.store.specs.Sound.{Sound}
-use Rattle.store.specs.Promises.{keyNumber, depthAt, deleteAnswers, DeletePromise}
+use Rattle.store.specs.Promises.{keyRefusals, keyNumber, depthAt, deleteAnswers, DeletePromise}
 use Rattle.store.specs.declared.Tally.{Tally}
 use Rattle.store.proofs.ShownLaws.{pageRecords, wordOn, shape-of-Sound}
+use Rattle.store.proofs.NumberLaws.{named-key}
 use Rattle.store.proofs.KeyLaws.{keyWord, stored-no-page, stored-page, depthAt-sound}
 use Rattle.change.specs.Delete.{keyString, LeafDeleted, JoinFound, LeafJoined}
 use Rattle.change.proofs.RegionLaws.{changedStore}
@@ -76,12 +78,15 @@ module _ (before : Store) (values : List ℕ) where
   abbrev recordsOn : ℕ → List Record
   recordsOn g = pageRecords s (before .memory .bytes) g
 
-  pub delete-early : (n : ℕ) → keyNumber before values ≡ suc n → DeletePromise before values (refused (suc n)) before
+  -- 14 with its attribute, any other alone
+  pub delete-early : (n : ℕ) → keyNumber before values ≡ suc n
+      → DeletePromise before values (refusedFor s (suc n)) before
   unfolding outcome replyTo next setAfter
   delete-early n e =
-      promise-early true values (keyNumber before values) deleteAnswers modelAnswer modelNumber modelSet before n
+      promise-early true values (keyRefusals before values) deleteAnswers modelAnswer modelNumber modelSet before
+      (named-key before values) n
       (λ S sound. let k = keyNumber-suc before values S sound n e in (
-        ap refused (k .1) ∙ sym (answer-unfit (fixedOf (before .state)) S values _ (k .0)),
+        ap (refusedFor s) (k .1) ∙ sym (answer-unfit (fixedOf (before .state)) S values _ (k .0)),
         numberFor-delete-out (fixedOf (before .state)) S values (k .0) ∙ sym (k .1),
       )) e
 
@@ -95,7 +100,7 @@ module _ (before : Store) (values : List ℕ) where
     pub delete-unsound : OnSound before ⊥ → DeletePromise before values (refused 9) before
     unfolding outcome replyTo next setAfter
     delete-unsound none =
-        promise-refused true values (keyNumber before values) deleteAnswers modelAnswer modelNumber modelSet before
+        promise-refused true values (keyRefusals before values) deleteAnswers modelAnswer modelNumber modelSet before
         (refused 9) 8 (λ S sound. absurd (none S sound)) early (inr (inr (inl refl)))
 
     -- 5, with the depth of the word at the key's cell: the key's leaf is empty, or its page has no record with the key
@@ -104,7 +109,7 @@ module _ (before : Store) (values : List ℕ) where
         → DeletePromise before values (refusedWith 5 x) before
     unfolding outcome replyTo next setAfter
     absent x depth none =
-        promise-refused true values (keyNumber before values) deleteAnswers modelAnswer modelNumber modelSet before
+        promise-refused true values (keyRefusals before values) deleteAnswers modelAnswer modelNumber modelSet before
         (refusedWith 5 x) 4
         (λ S sound. (
           ap (refusedWith 5) (sym depth ∙ depthAt-sound before S sound values)
@@ -146,7 +151,8 @@ module _ (before : Store) (values : List ℕ) where
         → DeletePromise before values (accepted (changed y)) (changedStore before T′ tally′ m′)
     unfolding outcome replyTo next setAfter
     accept T′ tally′ m′ y past others depth met shows =
-        promise-accepted true values (keyNumber before values) deleteAnswers modelAnswer modelNumber modelSet before T′
+        promise-accepted true values (keyRefusals before values) deleteAnswers modelAnswer modelNumber modelSet
+        before T′
         tally′ m′ y early past others depth (inl refl)
         (λ S sound. (
           answer-stored (fixedOf (before .state)) S values _ fits (has S sound),

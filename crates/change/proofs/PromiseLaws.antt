@@ -2,17 +2,22 @@
 -- record that is added and for delete alike. Assumes nothing.
 use Prim.Native.Nat.{ℕ, suc, _+_, _^_, _≤_}
 use mathlib.Core.Path.{_≡_, refl, sym, ap, _∙_, subst}
-use mathlib.Core.Bool.{Bool, true, false, not, cond, false≢true}
-use mathlib.Core.List.{List, []}
+use mathlib.Core.Bool.{Bool, true, false, not, cond, _||_, false≢true}
+use mathlib.Core.List.{List, [], _∷_}
 use mathlib.Core.Logic.{inl}
 use native.Mathlib.Omega.{arith}
+use lib.Dec.{ltb}
 use lib.ListN.{length, getD, drop, length-drop}
 use lib.Pow.{pow-mono}
 use lib.Seq.{getD-drop, ext-getD}
 use borrow.Author.Tests.{le-ltb, not-false}
 use Rattle.lists.specs.Members.{Member}
-use Rattle.shape.specs.Refusal.{Answer, accepted, refused, firstNumber}
+use Rattle.shape.specs.Amiss.{refusedFor}
+use Rattle.shape.specs.Refusal.{Condition, Answer, accepted, refusal, firstNumber, RefusedFirst}
 use Rattle.shape.specs.Shape.{widthsOf, shapeConditions}
+use Rattle.shape.specs.declared.Shape.{Shape}
+use Rattle.shape.proofs.RefusalLaws.{firstNumber-shape, Named, refusedFirst-none, refusedFirst-for}
+use Rattle.shape.proofs.ShapeLaws.{shapeNumber-true}
 use Rattle.shape.specs.Key.{keyFits, encodings}
 use Rattle.split.specs.Bits.{splitBit}
 use Rattle.record.specs.Record.{Record}
@@ -23,7 +28,7 @@ use Rattle.model.proofs.ConditionLaws.{firstNumber-zero, numbered, firstNumber-
 use Rattle.store.specs.Store.{Store, Memory, pagesSize, lentConditions}
 use Rattle.store.specs.Sound.{Sound}
 use Rattle.store.specs.Contained.{Contained}
-use Rattle.store.specs.Promises.{keyNumber, KeepsPages, TakesPages, depthAt, ChangePromise}
+use Rattle.store.specs.Promises.{keyRefusals, keyNumber, KeepsPages, TakesPages, depthAt, ChangePromise}
 use Rattle.store.specs.declared.Tally.{Tally}
 use Rattle.store.proofs.KeyLaws.{depthAt-sound}
 use Rattle.store.proofs.ShownLaws.{wordOn, divisionOn}
@@ -36,27 +41,32 @@ module _ (before : Store) where
   unfolding lentConditions shapeConditions
   numbered-lent = refl
 
-  -- neither 1 nor 2 on a sound store
+  -- none of 1, 14, 15 and 2 on a sound store
   pub lent-of-sound : (S : List Record) → Sound before S → firstNumber (lentConditions before) ≡ 0
-  unfolding lentConditions shapeConditions firstNumber
+  unfolding lentConditions firstNumber
   lent-of-sound S sound =
-      rw (
-        sound .shape,
-        le-ltb (length (before .memory .words)) (2 ^ before .state .limits .depth) (sound .words-lent),
-        le-ltb (length (before .memory .bytes)) (pagesSize (before .state)) (sound .pages-lent),
-      )
+      firstNumber-shape (before .state .shape) _ (shapeNumber-true (before .state .shape) (sound .shape)) ∙ two
+    where
+      two : firstNumber (refusal 2 (ltb (length (before .memory .words)) (2 ^ before .state .limits .depth)
+          || ltb (length (before .memory .bytes)) (pagesSize (before .state))) ∷ []) ≡ 0
+      two =
+          rw (
+            le-ltb (length (before .memory .words)) (2 ^ before .state .limits .depth) (sound .words-lent),
+            le-ltb (length (before .memory .bytes)) (pagesSize (before .state)) (sound .pages-lent),
+          )
+          refl
 
 module _ (before : Store) (values : List ℕ) where
   -- on a sound store 3 or none
   pub keyNumber-sound : (S : List Record) → Sound before S
       → keyNumber before values ≡ cond (not (keyFits (before .state .shape) values)) 3 0
-  unfolding keyNumber firstNumber
+  unfolding keyRefusals firstNumber
   keyNumber-sound S sound =
       firstNumber-rest (lentConditions before) (keyConditions (before .state .shape) values) (numbered-lent before)
       (lent-of-sound before S sound)
 
   pub keyFits-of-keyNumber : keyNumber before values ≡ 0 → keyFits (before .state .shape) values ≡ true
-  unfolding keyNumber
+  unfolding keyRefusals
   keyFits-of-keyNumber e =
       let fits = keyFits (before .state .shape) values in
       let rest = firstNumber-none (lentConditions before) (keyConditions (before .state .shape) values)
@@ -135,12 +145,15 @@ showsNext-of-region before S S′ T′ tally′ m′ p₀ x sound change after =
 -- ---- the promise
 
 -- `modelAnswer S` is the model's answer, `number S` its number, `set S` its set after an accepted call
-module _ (joins : Bool) (values : List ℕ) (early : ℕ) (answers : ℕ → List (Answer Reply))
+module _ (joins : Bool) (values : List ℕ) (early : List Condition) (answers : ℕ → List (Answer Reply))
     (modelAnswer : List Record → Answer Reply) (number : List Record → ℕ) (set : List Record → List Record)
     (before : Store) where
   abbrev pub Promise : Answer Reply → Store → Type 0
   Promise answer after =
       ChangePromise joins values early answers modelAnswer (λ S. ifAccepted (number S) (set S) S) before answer after
+
+  abbrev shape : Shape
+  shape = before .state .shape
 
   -- on a sound store it is the model's answer, with its number
   abbrev pub ModelRefuses : Answer Reply → ℕ → Type 0
@@ -150,8 +163,8 @@ module _ (joins : Bool) (values : List ℕ) (early : ℕ) (answers : ℕ → Lis
     next-refused : (S : List Record) → Sound before S → ifAccepted (number S) (set S) S ≡ S
     next-refused S sound = rw (same S sound .1)
 
-    promise-unchanged : ((k : ℕ) → early ≡ suc k → answer ≡ refused (suc k))
-        → (early ≡ 0 → Member answer (answers (depthAt before values))) → Promise answer before
+    promise-unchanged : RefusedFirst early answer
+        → (firstNumber early ≡ 0 → Member answer (answers (depthAt before values))) → Promise answer before
     promise-unchanged first later =
         record {
           early-refused = first;
@@ -170,14 +183,15 @@ module _ (joins : Bool) (values : List ℕ) (early : ℕ) (answers : ℕ → Lis
           pages-taken = λ S sound. rw (next-refused S sound) (λ p g x l d. inl d);
         }
 
-    pub promise-refused : early ≡ 0 → Member answer (answers (depthAt before values)) → Promise answer before
-    promise-refused e member =
-        promise-unchanged (λ k d. let z : suc k ≡ 0 = sym d ∙ e in absurd (omega arith)) (λ d. member)
+    pub promise-refused : firstNumber early ≡ 0 → Member answer (answers (depthAt before values))
+        → Promise answer before
+    promise-refused e member = promise-unchanged (refusedFirst-none shape early e answer) (λ d. member)
 
-  pub promise-early : (n : ℕ) → ModelRefuses (refused (suc n)) (suc n) → early ≡ suc n
-      → Promise (refused (suc n)) before
-  promise-early n same e =
-      promise-unchanged (refused (suc n)) n same (λ k d. ap refused (sym e ∙ d))
+  -- an early number, where 14 names its attribute
+  pub promise-early : Named shape early → (n : ℕ) → ModelRefuses (refusedFor shape (suc n)) (suc n)
+      → firstNumber early ≡ suc n → Promise (refusedFor shape (suc n)) before
+  promise-early named n same e =
+      promise-unchanged (refusedFor shape (suc n)) n same (refusedFirst-for shape early named n e)
       (λ d. let z : suc n ≡ 0 = sym e ∙ d in absurd (omega arith))
 
   -- on a sound store the model accepts, with the depth of the key's leaf afterwards
@@ -188,7 +202,8 @@ module _ (joins : Bool) (values : List ℕ) (early : ℕ) (answers : ℕ → Lis
       × (number S ≡ 0)
 
   -- the call is accepted with the depth x of the word at the key's cell, and on a sound store its set shown
-  pub promise-accepted : (T′ : ℕ) (tally′ : Tally) (m′ : Memory) (x : ℕ) → early ≡ 0 → KeepsPast before m′
+  pub promise-accepted : (T′ : ℕ) (tally′ : Tally) (m′ : Memory) (x : ℕ) → firstNumber early ≡ 0
+      → KeepsPast before m′
       → KeepsOthers joins before values (changedStore before T′ tally′ m′)
       → depthAt (changedStore before T′ tally′ m′) values ≡ x → Member (accepted (changed x)) (answers x)
       → ModelAccepts
@@ -196,7 +211,7 @@ module _ (joins : Bool) (values : List ℕ) (early : ℕ) (answers : ℕ → Lis
       → Promise (accepted (changed x)) (changedStore before T′ tally′ m′)
   promise-accepted T′ tally′ m′ x e past others depth member same shows =
       record {
-        early-refused = λ k d. let z : suc k ≡ 0 = sym d ∙ e in absurd (omega arith);
+        early-refused = refusedFirst-none shape early e (accepted (changed x));
         unchanged = λ d. absurd (false≢true d);
         ordinary = λ d. subst (λ y. Member (accepted (changed x)) (answers y)) (sym depth) member;
         shape-kept = refl;

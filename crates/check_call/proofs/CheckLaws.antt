@@ -10,7 +10,8 @@ use lib.Dec.{eqb}
 use lib.ListN.{length, getD, replicate, getD-replicate}
 use lib.Pow.{pow-mono}
 use borrow.Author.Tests.{eq-eqb, ne-eqb}
-use Rattle.shape.specs.Refusal.{accepted, refused}
+use Rattle.shape.specs.Amiss.{refusedFor}
+use Rattle.shape.specs.Refusal.{accepted}
 use Rattle.shape.specs.Shape.{Fit, widthsOf, total}
 use Rattle.shape.proofs.ShapeLaws.{widthsOf-fit}
 use Rattle.region.specs.Strings.{emptyString}
@@ -24,7 +25,6 @@ use Rattle.store.specs.Promises.{lentNumber, CheckPromise}
 use Rattle.check_test.specs.Walk.{regionTest, readDivision, pagesInUse}
 use Rattle.check_test.specs.Test.{viewOf, shownDivision, sameNumbers, walkTest, sumsTest, soundTest}
 use Rattle.check_test.proofs.AnswerLaws.{checkAnswer-refused, checkAnswer-accepted, check-promise}
-use Rattle.check_test.proofs.ShowsLaws.{lent-of-number}
 use Rattle.refusals.specs.Lengths.{lentNumberBy}
 use Rattle.refusals.specs.Limits.{limitsHold}
 use Rattle.refusals.proofs.LentLaws.{memoryLent, lentNumber-by}
@@ -148,9 +148,9 @@ module _ (st : State) (words bytes : List ℕ) where
   abbrev whole : Store
   whole = store st words bytes
 
-  -- 1 or 2
+  -- 1, 14, 15 or 2
   pub check-refused : (n : ℕ) → (n ≡ 0 → ⊥) → n ≡ lentNumberBy st (length words) (length bytes)
-      → CheckPromise whole (refused n)
+      → CheckPromise whole (refusedFor (st .shape) n)
   check-refused zero ne e = absurd (ne refl)
   check-refused (suc n) ne e =
       subst (CheckPromise whole) (checkAnswer-refused whole n (lentNumber-by st words bytes ∙ sym e))
@@ -175,9 +175,9 @@ module _ (st : State) (words bytes : List ℕ) where
       pub storeLent : StoreLent st (length words) (length bytes)
       storeLent =
           let b = limits-parts st limits in
-          let k = lent-of-number whole lent-none in
+          let k = memoryLent st (length words) (length bytes) none in
           record {
-            shape = memoryLent st (length words) (length bytes) none .shape;
+            shape = k .shape;
             words-lent = k .words-lent;
             pages-lent = k .pages-lent;
             short = b .2;

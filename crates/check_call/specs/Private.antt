@@ -5,7 +5,7 @@ use Rattle.shape.specs.Shape.{total, shapeNumber, widthsOf}
 use Rattle.store.specs.Store.{pagesSize}
 use Rattle.store.specs.declared.State.{State}
 
--- neither 1 nor 2, and within the limits: what the walk over the whole store asks
+-- none of 1, 14, 15 and 2, and within the limits: what the walk over the whole store asks
 pub record StoreLent (st : State) (words bytes : ℕ) : Type 0 where
   pub shape : shapeNumber (st .shape) ≡ 0
   pub words-lent : 2 ^ st .limits .depth ≤ words

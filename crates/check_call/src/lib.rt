@@ -8,6 +8,7 @@ use refusals::limits_hold;
 use shape::widths_of;
 use store::Checked;
 use store::State;
+use store::refuse_check;
 ghost use mathlib.Core.Path.{_≡_};
 ghost use mathlib.Core.Bool.{_&&_};
 ghost use lib.ListN.{length};
@@ -17,14 +18,14 @@ ghost use Rattle.store.specs.Promises.{CheckPromise};
 ghost use Rattle.check_test.specs.Test.{walkTest, sumsTest};
 ghost use Rattle.check_call.specs.Private.{StoreLent};
 
-// Whether the lent store is sound: yes exactly for a sound store, otherwise no. Refused with 1 for a
-// shape outside its bounds, then with 2 for fewer than 2^L words or P pages. Writes nothing.
+// Whether the lent store is sound: yes exactly for a sound store, otherwise no. Refused with 1, 14 or
+// 15 for a shape outside its bounds, then with 2 for fewer than 2^L words or P pages. Writes nothing.
 pub fn check(state: State, dir: &[u32], pages: &[u8]) -> Checked
     ensures { λ r. ⌜ CheckPromise (store state (now (dir .entry)) (now (pages .entry))) (checkedAnswer r) ⌝ }
 {
     let number = lent_number(state, dir.len(), pages.len());
     if number != 0 {
-        return Checked::Refused(number);
+        return refuse_check(state.shape, number);
     }
     if !limits_hold(state) {
         return Checked::No;

@@ -4,31 +4,41 @@ use mathlib.Core.Path.{_≡_, refl, sym, ap, _∙_}
 use mathlib.Core.Bool.{Bool, true, false, false≢true}
 use mathlib.Core.List.{List}
 use mathlib.Core.Logic.{_⊎_, inl, inr}
-use Rattle.shape.specs.Refusal.{accepted, refused}
+use Rattle.shape.specs.Amiss.{refusedFor}
+use Rattle.shape.specs.Refusal.{accepted}
+use Rattle.shape.specs.Shape.{shapeConditions}
+use Rattle.shape.specs.declared.Shape.{Shape}
+use Rattle.shape.proofs.RefusalLaws.{answeredBy-named}
 use Rattle.record.specs.Record.{Record}
-use Rattle.store.specs.Store.{Store}
+use Rattle.model.proofs.ConditionLaws.{answeredBy-accepted}
+use Rattle.store.specs.Store.{Store, lentConditions}
 use Rattle.store.specs.Sound.{Sound}
 use Rattle.store.specs.Promises.{lentNumber, CheckPromise}
+use Rattle.store.proofs.NumberLaws.{named-lent}
 use Rattle.check_test.specs.Test.{shownSet, soundTest, checkAnswer}
 use Rattle.check_test.proofs.SoundLaws.{yes-sound, sound-yes}
 
 module _ (store : Store) where
   -- ---- by case
 
-  pub checkAnswer-refused : (n : ℕ) → lentNumber store ≡ suc n → checkAnswer store ≡ refused (suc n)
+  abbrev s : Shape
+  s = store .state .shape
+
+  pub checkAnswer-refused : (n : ℕ) → lentNumber store ≡ suc n → checkAnswer store ≡ refusedFor s (suc n)
   unfolding checkAnswer
-  checkAnswer-refused n e = rw e
+  checkAnswer-refused n e = answeredBy-named s (soundTest store) (lentConditions store) (named-lent store) n e
 
   pub checkAnswer-accepted : lentNumber store ≡ 0 → checkAnswer store ≡ accepted (soundTest store)
-  unfolding checkAnswer
-  checkAnswer-accepted e = rw e
+  unfolding checkAnswer lentConditions shapeConditions
+  checkAnswer-accepted e = answeredBy-accepted (soundTest store) (lentConditions store) refl e
 
   -- ---- the promise
 
   pub check-promise : CheckPromise store (checkAnswer store)
   check-promise =
       record {
-        early-refused = checkAnswer-refused;
+        early-refused = λ n e x.
+            checkAnswer-refused n e ∙ sym (answeredBy-named s x (lentConditions store) (named-lent store) n e);
         verdict = λ e. by-test (soundTest store) refl (checkAnswer-accepted e);
       }
     where

@@ -8,7 +8,7 @@ use lib.ListN.{length, take, replicate, set}
 use Rattle.lists.specs.Filter.{all}
 use Rattle.shape.specs.Key.{marked, bias, encode, decode, encodeField}
 use Rattle.shape.specs.Refusal.{firstNumber}
-use Rattle.shape.specs.Shape.{inBounds, shapeConditions, widthsOf}
+use Rattle.shape.specs.Shape.{shapeConditions, widthsOf}
 use Rattle.shape.specs.declared.Shape.{Shape}
 use Rattle.split.specs.Steps.{stepsBelow, steps, step, stepNumber, stepsOf, attributeDepth}
 use Rattle.split.specs.Bits.{splitBit}
@@ -21,7 +21,6 @@ use Rattle.page.specs.Page.{pageSize}
 use Rattle.directory_word.specs.Word.{wordOf}
 use Rattle.directory_word.specs.declared.Leaf.the-variants.{Empty, Page}
 use Rattle.store.specs.Store.{Store, lentConditions}
-use Rattle.store.specs.Promises.{lentNumber}
 use Rattle.refusals.specs.Limits.{limitsHold}
 use Rattle.check_test.specs.Test.{soundTest, shownSet}
 
@@ -141,7 +140,7 @@ damaged =
 
 pub examples : (all soundTest sound ≡ true) × (all (λ x. not (soundTest x)) damaged ≡ true)
 unfolding
-    soundTest limitsHold lentNumber lentConditions firstNumber shapeConditions inBounds widthsOf
+    soundTest limitsHold lentConditions firstNumber shapeConditions widthsOf
     stepsBelow steps step stepNumber stepsOf attributeDepth splitBit
     highestBit createdBy latestStep formula addressFrom address sides sumBits cell cellAddress recordBytes recordOf
     marked bias encode decode encodeField

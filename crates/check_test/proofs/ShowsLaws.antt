@@ -1,19 +1,17 @@
--- A store's words and pages: what `Shows` says of a division is what the walk's laws say of it. And what no refusal of
--- the lent memory means. Assumes nothing.
-use Prim.Native.Nat.{ℕ, zero, suc, pred, _^_, _≤_, _<_}
+-- A store's words and pages: what `Shows` says of a division is what the walk's laws say of it. Assumes nothing.
+use Prim.Native.Nat.{ℕ, zero, suc, pred, _≤_, _<_}
 use mathlib.Core.Path.{_≡_, refl, sym, ap, _∙_}
-use mathlib.Core.Bool.{Bool, true, false, cond, not, _||_, false≢true, true≢false}
+use mathlib.Core.Bool.{Bool, true, false, not, false≢true, true≢false}
 use mathlib.Core.List.{List, [], _∷_}
 use native.Mathlib.Omega.{arith}
 use native.Mathlib.Nat.{zero-add}
-use lib.Dec.{ltb, eqb}
+use lib.Dec.{eqb}
 use lib.ListN.{length, getD}
-use borrow.Author.Tests.{ltb-false, le-ltb, ne-eqb}
+use borrow.Author.Tests.{ne-eqb}
 use Rattle.lists.specs.Filter.{nonEmpty}
-use Rattle.shape.specs.Refusal.{firstNumber}
-use Rattle.shape.specs.Shape.{inBounds, shapeConditions, widthsOf, total}
+use Rattle.shape.specs.Shape.{shapeNumber, widthsOf, total}
 use Rattle.shape.specs.declared.Shape.{Shape}
-use Rattle.shape.proofs.ShapeLaws.{shapeNumber-true, widthsOf-fit}
+use Rattle.shape.proofs.ShapeLaws.{widthsOf-fit}
 use Rattle.address.specs.Address.{address}
 use Rattle.cell.specs.Cell.{cellAddress, Agree}
 use Rattle.cell.proofs.CellLaws.{cell-agree}
@@ -25,9 +23,8 @@ use Rattle.page.specs.Page.{countOf, recordsFrom, recordsOf, pageAt}
 use Rattle.directory_word.specs.Word.{wordOf}
 use Rattle.directory_word.specs.declared.Leaf.the-variants.{Page}
 use Rattle.model.specs.Sets.{divisionOf}
-use Rattle.store.specs.Store.{Store, wordAt, pagesSize, lentConditions}
+use Rattle.store.specs.Store.{Store, wordAt}
 use Rattle.store.specs.Sound.{LeafWord, Shows}
-use Rattle.store.specs.Promises.{lentNumber}
 use Rattle.page.proofs.FieldLaws.{length-recordsFrom}
 use Rattle.directory_word.specs.Word.{depthField, pageField}
 use Rattle.check_test.specs.Walk.{pagesInUse}
@@ -63,47 +60,6 @@ nonEmpty-length : {A : Type 0} (xs : List A) → nonEmpty xs ≡ false → lengt
 nonEmpty-length [] e = refl
 nonEmpty-length (x ∷ xs) e = absurd (true≢false e)
 
--- ---- what is lent
-
-pub record Lent (store : Store) : Type 0 where
-  pub shape : inBounds (store .state .shape) ≡ true
-  pub words-lent : 2 ^ store .state .limits .depth ≤ length (store .memory .words)
-  pub pages-lent : pagesSize (store .state) ≤ length (store .memory .bytes)
-
-module _ (store : Store) where
-  -- 1, 2 or neither
-  abbrev number : Bool → Bool → Bool → ℕ
-  number a b c = cond (not a) 1 (cond (b || c) 2 0)
-
-  no-refusal : (a b c : Bool) → number a b c ≡ 0 → (a ≡ true) × (b ≡ false) × (c ≡ false)
-  no-refusal true true c e = absurd (omega arith)
-  no-refusal true false true e = absurd (omega arith)
-  no-refusal true false false e = (refl, refl, refl)
-  no-refusal false b c e = absurd (omega arith)
-
-  pub lent-of-number : lentNumber store ≡ 0 → Lent store
-  unfolding lentNumber lentConditions shapeConditions firstNumber
-  lent-of-number e =
-      let words = length (store .memory .words) in
-      let bytes = length (store .memory .bytes) in
-      let k =
-      no-refusal (inBounds (store .state .shape)) (ltb words (2 ^ store .state .limits .depth))
-      (ltb bytes (pagesSize (store .state))) e in
-      record {
-        shape = k .0;
-        words-lent = ltb-false words (2 ^ store .state .limits .depth) (k .1);
-        pages-lent = ltb-false bytes (pagesSize (store .state)) (k .2);
-      }
-
-  pub lentNumber-lent : Lent store → lentNumber store ≡ 0
-  unfolding lentNumber lentConditions shapeConditions firstNumber
-  lentNumber-lent k =
-      rw (
-        k .shape,
-        le-ltb (length (store .memory .words)) (2 ^ store .state .limits .depth) (k .words-lent),
-        le-ltb (length (store .memory .bytes)) (pagesSize (store .state)) (k .pages-lent),
-      )
-
 -- ---- words and pages
 
 module _ (store : Store) where
@@ -117,12 +73,12 @@ module _ (store : Store) where
   word p = wordAt s (store .state .deepest) (store .memory .words) p
 
   -- a cell's word depends on the first T bits of its string
-  pub wordAt-local : inBounds s ≡ true → (p q : ℕ → Bool) → sameBits p q (store .state .deepest) 0 ≡ true
+  pub wordAt-local : shapeNumber s ≡ 0 → (p q : ℕ → Bool) → sameBits p q (store .state .deepest) 0 ≡ true
       → word p ≡ word q
   unfolding cellAddress
-  wordAt-local b p q e =
+  wordAt-local n p q e =
       ap (λ c. getD (store .memory .words) (address (widthsOf s) c) 0)
-      (cell-agree (widthsOf s) (widthsOf-fit s (shapeNumber-true s b)) (store .state .deepest) p q
+      (cell-agree (widthsOf s) (widthsOf-fit s n) (store .state .deepest) p q
       (agree-of-sameBits p q (store .state .deepest) e))
 
   LeafWord-fields : (rs : List Record) (x w : ℕ) → P ≤ 4096 → LeafWord s P (store .memory .bytes) rs x w

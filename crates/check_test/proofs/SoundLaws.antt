@@ -1,19 +1,20 @@
 -- The test passes exactly the sound stores, and a sound store shows one set: the one that is read off its pages.
 -- Assumes nothing.
-use Prim.Native.Nat.{ℕ, _≤_}
-use mathlib.Core.Path.{_≡_, refl, ap, _∙_}
+use Prim.Native.Nat.{ℕ}
+use mathlib.Core.Path.{_≡_, refl, sym, ap, _∙_}
 use mathlib.Core.Bool.{Bool, true, _&&_, false≢true}
 use mathlib.Core.List.{List, [], _∷_}
 use native.Mathlib.Omega.{arith}
 use native.Mathlib.Nat.{zero-add}
-use lib.Dec.{leb, eqb}
-use lib.ListN.{getD}
-use borrow.Author.Tests.{leb-true, eqb-true, eq-eqb}
+use lib.Dec.{eqb}
+use lib.ListN.{length}
+use borrow.Author.Tests.{eqb-true, eq-eqb}
 use Rattle.lists.specs.Filter.{all}
 use Rattle.lists.proofs.Bools.{and-split, and-both}
 use Rattle.lists.proofs.FilterLaws.{all-true}
-use Rattle.shape.specs.Shape.{within, allBelow, inBounds, widthsOf, total}
+use Rattle.shape.specs.Shape.{widthsOf, total}
 use Rattle.shape.specs.declared.Shape.{Shape}
+use Rattle.shape.proofs.ShapeLaws.{shapeNumber-true, inBounds-of, capacity-bounds}
 use Rattle.region.specs.Strings.{emptyString}
 use Rattle.region.specs.Sets.{sorted}
 use Rattle.region.specs.Division.{Division, greatestDepth, nonEmptyLeaves, allRecords}
@@ -23,14 +24,16 @@ use Rattle.model.specs.Sets.{inShape, isSet, divisionOf}
 use Rattle.store.specs.Store.{Store}
 use Rattle.store.specs.Sound.{Sound, tallies}
 use Rattle.store.specs.Promises.{lentNumber}
+use Rattle.refusals.specs.Lengths.{MemoryLent, lentNumberBy}
 use Rattle.refusals.specs.Limits.{limitsHold}
+use Rattle.refusals.proofs.LentLaws.{memoryLent, lentNumberBy-none, lentNumber-by}
 use Rattle.refusals.proofs.LimitsLaws.{limits-parts, limits-of-sound}
 use Rattle.check_test.specs.Walk.{pagesInUse}
 use Rattle.check_test.specs.Test.{sameNumbers, viewOf, shownDivision, shownSet, lentTest, walkTest, sumsTest}
 use Rattle.check_test.specs.Test.{soundTest}
 use Rattle.check_test.proofs.ReadLaws.{Read, read-of-test}
 use Rattle.check_test.proofs.PassLaws.{division-passes}
-use Rattle.check_test.proofs.ShowsLaws.{Lent, lent-of-number, lentNumber-lent, wordAt-local, shown-of-Shows}
+use Rattle.check_test.proofs.ShowsLaws.{wordAt-local, shown-of-Shows}
 use Rattle.check_test.proofs.ShowsLaws.{pagesInUse-Shows, Shows-of-shown}
 
 -- ---- lists of numbers
@@ -46,16 +49,6 @@ eq-of-sameNumbers (x ∷ xs) (y ∷ ys) e =
 pub sameNumbers-refl : (xs : List ℕ) → sameNumbers xs xs ≡ true
 sameNumbers-refl [] = refl
 sameNumbers-refl (x ∷ xs) = and-both (eqb x x) (sameNumbers xs xs) (eq-eqb x x refl) (sameNumbers-refl xs)
-
--- ---- shapes
-
-capacity-pos : (s : Shape) → inBounds s ≡ true → 1 ≤ s .capacity
-unfolding inBounds
-capacity-pos s e =
-    let widths = allBelow (s .attributes) (λ j. within 1 16 (getD (s .widths) j 0)) in
-    let b = s .capacity in
-    let k = and-split (within 1 4 (s .attributes)) (widths && within 1 16 b) e .1 in
-    leb-true 1 b (and-split (leb 1 b) (leb b 16) (and-split widths (within 1 16 b) k .1) .0)
 
 module _ (store : Store) where
   abbrev s : Shape
@@ -102,9 +95,24 @@ module _ (store : Store) where
       (and-both (tallyTest D) (inUseTest D) (rw (k .tallied) (sameNumbers-refl (tallies D 0 13)))
       (eq-eqb (pagesInUse (viewOf store) P) (nonEmptyLeaves D) (k .in-use)))
 
+  -- ---- what is lent
+
+  by-lengths : lentNumber store
+      ≡ lentNumberBy (store .state) (length (store .memory .words)) (length (store .memory .bytes))
+  by-lengths = lentNumber-by (store .state) (store .memory .words) (store .memory .bytes)
+
+  abbrev Lent : Type 0
+  Lent = MemoryLent (store .state) (length (store .memory .words)) (length (store .memory .bytes))
+
+  lent-of-test : lentTest store ≡ true → Lent
+  lent-of-test e = memoryLent (store .state) _ _ (sym by-lengths ∙ eqb-true (lentNumber store) 0 e)
+
+  lentTest-true : Lent → lentTest store ≡ true
+  lentTest-true l = eq-eqb (lentNumber store) 0 (by-lengths ∙ lentNumberBy-none (store .state) _ _ l)
+
   -- ---- yes is right
 
-  sound-of-parts : Lent store → limitsHold (store .state) ≡ true → walkTest store ≡ true → Sums (shownDivision store)
+  sound-of-parts : Lent → limitsHold (store .state) ≡ true → walkTest store ≡ true → Sums (shownDivision store)
       → Sound store (shownSet store)
   unfolding divisionOf isSet
   sound-of-parts l e w k =
@@ -114,7 +122,7 @@ module _ (store : Store) where
       let d : divisionOf s (shownSet store) ≡ shownDivision store =
       read .divides W (omega (arith, b .4, b .3)) in
       record {
-        shape = l .shape;
+        shape = inBounds-of s (l .shape);
         words-lent = l .words-lent;
         pages-lent = l .pages-lent;
         some-page = b .0;
@@ -136,8 +144,7 @@ module _ (store : Store) where
       let k₁ = and-split (lentTest store) (limitsHold (store .state) && (walkTest store && sumsTest store)) e in
       let k₂ = and-split (limitsHold (store .state)) (walkTest store && sumsTest store) (k₁ .1) in
       let k₃ = and-split (walkTest store) (sumsTest store) (k₂ .1) in
-      sound-of-parts (lent-of-number store (eqb-true (lentNumber store) 0 (k₁ .0))) (k₂ .0) (k₃ .0)
-      (sums-of-test (k₃ .1))
+      sound-of-parts (lent-of-test (k₁ .0)) (k₂ .0) (k₃ .0) (sums-of-test (k₃ .1))
 
   -- ---- no is right
 
@@ -150,7 +157,7 @@ module _ (store : Store) where
     pub sound-read : (walkTest store ≡ true) × (shownDivision store ≡ divisionOf s S)
     unfolding divisionOf
     sound-read =
-        division-passes (viewOf store) T W emptyString 0 S (capacity-pos s (h .shape))
+        division-passes (viewOf store) T W emptyString 0 S (capacity-bounds s (shapeNumber-true s (h .shape)) .0)
         (record {
           left-ordered = set-parts .0;
           ordered = set-parts .0;
@@ -173,9 +180,12 @@ module _ (store : Store) where
       where
         lent : lentTest store ≡ true
         lent =
-            eq-eqb (lentNumber store) 0
-            (lentNumber-lent store
-            (record { shape = h .shape; words-lent = h .words-lent; pages-lent = h .pages-lent }))
+            lentTest-true
+            (record {
+              shape = shapeNumber-true s (h .shape);
+              words-lent = h .words-lent;
+              pages-lent = h .pages-lent;
+            })
 
         sums : Sums (shownDivision store)
         sums =

@@ -1,19 +1,18 @@
 -- Laws of the walk over regions: what it reads and tests, by case; bounds of the sums over what it reads.
 -- Assumes nothing.
-use Prim.Native.Nat.{ℕ, zero, suc, _+_, _*_, _^_, _≤_, _<_}
+use Prim.Native.Nat.{ℕ, zero, suc, _+_, _^_, _≤_, _<_}
 use mathlib.Core.Path.{_≡_, refl, ap, _∙_}
 use mathlib.Core.Bool.{Bool, true, false, _&&_}
-use mathlib.Core.List.{List, _++_}
 use native.Mathlib.Omega.{arith}
-use native.Mathlib.Nat.{le-trans, mul-add, le-mul-of-pos-right, two-pow-succ}
-use lib.Dec.{leb, ltb, eqb}
+use native.Mathlib.Nat.{two-pow-succ}
+use lib.Dec.{leb, ltb}
 use lib.ListN.{length, length-append}
 use lib.Pow.{pow-pos}
 use borrow.Author.Tests.{leb-true, leb-false, le-leb, lt-leb}
 use Rattle.lists.specs.Filter.{nonEmpty}
 use Rattle.lists.proofs.FilterLaws.{cond-le-one}
 use Rattle.region.specs.Strings.{withBit}
-use Rattle.region.specs.Division.{Division, leaf, divided, greatestDepth, tally, nonEmptyLeaves, allRecords}
+use Rattle.region.specs.Division.{Division, leaf, divided, greatestDepth, nonEmptyLeaves, allRecords}
 use Rattle.directory_word.specs.Word.{depthField, pageField}
 use Rattle.check_test.specs.Walk.{View, fieldRecords, leafTest, readDivision, recordCount}
 use Rattle.check_test.specs.Walk.{regionTest}

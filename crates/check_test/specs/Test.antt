@@ -1,17 +1,17 @@
 -- The test of a lent store and the answer of check (document 01, "Calls": "Check, after 1 and 2, says yes exactly for a
--- sound store and otherwise no; it never gives 9"). Assumes nothing.
+-- sound store and otherwise no; it never gives 9"; document 02, request 7: 14 and 15 before 2). Assumes nothing.
 use Prim.Native.Nat.{ℕ}
 use mathlib.Core.Bool.{Bool, true, false, _&&_}
 use mathlib.Core.List.{List, [], _∷_}
 use lib.Dec.{eqb}
-use Rattle.shape.specs.Refusal.{Answer, answered}
+use Rattle.shape.specs.Refusal.{Answer, answeredBy}
 use Rattle.shape.specs.Shape.{widthsOf, total}
 use Rattle.region.specs.Strings.{emptyString}
 use Rattle.region.specs.Division.{Division, greatestDepth, nonEmptyLeaves, allRecords}
 use Rattle.record.specs.Record.{Record, recordBit}
 use Rattle.page.specs.Page.{recordsOf, pageAt}
 use Rattle.model.specs.Sets.{inShape}
-use Rattle.store.specs.Store.{Store, wordAt}
+use Rattle.store.specs.Store.{Store, wordAt, lentConditions}
 use Rattle.store.specs.Sound.{tallies}
 use Rattle.store.specs.Promises.{lentNumber}
 use Rattle.refusals.specs.Limits.{limitsHold}
@@ -47,7 +47,7 @@ module _ (store : Store) where
   abbrev pub shownSet : List Record
   shownSet = allRecords shownDivision
 
-  -- neither 1 nor 2
+  -- none of 1, 14, 15 and 2
   abbrev pub lentTest : Bool
   lentTest = eqb (lentNumber store) 0
 
@@ -64,10 +64,10 @@ module _ (store : Store) where
       && (sameNumbers (st .tally .leaves) (tallies shownDivision 0 13)
       && eqb (pagesInUse viewOf (st .limits .pages)) (nonEmptyLeaves shownDivision))
 
-  -- the store is sound: neither 1 nor 2, the limits, then what words and pages show
+  -- the store is sound: none of 1, 14, 15 and 2, the limits, then what words and pages show
   unfoldable pub soundTest : Bool
   soundTest = lentTest && (limitsHold (store .state) && (walkTest && sumsTest))
 
-  -- 1, 2, then yes or no
+  -- 1, 14, 15, 2, then yes or no
   unfoldable pub checkAnswer : Answer Bool
-  checkAnswer = answered (lentNumber store) soundTest
+  checkAnswer = answeredBy (lentConditions store) soundTest

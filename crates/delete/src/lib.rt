@@ -13,14 +13,15 @@ use shape::Key;
 use store::Change;
 use store::Changed;
 use store::State;
+use store::refuse_change;
 ghost use Rattle.store.specs.Answers.{changedAnswer};
 ghost use Rattle.store.specs.Promises.{DeletePromise};
 ghost use Rattle.store.specs.Store.{store};
 
 // Removes the record with a key, joins leaves until the leaves of the set without it stand, and
-// returns the depth of the key's leaf afterwards. Refused with 1, 2, 3, 5 or 9, the first that holds
-// in this order; 5 carries the depth of the leaf in which the absent key falls; a refused call
-// changes nothing. On any store no word and no page of a leaf that is not joined is lost.
+// returns the depth of the key's leaf afterwards. Refused with 1, 14, 15, 2, 3, 5 or 9, the first
+// that holds in this order; 5 carries the depth of the leaf in which the absent key falls; a refused
+// call changes nothing. On any store no word and no page of a leaf that is not joined is lost.
 pub fn delete(state: State, dir: &mut [u32], pages: &mut [u8], key: Key) -> Change
     ensures { λ r. ⌜ DeletePromise (store state (now (dir .entry)) (now (pages .entry))) (key .values)
         (changedAnswer (r .answer)) (store (r .state) (now (dir .exit)) (now (pages .exit))) ⌝ }
@@ -28,7 +29,7 @@ pub fn delete(state: State, dir: &mut [u32], pages: &mut [u8], key: Key) -> Chan
     let number = lent_number(state, dir.len(), pages.len());
     if number != 0 {
         return Change {
-            answer: Changed::Refused(number),
+            answer: refuse_change(state.shape, number),
             state,
         };
     }

@@ -40,7 +40,7 @@ module _ (before : Store) (encoded : List ℕ) where
   abbrev countBefore : ℕ → ℕ
   countBefore g = countOf (pageAt b (before .memory .bytes) g)
 
-  -- the key's leaf has page g and depth x, as the word of its cell says; 1, 2, 3 and the limits are passed
+  -- the key's leaf has page g and depth x, as the word of its cell says; 1, 14, 15, 2, 3 and the limits are passed
   pub record LeafMet (g x : ℕ) : Type 0 where
     pub passed : Passed before encoded
     pub limits : limitsHold (before .state) ≡ true

@@ -61,8 +61,8 @@ pub enum Plan {
     Join(Stored, Join),
 }
 
-// Plans a delete of a key, given by its encodings, after 1, 2 and 3: 9 for limits or a word that no
-// sound store has, 5 for a leaf without a page.
+// Plans a delete of a key, given by its encodings, after 1, 14, 15, 2 and 3: 9 for limits or a word
+// that no sound store has, 5 for a leaf without a page.
 pub fn plan_delete(state: State, dir: &[u32], pages: &[u8], encoded: Key) -> Plan
     requires { ⌜ Passed (store state (now dir) (now pages)) (encoded .values) ⌝ }
     ensures { λ r. ⌜ DeletePlanned (store state (now (dir .entry)) (now (pages .entry))) (encoded .values) r ⌝ }

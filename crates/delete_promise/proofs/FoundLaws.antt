@@ -7,7 +7,7 @@ use mathlib.Core.List.{List}
 use native.Mathlib.Nat.{le-trans}
 use lib.ListN.{drop}
 use Rattle.lists.specs.Filter.{nonEmpty}
-use Rattle.shape.specs.Refusal.{refused}
+use Rattle.shape.specs.Amiss.{refusedFor}
 use Rattle.shape.specs.Shape.{widthsOf, indexFits}
 use Rattle.shape.specs.declared.Shape.{Shape}
 use Rattle.directory.specs.Directory.{Filled}
@@ -29,9 +29,9 @@ use Rattle.delete_plan.proofs.MetLaws.{pageLent}
 use Rattle.delete_pages.specs.PageBytes.{RecordLent}
 use Rattle.delete_promise.proofs.SoundPageLaws.{stored-here}
 
--- 1, 2 or 3
+-- 1, 14, 15, 2 or 3
 pub promise-early : (before : Store) (values : List ℕ) (n : ℕ) → n ≡ keyNumber before values → (n ≡ 0 → ⊥)
-    → DeletePromise before values (refused n) before
+    → DeletePromise before values (refusedFor (before .state .shape) n) before
 promise-early before values zero e some = absurd (some refl)
 promise-early before values (suc n) e some = delete-early before values n (sym e)
 

@@ -1,11 +1,11 @@
--- Files and the numbers of their loads, computed (document 02, request 5): an empty store's, the proof table's four
--- records, a marked value; files that are damaged in one place, and the order of the numbers. Assumes nothing.
+-- Files and the answers of their loads, computed (document 02, requests 5 and 7): an empty store's, the proof table's
+-- four records, a marked value; files that are damaged in one place, and the order of the numbers. Assumes nothing.
 use Prim.Native.Nat.{ℕ}
 use mathlib.Core.Path.{_≡_, refl}
 use mathlib.Core.List.{List, [], _∷_, map}
 use lib.ListN.{drop, set, replicate}
-use Rattle.shape.specs.Refusal.{firstNumber}
-use Rattle.shape.specs.Shape.{inBounds, shapeConditions, widthsOf}
+use Rattle.shape.specs.Refusal.{Answer, refused, refusedWith, firstNumber, answeredBy}
+use Rattle.shape.specs.Shape.{shapeConditions, lowestBad, widthsOf}
 use Rattle.shape.specs.Key.{marked, bias, decode, encodeField}
 use Rattle.shape.specs.declared.Shape.{Shape}
 use Rattle.split.specs.Steps.{stepsBelow, steps, step}
@@ -16,7 +16,7 @@ use Rattle.model.specs.Limits.{logarithm, pageLimitOf, depthLimitOf, freshShape
 use Rattle.model.specs.Sets.{isSet, divisionOf}
 use Rattle.store.specs.Store.{Memory, memory}
 use Rattle.file.specs.File.{endBytes, fileOf, fileShape, fileRecords, isWhole, isPlain}
-use Rattle.file.specs.Loading.{loadNumber}
+use Rattle.file.specs.Loading.{loadRefusals, loadNumber}
 
 -- ---- files
 
@@ -114,15 +114,30 @@ damagedEnds =
     ∷ set (set fourFile 64 60) 68 3
     ∷ []
 
--- no attribute or five, a width of 0 or 17, a capacity of 0 or 17
+-- no attribute or five; a width of 0 or 17, both widths, a width and the capacity; a capacity of 0 or 17
 abbrev damagedShapes : List (List ℕ)
 damagedShapes =
     set fourFile 48 0
     ∷ set fourFile 48 5
     ∷ set fourFile 49 0
     ∷ set fourFile 50 17
+    ∷ set (set fourFile 50 0) 49 17
+    ∷ set (set fourFile 50 17) 53 0
     ∷ set fourFile 53 0
     ∷ set fourFile 53 17
+    ∷ []
+
+-- 14 names the lowest attribute with a bad width
+abbrev shapeAnswers : List (Answer (Unit {0}))
+shapeAnswers =
+    refused 1
+    ∷ refused 1
+    ∷ refusedWith 14 0
+    ∷ refusedWith 14 1
+    ∷ refusedWith 14 0
+    ∷ refusedWith 14 1
+    ∷ refused 15
+    ∷ refused 15
     ∷ []
 
 -- the last byte of the shape, an unused width, a mark without an attribute; values outside their bounds, unused values;
@@ -141,23 +156,31 @@ damagedContents =
     ∷ set (set offsetFile 0 0) 1 2
     ∷ []
 
--- a byte too few and no attribute; no attribute and the last byte of the shape; this one alone; a good file
+-- a byte too few and no attribute; no attribute and a width of 0; a width of 17 and no
+-- capacity; no capacity and the last byte of the shape; this one alone; a good file
 abbrev damagedTwice : List (List ℕ)
-damagedTwice = set (drop 1 fourFile) 47 0 ∷ set (set fourFile 48 0) 55 1 ∷ set fourFile 55 1 ∷ fourFile ∷ []
+damagedTwice =
+    set (drop 1 fourFile) 47 0
+    ∷ set (set fourFile 48 0) 49 0
+    ∷ set (set fourFile 49 17) 53 0
+    ∷ set (set fourFile 53 0) 55 1
+    ∷ set fourFile 55 1
+    ∷ fourFile
+    ∷ []
 
 -- 16 cells and 3 pages are enough, and a payload of 0 loads; the damaged files; no word, no whole page; one cell, where
 -- the third record finds b that share their first 0 split bits; one page, of a leaf that the third record divides; the
--- order: 12, 1, 13, 2, then 6 before 7
+-- order: 12, 1, 14, 15, 13, 2, then 6 before 7
 pub load-numbers :
     (numbersOf (slices 16 78) (emptyFile ∷ fourFile ∷ offsetFile ∷ set fourFile 8 0 ∷ []) ≡ replicate 4 0)
     × (numbersOf (slices 16 78) damagedEnds ≡ replicate 10 12)
-    × (numbersOf (slices 16 78) damagedShapes ≡ replicate 6 1)
+    × (map (λ file. answeredBy (loadRefusals file (slices 16 78)) tt) damagedShapes ≡ shapeAnswers)
     × (numbersOf (slices 16 78) damagedContents ≡ replicate 10 13)
     × (map (loadNumber fourFile) (slices 0 78 ∷ slices 16 25 ∷ slices 1 78 ∷ slices 16 26 ∷ []) ≡ 2 ∷ 2 ∷ 6 ∷ 7 ∷ [])
-    × (numbersOf (slices 0 0) damagedTwice ≡ 12 ∷ 1 ∷ 13 ∷ 2 ∷ [])
+    × (numbersOf (slices 0 0) damagedTwice ≡ 12 ∷ 1 ∷ 14 ∷ 15 ∷ 13 ∷ 2 ∷ [])
     × (loadNumber fourFile (slices 1 26) ≡ 6)
 unfolding
-    loadNumber firstNumber isWhole isPlain fileShape fileRecords shapeConditions inBounds widthsOf recordOf
-    encodeField bias marked isSet splitBit step steps stepsBelow
+    loadRefusals firstNumber answeredBy isWhole isPlain fileShape fileRecords shapeConditions lowestBad widthsOf
+    recordOf encodeField bias marked isSet splitBit step steps stepsBelow
     logarithm pageLimitOf depthLimitOf freshShape fixedBy divisionOf
 load-numbers = (refl, refl, refl, refl, refl, refl, refl)

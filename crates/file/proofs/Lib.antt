@@ -5,6 +5,7 @@ pub mod FileLaws
 pub mod FitLaws
 pub mod FreshLaws
 pub mod LeafLaws
+pub mod LoadingLaws
 pub mod PlainLaws
 pub mod SoundLaws
 pub mod WrittenLaws

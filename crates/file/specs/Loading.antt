@@ -1,5 +1,6 @@
 -- The refusals of a load (document 02, request 5): "12 .. checked first; then 1; then 13, straight before 2 ..; after 2
--- come 6 and 7 at the first record that meets them." Assumes nothing.
+-- come 6 and 7 at the first record that meets them." Request 7: "The load of a saved store uses the same numbers", so
+-- that 14 and 15 follow 1. Assumes nothing.
 use Prim.Native.Nat.{ℕ}
 use mathlib.Core.Bool.{not, _&&_}
 use mathlib.Core.List.{List, [], _∷_, _++_}
@@ -31,10 +32,12 @@ wholeConditions file = refusal 12 (not (isWhole file)) ∷ []
 abbrev pub contentConditions : List ℕ → List Condition
 contentConditions file = refusal 13 (not (isPlain file && isSet (fileShape file) (fileRecords file))) ∷ []
 
--- 12, 1, 13, 2, then 6 or 7 at the first record that meets them
-unfoldable pub loadNumber : List ℕ → Memory → ℕ
-loadNumber file m =
+-- 12, 1, 14, 15, 13, 2, then 6 or 7 at the first record that meets them
+unfoldable pub loadRefusals : List ℕ → Memory → List Condition
+loadRefusals file m =
     let s = fileShape file in
-    firstNumber
-    (wholeConditions file ++ (shapeConditions s ++ (contentConditions file ++ (freshConditions s m
-    ++ joinConditions (loadFixed file m) [] (fileRecords file)))))
+    wholeConditions file ++ (shapeConditions s ++ (contentConditions file ++ (freshConditions s m
+    ++ joinConditions (loadFixed file m) [] (fileRecords file))))
+
+abbrev pub loadNumber : List ℕ → Memory → ℕ
+loadNumber file m = firstNumber (loadRefusals file m)

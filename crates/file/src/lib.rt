@@ -12,10 +12,12 @@ ghost use Rattle.file.specs.File.{encodingsAt};
 // The bytes of the shape and of the trailer, with which a file ends.
 pub const END_SIZE: usize = 24;
 
-// What save answers: how many bytes the file has.
+// What save answers: how many bytes the file has; a refusal; 14 with the attribute whose width is
+// outside its bounds.
 pub enum Saved {
     Bytes(u64),
     Refused(u32),
+    Width(u32),
 }
 
 // The packed encodings of a file's record i, where a shape adds a bias to its values.

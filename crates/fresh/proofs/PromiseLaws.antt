@@ -1,19 +1,20 @@
--- Laws of Fresh's promise: the number of the first refusal; what is promised of a refused and of an accepted call.
--- Assumes nothing.
+-- Laws of Fresh's promise: its number; what is promised of a refused and of an accepted call. Assumes nothing.
 use Prim.Native.Nat.{ℕ, zero, suc, _<_}
 use mathlib.Core.Path.{_≡_, refl, sym, ap, _∙_}
 use mathlib.Core.Bool.{true, false, cond, false≢true}
 use mathlib.Core.List.{List, [], _∷_}
 use native.Mathlib.Omega.{arith}
 use lib.ListN.{length, set, replicate}
-use Rattle.shape.specs.Refusal.{Answer, accepted, refused, refusal, firstNumber}
+use Rattle.shape.specs.Refusal.{Answer, accepted, refusal, firstNumber}
 use Rattle.shape.specs.Shape.{shapeNumber}
+use Rattle.shape.specs.Amiss.{refusedFor}
 use Rattle.shape.specs.declared.Shape.{Shape}
-use Rattle.shape.proofs.RefusalLaws.{firstNumber-shape, firstNumber-shape-out}
+use Rattle.shape.proofs.RefusalLaws.{firstNumber-shape, firstNumber-shape-out, answeredBy-named}
 use Rattle.model.specs.Limits.{pageLimitOf, depthLimitOf, freshShape}
-use Rattle.store.specs.Fresh.{FreshPromise, freshNumber, freshState, freshMemory, clearedCounts, noState}
+use Rattle.store.specs.Fresh.{FreshPromise, freshRefusals, freshNumber, freshState, freshMemory, clearedCounts, noState}
 use Rattle.store.specs.Store.{memory, store}
 use Rattle.store.specs.declared.State.{State}
+use Rattle.store.proofs.NumberLaws.{named-fresh, answeredBy-fresh}
 use Rattle.store.specs.declared.Tally.{Tally}
 use Rattle.fresh.specs.Memory.{lacksWordOrPage}
 
@@ -26,13 +27,13 @@ module _ (s : Shape) (words bytes : List ℕ) where
   -- ---- the number
 
   pub freshNumber-shape-out : (shapeNumber s ≡ 0 → ⊥) → freshNumber s (memory words bytes) ≡ shapeNumber s
-  unfolding freshNumber
+  unfolding freshRefusals
   freshNumber-shape-out n = firstNumber-shape-out s (refusal 2 (lacksWordOrPage s (length words) (length bytes)) ∷ []) n
 
   -- a shape within its bounds leaves the number to the lent memory
   freshNumber-shape : shapeNumber s ≡ 0
       → freshNumber s (memory words bytes) ≡ cond (lacksWordOrPage s (length words) (length bytes)) 2 0
-  unfolding freshNumber firstNumber
+  unfolding freshRefusals firstNumber
   freshNumber-shape n = firstNumber-shape s (refusal 2 (lacksWordOrPage s (length words) (length bytes)) ∷ []) n
 
   pub freshNumber-lacks : shapeNumber s ≡ 0 → lacksWordOrPage s (length words) (length bytes) ≡ true
@@ -46,11 +47,16 @@ module _ (s : Shape) (words bytes : List ℕ) where
   -- ---- the promise
 
   pub promise-refused : (answer : Answer (Unit {0})) (state : State) (n : ℕ) → freshNumber s (memory words bytes) ≡ n
-      → (n ≡ 0 → ⊥) → answer ≡ refused n → state ≡ noState
+      → (n ≡ 0 → ⊥) → answer ≡ refusedFor s n → state ≡ noState
       → FreshPromise s (memory words bytes) answer (store state words bytes)
   promise-refused answer state zero e ne a t = absurd (ne refl)
   promise-refused answer state (suc n) e ne a t =
-      record { answered-as = rw e a; state-as = rw e t; memory-as = rw e refl }
+      let m = memory words bytes in
+      record {
+        answered-as = a ∙ sym (answeredBy-named s tt (freshRefusals s m) (named-fresh s m) n e);
+        state-as = rw e t;
+        memory-as = rw e refl;
+      }
 
   -- the state from its parts
   pub freshState-of : (shape : Shape) (tally : Tally) (pages depth : ℕ) → shape ≡ freshShape s
@@ -67,4 +73,8 @@ module _ (s : Shape) (words bytes : List ℕ) where
       → FreshPromise s (memory words bytes) (accepted tt) (store state words′ bytes′)
   unfolding freshMemory
   promise-accepted state words′ bytes′ e t w b =
-      record { answered-as = rw e refl; state-as = rw e t; memory-as = rw (e, w, b) refl }
+      record {
+        answered-as = sym (answeredBy-fresh s (memory words bytes) e);
+        state-as = rw e t;
+        memory-as = rw (e, w, b) refl;
+      }

@@ -1,4 +1,5 @@
-// The call Fresh: a store without records in lent memory (document 01, "Lent memory", "Calls").
+// The call Fresh: a store without records in lent memory (document 01, "Lent memory", "Calls";
+// document 02, request 7).
 use numbers::smaller;
 use numbers::smaller_length;
 use page::page_size;
@@ -11,11 +12,11 @@ use store::Made;
 use store::Making;
 use store::State;
 use store::Tally;
+use store::refuse_made;
 ghost use mathlib.Core.Path.{_≡_};
 ghost use mathlib.Core.List.{_∷_};
 ghost use Prim.Native.Nat.{_*_, _%_, _^_, _<_, _≤_};
 ghost use lib.ListN.{length, set, replicate};
-ghost use Rattle.shape.specs.Refusal.{refused};
 ghost use Rattle.shape.specs.Shape.{shapeNumber};
 ghost use Rattle.page.specs.Page.{pageSize};
 ghost use Rattle.model.specs.Limits.{logarithm, pageLimitOf, depthLimitOf, freshShape};
@@ -25,8 +26,8 @@ ghost use Rattle.store.specs.Store.{memory, store};
 ghost use Rattle.fresh.specs.Memory.{lacksWordOrPage};
 
 // Makes a store without records in lent memory: the state, word 0 and the counts of the P pages.
-// Refused with 1 for a shape outside its bounds, then with 2 for no directory word or no whole
-// page; a refused call changes nothing.
+// Refused with 1 for d, 14 for a width, which names its attribute, 15 for the capacity outside its
+// bounds, then with 2 for no directory word or no whole page; a refused call changes nothing.
 pub fn fresh(shape: Shape, dir: &mut [u32], pages: &mut [u8]) -> Making
     ensures { λ r. ⌜ FreshPromise shape (memory (now (dir .entry)) (now (pages .entry)))
         (madeAnswer (r .answer))
@@ -34,12 +35,12 @@ pub fn fresh(shape: Shape, dir: &mut [u32], pages: &mut [u8]) -> Making
 {
     let number = shape_number(shape);
     if number != 0 {
-        return refuse(number);
+        return refuse(refuse_made(shape, number));
     }
     let words = dir.len();
     let bytes = pages.len();
     if lacks_word_or_page(shape, words, bytes) {
-        return refuse(2);
+        return refuse(Made::Refused(2));
     }
     let page_count = page_limit(shape, bytes);
     let limit = depth_limit(shape, words);
@@ -62,8 +63,8 @@ pub fn fresh(shape: Shape, dir: &mut [u32], pages: &mut [u8]) -> Making
 }
 
 // The answer of a refused call, and no state to go on with.
-pub fn refuse(number: u32) -> Making
-    ensures { λ r. ⌜ (madeAnswer (r .answer) ≡ refused number) × (r .state ≡ noState) ⌝ }
+pub fn refuse(answer: Made) -> Making
+    ensures { λ r. ⌜ (madeAnswer (r .answer) ≡ madeAnswer answer) × (r .state ≡ noState) ⌝ }
 {
     let widths = [0u32; 4];
     let shape = Shape {
@@ -81,10 +82,7 @@ pub fn refuse(number: u32) -> Making
         deepest: 0,
         tally,
     };
-    Making {
-        answer: Made::Refused(number),
-        state,
-    }
+    Making { answer, state }
 }
 
 // Whether there is no directory word or no whole page.

@@ -5,9 +5,9 @@ use mathlib.Core.Path.{_≡_, refl, sym, _∙_}
 use mathlib.Core.Bool.{Bool}
 use mathlib.Core.List.{List, [], _∷_, _++_}
 use lib.ListN.{length}
-use Rattle.shape.specs.Refusal.{Answer, accepted}
+use Rattle.shape.specs.Refusal.{Condition, Answer, accepted}
 use Rattle.shape.specs.declared.Shape.{Shape}
-use Rattle.shape.proofs.RefusalLaws.{accepted-answered}
+use Rattle.shape.proofs.RefusalLaws.{accepted-answeredBy}
 use Rattle.record.specs.Record.{Record}
 use Rattle.range_box.specs.Box.{boxOf}
 use Rattle.model.specs.Limits.{fixedBy}
@@ -18,7 +18,7 @@ use Rattle.model.specs.Sets.{readsBound}
 use Rattle.store.specs.Store.{Store, Memory, fixedOf}
 use Rattle.store.specs.declared.State.{State}
 use Rattle.store.specs.Sound.{Sound}
-use Rattle.store.specs.Fresh.{FreshPromise, freshNumber, freshState, freshMemory}
+use Rattle.store.specs.Fresh.{FreshPromise, freshRefusals, freshNumber, freshState, freshMemory}
 use Rattle.store.specs.Promises.{ChangePromise, meeting}
 use Rattle.store.proofs.FreshLaws.{fixedOf-freshState, sound-of-fresh}
 use Rattle.store.proofs.ReadLaws.{soundWhere-of-sound, soundWhereRead-of-sound}
@@ -55,7 +55,7 @@ pub same-set : (f : Fixed) (S : List Record) (c : Call) → setAfter f S c ≡ S
 unfolding next
 same-set f S c e = rw e (ifAccepted-same (numberFor f S c) S)
 
-same-fixed : {joins : Bool} {values : List ℕ} {early : ℕ} {answers : ℕ → List (Answer Reply)}
+same-fixed : {joins : Bool} {values : List ℕ} {early : List Condition} {answers : ℕ → List (Answer Reply)}
     {model : List Record → Answer Reply} {next : List Record → List Record} {before after : Store}
     {answer : Answer Reply}
     → ChangePromise joins values early answers model next before answer after
@@ -153,7 +153,7 @@ run-more c o (one-more q r) p = one-more q (run-more c o r p)
 -- an accepted Fresh met no condition for refusal
 fresh-accepted : (s : Shape) (m : Memory) (fresh : Store) → FreshPromise s m (accepted tt) fresh
     → freshNumber s m ≡ 0
-fresh-accepted s m fresh p = accepted-answered tt tt (freshNumber s m) (p .answered-as)
+fresh-accepted s m fresh p = accepted-answeredBy tt tt (freshRefusals s m) (p .answered-as)
 
 -- the store that it leaves
 fresh-store : (s : Shape) (m : Memory) (fresh : Store) → FreshPromise s m (accepted tt) fresh

@@ -1,2 +1,3 @@
 pub mod ResultLaws
 pub mod SettledLaws
+pub mod ToldLaws

@@ -6,11 +6,11 @@ use mathlib.Core.Bool.{true, false, false≢true}
 use mathlib.Core.List.{List}
 use native.Mathlib.Omega.{arith}
 use lib.ListN.{length, drop}
-use Rattle.shape.specs.Refusal.{Answer, accepted, refused, refusedWith, isRefused}
+use Rattle.shape.specs.Refusal.{Answer, accepted, refused, refusedWith, isRefused, numberTold}
 use Rattle.store.specs.declared.State.{State}
 use Rattle.host_state.specs.Image.{stateSize, stateIn, statePut}
 use Rattle.host_state.proofs.ImageLaws.{drop-statePut, stateIn-statePut}
-use Rattle.host_results.specs.Settled.{numberTold, Settled}
+use Rattle.host_results.specs.Settled.{Settled}
 
 -- a number other than 0 is a refusal's
 pub isRefused-numberTold : {A : Type 0} (answer : Answer A) (n : ℕ) → numberTold answer ≡ suc n

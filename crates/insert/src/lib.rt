@@ -21,21 +21,23 @@ use shape::Key;
 use store::Change;
 use store::Changed;
 use store::State;
+use store::refuse_change;
 ghost use mathlib.Core.Path.{_≡_};
 ghost use Rattle.store.specs.Answers.{changedAnswer};
 ghost use Rattle.store.specs.Promises.{keyNumber, AddPromise, InsertPromise};
 ghost use Rattle.store.specs.Store.{store};
 
 // Adds a record, and returns the depth of its leaf afterwards; a full leaf is divided until no leaf
-// has more than b. Refused with 1, 2, 3, 11 (a payload of 0), 4, 6, 7 or 9, the first that holds in this order;
-// a refused call changes nothing. On any store no word and no page of another leaf is lost.
+// has more than b. Refused with 1, 14, 15, 2, 3, 11 (a payload of 0), 4, 6, 7 or 9, the first that
+// holds in this order; a refused call changes nothing. On any store no word and no page of another
+// leaf is lost.
 pub fn insert(state: State, dir: &mut [u32], pages: &mut [u8], key: Key, content: Content) -> Change
     ensures { λ r. ⌜ InsertPromise (store state (now (dir .entry)) (now (pages .entry))) (key .values) content
         (changedAnswer (r .answer)) (store (r .state) (now (dir .exit)) (now (pages .exit))) ⌝ }
 {
     let number = lent_number(state, dir.len(), pages.len());
     if number != 0 {
-        let answer = Changed::Refused(number);
+        let answer = refuse_change(state.shape, number);
         return Change { answer, state };
     }
     if !encodings_fit(state.shape, encode_key(state.shape, key)) {
@@ -49,8 +51,8 @@ pub fn insert(state: State, dir: &mut [u32], pages: &mut [u8], key: Key, content
     add(state, dir, pages, key, content)
 }
 
-// A record joins the store, whatever its payload, after 1, 2 and 3. Find and allocate hold every
-// refusal, 4, 6, 7 and 9, and write nothing; the steps after them cannot fail.
+// A record joins the store, whatever its payload, after 1, 14, 15, 2 and 3. Find and allocate hold
+// every refusal, 4, 6, 7 and 9, and write nothing; the steps after them cannot fail.
 pub fn add(state: State, dir: &mut [u32], pages: &mut [u8], key: Key, content: Content) -> Change
     requires { ⌜ keyNumber (store state (now dir) (now pages)) (key .values) ≡ 0 ⌝ }
     ensures { λ r. ⌜ AddPromise (store state (now (dir .entry)) (now (pages .entry))) (key .values) content

@@ -27,8 +27,8 @@ ghost use Rattle.leaf_word.specs.Hold.{wordHolds};
 ghost use Rattle.insert_spare.specs.Spare.{PagesLent};
 ghost use Rattle.insert_planned.specs.Planned.{KeyAsked, InsertFound, InsertFoundFrom, WordMet, LeafMet};
 
-// What an insert of a key, given by its encodings, meets after 1, 2 and 3: F1 and F2, the key's
-// cell; F3, its word.
+// What an insert of a key, given by its encodings, meets after 1, 14, 15, 2 and 3: F1 and F2, the
+// key's cell; F3, its word.
 pub fn find(state: State, dir: &[u32], pages: &[u8], encoded: Key) -> Found
     requires { ⌜ Passed (store state (now dir) (now pages)) (encoded .values) ⌝ }
     ensures { λ r. ⌜ InsertFound (store state (now (dir .entry)) (now (pages .entry))) (encoded .values) r ⌝ }

@@ -21,7 +21,7 @@ use Rattle.query_walk.specs.Noting.{Walkable}
 use Rattle.list_call.specs.Lent.{LimitsLent}
 
 module _ (st : State) (words bytes : ℕ) where
-  -- nothing is refused with 1 or 2, and the limits hold
+  -- nothing is refused with 1, 14, 15 or 2, and the limits hold
   pub limitsLent : MemoryLent st words bytes → limitsHold st ≡ true → LimitsLent st words bytes
   limitsLent lent can =
       let l = limited st can in

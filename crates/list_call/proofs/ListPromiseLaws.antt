@@ -9,8 +9,10 @@ use native.Mathlib.Omega.{arith}
 use lib.ListN.{length, take, drop, length-map}
 use lib.Seq.{drop-at, length-take-le}
 use Rattle.lists.specs.Members.{All}
-use Rattle.shape.specs.Refusal.{Answer, accepted, refused, isRefused, answered}
+use Rattle.shape.specs.Amiss.{refusedFor}
+use Rattle.shape.specs.Refusal.{Condition, Answer, accepted, refused, answered, firstNumber}
 use Rattle.shape.specs.declared.Shape.{Shape}
+use Rattle.shape.proofs.RefusalLaws.{Named, refusedFor-other, refusedFirst-none, refusedFirst-for}
 use Rattle.region.specs.Query.{LeafTest}
 use Rattle.record.specs.Record.{Record}
 use Rattle.record.specs.Bytes.{recordSize, recordOf, recordsBytes}
@@ -30,7 +32,7 @@ listOutcome s number count found out S = record {
   output = ifAccepted (number S) (outputFor (found S) out s) out;
 }
 
-module _ (here : Store) (early : ℕ) (reads : LeafTest Record) (number count : List Record → ℕ)
+module _ (here : Store) (early : List Condition) (reads : LeafTest Record) (number count : List Record → ℕ)
     (found : List Record → List Record) (out : List ℕ) where
   abbrev shape : Shape
   shape = here .state .shape
@@ -46,34 +48,32 @@ module _ (here : Store) (early : ℕ) (reads : LeafTest Record) (number count : 
   list-by model e answer out′ = subst (λ m. ListPromise early reads m here out answer out′) (sym (fun-ext e))
 
   -- on a sound store the number of the refusals above is the model's
-  module _ (model-number : (S : List Record) → SoundWhere here reads S → early ≡ number S) where
+  module _ (model-number : (S : List Record) → SoundWhere here reads S → firstNumber early ≡ number S) where
     -- ---- refused early
 
-    refused-suc : (n : ℕ) → (n ≡ 0 → ⊥) → (x : Reply) (y : List ℕ)
-        → (refused n ≡ answered n x) × (out ≡ ifAccepted n y out)
-    refused-suc zero z x y = absurd (z refl)
-    refused-suc (suc n) z x y = (refl, refl)
+    module _ (named : Named shape early) (other : (S : List Record) → number S ≡ 14 → ⊥) where
+      -- on a sound store the number alone is answered, for the model has no 14
+      pub early-alone : (n : ℕ) → n ≡ firstNumber early → (S : List Record) → SoundWhere here reads S
+          → refusedFor {A = Reply} shape n ≡ refused n
+      early-alone n e S h = refusedFor-other shape n (λ d. other S (sym (e ∙ model-number S h) ∙ d))
 
-    pub list-early : (n : ℕ) → n ≡ early → (n ≡ 0 → ⊥) → Lists (refused n) out
-    list-early n e z = record {
-      early-refused = λ m d. ap refused (e ∙ d);
-      unchanged = λ m d. refl;
-      ordinary = λ d. absurd (z (e ∙ d));
-      output-length = refl;
-      answered-as = λ S h.
-          let reply = listed (writtenFor (found S) out) (length (found S)) (count S) in
-          subst (λ k. (refused n ≡ answered k reply) × (out ≡ ifAccepted k (outputFor (found S) out shape) out))
-          (e ∙ model-number S h)
-          (refused-suc n z reply (outputFor (found S) out shape));
-    }
+      pub list-early : (n : ℕ) → n ≡ firstNumber early → (n ≡ 0 → ⊥) → Lists (refusedFor shape n) out
+      list-early zero e z = absurd (z refl)
+      list-early (suc n) e z = record {
+        early-refused = refusedFirst-for shape early named n (sym e);
+        unchanged = λ d. refl;
+        ordinary = λ d. absurd (z (e ∙ d));
+        output-length = refl;
+        answered-as = λ S h. rw (sym (e ∙ model-number S h)) (early-alone (suc n) e S h, refl);
+      }
 
-    module _ (none : early ≡ 0) where
+    module _ (none : firstNumber early ≡ 0) where
       -- ---- refused with 9
 
       pub list-nine : ((S : List Record) → SoundWhere here reads S → ⊥) → Lists (refused 9) out
       list-nine unsound = record {
-        early-refused = λ m d. absurd (omega (arith, none, d));
-        unchanged = λ m d. refl;
+        early-refused = refusedFirst-none shape early none (refused 9);
+        unchanged = λ d. refl;
         ordinary = λ d. inr refl;
         output-length = refl;
         answered-as = λ S h. absurd (unsound S h);
@@ -123,8 +123,8 @@ module _ (here : Store) (early : ℕ) (reads : LeafTest Record) (number count : 
 
         pub list-listed : Lists (accepted (listed written (length fs) opened)) (emit out 0 fs)
         list-listed = record {
-          early-refused = λ m d. absurd (omega (arith, none, d));
-          unchanged = λ m d. absurd (false≢true (ap isRefused d));
+          early-refused = refusedFirst-none shape early none _;
+          unchanged = λ d. absurd (false≢true d);
           ordinary = λ d. inl (written, length fs, opened, refl, omega arith, omega arith, untouched);
           output-length = length-emit out 0 fs whole;
           answered-as = λ S h. listed-as S h;

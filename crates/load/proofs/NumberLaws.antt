@@ -19,7 +19,7 @@ use Rattle.store.specs.Store.{Memory}
 use Rattle.store.specs.declared.Limits.{Limits}
 use Rattle.fresh.specs.Memory.{lacksWordOrPage}
 use Rattle.file.specs.File.{fileSize, fileCount, fileShape, fileRecords, isWhole, isPlain}
-use Rattle.file.specs.Loading.{joinConditions, contentConditions, loadNumber}
+use Rattle.file.specs.Loading.{joinConditions, contentConditions, loadRefusals, loadNumber}
 use Rattle.file.proofs.PlainLaws.{freshShape-fileShape}
 use Rattle.file_scan.specs.Asked.{Scannable, fixedWith}
 use Rattle.load.specs.Lengths.{loadNumberBy}
@@ -49,6 +49,14 @@ module _ (file : List ℕ) (words bytes : ℕ) where
   pub loadNumberBy-not-whole : isWhole file ≡ false → 12 ≡ loadNumberBy file words bytes
   unfolding loadNumberBy firstNumber
   loadNumberBy-not-whole e = rw e
+
+  -- any other number is told of a whole file
+  pub whole-of-loadNumberBy : (loadNumberBy file words bytes ≡ 12 → ⊥) → isWhole file ≡ true
+  whole-of-loadNumberBy other = go (isWhole file) refl
+    where
+      go : (b : Bool) → isWhole file ≡ b → isWhole file ≡ true
+      go true e = e
+      go false e = absurd (other (sym (loadNumberBy-not-whole e)))
 
   -- a whole file, whose shape is read
   module _ (whole : isWhole file ≡ true) (s : Shape) (shape-read : s ≡ fileShape file) where
@@ -119,5 +127,5 @@ module _ (file : List ℕ) (words bytes : ℕ) where
 
 pub loadNumber-by : (file : List ℕ) (m : Memory)
     → loadNumber file m ≡ loadNumberBy file (length (m .words)) (length (m .bytes))
-unfolding loadNumber loadNumberBy
+unfolding loadRefusals loadNumberBy
 loadNumber-by file m = refl

@@ -1,42 +1,58 @@
 -- Laws of the promise of a load: a refused one, and the file's records joined to a fresh store. Assumes nothing.
 use Prim.Native.Nat.{ℕ, zero, suc, _*_}
 use mathlib.Core.Path.{_≡_, refl, sym, ap, subst, _∙_}
+use mathlib.Core.Bool.{false≢true}
 use mathlib.Core.List.{List}
 use native.Mathlib.Omega.{arith}
 use lib.ListN.{length, length-set}
-use Rattle.shape.specs.Refusal.{Answer, accepted, refused}
+use Rattle.shape.specs.Refusal.{Answer, accepted, answeredBy}
+use Rattle.shape.specs.Amiss.{refusedFor}
 use Rattle.shape.specs.declared.Shape.{Shape}
-use Rattle.shape.proofs.RefusalLaws.{firstNumber-shape, accepted-refused}
+use Rattle.shape.proofs.RefusalLaws.{firstNumber-shape, accepted-answeredBy, answeredBy-named}
 use Rattle.shape.proofs.ShapeLaws.{shapeNumber-true}
 use Rattle.record.specs.Record.{Record}
 use Rattle.page.specs.Page.{pageSize, recordsFrom}
 use Rattle.model.specs.Limits.{pageLimitOf, depthLimitOf, freshShape, fixedBy}
-use Rattle.store.specs.Fresh.{FreshPromise, freshConditions, freshNumber, freshState, freshMemory, noState}
+use Rattle.store.specs.Fresh.{FreshPromise, freshConditions, freshRefusals, freshNumber, freshState, freshMemory}
+use Rattle.store.specs.Fresh.{noState}
 use Rattle.store.specs.Sound.{Sound}
 use Rattle.store.specs.Store.{Store, Memory}
 use Rattle.store.proofs.ClearedLaws.{length-clearedCounts}
 use Rattle.store.proofs.FreshLaws.{fixedOf-freshState, sound-of-fresh}
 use Rattle.file.specs.File.{fileSize, fileCount, fileShape, fileRecords}
-use Rattle.file.specs.Loading.{loadNumber}
+use Rattle.file.specs.Loading.{loadRefusals, loadNumber}
 use Rattle.file.specs.Promises.{LoadPromise}
 use Rattle.file.proofs.AcceptedLaws.{Passed, passed-of-loadNumber}
+use Rattle.file.proofs.LoadingLaws.{named-load, answeredBy-load}
 use Rattle.file.proofs.PlainLaws.{freshShape-fileShape}
 use Rattle.load.specs.Private.{Joining, Joined}
 use Rattle.load.proofs.ClearedLaws.{drop-set-first, drop-clearedCounts}
 use Rattle.load.proofs.NumberLaws.{records-read, set-read}
 
 module _ (file : List ℕ) (m : Memory) where
+  module _ (n : ℕ) (answer : Answer (Unit {0})) (e : loadNumber file m ≡ suc n)
+      (told : answer ≡ refusedFor (fileShape file) (suc n)) where
+    answered-refused : answer ≡ answeredBy (loadRefusals file m) tt
+    answered-refused =
+        told ∙ sym (answeredBy-named (fileShape file) tt (loadRefusals file m) (named-load file m) n e)
+
+    not-accepted : {A : Type 0} → answer ≡ accepted tt → A
+    not-accepted d =
+        let z : suc n ≡ 0 = sym e ∙ accepted-answeredBy tt tt (loadRefusals file m) (sym d ∙ answered-refused) in
+        absurd (omega arith)
+
   pub promise-refused : (n : ℕ) (answer : Answer (Unit {0})) (after : Store) → n ≡ loadNumber file m → (n ≡ 0 → ⊥)
-      → answer ≡ refused n → after .state ≡ noState → after .memory ≡ m → LoadPromise file m answer after
-  promise-refused zero answer after e some a st kept = absurd (some refl)
-  promise-refused (suc n) answer after e some a st kept =
+      → answer ≡ refusedFor (fileShape file) n → after .state ≡ noState → after .memory ≡ m
+      → LoadPromise file m answer after
+  promise-refused zero answer after e some told st kept = absurd (some refl)
+  promise-refused (suc n) answer after e some told st kept =
       record {
-        answered-as = rw (← e) a;
-        no-state = λ k d. st;
-        memory-kept = λ k d. kept;
-        shape-as = λ d. accepted-refused tt (suc n) (sym d ∙ a);
-        limits-as = λ d. accepted-refused tt (suc n) (sym d ∙ a);
-        shown = λ d. accepted-refused tt (suc n) (sym d ∙ a);
+        answered-as = answered-refused n answer (sym e) told;
+        no-state = λ r. st;
+        memory-kept = λ r. kept;
+        shape-as = not-accepted n answer (sym e) told;
+        limits-as = not-accepted n answer (sym e) told;
+        shown = not-accepted n answer (sym e) told;
         words-length = ap (λ (x : Memory). length (x .words)) kept;
         bytes-length = ap (λ (x : Memory). length (x .bytes)) kept;
         words-past = rw kept refl;
@@ -52,7 +68,7 @@ module _ (file : List ℕ) (m : Memory) where
 
     -- Fresh accepts the shape and the memory
     none-fresh : freshNumber s m ≡ 0
-    unfolding freshNumber
+    unfolding freshRefusals
     none-fresh = firstNumber-shape s (freshConditions s m) (shapeNumber-true s (known .shape)) ∙ known .lent
 
     -- what Fresh leaves
@@ -85,9 +101,9 @@ module _ (file : List ℕ) (m : Memory) where
       unfolding freshState freshMemory freshShape fixedBy
       promise-accepted after joined =
           record {
-            answered-as = rw z refl;
-            no-state = λ k d. accepted-refused tt k d;
-            memory-kept = λ k d. accepted-refused tt k d;
+            answered-as = sym (answeredBy-load file m z);
+            no-state = λ r. absurd (false≢true r);
+            memory-kept = λ r. absurd (false≢true r);
             shape-as = λ d. joined .shape-kept ∙ shape-fresh;
             limits-as = λ d. joined .limits-kept;
             shown = λ d. subst (λ (S : List Record). Sound after S) records-fresh (joined .shown);

@@ -8,7 +8,7 @@ use Rattle.fresh.specs.Memory.{lacksWordOrPage}
 use Rattle.file.specs.File.{fileShape, fileRecords}
 use Rattle.file.specs.Loading.{joinConditions, wholeConditions, contentConditions}
 
--- 12, 1, 13, 2, then 6 or 7 at the first record that meets them, with so many words and bytes lent
+-- 12, 1, 14, 15, 13, 2, then 6 or 7 at the first record that meets them, with so many words and bytes lent
 unfoldable pub loadNumberBy : List ℕ → ℕ → ℕ → ℕ
 loadNumberBy file words bytes =
     let s = fileShape file in

@@ -1,5 +1,5 @@
-// The call load: a store made from the bytes of a file (document 02, request 5). Every refusal is
-// found before the first write; then Fresh, and the records one after the other.
+// The call load: a store made from the bytes of a file (document 02, requests 5 and 7). Every refusal
+// is found before the first write; then Fresh, and the records one after the other.
 use file::encodings_at;
 use file_parts::is_plain;
 use file_parts::is_whole;
@@ -22,6 +22,7 @@ use store::Limits;
 use store::Made;
 use store::Making;
 use store::State;
+use store::refuse_made;
 ghost use mathlib.Core.Path.{_≡_};
 ghost use mathlib.Core.Bool.{true, _&&_};
 ghost use Rattle.shape.specs.Shape.{shapeNumber};
@@ -34,16 +35,20 @@ ghost use Rattle.load.specs.Lengths.{loadNumberBy};
 ghost use Rattle.load.specs.Private.{Joining, Joined};
 
 // Makes a store of a file's shape and records in lent memory, with P and L as Fresh fixes them.
-// Refused with 12 (no whole file), 1, 13 (a shape with stray bytes, a value outside its bounds,
-// records not strictly rising), 2, then 6 or 7 at the first record that meets them; a refused call
-// changes nothing. A payload of 0 loads.
+// Refused with 12 (no whole file), 1, 14 or 15 (the file's shape), 13 (a shape with stray bytes, a
+// value outside its bounds, records not strictly rising), 2, then 6 or 7 at the first record that
+// meets them; a refused call changes nothing. A payload of 0 loads.
 pub fn load(file: &[u8], dir: &mut [u32], pages: &mut [u8]) -> Making
     ensures { λ r. ⌜ LoadPromise (now (file .entry)) (memory (now (dir .entry)) (now (pages .entry)))
         (madeAnswer (r .answer)) (store (r .state) (now (dir .exit)) (now (pages .exit))) ⌝ }
 {
     let number = load_number(file, dir.len(), pages.len());
+    // bytes that are no whole file show no shape
+    if number == 12 {
+        return refuse(Made::Refused(12));
+    }
     if number != 0 {
-        return refuse(number);
+        return refuse(refuse_made(shape_in(file), number));
     }
     let made = fresh(shape_in(file), dir, pages);
     let n = record_count(file);
@@ -54,7 +59,8 @@ pub fn load(file: &[u8], dir: &mut [u32], pages: &mut [u8]) -> Making
     }
 }
 
-// The first refusal of a file for so many words and bytes lent: 12, 1, 13, 2, 6 or 7; 0 for none.
+// The first refusal of a file for so many words and bytes lent: 12, 1, 14, 15, 13, 2, 6 or 7; 0 for
+// none.
 fn load_number(file: &[u8], words: usize, bytes: usize) -> u32
     ensures { λ r. ⌜ r ≡ loadNumberBy (now (file .entry)) words bytes ⌝ }
 {

@@ -4,12 +4,13 @@ use mathlib.Core.Path.{_≡_, refl, sym, ap, subst, _∙_}
 use mathlib.Core.Bool.{Bool, true, false, not, cond}
 use mathlib.Core.List.{List}
 use mathlib.Core.Logic.{_⊎_, inl, inr}
-use native.Mathlib.Omega.{arith}
 use lib.Dec.{ltb}
+use Rattle.shape.specs.Amiss.{refusedFor}
 use Rattle.shape.specs.Refusal.{Answer, accepted, refused, refusedWith}
 use Rattle.shape.specs.Shape.{widthsOf}
 use Rattle.shape.specs.Key.{keyFits, encodings}
 use Rattle.shape.specs.declared.Shape.{Shape}
+use Rattle.shape.proofs.RefusalLaws.{refusedFirst-none, refusedFirst-for}
 use Rattle.split.specs.Bits.{splitBit}
 use Rattle.record.specs.declared.Content.{Content}
 use Rattle.record.specs.Record.{Record}
@@ -22,8 +23,9 @@ use Rattle.directory_word.specs.Word.{depthField, pageField, fieldLeaf, leafOf}
 use Rattle.model.specs.Model.{lookupCall, Reply, found, outcome}
 use Rattle.model.proofs.SetLaws.{indexFits-encodings}
 use Rattle.store.specs.Store.{Store, fixedOf}
-use Rattle.store.specs.Promises.{keyNumber, depthAt, LookupPromise}
+use Rattle.store.specs.Promises.{keyRefusals, keyNumber, depthAt, LookupPromise}
 use Rattle.store.specs.declared.State.{State}
+use Rattle.store.proofs.NumberLaws.{named-key}
 use Rattle.store.proofs.ShownLaws.{wordOn}
 use Rattle.refusals.specs.Limits.{limitsHold}
 use Rattle.refusals.proofs.PassedLaws.{passed}
@@ -87,30 +89,33 @@ soughtAnswer-ordinary store values =
 -- ---- the promise
 
 module _ (store : Store) (values : List ℕ) where
-  -- 1, 2 or 3; on a sound store 3, which the model gives too
-  pub promise-early : (n : ℕ) → n ≡ keyNumber store values → (n ≡ 0 → ⊥) → LookupPromise store values (refused n)
-  promise-early n e some =
+  abbrev s : Shape
+  s = store .state .shape
+
+  -- 1, 14, 15, 2 or 3; on a sound store 3, which the model gives too
+  pub promise-early : (n : ℕ) → n ≡ keyNumber store values → (n ≡ 0 → ⊥)
+      → LookupPromise store values (refusedFor s n)
+  promise-early zero e some = absurd (some refl)
+  promise-early (suc n) e some =
       record {
-        early-refused = λ m h. ap refused (e ∙ h);
+        early-refused = refusedFirst-for s (keyRefusals store values) (named-key store values) n (sym e);
         ordinary = λ h. absurd (some (e ∙ h));
-        answered-as = λ S w.
-            by-fit (keyFits (store .state .shape) values) refl (e ∙ keyNumber-read store values S w) S;
+        answered-as = λ S w. by-fit (keyFits s values) refl (e ∙ keyNumber-read store values S w) S;
       }
     where
-      by-fit : (β : Bool) → keyFits (store .state .shape) values ≡ β
-          → n ≡ cond (not (keyFits (store .state .shape) values)) 3 0 → (S : List Record)
-          → refused n ≡ outcome (fixedOf (store .state)) S (lookupCall values) .answer
+      by-fit : (β : Bool) → keyFits s values ≡ β → suc n ≡ cond (not (keyFits s values)) 3 0 → (S : List Record)
+          → refusedFor s (suc n) ≡ outcome (fixedOf (store .state)) S (lookupCall values) .answer
       by-fit true f h S = absurd (some (h ∙ ap (λ b. cond (not b) 3 0) f))
       by-fit false f h S =
-          ap refused (h ∙ ap (λ b. cond (not b) 3 0) f) ∙ sym (lookup-unfit (fixedOf (store .state)) S values f)
+          ap (refusedFor s) (h ∙ ap (λ b. cond (not b) 3 0) f) ∙ sym (lookup-unfit (fixedOf (store .state)) S values f)
 
   -- none of them: the answer of the store
   pub promise-sought : (answer : Answer Reply) → keyNumber store values ≡ 0
-      → answer ≡ soughtAnswer store (encodings (store .state .shape) values) → LookupPromise store values answer
+      → answer ≡ soughtAnswer store (encodings s values) → LookupPromise store values answer
   promise-sought answer e a =
-      let fits = sym (indexFits-encodings (store .state .shape) values) ∙ passed store values e .fits in
+      let fits = sym (indexFits-encodings s values) ∙ passed store values e .fits in
       record {
-        early-refused = λ n h. absurd (omega arith);
+        early-refused = refusedFirst-none s (keyRefusals store values) e answer;
         ordinary = λ h. subst (Ordinary (depthAt store values)) (sym a) (soughtAnswer-ordinary store values);
         answered-as = λ S w.
             a ∙ soughtAnswer-stored store values S w fits ∙ sym (lookup-stored (fixedOf (store .state)) S values fits);

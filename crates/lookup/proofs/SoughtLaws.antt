@@ -110,7 +110,7 @@ module _ (store : Store) (values : List ℕ) (S : List Record)
   good : shapeNumber s ≡ 0
   good = shape-of-Sound whole S sound
 
-  -- 1 and 2 do not hold
+  -- none of 1, 14, 15 and 2 holds
   pub keyNumber-read : keyNumber store values ≡ cond (not (keyFits s values)) 3 0
   keyNumber-read =
       let st = store .state in

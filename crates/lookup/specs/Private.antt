@@ -61,7 +61,7 @@ pub record KeyPassed (st : State) (bytes : List ℕ) (key : ℕ) : Type 0 where
 
 -- ---- a store
 
--- the answer after 1, 2 and 3 for a key by its encodings: 9 for limits that no sound store has
+-- the answer after 1, 14, 15, 2 and 3 for a key by its encodings: 9 for limits that no sound store has
 unfoldable pub soughtAnswer : Store → List ℕ → Answer Reply
 soughtAnswer store encoded =
     let st = store .state in

@@ -22,6 +22,7 @@ use shape::Shape;
 use shape::widths_of;
 use store::Found;
 use store::State;
+use store::refuse_lookup;
 ghost use mathlib.Core.Path.{_≡_};
 ghost use Prim.Native.Nat.{_≤_};
 ghost use lib.ListN.{length};
@@ -37,15 +38,15 @@ ghost use Rattle.leaf_word.specs.Hold.{LeafAsked};
 ghost use Rattle.lookup.specs.Private.{placeAnswer, pageAnswer, wordAnswer, soughtAnswer, KeyPassed};
 
 // The content of a key's record, the pages read, 1, and the depth of the key's leaf. Refused with 1,
-// 2, 3, 5 or 9, the first that holds in this order; 5 carries the depth of the leaf in which the
-// absent key falls. Writes nothing.
+// 14, 15, 2, 3, 5 or 9, the first that holds in this order; 5 carries the depth of the leaf in which
+// the absent key falls. Writes nothing.
 pub fn lookup(state: State, dir: &[u32], pages: &[u8], key: Key) -> Found
     ensures { λ r. ⌜ LookupPromise (store state (now (dir .entry)) (now (pages .entry))) (key .values)
         (foundAnswer r) ⌝ }
 {
     let number = lent_number(state, dir.len(), pages.len());
     if number != 0 {
-        return Found::Refused(number);
+        return refuse_lookup(state.shape, number);
     }
     let encoded = encode_key(state.shape, key);
     if !encodings_fit(state.shape, encoded) {
@@ -54,8 +55,8 @@ pub fn lookup(state: State, dir: &[u32], pages: &[u8], key: Key) -> Found
     seek_key(state, dir, pages, encoded)
 }
 
-// The record of a key, given by its encodings, after 1, 2 and 3: 9 for limits that no sound store
-// has.
+// The record of a key, given by its encodings, after 1, 14, 15, 2 and 3: 9 for limits that no sound
+// store has.
 fn seek_key(state: State, dir: &[u32], pages: &[u8], encoded: Key) -> Found
     requires { ⌜ Passed (store state (now dir) (now pages)) (encoded .values) ⌝ }
     ensures { λ r. ⌜ foundAnswer r

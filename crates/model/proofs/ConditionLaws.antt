@@ -8,7 +8,9 @@ use lib.Dec.{eqb}
 use borrow.Author.Tests.{eqb-false, not-true}
 use Rattle.lists.specs.Filter.{all}
 use Rattle.lists.proofs.Bools.{and-split}
-use Rattle.shape.specs.Refusal.{Condition, refusal, firstNumber}
+use Rattle.shape.specs.Refusal.{Condition, accepted, refusal, firstNumber, answeredBy}
+use Rattle.shape.specs.Shape.{shapeConditions}
+use Rattle.shape.specs.declared.Shape.{Shape}
 
 -- no number: the first condition does not hold, nor do those that follow
 pub firstNumber-zero : (m : ℕ) (holds : Bool) (cs : List Condition) → firstNumber (refusal (suc m) holds ∷ cs) ≡ 0
@@ -22,6 +24,10 @@ firstNumber-zero m false cs e = (refl, e)
 -- no number is 0
 abbrev pub numbered : List Condition → Bool
 numbered cs = all (λ c. not (eqb (c .number) 0)) cs
+
+pub numbered-shape : (s : Shape) → numbered (shapeConditions s) ≡ true
+unfolding shapeConditions
+numbered-shape s = refl
 
 module _ (k : ℕ) (some : not (eqb k 0) ≡ true) where
   first-none : (β : Bool) (m : ℕ) → cond β k m ≡ 0 → (β ≡ false) × (m ≡ 0)
@@ -59,3 +65,15 @@ firstNumber-none (c ∷ cs) ds some e =
     let none = first-none (c .number) (k .0) (c .holds) (firstNumber (cs ++ ds)) e in
     let both = firstNumber-none cs ds (k .1) (none .1) in
     (rw (none .0) (both .0), both .1)
+
+-- ---- answers
+
+-- if none holds, the call is accepted
+pub answeredBy-accepted : {A : Type 0} (x : A) (cs : List Condition) → numbered cs ≡ true → firstNumber cs ≡ 0
+    → answeredBy cs x ≡ accepted x
+unfolding firstNumber answeredBy
+answeredBy-accepted x [] some e = refl
+answeredBy-accepted x (c ∷ cs) some e =
+    let k = and-split (not (eqb (c .number) 0)) (numbered cs) some in
+    let none = first-none (c .number) (k .0) (c .holds) (firstNumber cs) e in
+    rw (none .0) (answeredBy-accepted x cs (k .1) (none .1))

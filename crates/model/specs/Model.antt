@@ -59,7 +59,7 @@ recordFor s values content = record { key = encodings s values; content = conten
 abbrev pub depthIn : Fixed → List ℕ → List Record → ℕ
 depthIn f values S = keyDepth (f .shape) (encodings (f .shape) values) S
 
--- ---- refusals, in the table's order; 1 and 2 are judged by what is lent, and 9 is left out
+-- ---- refusals, in the table's order; 1, 14, 15 and 2 are judged by what is lent, and 9 is left out
 
 -- 3 "value .. of 2^w_j or more .. unused key .. value not 0"
 abbrev pub keyConditions : Shape → List ℕ → List Condition

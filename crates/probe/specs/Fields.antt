@@ -1,7 +1,5 @@
 -- Enums, and a full leaf's split, as the numbers that cross the C interface. Assumes nothing.
 use Prim.Native.Nat.{ℕ, zero, suc}
-use Rattle.store.specs.declared.Made.{Made}
-use Rattle.store.specs.declared.Made.the-variants as make
 use Rattle.directory_word.specs.declared.Leaf.{Leaf}
 use Rattle.directory_word.specs.declared.Leaf.the-variants.{Empty, Page}
 use Rattle.key_order.specs.declared.Order.{Order}
@@ -17,11 +15,6 @@ use Rattle.probe.specs.declared.keys.PlaceFields.{PlaceFields}
 abbrev pub leafFields : Leaf → LeafFields
 leafFields (Empty depth) = record { paged = 0; page = 0; depth = depth }
 leafFields (Page page depth) = record { paged = 1; page = page; depth = depth }
-
--- what Fresh and load answer: 0 where they are accepted, else the number of the refusal
-unfoldable pub madeNumber : Made → ℕ
-madeNumber make.Done = 0
-madeNumber (make.Refused n) = n
 
 -- how a key stands to another one
 abbrev pub orderNumber : Order → ℕ

@@ -28,7 +28,6 @@ use Rattle.store.specs.Store.{store}
 use Rattle.store.specs.Promises.{QueryPromise, SoundWhereRead, withBytes}
 use Rattle.refusals.specs.Limits.{limitsHold}
 use Rattle.refusals.specs.Lengths.{MemoryLent}
-use Rattle.refusals.proofs.LentLaws.{memoryLent}
 use Rattle.refusals.proofs.LimitsLaws.{limits-of-sound}
 use Rattle.query_walk.specs.declared.Noted.{Noted}
 use Rattle.query_walk.specs.declared.Noted.the-variants.{Pages, Damaged}
@@ -50,7 +49,7 @@ use Rattle.query.proofs.PromiseLaws.{promise-nine, promise-listed}
 module _ (st : State) (words bytes : List ℕ) (q : List (Option ℕ))
     (none : queryNumberBy st (length words) (length bytes) q ≡ 0) where
   lent : MemoryLent st (length words) (length bytes)
-  lent = memoryLent st (length words) (length bytes) (parts-of-queryNumberBy st (length words) (length bytes) q none .0)
+  lent = parts-of-queryNumberBy st (length words) (length bytes) q none .0
 
   pub shape-of-none : shapeNumber (st .shape) ≡ 0
   shape-of-none = lent .shape

@@ -1,13 +1,14 @@
 -- Laws of the query's promise, one for each way that the call ends. Assumes nothing.
 use Prim.Native.Nat.{ℕ, _-_, _/_, _^_, _≤_, min}
-use mathlib.Core.Path.{_≡_, sym, ap, _∙_, subst}
-use mathlib.Core.Bool.{true≢false}
+use mathlib.Core.Path.{_≡_, refl, sym, ap, _∙_, subst}
 use mathlib.Core.List.{List, map}
 use mathlib.Core.Option.{Option}
 use lib.ListN.{length}
 use Rattle.lists.specs.Members.{All}
-use Rattle.shape.specs.Refusal.{Answer, accepted, refused, refusedWith, isRefused}
+use Rattle.shape.specs.Amiss.{refusedFor}
+use Rattle.shape.specs.Refusal.{Answer, accepted, refused, refusedWith}
 use Rattle.shape.specs.Shape.{shapeNumber}
+use Rattle.shape.proofs.RefusalLaws.{accepted-refused}
 use Rattle.shape.proofs.ShapeLaws.{shapeNumber-true}
 use Rattle.record.specs.Record.{Record}
 use Rattle.record.specs.Bytes.{recordSize, recordOf}
@@ -20,9 +21,10 @@ use Rattle.page_matches.specs.Output.{emit}
 use Rattle.page_matches.proofs.EmitLaws.{IsField}
 use Rattle.store.specs.declared.State.{State}
 use Rattle.store.specs.Store.{Store, store, fixedOf}
-use Rattle.store.specs.Promises.{QueryPromise, agreeing, SoundWhereRead, queryNumber}
+use Rattle.store.specs.Promises.{QueryPromise, agreeing, SoundWhereRead, queryRefusals, queryNumber}
+use Rattle.store.proofs.NumberLaws.{firstNumber-other, named-query}
 use Rattle.list_call.proofs.LentLaws.{lentNumberBy-sound}
-use Rattle.list_call.proofs.ListPromiseLaws.{Lists, list-by, list-early, list-nine, list-listed}
+use Rattle.list_call.proofs.ListPromiseLaws.{Lists, list-by, early-alone, list-early, list-nine, list-listed}
 use Rattle.query_number.specs.Number.{queryNumberBy}
 use Rattle.query_number.proofs.EarlyLaws.{queryNumberBy-query, queryNumber-by}
 
@@ -59,7 +61,7 @@ module _ (st : State) (words bytes : List ℕ) (q : List (Option ℕ)) (out : Li
 
   -- what the model says of a query is what it says of a list of the matching records
   of-list : (answer : Answer Reply) (out′ : List ℕ)
-      → Lists here (queryNumber here q) (agreeing (queryBits (st .shape) q))
+      → Lists here (queryRefusals here q) (agreeing (queryBits (st .shape) q))
       (λ S. numberFor (fixedOf st) S (queryCall q out)) (readsOf (st .shape) q) matched out answer out′
       → ((S : List Record) → SoundWhereRead here (queryBits (st .shape) q) S → (written total reads : ℕ)
       → answer ≡ accepted (listed written total reads)
@@ -75,12 +77,30 @@ module _ (st : State) (words bytes : List ℕ) (q : List (Option ℕ)) (out : Li
 
   -- ---- refused early
 
-  pub promise-early : (n : ℕ) → n ≡ number → (n ≡ 0 → ⊥) → QueryPromise here q out (refused n) out
-  promise-early n e z =
-      of-list (refused n) out
-      (list-early here _ _ _ (readsOf (st .shape) q) matched out model-number n
-      (e ∙ sym (queryNumber-by st words bytes q)) z)
-      (λ S h w t r d. absurd (true≢false (ap isRefused d)))
+  -- the model has no 14
+  not-fourteen : (S : List Record) → numberFor (fixedOf st) S (queryCall q out) ≡ 14 → ⊥
+  unfolding numberFor
+  not-fourteen S = firstNumber-other 13 _ refl
+
+  module _ (n : ℕ) (e : n ≡ number) where
+    first : n ≡ queryNumber here q
+    first = e ∙ sym (queryNumber-by st words bytes q)
+
+    -- on a sound store the number stands alone, so there are no counts
+    early-no-counts : (S : List Record) → SoundWhereRead here (queryBits (st .shape) q) S → (reply : Reply)
+        → refusedFor (st .shape) n ≡ accepted reply → ⊥
+    early-no-counts S h reply d =
+        accepted-refused reply n
+        (sym d
+        ∙ early-alone here _ (agreeing (queryBits (st .shape) q)) _ (readsOf (st .shape) q) matched out model-number
+        (named-query here q) not-fourteen n first S h)
+
+    pub promise-early : (n ≡ 0 → ⊥) → QueryPromise here q out (refusedFor (st .shape) n) out
+    promise-early z =
+        of-list (refusedFor (st .shape) n) out
+        (list-early here _ _ _ (readsOf (st .shape) q) matched out model-number (named-query here q) not-fourteen n
+        first z)
+        (λ S h w t r d. absurd (early-no-counts S h (listed w t r) d))
 
   module _ (none : 0 ≡ number) where
     none-early : queryNumber here q ≡ 0

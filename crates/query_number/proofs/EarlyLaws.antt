@@ -1,28 +1,29 @@
 -- Laws of the query's early refusals, one for each way that the tests end. Assumes nothing.
 use Prim.Native.Nat.{ℕ, _^_}
 use mathlib.Core.Path.{_≡_, refl, sym, _∙_}
-use mathlib.Core.Bool.{Bool, true, false, not, cond, _||_}
-use mathlib.Core.List.{List}
+use mathlib.Core.Bool.{Bool, true, false, not, cond}
+use mathlib.Core.List.{List, [], _∷_}
 use mathlib.Core.Option.{Option, none, some}
-use native.Mathlib.Omega.{arith}
 use lib.Dec.{ltb}
 use lib.ListN.{length, getD}
 use lib.Pow.{pow-pos}
-use borrow.Author.Tests.{lt-ltb}
-use Rattle.shape.specs.Refusal.{firstNumber}
-use Rattle.shape.specs.Shape.{shapeNumber, shapeConditions, inBounds, widthOf, widthsOf, indexFits}
+use borrow.Author.Tests.{lt-ltb, not-false}
+use Rattle.shape.specs.Refusal.{refusal, firstNumber}
+use Rattle.shape.specs.Shape.{shapeNumber, widthOf, widthsOf, indexFits}
 use Rattle.shape.specs.Key.{valueFits, encodeWanted, encodedWanted, ifGiven, namesUnused, queryFits}
 use Rattle.shape.specs.declared.Shape.{Shape}
 use Rattle.shape.proofs.AttributeLaws.{indexFits-four}
 use Rattle.shape.proofs.BoundsLaws.{allBelow-ext}
 use Rattle.shape.proofs.EncodingLaws.{valueFits-encode}
 use Rattle.model.specs.Model.{queryConditions}
+use Rattle.model.proofs.ConditionLaws.{firstNumber-zero}
 use Rattle.record.proofs.KeyLaws.{key-below-bytes}
 use Rattle.page_matches.specs.Pattern.{wantedBits, bitsOf, GivenSixteenBits}
-use Rattle.store.specs.Store.{store, lentConditions, pagesSize}
-use Rattle.store.specs.Promises.{queryNumber}
+use Rattle.store.specs.Store.{store, lentConditions}
+use Rattle.store.specs.Promises.{queryRefusals, queryNumber}
 use Rattle.store.specs.declared.State.{State}
-use Rattle.refusals.specs.Lengths.{lentBy, lentNumberBy}
+use Rattle.refusals.specs.Lengths.{lentBy, MemoryLent, lentNumberBy}
+use Rattle.refusals.proofs.LentLaws.{firstNumber-lent, firstNumber-others, memoryLent-before}
 use Rattle.query_number.specs.Number.{queryNumberBy}
 
 -- ---- 8 and 3
@@ -46,31 +47,16 @@ pub sixteen-of-fits : (s : Shape) → shapeNumber s ≡ 0 → (q : List (Option 
 sixteen-of-fits s n q f = key-below-bytes s n (bitsOf (encodedWanted s q)) refl (indexFits-query s q ∙ f)
 
 module _ (st : State) (words bytes : ℕ) (q : List (Option ℕ)) where
-  two-some : (a b : Bool) (n : ℕ) → (_≡_ {A = ℕ} (cond a 1 (cond b 2 0)) 0 → ⊥)
-      → cond a 1 (cond b 2 n) ≡ cond a 1 (cond b 2 0)
-  two-some true b n e = refl
-  two-some false true n e = refl
-  two-some false false n e = absurd (e refl)
-
-  two-none : (a b : Bool) (n : ℕ) → _≡_ {A = ℕ} (cond a 1 (cond b 2 0)) 0 → cond a 1 (cond b 2 n) ≡ n
-  two-none true b n e = absurd (omega arith)
-  two-none false true n e = absurd (omega arith)
-  two-none false false n e = refl
-
-  abbrev lacks : Bool
-  lacks = ltb words (2 ^ st .limits .depth) || ltb bytes (pagesSize st)
-
   pub queryNumberBy-lent : (lentNumberBy st words bytes ≡ 0 → ⊥)
       → lentNumberBy st words bytes ≡ queryNumberBy st words bytes q
-  unfolding lentNumberBy queryNumberBy lentBy shapeConditions firstNumber
-  queryNumberBy-lent n = sym (two-some (not (inBounds (st .shape))) lacks
-      (firstNumber (queryConditions (st .shape) q)) n)
+  unfolding queryNumberBy
+  queryNumberBy-lent n = sym (firstNumber-lent st words bytes (queryConditions (st .shape) q) n)
 
   -- what the lent memory allows is for the query to decide
   pub queryNumberBy-query : lentNumberBy st words bytes ≡ 0
       → queryNumberBy st words bytes q ≡ firstNumber (queryConditions (st .shape) q)
-  unfolding lentNumberBy queryNumberBy lentBy shapeConditions firstNumber
-  queryNumberBy-query n = two-none (not (inBounds (st .shape))) lacks (firstNumber (queryConditions (st .shape) q)) n
+  unfolding queryNumberBy
+  queryNumberBy-query n = firstNumber-others st words bytes (queryConditions (st .shape) q) n
 
   abbrev tests : Bool → Bool → ℕ
   tests a b = cond a 8 (cond (not b) 3 0)
@@ -94,21 +80,16 @@ module _ (st : State) (words bytes : ℕ) (q : List (Option ℕ)) where
 
   -- ---- no early refusal
 
-  three-none : (a b c d : Bool) → _≡_ {A = ℕ} (cond a 1 (cond b 2 (cond c 8 (cond (not d) 3 0)))) 0
-      → (_≡_ {A = ℕ} (cond a 1 (cond b 2 0)) 0) × (d ≡ true)
-  three-none true b c d e = absurd (omega arith)
-  three-none false true c d e = absurd (omega arith)
-  three-none false false true d e = absurd (omega arith)
-  three-none false false false true e = (refl, refl)
-  three-none false false false false e = absurd (omega arith)
-
   pub parts-of-queryNumberBy : queryNumberBy st words bytes q ≡ 0
-      → (lentNumberBy st words bytes ≡ 0) × (queryFits (st .shape) q ≡ true)
-  unfolding lentNumberBy queryNumberBy lentBy shapeConditions firstNumber
-  parts-of-queryNumberBy =
-      three-none (not (inBounds (st .shape))) lacks (namesUnused (st .shape) q) (queryFits (st .shape) q)
+      → MemoryLent st words bytes × (queryFits (st .shape) q ≡ true)
+  unfolding queryNumberBy
+  parts-of-queryNumberBy e =
+      let parts = memoryLent-before st words bytes (queryConditions (st .shape) q) e in
+      let fits = queryFits (st .shape) q in
+      let behind = firstNumber-zero 7 (namesUnused (st .shape) q) (refusal 3 (not fits) ∷ []) (parts .1) in
+      (parts .0, not-false fits (firstNumber-zero 2 (not fits) [] (behind .1) .0))
 
 pub queryNumber-by : (st : State) (words bytes : List ℕ) (q : List (Option ℕ))
     → queryNumber (store st words bytes) q ≡ queryNumberBy st (length words) (length bytes) q
-unfolding queryNumber lentConditions queryNumberBy lentBy
+unfolding queryRefusals lentConditions queryNumberBy lentBy
 queryNumber-by st words bytes q = refl

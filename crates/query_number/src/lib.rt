@@ -20,8 +20,8 @@ ghost use Rattle.shape.specs.Key.{wantedValues, isGiven, namesUnused, queryFits
 ghost use Rattle.page_matches.specs.Pattern.{wantedBits};
 ghost use Rattle.query_number.specs.Number.{queryNumberBy};
 
-// The number of the first refusal that needs no look into words and pages: 1, 2, 8 for a query that
-// names attribute d or above, 3 for a given value of 2^w_j or more; 0 for none.
+// The number of the first refusal that needs no look into words and pages: 1, 14, 15, 2, 8 for a
+// query that names attribute d or above, 3 for a given value of 2^w_j or more; 0 for none.
 pub fn query_number(state: State, words: usize, bytes: usize, query: Query) -> u32
     ensures { λ r. ⌜ r ≡ queryNumberBy state words bytes (wantedValues query) ⌝ }
 {

@@ -1,10 +1,11 @@
 -- Laws of the range's promise, one for each way that the call ends. Assumes nothing.
 use Prim.Native.Nat.{ℕ, _/_, min}
-use mathlib.Core.Path.{_≡_, sym, _∙_}
+use mathlib.Core.Path.{_≡_, refl, sym, _∙_}
 use mathlib.Core.List.{List, map}
 use mathlib.Core.Option.{Option}
 use lib.ListN.{length}
 use Rattle.lists.specs.Members.{All}
+use Rattle.shape.specs.Amiss.{refusedFor}
 use Rattle.shape.specs.Refusal.{Answer, accepted, refused}
 use Rattle.shape.specs.Range.{Interval}
 use Rattle.region.specs.Query.{LeafTest}
@@ -19,7 +20,8 @@ use Rattle.page_matches.specs.Output.{emit}
 use Rattle.page_matches.proofs.EmitLaws.{IsField}
 use Rattle.store.specs.declared.State.{State}
 use Rattle.store.specs.Store.{Store, store, fixedOf}
-use Rattle.store.specs.Promises.{RangePromise, SoundWhere, meeting, rangeNumber}
+use Rattle.store.specs.Promises.{RangePromise, SoundWhere, meeting, rangeRefusals, rangeNumber}
+use Rattle.store.proofs.NumberLaws.{firstNumber-other, named-range}
 use Rattle.refusals.proofs.LentLaws.{firstNumber-others}
 use Rattle.list_call.proofs.LentLaws.{lentNumberBy-sound}
 use Rattle.list_call.proofs.ListPromiseLaws.{Lists, list-by, list-early, list-nine, list-listed}
@@ -50,7 +52,7 @@ module _ (st : State) (words bytes : List ℕ) (r : List (Option Interval)) (out
 
   -- what the model says of a range is what it says of a list of the records inside
   of-list : (answer : Answer Reply) (out′ : List ℕ)
-      → Lists here (rangeNumber here r) met (λ S. numberFor (fixedOf st) S (rangeCall r out))
+      → Lists here (rangeRefusals here r) met (λ S. numberFor (fixedOf st) S (rangeCall r out))
       (rangeReadsOf (st .shape) r) found out answer out′
       → RangePromise here r out answer out′
   unfolding outcome replyTo outputAfter
@@ -58,10 +60,15 @@ module _ (st : State) (words bytes : List ℕ) (r : List (Option Interval)) (out
       list-by here _ _ (λ S. numberFor (fixedOf st) S (rangeCall r out)) (rangeReadsOf (st .shape) r) found out
       (λ S. outcome (fixedOf st) S (rangeCall r out)) (λ S. rw (answer-range (fixedOf st) S r out)) answer out′ h
 
-  pub promise-early : (n : ℕ) → n ≡ number → (n ≡ 0 → ⊥) → RangePromise here r out (refused n) out
+  -- the model has no 14
+  not-fourteen : (S : List Record) → numberFor (fixedOf st) S (rangeCall r out) ≡ 14 → ⊥
+  unfolding numberFor
+  not-fourteen S = firstNumber-other 13 _ refl
+
+  pub promise-early : (n : ℕ) → n ≡ number → (n ≡ 0 → ⊥) → RangePromise here r out (refusedFor (st .shape) n) out
   promise-early n e z =
-      of-list (refused n) out
-      (list-early here _ _ _ (rangeReadsOf (st .shape) r) found out model-number n
+      of-list (refusedFor (st .shape) n) out
+      (list-early here _ _ _ (rangeReadsOf (st .shape) r) found out model-number (named-range here r) not-fourteen n
       (e ∙ sym (rangeNumber-by st words bytes r)) z)
 
   module _ (none : number ≡ 0) where

@@ -17,6 +17,7 @@ use shape::Range;
 use store::Counts;
 use store::Listed;
 use store::State;
+use store::refuse_list;
 ghost use lib.ListN.{length};
 ghost use Rattle.shape.specs.Range.{rangeIntervals};
 ghost use Rattle.store.specs.Store.{store};
@@ -25,15 +26,15 @@ ghost use Rattle.store.specs.Answers.{listedAnswer};
 ghost use Rattle.range.specs.Private.{Tested};
 
 // The records inside a box of values, written into the output in split order while whole ones fit;
-// how many were written, how many lie inside, how many pages were read. Refused with 1, 2, 8, 3, 10
-// or 9, the first that holds in this order; a refused call leaves the output as it came.
+// how many were written, how many lie inside, how many pages were read. Refused with 1, 14, 15, 2,
+// 8, 3, 10 or 9, the first that holds in this order; a refused call leaves the output as it came.
 pub fn range(state: State, dir: &[u32], pages: &[u8], range: Range, out: &mut [u8]) -> Listed
     ensures { λ r. ⌜ RangePromise (store state (now (dir .entry)) (now (pages .entry))) (rangeIntervals range)
         (now (out .entry)) (listedAnswer r) (now (out .exit)) ⌝ }
 {
     let number = range_number(state, dir.len(), pages.len(), range);
     if number != 0 {
-        return Listed::Refused(number);
+        return refuse_list(state.shape, number);
     }
     if !limits_hold(state) {
         return Listed::Refused(9);

@@ -3,21 +3,23 @@ use Prim.Native.Nat.{ℕ}
 use mathlib.Core.Path.{_≡_, refl, sym, ap, _∙_}
 use mathlib.Core.Bool.{Bool, true, false, not, cond, _&&_}
 use mathlib.Core.List.{List}
+use mathlib.Core.Logic.{⊎-elim}
 use mathlib.Core.Option.{Option}
 use native.Mathlib.Omega.{arith}
 use lib.ListN.{length}
+use Rattle.lists.proofs.Numbers.{eq-or-ne}
 use Rattle.shape.specs.Refusal.{firstNumber}
-use Rattle.shape.specs.Shape.{shapeConditions, inBounds}
 use Rattle.shape.specs.Key.{namesUnused, queryFits}
 use Rattle.shape.specs.Range.{Interval, rangeFits, rangeRises}
 use Rattle.shape.specs.declared.Shape.{Shape}
 use Rattle.model.specs.Model.{rangeConditions}
 use Rattle.store.specs.Store.{store, lentConditions}
-use Rattle.store.specs.Promises.{rangeNumber}
+use Rattle.store.specs.Promises.{rangeRefusals, rangeNumber}
 use Rattle.store.specs.declared.State.{State}
-use Rattle.refusals.specs.Lengths.{lacksMemory, lentBy, MemoryLent}
-use Rattle.refusals.proofs.LentLaws.{memoryLent-before}
+use Rattle.refusals.specs.Lengths.{lentBy, MemoryLent, lentNumberBy}
+use Rattle.refusals.proofs.LentLaws.{lentNumberBy-none, firstNumber-lent, firstNumber-others, memoryLent-before}
 use Rattle.query_number.specs.Number.{queryNumberBy}
+use Rattle.query_number.proofs.EarlyLaws.{queryNumberBy-lent, queryNumberBy-query, parts-of-queryNumberBy}
 use Rattle.range_number.specs.Ends.{lowEnds, highEnds}
 use Rattle.range_number.specs.Number.{rangeNumberBy}
 use Rattle.range_number.proofs.EndLaws.{namesUnused-lowEnds, rangeFits-ends}
@@ -34,47 +36,48 @@ module _ (st : State) (words bytes : ℕ) (r : List (Option Interval)) where
   abbrev rest : Bool → Bool → ℕ
   rest high rises = cond (not high) 3 (cond (not rises) 10 0)
 
-  abbrev tests : Bool → Bool → Bool → ℕ
-  tests unused fits rises =
-      cond (not (inBounds s)) 1
-      (cond (lacksMemory st words bytes) 2 (cond unused 8 (rest fits rises)))
+  -- with the memory lent
+  rangeNumberBy-ends : lentNumberBy st words bytes ≡ 0
+      → rangeNumberBy st words bytes r
+      ≡ cond (namesUnused s (lowEnds r)) 8
+      (rest (queryFits s (lowEnds r) && queryFits s (highEnds r)) (rangeRises s r))
+  unfolding rangeNumberBy firstNumber
+  rangeNumberBy-ends n =
+      firstNumber-others st words bytes (rangeConditions s r) n
+      ∙ (λ i. cond (sym (namesUnused-lowEnds s r) i) 8 (rest (rangeFits-ends s r i) (rangeRises s r)))
 
-  rangeNumberBy-ends : rangeNumberBy st words bytes r
-      ≡ tests (namesUnused s (lowEnds r)) (queryFits s (lowEnds r) && queryFits s (highEnds r)) (rangeRises s r)
-  unfolding rangeNumberBy lentBy shapeConditions firstNumber
-  rangeNumberBy-ends =
-      λ i. tests (sym (namesUnused-lowEnds s r) i) (rangeFits-ends s r i) (rangeRises s r)
-
-  low-some : (a b u d e g : Bool) → (_≡_ {A = ℕ} (cond a 1 (cond b 2 (cond u 8 (cond (not d) 3 0)))) 0 → ⊥)
-      → cond a 1 (cond b 2 (cond u 8 (cond (not d) 3 0))) ≡ cond a 1 (cond b 2 (cond u 8 (rest (d && e) g)))
-  low-some true b u d e g z = refl
-  low-some false true u d e g z = refl
-  low-some false false true d e g z = refl
-  low-some false false false true e g z = absurd (z refl)
-  low-some false false false false e g z = refl
+  low-some : (u d e g : Bool) → (_≡_ {A = ℕ} (cond u 8 (cond (not d) 3 0)) 0 → ⊥)
+      → cond u 8 (cond (not d) 3 0) ≡ cond u 8 (rest (d && e) g)
+  low-some true d e g z = refl
+  low-some false true e g z = absurd (z refl)
+  low-some false false e g z = refl
 
   pub rangeNumberBy-low : (lowNumber ≡ 0 → ⊥) → lowNumber ≡ rangeNumberBy st words bytes r
-  unfolding queryNumberBy lentBy shapeConditions firstNumber
+  unfolding rangeNumberBy firstNumber
   rangeNumberBy-low z =
-      low-some (not (inBounds s)) (lacksMemory st words bytes) (namesUnused s (lowEnds r)) (queryFits s (lowEnds r))
-      (queryFits s (highEnds r)) (rangeRises s r) z
-      ∙ sym rangeNumberBy-ends
+      ⊎-elim
+      (λ n. let low = queryNumberBy-query st words bytes (lowEnds r) n in
+      low
+      ∙ low-some (namesUnused s (lowEnds r)) (queryFits s (lowEnds r)) (queryFits s (highEnds r)) (rangeRises s r)
+      (λ e. z (low ∙ e))
+      ∙ sym (rangeNumberBy-ends n))
+      (λ n. sym (queryNumberBy-lent st words bytes (lowEnds r) n)
+      ∙ sym (firstNumber-lent st words bytes (rangeConditions s r) n))
+      (eq-or-ne (lentNumberBy st words bytes) 0)
 
-  low-none : (a b u d e g : Bool) → _≡_ {A = ℕ} (cond a 1 (cond b 2 (cond u 8 (cond (not d) 3 0)))) 0
-      → cond a 1 (cond b 2 (cond u 8 (rest (d && e) g))) ≡ rest e g
-  low-none true b u d e g z = absurd (omega arith)
-  low-none false true u d e g z = absurd (omega arith)
-  low-none false false true d e g z = absurd (omega arith)
-  low-none false false false true e g z = refl
-  low-none false false false false e g z = absurd (omega arith)
+  low-none : (u d e g : Bool) → _≡_ {A = ℕ} (cond u 8 (cond (not d) 3 0)) 0 → cond u 8 (rest (d && e) g) ≡ rest e g
+  low-none true d e g z = absurd (omega arith)
+  low-none false true e g z = refl
+  low-none false false e g z = absurd (omega arith)
 
   module _ (low : lowNumber ≡ 0) where
     rangeNumberBy-rest : rangeNumberBy st words bytes r ≡ rest (queryFits s (highEnds r)) (rangeRises s r)
-    unfolding queryNumberBy lentBy shapeConditions firstNumber
+    unfolding firstNumber
     rangeNumberBy-rest =
-        rangeNumberBy-ends
-        ∙ low-none (not (inBounds s)) (lacksMemory st words bytes) (namesUnused s (lowEnds r))
-        (queryFits s (lowEnds r)) (queryFits s (highEnds r)) (rangeRises s r) low
+        let n = lentNumberBy-none st words bytes (parts-of-queryNumberBy st words bytes (lowEnds r) low .0) in
+        rangeNumberBy-ends n
+        ∙ low-none (namesUnused s (lowEnds r)) (queryFits s (lowEnds r)) (queryFits s (highEnds r)) (rangeRises s r)
+        (sym (queryNumberBy-query st words bytes (lowEnds r) n) ∙ low)
 
     pub rangeNumberBy-out : queryFits s (highEnds r) ≡ false → 3 ≡ rangeNumberBy st words bytes r
     rangeNumberBy-out e = sym (rangeNumberBy-rest ∙ ap (λ b. rest b (rangeRises s r)) e)
@@ -105,5 +108,5 @@ module _ (st : State) (words bytes : ℕ) (r : List (Option Interval)) where
 
 pub rangeNumber-by : (st : State) (words bytes : List ℕ) (r : List (Option Interval))
     → rangeNumber (store st words bytes) r ≡ rangeNumberBy st (length words) (length bytes) r
-unfolding rangeNumber lentConditions rangeNumberBy lentBy
+unfolding rangeRefusals lentConditions rangeNumberBy lentBy
 rangeNumber-by st words bytes r = refl

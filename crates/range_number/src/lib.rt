@@ -26,9 +26,9 @@ ghost use Rattle.range_number.specs.Ends.{lowEnd, highEnd, lowEnds, high
 ghost use Rattle.range_number.specs.Ends.{lowKey, highKey};
 ghost use Rattle.range_number.specs.Number.{rangeNumberBy};
 
-// The number of the first refusal that needs no look into words and pages: 1, 2, 8 for a range that
-// names attribute d or above, 3 for an end of 2^w_j or more, 10 for a low end above its high end; 0
-// for none.
+// The number of the first refusal that needs no look into words and pages: 1, 14, 15, 2, 8 for a
+// range that names attribute d or above, 3 for an end of 2^w_j or more, 10 for a low end above its
+// high end; 0 for none.
 pub fn range_number(state: State, words: usize, bytes: usize, range: Range) -> u32
     ensures { λ r. ⌜ r ≡ rangeNumberBy state words bytes (rangeIntervals range) ⌝ }
 {

@@ -1,41 +1,31 @@
 -- Laws of the early refusals, one for each way that the tests end; what they leave; the same numbers in the words of
 -- the promises. Assumes nothing.
-use Prim.Native.Nat.{ℕ, _^_}
+use Prim.Native.Nat.{ℕ, zero, suc, _^_}
 use mathlib.Core.Path.{_≡_, refl, sym, ap, _∙_}
 use mathlib.Core.Bool.{Bool, true, false, not, cond, _||_}
 use mathlib.Core.List.{List, [], _∷_, _++_}
 use native.Mathlib.Omega.{arith}
 use lib.ListN.{length}
-use borrow.Author.Tests.{le-ltb, ltb-false, not-false}
+use borrow.Author.Tests.{le-ltb, ltb-false}
 use Rattle.shape.specs.Refusal.{Condition, firstNumber, refusal}
-use Rattle.shape.specs.Shape.{shapeConditions, shapeNumber, inBounds}
+use Rattle.shape.specs.Shape.{shapeConditions, shapeNumber}
 use Rattle.shape.specs.Key.{keyFits}
 use Rattle.shape.proofs.RefusalLaws.{firstNumber-shape, firstNumber-shape-out}
-use Rattle.shape.proofs.ShapeLaws.{shapeNumber-true}
+use Rattle.shape.proofs.ShapeLaws.{shapeNumber-first}
 use Rattle.model.specs.Model.{keyConditions}
-use Rattle.model.proofs.ConditionLaws.{firstNumber-zero}
+use Rattle.model.proofs.ConditionLaws.{firstNumber-zero, numbered, numbered-shape, firstNumber-first, firstNumber-rest}
+use Rattle.model.proofs.ConditionLaws.{firstNumber-none}
 use Rattle.store.specs.Store.{store, lentConditions, pagesSize}
-use Rattle.store.specs.Promises.{lentNumber, keyNumber}
+use Rattle.store.specs.Promises.{lentNumber, keyRefusals, keyNumber}
 use Rattle.store.specs.declared.State.{State}
 use Rattle.refusals.specs.Lengths.{lacksMemory, lentBy, MemoryLent, lentNumberBy, keyNumberBy}
-
-two-none : (a b : Bool) (n : ℕ) → _≡_ {A = ℕ} (cond a 1 (cond b 2 0)) 0 → cond a 1 (cond b 2 n) ≡ n
-two-none true b n e = absurd (omega arith)
-two-none false true n e = absurd (omega arith)
-two-none false false n e = refl
-
-two-some : (a b : Bool) (n : ℕ) → (_≡_ {A = ℕ} (cond a 1 (cond b 2 0)) 0 → ⊥)
-    → cond a 1 (cond b 2 n) ≡ cond a 1 (cond b 2 0)
-two-some true b n e = refl
-two-some false true n e = refl
-two-some false false n e = absurd (e refl)
 
 or-split : (a b : Bool) → (a || b) ≡ false → (a ≡ false) × (b ≡ false)
 or-split false b e = (refl, e)
 or-split true b e = absurd (let z : _≡_ {A = ℕ} 0 1 = cc in omega arith)
 
 module _ (st : State) (words bytes : ℕ) where
-  -- ---- 1 and 2
+  -- ---- 1, 14, 15 and 2
 
   pub lentNumberBy-shape-out : (shapeNumber (st .shape) ≡ 0 → ⊥) → shapeNumber (st .shape) ≡ lentNumberBy st words bytes
   unfolding lentNumberBy lentBy
@@ -58,38 +48,49 @@ module _ (st : State) (words bytes : ℕ) where
       sym (lentNumberBy-enough (m .shape)
       (rw (le-ltb words (2 ^ st .limits .depth) (m .words-lent), le-ltb bytes (pagesSize st) (m .pages-lent)) refl))
 
-  -- ---- 1 and 2 before other conditions
+  -- ---- what they leave
+
+  pub memoryLent : lentNumberBy st words bytes ≡ 0 → MemoryLent st words bytes
+  unfolding lentNumberBy lentBy
+  memoryLent e =
+      let parts = firstNumber-none (shapeConditions (st .shape)) (refusal 2 (lacksMemory st words bytes) ∷ [])
+      (numbered-shape (st .shape)) e in
+      let lent = or-split _ _ (firstNumber-zero 1 (lacksMemory st words bytes) [] (parts .1) .0) in
+      record {
+        shape = shapeNumber-first (st .shape) (parts .0);
+        words-lent = ltb-false words (2 ^ st .limits .depth) (lent .0);
+        pages-lent = ltb-false bytes (pagesSize st) (lent .1);
+      }
+
+  -- ---- 1, 14, 15 and 2 before other conditions
+
+  numbered-lentBy : numbered (lentBy st words bytes) ≡ true
+  unfolding lentBy shapeConditions
+  numbered-lentBy = refl
 
   module _ (others : List Condition) where
     pub firstNumber-lent : (lentNumberBy st words bytes ≡ 0 → ⊥)
         → firstNumber (lentBy st words bytes ++ others) ≡ lentNumberBy st words bytes
-    unfolding lentNumberBy lentBy shapeConditions firstNumber
-    firstNumber-lent n = two-some (not (inBounds (st .shape))) (lacksMemory st words bytes) (firstNumber others) n
+    unfolding lentNumberBy
+    firstNumber-lent h = go (firstNumber (lentBy st words bytes)) refl h
+      where
+        go : (n : ℕ) → firstNumber (lentBy st words bytes) ≡ n → (n ≡ 0 → ⊥)
+            → firstNumber (lentBy st words bytes ++ others) ≡ n
+        go zero e h = absurd (h refl)
+        go (suc n) e h = firstNumber-first (lentBy st words bytes) others n e
 
     pub firstNumber-others : lentNumberBy st words bytes ≡ 0
         → firstNumber (lentBy st words bytes ++ others) ≡ firstNumber others
-    unfolding lentNumberBy lentBy shapeConditions firstNumber
-    firstNumber-others n = two-none (not (inBounds (st .shape))) (lacksMemory st words bytes) (firstNumber others) n
+    unfolding lentNumberBy
+    firstNumber-others e = firstNumber-rest (lentBy st words bytes) others numbered-lentBy e
 
     -- none of all holds
     pub memoryLent-before : firstNumber (lentBy st words bytes ++ others) ≡ 0
         → MemoryLent st words bytes × (firstNumber others ≡ 0)
-    unfolding lentBy shapeConditions
+    unfolding lentNumberBy
     memoryLent-before e =
-        let one = firstNumber-zero 0 _ _ e in
-        let two = firstNumber-zero 1 _ _ (one .1) in
-        let lent = or-split _ _ (two .0) in (
-          record {
-            shape = shapeNumber-true (st .shape) (not-false (inBounds (st .shape)) (one .0));
-            words-lent = ltb-false words (2 ^ st .limits .depth) (lent .0);
-            pages-lent = ltb-false bytes (pagesSize st) (lent .1);
-          },
-          two .1,
-        )
-
-  pub memoryLent : lentNumberBy st words bytes ≡ 0 → MemoryLent st words bytes
-  unfolding lentNumberBy lentBy shapeConditions
-  memoryLent e = memoryLent-before [] e .0
+        let parts = firstNumber-none (lentBy st words bytes) others numbered-lentBy e in
+        (memoryLent (parts .0), parts .1)
 
   -- ---- 3
 
@@ -114,10 +115,10 @@ module _ (st : State) (words bytes : ℕ) where
 
 pub lentNumber-by : (st : State) (words bytes : List ℕ)
     → lentNumber (store st words bytes) ≡ lentNumberBy st (length words) (length bytes)
-unfolding lentNumber lentConditions lentNumberBy lentBy
+unfolding lentConditions lentNumberBy lentBy
 lentNumber-by st words bytes = refl
 
 pub keyNumber-by : (st : State) (words bytes values : List ℕ)
     → keyNumber (store st words bytes) values ≡ keyNumberBy st (length words) (length bytes) values
-unfolding keyNumber lentConditions keyNumberBy lentBy
+unfolding keyRefusals lentConditions keyNumberBy lentBy
 keyNumber-by st words bytes values = refl

@@ -1,5 +1,5 @@
--- Laws of the early number of a call with a key, as the calls find it: 1 and 2, then 3 by the key's encodings. Assumes
--- nothing.
+-- Laws of the early number of a call with a key, as the calls find it: 1, 14, 15 and 2, then 3 by the key's encodings.
+-- Assumes nothing.
 use Prim.Native.Nat.{ℕ}
 use mathlib.Core.Path.{_≡_, sym, ap, _∙_}
 use mathlib.Core.Bool.{Bool, true, false}

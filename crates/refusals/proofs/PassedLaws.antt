@@ -19,14 +19,14 @@ use Rattle.model.specs.Model.{keyConditions}
 use Rattle.model.proofs.ConditionLaws.{firstNumber-zero}
 use Rattle.model.proofs.SetLaws.{length-encodings, indexFits-encodings}
 use Rattle.store.specs.Store.{Store, lentConditions}
-use Rattle.store.specs.Promises.{keyNumber}
+use Rattle.store.specs.Promises.{keyRefusals, keyNumber}
 use Rattle.refusals.specs.Lengths.{lentBy}
 use Rattle.refusals.specs.Passed.{Passed}
 use Rattle.refusals.proofs.LentLaws.{memoryLent-before, lentNumberBy-none, keyNumberBy-fits, keyNumber-by}
 
 pub passed : (store : Store) (values : List ℕ) → keyNumber store values ≡ 0
     → Passed store (encodings (store .state .shape) values)
-unfolding keyNumber lentConditions lentBy
+unfolding keyRefusals lentConditions lentBy
 passed store values e =
     let s = store .state .shape in
     let p = memoryLent-before (store .state) (length (store .memory .words)) (length (store .memory .bytes))
@@ -50,7 +50,7 @@ module _ (store : Store) (encoded : List ℕ) (p : Passed store encoded) where
   pub indexFits-passed : indexFits (widthsOf (store .state .shape)) (unpackedKey (packedKey encoded)) ≡ true
   indexFits-passed = ap (indexFits (widthsOf (store .state .shape))) unpackedKey-passed ∙ p .fits
 
-  -- ---- there are values with these encodings that 1, 2 and 3 let pass: `OfValues` is never said of none
+  -- ---- there are values with these encodings that 1, 14, 15, 2 and 3 let pass: `OfValues` is never said of none
 
   abbrev decoded : List ℕ
   decoded = perAttribute (λ j. decode (store .state .shape) j (getD encoded j 0))

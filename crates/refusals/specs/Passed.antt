@@ -1,5 +1,5 @@
--- What 1, 2 and 3 leave of a store and a key that they let pass. A call hands the key on by its encodings. Assumes
--- nothing.
+-- What 1, 14, 15, 2 and 3 leave of a store and a key that they let pass. A call hands the key on by its encodings.
+-- Assumes nothing.
 use Prim.Native.Nat.{ℕ, _^_, _≤_}
 use mathlib.Core.Path.{_≡_}
 use mathlib.Core.Bool.{true}
@@ -18,8 +18,8 @@ pub record Passed (store : Store) (encoded : List ℕ) : Type 0 where
   pub four : length encoded ≡ 4
   pub fits : indexFits (widthsOf (store .state .shape)) encoded ≡ true
 
--- what a step that is given encodings tells of the call's values: it holds of all that 1, 2 and 3 let pass and that
--- have these encodings
+-- what a step that is given encodings tells of the call's values: it holds of all that 1, 14, 15, 2 and 3 let pass
+-- and that have these encodings
 abbrev pub OfValues : Store → List ℕ → (List ℕ → Type 0) → Type 0
 OfValues store encoded X =
     (values : List ℕ) → keyNumber store values ≡ 0 → encodings (store .state .shape) values ≡ encoded → X values

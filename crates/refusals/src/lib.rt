@@ -1,5 +1,5 @@
 // What a call on a store finds without a look into words and pages (document 01, "Refused calls"): 1,
-// then 2; 3 by a key's encodings; and limits that no sound store has, which is 9.
+// 14, 15, then 2; 3 by a key's encodings; and limits that no sound store has, which is 9.
 use page::page_start;
 use shape::Key;
 use shape::Shape;
@@ -12,7 +12,8 @@ ghost use Rattle.shape.specs.Shape.{shapeNumber, widthsOf, indexFits};
 ghost use Rattle.refusals.specs.Limits.{limitsHold};
 ghost use Rattle.refusals.specs.Lengths.{lacksMemory, lentNumberBy};
 
-// 1 for a shape outside its bounds, then 2 for fewer than 2^L words or P pages lent; 0 for neither.
+// 1, 14 or 15 for a shape outside its bounds, then 2 for fewer than 2^L words or P pages lent; 0 for
+// none.
 pub fn lent_number(state: State, words: usize, bytes: usize) -> u32
     ensures { λ r. ⌜ r ≡ lentNumberBy state words bytes ⌝ }
 {

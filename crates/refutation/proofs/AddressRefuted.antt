@@ -2,12 +2,12 @@
 use Prim.Native.Nat.{ℕ}
 use mathlib.Core.Path.{_≡_, refl, sym, _∙_}
 use native.Mathlib.Omega.{arith}
-use Rattle.shape.specs.Refusal.{accepted, firstNumber}
-use Rattle.shape.specs.Shape.{inBounds, shapeConditions, widthsOf}
+use Rattle.shape.specs.Refusal.{accepted, answeredBy}
+use Rattle.shape.specs.Shape.{shapeConditions, widthsOf}
 use Rattle.split.specs.Steps.{stepsBelow, steps, step, stepNumber, stepsOf, attributeDepth}
 use Rattle.address.specs.Address.{highestBit, createdBy, latestStep, formula, addressFrom, address}
 use Rattle.address.specs.Doubling.{sides}
-use Rattle.address_calls.specs.Answers.{addressNumber, addressAnswer, addressAnswerOf}
+use Rattle.address_calls.specs.Answers.{addressRefusals, addressAnswer, addressAnswerOf}
 use Rattle.address_calls.specs.declared.AddressAnswer.{AddressAnswer}
 use Rattle.table.specs.Table.{twoTwo, key}
 
@@ -18,8 +18,8 @@ record Addresses : Type 0 where
 
 addresses : Addresses
 unfolding
-    firstNumber inBounds shapeConditions widthsOf stepsBelow steps step stepNumber stepsOf attributeDepth
-    highestBit createdBy latestStep formula addressFrom address sides addressNumber addressAnswer
+    answeredBy shapeConditions widthsOf stepsBelow steps step stepNumber stepsOf attributeDepth
+    highestBit createdBy latestStep formula addressFrom address sides addressRefusals addressAnswer
 addresses = record { at-0-0 = refl; at-1-0 = refl; at-0-1 = refl }
 
 pub same-value : {a b : ℕ} → accepted a ≡ accepted b → a ≡ b

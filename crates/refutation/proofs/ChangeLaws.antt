@@ -6,7 +6,9 @@ use mathlib.Core.Bool.{Bool, true, false, false≢true}
 use mathlib.Core.List.{List}
 use mathlib.Core.Logic.{_⊎_}
 use Rattle.lists.specs.Filter.{nonEmpty}
-use Rattle.shape.specs.Refusal.{Answer, accepted, refused, refusedWith, isRefused}
+use Rattle.shape.specs.Amiss.{refusedFor}
+use Rattle.shape.specs.Refusal.{Condition, Answer, accepted, refused, refusedWith, isRefused}
+use Rattle.shape.proofs.RefusalLaws.{for-refusedFirst}
 use Rattle.region.specs.Division.{Division, greatestDepth, leafDepth, leafRecords}
 use Rattle.record.specs.declared.Content.{Content}
 use Rattle.record.specs.Record.{Record}
@@ -17,15 +19,16 @@ use Rattle.model.specs.Model.{Reply, changed, found, listed}
 use Rattle.model.specs.Sets.{divisionOf}
 use Rattle.store.specs.Store.{Store, wordAt}
 use Rattle.store.specs.Sound.{Sound, Shows}
-use Rattle.store.specs.Promises.{keyNumber, ChangePromise, InsertPromise}
+use Rattle.store.specs.Promises.{keyNumber, insertRefusals, insertNumber, ChangePromise, InsertPromise}
 use Rattle.store.proofs.InsertNumberLaws.{insertNumber-key, insertNumber-zero}
+use Rattle.store.proofs.NumberLaws.{named-insert}
 
 -- ---- answers
 
 pub refused-not-accepted : {A : Type 0} (x : A) (n : ℕ) → refused n ≡ accepted x → ⊥
 refused-not-accepted x n e = let z : false ≡ true = cc in false≢true z
 
--- by a number alone or with a depth
+-- by a number alone or with a value
 pub refusal-not-accepted : {A : Type 0} (x : A) (answer : Answer A) → isRefused answer ≡ true → answer ≡ accepted x → ⊥
 refusal-not-accepted x answer refusal e = false≢true (sym (ap isRefused e) ∙ refusal)
 
@@ -67,7 +70,7 @@ found-depth e = cc
 
 -- ---- the store after a call
 
-module _ {joins : Bool} {early : ℕ} {values : List ℕ} {answers : ℕ → List (Answer Reply)}
+module _ {joins : Bool} {early : List Condition} {values : List ℕ} {answers : ℕ → List (Answer Reply)}
     {model : List Record → Answer Reply} {next : List Record → List Record} {before after : Store}
     {answer : Answer Reply} (S : List Record)
     (p : ChangePromise joins values early answers model next before answer after) (sound : Sound before S)
@@ -99,13 +102,19 @@ module _ {joins : Bool} {early : ℕ} {values : List ℕ} {answers : ℕ → Lis
 
 module _ {before after : Store} {values : List ℕ} {answer : Answer Reply} (content : Content)
     (p : InsertPromise before values content answer after) where
-  -- 1, 2 or 3, whatever the payload
-  pub answer-of-early : (n : ℕ) → keyNumber before values ≡ suc n → answer ≡ refused (suc n)
-  answer-of-early n e = p .early-refused n (insertNumber-key before values content n e)
+  refused-early : (n : ℕ) → insertNumber before values content ≡ suc n
+      → answer ≡ refusedFor (before .state .shape) (suc n)
+  refused-early n e =
+      for-refusedFirst (before .state .shape) (insertRefusals before values content)
+      (named-insert before values content) n e answer (changed 0) (p .early-refused)
+
+  -- 1, 14, 15, 2 or 3, whatever the payload
+  pub answer-of-early : (n : ℕ) → keyNumber before values ≡ suc n → answer ≡ refusedFor (before .state .shape) (suc n)
+  answer-of-early n e = refused-early n (insertNumber-key before values content n e)
 
   module _ (fits : keyNumber before values ≡ 0) (zero : content .payload ≡ 0) where
     pub answer-of-zero : answer ≡ refused 11
-    answer-of-zero = p .early-refused 10 (insertNumber-zero before values content fits zero)
+    answer-of-zero = refused-early 10 (insertNumber-zero before values content fits zero)
 
     pub store-of-zero : after ≡ before
     store-of-zero = p .unchanged (rw answer-of-zero)

@@ -7,7 +7,7 @@ use mathlib.Core.Logic.{⊎-elim}
 use native.Mathlib.Omega.{arith}
 use lib.ListN.{getD}
 use Rattle.shape.specs.Refusal.{Answer, accepted, refused, firstNumber}
-use Rattle.shape.specs.Shape.{inBounds, shapeConditions}
+use Rattle.shape.specs.Shape.{shapeConditions}
 use Rattle.region.specs.Strings.{emptyString}
 use Rattle.region.specs.Division.{Division, leaf, divided, greatestDepth}
 use Rattle.record.specs.Record.{Record}
@@ -70,17 +70,17 @@ yes-to-unsound store e unsound p =
 
 -- to a tally of other leaves
 pub yes-to-tally : CheckPromise wrongTally (accepted true) → ⊥
-unfolding lentNumber lentConditions shapeConditions inBounds firstNumber
+unfolding lentConditions shapeConditions firstNumber
 yes-to-tally = yes-to-unsound wrongTally refl wrongTally-unsound
 
 -- to a "word with page number P"
 pub yes-to-word : CheckPromise wordPastPages (accepted true) → ⊥
-unfolding lentNumber lentConditions shapeConditions inBounds firstNumber recordBytes
+unfolding lentConditions shapeConditions firstNumber recordBytes
 yes-to-word = yes-to-unsound wordPastPages refl wordPastPages-unsound
 
 -- to a page without a leaf that is not free
 pub yes-to-page : CheckPromise pageNotFree (accepted true) → ⊥
-unfolding lentNumber lentConditions shapeConditions inBounds firstNumber recordBytes
+unfolding lentConditions shapeConditions firstNumber recordBytes
 yes-to-page = yes-to-unsound pageNotFree refl pageNotFree-unsound
 
 -- ---- "says yes exactly for a sound store and otherwise no; it never gives 9"
@@ -91,7 +91,7 @@ yes-of-sound store S e sound answer p = ⊎-elim (λ yes. yes .0) (λ no. absurd
 
 -- a check that says no to a sound store
 pub no-to-sound : CheckPromise noRecord (accepted false) → ⊥
-unfolding lentNumber lentConditions shapeConditions inBounds firstNumber
+unfolding lentConditions shapeConditions firstNumber
 no-to-sound p = false≢true (same-verdict (yes-of-sound noRecord [] refl noRecord-sound (accepted false) p))
 
 -- a check that gives 9, on any store

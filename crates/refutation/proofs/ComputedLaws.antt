@@ -6,7 +6,7 @@ use mathlib.Core.Bool.{Bool, true, false}
 use mathlib.Core.List.{List, [], _∷_, _++_}
 use lib.ListN.{length, getD, replicate}
 use Rattle.shape.specs.Refusal.{accepted, refused, refusedWith, firstNumber, answeredBy}
-use Rattle.shape.specs.Shape.{inBounds, shapeConditions, widthsOf}
+use Rattle.shape.specs.Shape.{shapeConditions, widthsOf}
 use Rattle.shape.specs.Key.{marked, valueFits, encode, keyFits, encodings, namesUnused, queryFits}
 use Rattle.split.specs.Steps.{stepsBelow, steps, step, stepNumber, stepsOf, attributeDepth}
 use Rattle.split.specs.Bits.{splitBit}
@@ -24,7 +24,7 @@ use Rattle.model.specs.Add.{addNumber, addAnswer, addNext}
 use Rattle.model.specs.Sets.{divisionOf, keyDepth, queryBits, readsOf, givenDepths, readsBound}
 use Rattle.model.proofs.InsertLaws.{outcome-insert-other, next-insert-other}
 use Rattle.store.specs.Store.{Store, fixedOf, wordAt, lentConditions}
-use Rattle.store.specs.Promises.{keyNumber}
+use Rattle.store.specs.Promises.{keyRefusals, keyNumber}
 use Rattle.table.specs.Table.{twoTwo, key}
 use Rattle.refutation.specs.Stores.{allFree, givenFirst, givenSecond, outcomeOn, leavesAfter, recordAt, noRecord}
 use Rattle.refutation.specs.Stores.{oneRecord, setOfOne, twoRecords, setOfTwo, threeRecords, setOfThree}
@@ -46,7 +46,7 @@ leaves-of-three = refl
 
 -- ---- calls
 
--- keys that neither 1 nor 2 nor 3 refuses
+-- keys that no early number refuses
 pub record Fitting : Type 0 where
   pub first : keyNumber noRecord (key 0 0) ≡ 0
   pub first-again : keyNumber oneRecord (key 0 0) ≡ 0
@@ -56,7 +56,7 @@ pub record Fitting : Type 0 where
   pub fourth-full : keyNumber (threeRecords 2) (key 2 1) ≡ 0
 
 pub fitting : Fitting
-unfolding firstNumber inBounds shapeConditions keyFits recordBytes lentConditions keyNumber valueFits encode marked
+unfolding firstNumber shapeConditions keyFits recordBytes lentConditions keyRefusals valueFits encode marked
 fitting =
     record {
       first = refl;
@@ -132,7 +132,7 @@ pub record Deletes : Type 0 where
 
 pub deletes : Deletes
 unfolding
-    firstNumber answeredBy inBounds shapeConditions widthsOf keyFits encodings namesUnused queryFits valueFits encode
+    firstNumber answeredBy shapeConditions widthsOf keyFits encodings namesUnused queryFits valueFits encode
     stepsBelow steps step stepNumber stepsOf attributeDepth splitBit matches recordBytes
     numberFor replyTo setAfter outputOf outputAfter outcome next divisionOf keyDepth queryBits readsOf marked
 deletes =
@@ -173,7 +173,7 @@ pub record Reads (out : List ℕ) : Type 0 where
 
 pub reads : (out : List ℕ) → Reads out
 unfolding
-    firstNumber answeredBy inBounds shapeConditions widthsOf keyFits encodings namesUnused queryFits valueFits encode
+    firstNumber answeredBy shapeConditions widthsOf keyFits encodings namesUnused queryFits valueFits encode
     stepsBelow steps step stepNumber stepsOf attributeDepth splitBit matches recordBytes
     numberFor replyTo setAfter outputOf outputAfter outcome next divisionOf keyDepth queryBits readsOf givenDepths
     readsBound marked

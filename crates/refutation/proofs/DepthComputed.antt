@@ -5,7 +5,7 @@ use mathlib.Core.Path.{_≡_, refl}
 use mathlib.Core.List.{List, [], _∷_, _++_}
 use lib.ListN.{getD}
 use Rattle.shape.specs.Refusal.{accepted, refusedWith, firstNumber, answeredBy}
-use Rattle.shape.specs.Shape.{inBounds, shapeConditions, widthsOf}
+use Rattle.shape.specs.Shape.{shapeConditions, widthsOf}
 use Rattle.shape.specs.Key.{marked, valueFits, encode, keyFits, encodings}
 use Rattle.split.specs.Steps.{stepsBelow, steps, step, stepNumber, stepsOf, attributeDepth}
 use Rattle.split.specs.Bits.{splitBit}
@@ -19,7 +19,7 @@ use Rattle.model.specs.Model.{deleteCall, lookupCall, changed, found, numberFor
 use Rattle.model.specs.Add.{addNumber, addAnswer}
 use Rattle.model.specs.Sets.{divisionOf, keyDepth}
 use Rattle.store.specs.Store.{fixedOf, wordAt, lentConditions}
-use Rattle.store.specs.Promises.{keyNumber, depthAt}
+use Rattle.store.specs.Promises.{keyRefusals, keyNumber, depthAt}
 use Rattle.table.specs.Table.{twoTwo, key, fourInserts}
 use Rattle.refutation.specs.Stores.{threeRecords, setOfThree, fourRecords, setOfFour, zeroedWord, outcomeOn}
 use Rattle.refutation.proofs.HistoryRefuted.{modelAnswer}
@@ -49,9 +49,9 @@ pub record ToldOfFour : Type 0 where
 
 pub adds-told : (content : Content) → ToldOfAdds content
 unfolding
-    firstNumber inBounds shapeConditions widthsOf keyFits encodings valueFits encode marked
+    firstNumber shapeConditions widthsOf keyFits encodings valueFits encode marked
     stepsBelow steps step stepNumber stepsOf attributeDepth splitBit recordBytes
-    addNumber divisionOf keyDepth lentConditions keyNumber
+    addNumber divisionOf keyDepth lentConditions keyRefusals
 adds-told content = record { divided = refl; beside = refl; beside-fits = refl }
 
 pub told-four : ToldOfFour

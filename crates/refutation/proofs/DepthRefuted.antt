@@ -163,12 +163,12 @@ deepest-told-unsound content after p T word =
 -- the depth of the other cell's word, where that of the key's own is 0
 pub other-cell : LookupPromise zeroedWord (key 2 2) (refusedWith 5 2) → ⊥
 other-cell p =
-    lookup-five-other-depth zeroedWord (key 2 2) 2 5 p
+    lookup-five-other-depth zeroedWord (key 2 2) 2 p
     (λ e. let same = e ∙ depth-cells [] .zeroed in omega (arith, same))
 
 pub other-cell-in-delete : (after : Store) → DeletePromise zeroedWord (key 2 2) (refusedWith 5 2) after → ⊥
 other-cell-in-delete after p =
-    five-other-depth zeroedWord after (key 2 2) 5 2 p
+    five-other-depth zeroedWord after (key 2 2) 2 p
     (λ e. let same = e ∙ depth-cells [] .zeroed in omega (arith, same))
 
 -- ---- demand 3

@@ -7,8 +7,8 @@ use mathlib.Core.Bool.{Bool, true, false}
 use mathlib.Core.List.{List, [], _∷_}
 use native.Mathlib.Omega.{arith}
 use lib.ListN.{getD}
-use Rattle.shape.specs.Refusal.{Answer, refused, isRefused, firstNumber}
-use Rattle.shape.specs.Shape.{inBounds, shapeConditions, shapeNumber, widthsOf}
+use Rattle.shape.specs.Refusal.{Condition, Answer, refused, isRefused, firstNumber}
+use Rattle.shape.specs.Shape.{shapeConditions, shapeNumber, widthsOf}
 use Rattle.shape.specs.declared.Shape.{Shape}
 use Rattle.split.specs.Steps.{stepsBelow, steps, step, stepNumber, stepsOf, attributeDepth}
 use Rattle.split.specs.Bits.{splitBit}
@@ -63,7 +63,7 @@ module _ (store : Store) (split : Split) (after : State) (words : List ℕ)
 -- what `double` asks holds of the stores below, whose L is 3
 pub doubling-asked : (P T : ℕ) (leaves : List ℕ) (split : Split) → T ≤ 3 → split .step < 3
     → DoublingAsked (stateWith P T leaves) split 8
-unfolding firstNumber inBounds shapeConditions shapeNumber widthsOf
+unfolding firstNumber shapeConditions shapeNumber widthsOf
 doubling-asked P T leaves split within deep =
     record {
       shape = refl;
@@ -167,7 +167,7 @@ from-leaf-refused split after within d =
 -- ---- a number that is told after a doubling, as 7, on any store
 
 -- T or a word is another, after an insert, an add or a delete
-module _ {joins : Bool} {early : ℕ} {values : List ℕ} {answers : ℕ → List (Answer Reply)}
+module _ {joins : Bool} {early : List Condition} {values : List ℕ} {answers : ℕ → List (Answer Reply)}
     {model : List Record → Answer Reply} {next : List Record → List Record} (before after : Store)
     (answer : Answer Reply) (refusal : isRefused answer ≡ true)
     (p : ChangePromise joins values early answers model next before answer after) where

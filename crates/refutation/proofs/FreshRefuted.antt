@@ -3,12 +3,13 @@ use mathlib.Core.Path.{_≡_, refl, ap, _∙_}
 use mathlib.Core.Bool.{true}
 use native.Mathlib.Omega.{arith}
 use lib.ListN.{getD}
-use Rattle.shape.specs.Refusal.{Answer, answered, isRefused, firstNumber}
-use Rattle.shape.specs.Shape.{inBounds, shapeConditions}
+use Rattle.shape.specs.Refusal.{Answer, isRefused, firstNumber}
+use Rattle.shape.specs.Shape.{shapeConditions}
 use Rattle.shape.specs.declared.Shape.{Shape}
 use Rattle.model.specs.Limits.{pageLimitOf}
 use Rattle.store.specs.Store.{Store, Memory}
-use Rattle.store.specs.Fresh.{FreshPromise, freshNumber, freshMemory, clearedCounts}
+use Rattle.store.specs.Fresh.{FreshPromise, freshRefusals, freshNumber, freshMemory, clearedCounts}
+use Rattle.store.proofs.NumberLaws.{answeredBy-fresh}
 use Rattle.table.specs.Table.{twoTwo}
 use Rattle.refutation.specs.Stores.{ones}
 use Rattle.refutation.proofs.ChangeLaws.{refusal-not-accepted}
@@ -17,11 +18,11 @@ use Rattle.refutation.proofs.ChangeLaws.{refusal-not-accepted}
 pub turned-down : (s : Shape) (m : Memory) (answer : Answer (Unit {0})) (after : Store) → isRefused answer ≡ true
     → freshNumber s m ≡ 0 → FreshPromise s m answer after → ⊥
 turned-down s m answer after refusal e p =
-    refusal-not-accepted tt answer refusal (p .answered-as ∙ ap (λ k. answered k tt) e)
+    refusal-not-accepted tt answer refusal (p .answered-as ∙ answeredBy-fresh s m e)
 
 -- 8 words and 3 pages with the proof table's shape are good
 ones-good : freshNumber twoTwo ones ≡ 0
-unfolding freshNumber shapeConditions inBounds firstNumber
+unfolding freshRefusals shapeConditions firstNumber
 ones-good = refl
 
 pub turned-down-ones : (answer : Answer (Unit {0})) (after : Store) → isRefused answer ≡ true

@@ -1,4 +1,5 @@
 pub mod AddressRefuted
+pub mod AnswerLaws
 pub mod CarriedRefuted
 pub mod ChangeLaws
 pub mod CheckRefuted
@@ -14,13 +15,15 @@ pub mod FourLeavesSound
 pub mod FreshRefuted
 pub mod HistoryRefuted
 pub mod InsertRefuted
-pub mod KeyAnswerLaws
 pub mod LookupRefuted
 pub mod OneLeafSound
 pub mod PayloadRefuted
 pub mod QueryRefuted
 pub mod RangeRefuted
+pub mod SavedRefuted
+pub mod ShapeAnswerLaws
+pub mod ShapeFaultLaws
+pub mod ShapeRefuted
+pub mod SignedRefuted
 pub mod TableStoreLaws
 pub mod TwoLeavesSound
-pub mod SavedRefuted
-pub mod SignedRefuted

@@ -7,8 +7,9 @@ use mathlib.Core.List.{List, [], _∷_, _++_}
 use mathlib.Core.Logic.{⊎-elim}
 use native.Mathlib.Omega.{arith}
 use lib.ListN.{length, getD}
+use Rattle.shape.specs.Amiss.{refusedFor}
 use Rattle.shape.specs.Refusal.{Answer, accepted, refused, isRefused, firstNumber, answeredBy}
-use Rattle.shape.specs.Shape.{inBounds, shapeConditions, widthsOf}
+use Rattle.shape.specs.Shape.{shapeConditions, widthsOf}
 use Rattle.shape.specs.Key.{marked, valueFits, encode, keyFits, encodings, namesUnused, queryFits}
 use Rattle.shape.specs.Range.{rangeFits, rangeRises}
 use Rattle.shape.specs.declared.Shape.{Shape}
@@ -26,7 +27,7 @@ use Rattle.model.specs.Sets.{divisionOf, keyDepth, queryBits, readsOf, rangeRea
 use Rattle.model.proofs.InsertLaws.{setInserts}
 use Rattle.store.specs.Store.{Store, Memory, lentConditions}
 use Rattle.store.specs.Fresh.{FreshPromise}
-use Rattle.store.specs.Promises.{lentNumber, keyNumber, AddPromise, InsertPromise, DeletePromise, LookupPromise}
+use Rattle.store.specs.Promises.{keyRefusals, keyNumber, AddPromise, InsertPromise, DeletePromise, LookupPromise}
 use Rattle.store.specs.Promises.{QueryPromise, RangePromise, meeting, CheckPromise}
 use Rattle.store.proofs.ReadLaws.{soundWhere-of-sound, soundWhereRead-of-sound}
 use Rattle.history.specs.History.{Run, History}
@@ -48,8 +49,9 @@ noPayload = record { payload = 0 }
 
 module _ (store after : Store) (values : List ℕ) (content : Content) (answer : Answer Reply)
     (p : InsertPromise store values content answer after) where
-  -- "after 3": another answer where 1, 2 or 3 is due
-  pub other-than-early : (n : ℕ) → keyNumber store values ≡ suc n → (answer ≡ refused (suc n) → ⊥) → ⊥
+  -- "after 3": another answer where 1, 14, 15, 2 or 3 is due
+  pub other-than-early : (n : ℕ) → keyNumber store values ≡ suc n
+      → (answer ≡ refusedFor (store .state .shape) (suc n) → ⊥) → ⊥
   other-than-early n e apart = apart (answer-of-early content p n e)
 
   module _ (fits : keyNumber store values ≡ 0) (zero : content .payload ≡ 0) where
@@ -85,14 +87,14 @@ module _ (after : Store) where
 
   -- 9, since the store is not sound
   pub nine-for-eleven : InsertPromise wordPastPages (key 0 0) noPayload (refused 9) after → ⊥
-  unfolding firstNumber inBounds shapeConditions keyFits recordBytes lentConditions keyNumber valueFits encode marked
+  unfolding firstNumber shapeConditions keyFits recordBytes lentConditions keyRefusals valueFits encode marked
   nine-for-eleven p =
       let same : _≡_ {A = ℕ} 9 11 = refused-number (answer-of-zero noPayload p refl refl) in
       omega (arith, same)
 
   -- "after 3": 11 for a value out of bounds
   pub eleven-before-three : InsertPromise noRecord (key 4 0) noPayload (refused 11) after → ⊥
-  unfolding firstNumber inBounds shapeConditions keyFits lentConditions keyNumber valueFits encode marked
+  unfolding firstNumber shapeConditions keyFits lentConditions keyRefusals valueFits encode marked
   eleven-before-three p =
       let same : _≡_ {A = ℕ} 11 3 = refused-number (answer-of-early noPayload p 2 refl) in
       omega (arith, same)
@@ -140,7 +142,7 @@ model-answers out =
 
 -- a check that does not say yes, as one that says no
 pub other-than-sound : (answer : Answer Bool) → CheckPromise zeroStored answer → (answer ≡ accepted true → ⊥) → ⊥
-unfolding lentNumber lentConditions shapeConditions inBounds firstNumber recordBytes
+unfolding lentConditions shapeConditions firstNumber recordBytes
 other-than-sound answer p apart = apart (yes-of-sound zeroStored setOfZero refl zeroStored-sound answer p)
 
 pub called-unsound : CheckPromise zeroStored (accepted false) → ⊥

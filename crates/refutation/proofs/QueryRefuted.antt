@@ -9,18 +9,18 @@ use native.Mathlib.Omega.{arith}
 use mathlib.Core.Option.{Option, none, some}
 use lib.ListN.{length, drop, getD, replicate}
 use lib.Seq.{getD-drop}
-use Rattle.shape.specs.Refusal.{Answer, accepted, refused, firstNumber}
-use Rattle.shape.specs.Shape.{inBounds, shapeConditions, widthsOf}
+use Rattle.shape.specs.Refusal.{Answer, accepted, refused, firstNumber, answeredBy}
+use Rattle.shape.specs.Shape.{shapeConditions, widthsOf}
 use Rattle.shape.specs.Key.{marked, encode, namesUnused}
 use Rattle.split.specs.Steps.{stepsBelow, steps, step}
 use Rattle.record.specs.Record.{Record}
 use Rattle.record.specs.Bytes.{recordSize, recordBytes}
 use Rattle.page.specs.Page.{pageSize}
-use Rattle.model.specs.Model.{Reply, listed, queryCall}
+use Rattle.model.specs.Model.{Reply, changed, listed, queryCall}
 use Rattle.model.specs.Sets.{queryBits, readsBound}
 use Rattle.store.specs.Store.{Store, lentConditions}
 use Rattle.store.specs.Sound.{Sound}
-use Rattle.store.specs.Promises.{queryNumber, QueryPromise, SoundWhereRead, SameWhereRead}
+use Rattle.store.specs.Promises.{queryRefusals, queryNumber, QueryPromise, SoundWhereRead, SameWhereRead}
 use Rattle.store.proofs.ReadLaws.{soundWhereRead-of-sound}
 use Rattle.table.specs.Table.{twoTwo}
 use Rattle.refutation.specs.Stores.{recordAt, noRecord, oneRecord, threeRecords, setOfThree, otherPage}
@@ -109,7 +109,7 @@ module _ (store : Store) (q : List (Option ℕ)) (out out′ : List ℕ) (k : �
   -- "All of them return the number and change nothing.": a byte of the output is written, and the call refused
   pub writes-when-refused : (n : ℕ) → QueryPromise store q out (refused n) out′
       → (getD out′ k 0 ≡ getD out k 0 → ⊥) → ⊥
-  writes-when-refused n p apart = apart (ap (λ bytes. getD bytes k 0) (p .listed-as .unchanged n refl))
+  writes-when-refused n p apart = apart (ap (λ bytes. getD bytes k 0) (p .listed-as .unchanged refl))
 
   -- "other output bytes untouched": one behind the written records is another
   pub writes-past-written : queryNumber store q ≡ 0 → (written total n : ℕ)
@@ -131,9 +131,9 @@ module _ (store : Store) (q : List (Option ℕ)) (out out′ : List ℕ) (k : �
 -- a store that is not sound
 pub three-before-eight : (out out′ : List ℕ)
     → QueryPromise wordPastPages (some 4 ∷ none ∷ some 0 ∷ none ∷ []) out (refused 3) out′ → ⊥
-unfolding firstNumber inBounds shapeConditions namesUnused recordBytes lentConditions queryNumber
+unfolding firstNumber answeredBy shapeConditions namesUnused recordBytes lentConditions queryRefusals
 three-before-eight out out′ p =
-    let same : _≡_ {A = ℕ} 3 8 = refused-number (p .listed-as .early-refused 7 refl) in
+    let same : _≡_ {A = ℕ} 3 8 = refused-number (p .listed-as .early-refused 7 refl (changed 0)) in
     omega (arith, same)
 
 -- ---- "one that takes its records from a scan of every page" (review, 4)

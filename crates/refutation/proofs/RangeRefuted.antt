@@ -10,7 +10,7 @@ use lib.Dec.{leb}
 use lib.ListN.{length, getD}
 use Rattle.lists.specs.Filter.{filter, nonEmpty}
 use Rattle.shape.specs.Refusal.{Answer, accepted, refused, firstNumber, answeredBy}
-use Rattle.shape.specs.Shape.{inBounds, shapeConditions, widthsOf, allBelow}
+use Rattle.shape.specs.Shape.{shapeConditions, widthsOf, allBelow}
 use Rattle.shape.specs.Key.{marked, valueFits, encode, ifGiven, namesUnused}
 use Rattle.shape.specs.Range.{Interval, rangeFits, rangeRises}
 use Rattle.shape.specs.declared.Shape.{Shape}
@@ -22,10 +22,10 @@ use Rattle.record.specs.Record.{Record}
 use Rattle.record.specs.Bytes.{recordSize, recordBytes}
 use Rattle.range_box.specs.Box.{Box, boxOf, inBox, number, lowest, highest, boxMeets}
 use Rattle.page.specs.Page.{pageSize}
-use Rattle.model.specs.Model.{Reply, listed, rangeCall, replyTo, outcome}
+use Rattle.model.specs.Model.{Reply, changed, listed, rangeCall, replyTo, outcome}
 use Rattle.model.specs.Sets.{divisionOf, rangeReadsOf}
 use Rattle.store.specs.Store.{lentConditions}
-use Rattle.store.specs.Promises.{rangeNumber, RangePromise, SoundWhere, SameWhere, meeting}
+use Rattle.store.specs.Promises.{rangeRefusals, RangePromise, SoundWhere, SameWhere, meeting}
 use Rattle.store.proofs.ReadLaws.{soundWhere-of-sound}
 use Rattle.table.specs.Table.{twoTwo}
 use Rattle.refutation.specs.Stores.{threeRecords, setOfThree, otherPage, wordPastPages, fourRecords, setOfFour}
@@ -116,26 +116,26 @@ module _ (out out′ : List ℕ) (written total n : ℕ) where
 pub ten-before-three : (out out′ : List ℕ)
     → RangePromise wordPastPages (interval 3 1 ∷ interval 0 4 ∷ none ∷ none ∷ []) out (refused 10) out′ → ⊥
 unfolding
-    firstNumber inBounds shapeConditions namesUnused rangeFits recordBytes lentConditions rangeNumber valueFits
+    firstNumber answeredBy shapeConditions namesUnused rangeFits recordBytes lentConditions rangeRefusals valueFits
     encode marked
 ten-before-three out out′ p =
-    let same : _≡_ {A = ℕ} 10 3 = refused-number (p .early-refused 2 refl) in
+    let same : _≡_ {A = ℕ} 10 3 = refused-number (p .early-refused 2 refl (changed 0)) in
     omega (arith, same)
 
 -- 9 where 10 is due, since the store is not sound
 pub nine-for-ten : (out out′ : List ℕ) → RangePromise wordPastPages (firstWithin 3 1) out (refused 9) out′ → ⊥
 unfolding
-    firstNumber inBounds shapeConditions namesUnused rangeFits rangeRises recordBytes lentConditions rangeNumber
+    firstNumber answeredBy shapeConditions namesUnused rangeFits rangeRises recordBytes lentConditions rangeRefusals
     valueFits encode marked
 nine-for-ten out out′ p =
-    let same : _≡_ {A = ℕ} 9 10 = refused-number (p .early-refused 9 refl) in
+    let same : _≡_ {A = ℕ} 9 10 = refused-number (p .early-refused 9 refl (changed 0)) in
     omega (arith, same)
 
 -- "All of them return the number and change nothing", on any store: a refused range that clears its output
 pub clears-when-refused : (n : ℕ)
     → RangePromise wordPastPages (firstWithin 3 1) (7 ∷ []) (refused n) (0 ∷ []) → ⊥
 clears-when-refused n p =
-    let same : _≡_ {A = ℕ} 0 7 = ap (λ bytes. getD bytes 0 0) (p .unchanged n refl) in
+    let same : _≡_ {A = ℕ} 0 7 = ap (λ bytes. getD bytes 0 0) (p .unchanged refl) in
     omega (arith, same)
 
 -- ---- a scan of every page: "keeps document 01's rule for overwritten pages"

@@ -8,9 +8,11 @@ use mathlib.Core.Logic.{⊎-elim}
 use native.Mathlib.Omega.{arith}
 use lib.ListN.{length, getD, drop, replicate}
 use lib.Seq.{getD-append-add}
-use Rattle.shape.specs.Refusal.{Answer, accepted, refused, isRefused, answered, firstNumber}
-use Rattle.shape.specs.Shape.{inBounds, shapeConditions, widthsOf}
+use Rattle.shape.specs.Refusal.{Answer, accepted, refused, isRefused, firstNumber}
+use Rattle.shape.specs.Amiss.{refusedFor}
+use Rattle.shape.specs.Shape.{shapeConditions, widthsOf}
 use Rattle.shape.specs.Key.{marked, bias, decode, encodeField}
+use Rattle.shape.proofs.RefusalLaws.{answeredBy-named}
 use Rattle.split.specs.Steps.{stepsBelow, steps, step}
 use Rattle.split.specs.Bits.{splitBit}
 use Rattle.record.specs.Record.{Record}
@@ -20,12 +22,13 @@ use Rattle.model.specs.Sets.{isSet, divisionOf}
 use Rattle.store.specs.Store.{Store, Memory, lentConditions}
 use Rattle.store.specs.Sound.{Sound}
 use Rattle.store.specs.Fresh.{freshState}
-use Rattle.store.specs.Promises.{lentNumber, SoundWhere}
+use Rattle.store.specs.Promises.{SoundWhere}
 use Rattle.store.proofs.OneSetLaws.{one-set}
 use Rattle.store.proofs.ReadLaws.{soundWhere-of-sound}
 use Rattle.file.specs.File.{fileSize, endBytes, fileOf, fileShape, fileRecords, isWhole, isPlain}
-use Rattle.file.specs.Loading.{loadNumber}
+use Rattle.file.specs.Loading.{loadRefusals, loadNumber}
 use Rattle.file.specs.Promises.{everyLeaf, SavePromise, LoadPromise}
+use Rattle.file.proofs.LoadingLaws.{named-load, answeredBy-load}
 use Rattle.table.specs.Table.{twoTwo}
 use Rattle.refutation.specs.Files.{fileWith, shapeWith, sameKeys, falling, countWraps, slices}
 use Rattle.refutation.specs.Stores.{setOfOne, setOfZero, setOfFour, fourRecords, twoTwoMarked}
@@ -50,9 +53,9 @@ pub record Loads : Type 0 where
 
 loads : Loads
 unfolding
-    firstNumber inBounds shapeConditions widthsOf marked bias decode encodeField stepsBelow steps step splitBit
+    firstNumber shapeConditions widthsOf marked bias decode encodeField stepsBelow steps step splitBit
     recordBytes recordOf logarithm pageLimitOf depthLimitOf freshShape fixedBy isSet divisionOf endBytes fileOf
-    fileShape fileRecords isWhole isPlain loadNumber
+    fileShape fileRecords isWhole isPlain loadRefusals
 loads =
     record {
       four = refl;
@@ -84,10 +87,11 @@ four-pages = refl
 module _ {file : List ℕ} {m : Memory} {answer : Answer (Unit {0})} {after : Store}
     (p : LoadPromise file m answer after) where
   answer-accepted : loadNumber file m ≡ 0 → answer ≡ accepted tt
-  answer-accepted e = p .answered-as ∙ ap (λ n. answered n tt) e
+  answer-accepted e = p .answered-as ∙ answeredBy-load file m e
 
-  answer-refused : (n : ℕ) → loadNumber file m ≡ suc n → answer ≡ refused (suc n)
-  answer-refused n e = p .answered-as ∙ ap (λ k. answered k tt) e
+  answer-refused : (n : ℕ) → loadNumber file m ≡ suc n → answer ≡ refusedFor (fileShape file) (suc n)
+  answer-refused n e =
+      p .answered-as ∙ answeredBy-named (fileShape file) tt (loadRefusals file m) (named-load file m) n e
 
 module _ (after : Store) where
   -- "A stored payload of 0 loads.": a load by the public insert, which gives 11, or any other number
@@ -134,7 +138,7 @@ module _ (answer : Answer (Unit {0})) (after : Store) where
   pub clears-before-six : LoadPromise (fileOf twoTwo setOfFour) (slices 7 78) answer after
       → getD (after .memory .words) 0 0 ≡ 0 → ⊥
   clears-before-six p e =
-      let kept = p .memory-kept 6 (answer-refused p 5 (loads .few-words)) in
+      let kept = p .memory-kept (ap isRefused (answer-refused p 5 (loads .few-words))) in
       apart (sym (ap (λ m. getD (m .words) 0 0) kept) ∙ e)
     where
       apart : _≡_ {A = ℕ} 1 0 → ⊥
@@ -144,7 +148,7 @@ module _ (answer : Answer (Unit {0})) (after : Store) where
   pub clears-before-seven : LoadPromise (fileOf twoTwo setOfFour) (slices 8 77) answer after
       → getD (after .memory .bytes) 0 0 ≡ 0 → ⊥
   clears-before-seven p e =
-      let kept = p .memory-kept 7 (answer-refused p 6 (loads .few-pages)) in
+      let kept = p .memory-kept (ap isRefused (answer-refused p 6 (loads .few-pages))) in
       apart (sym (ap (λ m. getD (m .bytes) 0 0) kept) ∙ e)
     where
       apart : _≡_ {A = ℕ} 1 0 → ⊥
@@ -208,7 +212,7 @@ module _ (out′ : List ℕ) where
 -- before the file's end; on a store that is not sound
 pub mark-written : (out out′ : List ℕ) (k : ℕ) → SavePromise (wordPastMarked 5) out (accepted k) out′
     → getD out′ (k - 18) 0 ≡ 5 → ⊥
-unfolding firstNumber inBounds shapeConditions lentConditions lentNumber endBytes widthsOf recordBytes
+unfolding firstNumber shapeConditions lentConditions endBytes widthsOf recordBytes
 mark-written out out′ k p e =
     ⊎-elim (λ file. written (file .0) (file .1) (accepted-size (file .3)) (file .5) (file .6))
     (⊎-elim (λ two. refused-not-accepted k 2 (sym (two .0))) (λ nine. refused-not-accepted k 9 (sym nine)))

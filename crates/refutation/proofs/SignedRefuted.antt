@@ -8,8 +8,8 @@ use mathlib.Core.Logic.{⊎-elim}
 use native.Mathlib.Omega.{arith}
 use lib.ListN.{getD, replicate}
 use Rattle.lists.specs.Filter.{all}
-use Rattle.shape.specs.Refusal.{Answer, accepted, refused, firstNumber}
-use Rattle.shape.specs.Shape.{inBounds, shapeConditions, widthsOf, total}
+use Rattle.shape.specs.Refusal.{Answer, accepted, refused, firstNumber, answeredBy}
+use Rattle.shape.specs.Shape.{shapeConditions, widthsOf, total}
 use Rattle.shape.specs.declared.Shape.{Shape}
 use Rattle.shape.specs.Key.{marked, bias, valueFits, encode, decode, encodeField, keyFits, namesUnused}
 use Rattle.shape.specs.Key.{queryFits}
@@ -17,7 +17,7 @@ use Rattle.shape.specs.Range.{rangeFits, rangeRises}
 use Rattle.split.specs.Steps.{stepsBelow, steps, step, stepNumber, stepsOf, attributeDepth}
 use Rattle.address.specs.Address.{highestBit, createdBy, latestStep, formula, addressFrom, address}
 use Rattle.address.specs.Doubling.{sides}
-use Rattle.address_calls.specs.Answers.{addressNumber, addressAnswer, addressAnswerOf}
+use Rattle.address_calls.specs.Answers.{addressRefusals, addressAnswer, addressAnswerOf}
 use Rattle.address_calls.specs.declared.AddressAnswer.{AddressAnswer}
 use Rattle.record.specs.declared.Content.{Content}
 use Rattle.region.specs.Strings.{emptyString}
@@ -32,10 +32,9 @@ use Rattle.model.specs.Sets.{inShape, divisionOf, queryBits}
 use Rattle.model.proofs.SetLaws.{inShape-of-isSet}
 use Rattle.store.specs.Store.{Store, wordAt, lentConditions}
 use Rattle.store.specs.Sound.{LeafWord, Sound}
-use Rattle.store.specs.Fresh.{FreshPromise, freshNumber, freshState}
-use Rattle.store.specs.Promises.{keyNumber, rangeNumber, InsertPromise, LookupPromise, QueryPromise}
-use Rattle.store.specs.Promises.{lentNumber, CheckPromise}
-use Rattle.store.specs.Promises.{RangePromise, agreeing}
+use Rattle.store.specs.Fresh.{FreshPromise, freshRefusals, freshState}
+use Rattle.store.specs.Promises.{keyRefusals, keyNumber, rangeRefusals, InsertPromise, LookupPromise, QueryPromise}
+use Rattle.store.specs.Promises.{RangePromise, agreeing, CheckPromise}
 use Rattle.store.proofs.ReadLaws.{soundWhere-of-sound}
 use Rattle.twin.specs.Twin.{Encoded}
 use Rattle.twin.proofs.StoreLaws.{sound-twin}
@@ -80,20 +79,20 @@ fourMarked-sound =
 -- "any other value below 0 gets it too": -1 of an attribute without a mark, accepted
 pub negative-unmarked : (content : Content) (r : Reply) (after : Store)
     → InsertPromise (wordPastMarked 0) (minus 1 ∷ 0 ∷ 0 ∷ 0 ∷ []) content (accepted r) after → ⊥
-unfolding firstNumber inBounds shapeConditions keyFits recordBytes lentConditions keyNumber valueFits encode marked
+unfolding firstNumber shapeConditions keyFits recordBytes lentConditions keyRefusals valueFits encode marked
 negative-unmarked content r after p = refused-not-accepted r 3 (sym (answer-of-early content p 2 refl))
 
 -- "Number 3 uses these bounds": -3, and 2, of an attribute that takes -2 to 1
 pub one-below : (content : Content) (r : Reply) (after : Store)
     → InsertPromise (wordPastMarked 1) (minus 3 ∷ 0 ∷ 0 ∷ 0 ∷ []) content (accepted r) after → ⊥
 unfolding
-    firstNumber inBounds shapeConditions keyFits recordBytes lentConditions keyNumber valueFits encode marked bias
+    firstNumber shapeConditions keyFits recordBytes lentConditions keyRefusals valueFits encode marked bias
 one-below content r after p = refused-not-accepted r 3 (sym (answer-of-early content p 2 refl))
 
 pub one-beyond : (content : Content) (r : Reply) (after : Store)
     → InsertPromise (wordPastMarked 1) (2 ∷ 0 ∷ 0 ∷ 0 ∷ []) content (accepted r) after → ⊥
 unfolding
-    firstNumber inBounds shapeConditions keyFits recordBytes lentConditions keyNumber valueFits encode marked bias
+    firstNumber shapeConditions keyFits recordBytes lentConditions keyRefusals valueFits encode marked bias
 one-beyond content r after p = refused-not-accepted r 3 (sym (answer-of-early content p 2 refl))
 
 -- a lookup that no early number refuses is not refused with 3
@@ -109,13 +108,13 @@ three-not-given store values e p =
 -- a value within the bounds refused: -2, the least
 pub least-refused : LookupPromise (wordPastMarked 1) (minus 2 ∷ 0 ∷ 0 ∷ 0 ∷ []) (refused 3) → ⊥
 unfolding
-    firstNumber inBounds shapeConditions keyFits recordBytes lentConditions keyNumber valueFits encode marked bias
+    firstNumber shapeConditions keyFits recordBytes lentConditions keyRefusals valueFits encode marked bias
 least-refused = three-not-given (wordPastMarked 1) (minus 2 ∷ 0 ∷ 0 ∷ 0 ∷ []) refl
 
 -- "A mark past d is ignored": with marks of attributes 0 and 2, the unused value 0 taken for one that does not fit
 pub unused-mark-honoured : LookupPromise (wordPastMarked 5) (0 ∷ 0 ∷ 0 ∷ 0 ∷ []) (refused 3) → ⊥
 unfolding
-    firstNumber inBounds shapeConditions keyFits recordBytes lentConditions keyNumber valueFits encode marked bias
+    firstNumber shapeConditions keyFits recordBytes lentConditions keyRefusals valueFits encode marked bias
 unused-mark-honoured = three-not-given (wordPastMarked 5) (0 ∷ 0 ∷ 0 ∷ 0 ∷ []) refl
 
 -- ---- number 10, on a store that is not sound
@@ -124,7 +123,7 @@ unused-mark-honoured = three-not-given (wordPastMarked 5) (0 ∷ 0 ∷ 0 ∷ 0 �
 pub ten-for-rising : (out out′ : List ℕ)
     → RangePromise (wordPastMarked 1) (firstWithin (minus 1) 0) out (refused 10) out′ → ⊥
 unfolding
-    firstNumber inBounds shapeConditions namesUnused rangeFits rangeRises recordBytes lentConditions rangeNumber
+    firstNumber shapeConditions namesUnused rangeFits rangeRises recordBytes lentConditions rangeRefusals
     valueFits encode marked bias
 ten-for-rising out out′ p =
     ⊎-elim (λ counts. refused-not-accepted _ 10 (counts .3)) (λ nine. apart (refused-number nine)) (p .ordinary refl)
@@ -136,16 +135,16 @@ ten-for-rising out out′ p =
 pub falling-listed : (out out′ : List ℕ) (reply : Reply)
     → RangePromise (wordPastMarked 1) (firstWithin 0 (minus 1)) out (accepted reply) out′ → ⊥
 unfolding
-    firstNumber inBounds shapeConditions namesUnused rangeFits rangeRises recordBytes lentConditions rangeNumber
-    valueFits encode marked bias
-falling-listed out out′ reply p = refused-not-accepted reply 10 (sym (p .early-refused 9 refl))
+    firstNumber answeredBy shapeConditions namesUnused rangeFits rangeRises recordBytes lentConditions
+    rangeRefusals valueFits encode marked bias
+falling-listed out out′ reply p = refused-not-accepted reply 10 (sym (p .early-refused 9 refl reply))
 
 -- ---- Fresh
 
 -- "and Fresh clears it": the mark of attribute 2 is kept
 pub keeps-mark : (answer : Answer (Unit {0})) (after : Store) → FreshPromise (twoTwoMarked 5) ones answer after
     → after .state .shape .signs ≡ 5 → ⊥
-unfolding freshNumber shapeConditions inBounds firstNumber freshState freshShape
+unfolding freshRefusals shapeConditions firstNumber freshState freshShape
 keeps-mark answer after p e =
     let signs : after .state .shape .signs ≡ 1 = ap (λ st. st .shape .signs) (p .state-as) in
     omega (arith, signs, e)
@@ -157,8 +156,8 @@ keeps-mark answer after p e =
 pub bias-on-indices : (r : AddressAnswer) → addressAnswerOf r ≡ addressAnswer (twoTwoMarked 1) (key 0 0)
     → addressAnswerOf r ≡ addressAnswer twoTwo (key 2 0) → ⊥
 unfolding
-    firstNumber inBounds shapeConditions widthsOf stepsBelow steps step stepNumber stepsOf attributeDepth
-    highestBit createdBy latestStep formula addressFrom address sides addressNumber addressAnswer
+    answeredBy shapeConditions widthsOf stepsBelow steps step stepNumber stepsOf attributeDepth
+    highestBit createdBy latestStep formula addressFrom address sides addressRefusals addressAnswer
 bias-on-indices r e e′ =
     let same : _≡_ {A = ℕ} 0 4 = same-value (sym e ∙ e′) in
     omega (arith, same)
@@ -218,5 +217,5 @@ signLeftOut-unsound S h =
         false≢true fits
 
 pub yes-without-sign : CheckPromise signLeftOut (accepted true) → ⊥
-unfolding lentNumber lentConditions shapeConditions inBounds firstNumber recordBytes
+unfolding lentConditions shapeConditions firstNumber recordBytes
 yes-without-sign = yes-to-unsound signLeftOut refl signLeftOut-unsound

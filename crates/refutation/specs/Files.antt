@@ -17,6 +17,10 @@ fileWith rs shape = recordsBytes twoTwo rs ++ (shape ++ trailerBytes (length rs)
 abbrev pub shapeWith : ℕ → ℕ → List ℕ
 shapeWith marks last = 2 ∷ 2 ∷ 2 ∷ 0 ∷ 0 ∷ 2 ∷ marks ∷ last ∷ []
 
+-- no record, and a shape of widths 0, 17, 5 and b = 0
+abbrev pub badShape : List ℕ
+badShape = fileWith [] (3 ∷ 0 ∷ 17 ∷ 5 ∷ 0 ∷ 0 ∷ 0 ∷ 0 ∷ [])
+
 -- (2,0) twice, and (3,1) before (2,0)
 abbrev pub sameKeys : List ℕ
 sameKeys = fileWith (recordAt 2 0 11 ∷ recordAt 2 0 12 ∷ []) (shapeWith 0 0)

@@ -1,3 +1,4 @@
 pub mod Files
+pub mod ShapeFaults
 pub mod Stores
 pub mod TableStore

@@ -201,6 +201,29 @@ zeroedWord = otherWord 0 (0 ∷ 1 ∷ 1 ∷ 2 ∷ [])
 abbrev pub lowTally : Store
 lowTally = otherWord (wordOf (Empty 2)) (0 ∷ 1 ∷ 1 ∷ 0 ∷ [])
 
+-- ---- shapes in which something is amiss
+
+-- d = 3 with widths 0, 17 and 5, and b = 0
+abbrev pub twoBadWidths : Shape
+twoBadWidths = record { attributes = 3; widths = 0 ∷ 17 ∷ 5 ∷ 0 ∷ []; capacity = 0; signs = 0 }
+
+-- b = 17
+abbrev pub badCapacity : Shape
+badCapacity = record { attributes = 2; widths = 2 ∷ 2 ∷ 0 ∷ 0 ∷ []; capacity = 17; signs = 0 }
+
+-- the store with another shape
+abbrev pub withShape : Shape → Store → Store
+withShape s store =
+    let st = store .state in
+    record {
+      state = record { shape = s; limits = st .limits; deepest = st .deepest; tally = st .tally };
+      memory = store .memory;
+    }
+
+-- nothing: the width 17 is past d
+abbrev pub unusedWide : Shape
+unusedWide = record { attributes = 2; widths = 2 ∷ 2 ∷ 17 ∷ 0 ∷ []; capacity = 2; signs = 0 }
+
 -- ---- words of a doubled directory
 
 -- of three records, from depth 1 to depth 2; then with an empty leaf in the cells of 11; then from depth 2 to depth 3

@@ -21,7 +21,7 @@ ghost use Rattle.replay.specs.Private.{CallsRan};
 ghost use Rattle.replay.specs.Replayed.{Replayed, ReplayedFile};
 
 // Makes a store in lent memory and runs the calls on it, as many as there are whole ones and as many
-// as the answers have room for. Refused with 1 or 2 as Fresh is; then nothing is changed.
+// as the answers have room for. Refused as Fresh is; then nothing is changed.
 pub fn replay(
     shape: Shape,
     dir: &mut [u32],

@@ -1,12 +1,12 @@
--- Calls and answers as numbers (document 01, "The plain model of demand 3"; document 02, requests 1 and 6).
+-- Calls and answers as numbers (document 01, "The plain model of demand 3"; document 02, requests 1, 6 and 7).
 --
 --     a call is 15 words                                       an answer is 4 words
 --     0      kind: 0 insert, 1 delete, 2 lookup, 3 query,      0    number of the refusal, 0 for an accepted call
 --            else range                                        1-3  lookup: payload, reads, depth
 --     1-4    values of attributes 0 to 3; range: low ends           query, range: written, total, reads
 --     5-8    query, range: not 0 where an attribute is given        insert, delete, and refused with 5: 0, 0, depth
---     9      insert: payload                                        any other refused call: 0, 0, 0
---     10     query, range: bytes of its output
+--     9      insert: payload                                        refused with 14: attribute, 0, 0
+--     10     query, range: bytes of its output                      any other refused call: 0, 0, 0
 --     11-14  range: high ends of attributes 0 to 3
 --
 -- The outputs of queries and ranges follow each other in the lent bytes: each begins where the one before ended, and
@@ -15,8 +15,10 @@
 --
 -- Assumes nothing.
 use Prim.Native.Nat.{ℕ, zero, suc, _+_, _-_, _*_, _/_, min}
+use mathlib.Core.Bool.{cond}
 use mathlib.Core.List.{List, [], _∷_, _++_}
 use mathlib.Core.Option.{Option, none, some}
+use lib.Dec.{eqb}
 use lib.ListN.{length, take, drop, getD}
 use Rattle.shape.specs.Refusal.{Answer, accepted, refused, refusedWith}
 use Rattle.shape.specs.Key.{perAttribute}
@@ -114,10 +116,11 @@ replyWords (changed depth) = 0 ∷ 0 ∷ 0 ∷ depth ∷ []
 replyWords (found content reads depth) = 0 ∷ content .payload ∷ reads ∷ depth ∷ []
 replyWords (listed written total reads) = 0 ∷ written ∷ total ∷ reads ∷ []
 
+-- beside 14 the attribute, beside 5 the depth: 14 for attribute 1 is 14, 1, 0, 0, and 5 at depth 3 is 5, 0, 0, 3
 unfoldable pub answerWords : Answer Reply → List ℕ
 answerWords (accepted reply) = replyWords reply
 answerWords (refused n) = n ∷ 0 ∷ 0 ∷ 0 ∷ []
-answerWords (refusedWith n x) = n ∷ 0 ∷ 0 ∷ x ∷ []
+answerWords (refusedWith n x) = n ∷ cond (eqb n 14) x 0 ∷ 0 ∷ cond (eqb n 5) x 0 ∷ []
 
 -- the answers of some calls, one after the other, and their outputs
 unfoldable pub answersOf : List Outcome → List ℕ

@@ -1,5 +1,5 @@
 // Calls and answers as numbers, as a replay takes and gives them (document 01, "The plain model of
-// demand 3"; document 02, requests 1 and 6).
+// demand 3"; document 02, requests 1, 6 and 7).
 use numbers::smaller_length;
 use shape::Attribute;
 use shape::Query;
@@ -104,6 +104,7 @@ pub fn changed_words(answer: Changed) -> [u64; 4]
         Changed::Done(depth) => [0, 0, 0, depth as u64],
         Changed::Absent(depth) => [5, 0, 0, depth as u64],
         Changed::Refused(number) => [number as u64, 0, 0, 0],
+        Changed::Width(attribute) => [14, attribute as u64, 0, 0],
     }
 }
 
@@ -117,6 +118,7 @@ pub fn found_words(answer: Found) -> [u64; 4]
         }
         Found::Absent(depth) => [5, 0, 0, depth as u64],
         Found::Refused(number) => [number as u64, 0, 0, 0],
+        Found::Width(attribute) => [14, attribute as u64, 0, 0],
     }
 }
 
@@ -127,6 +129,7 @@ pub fn listed_words(answer: Listed) -> [u64; 4]
     match answer {
         Listed::Records(counts) => [0, counts.written, counts.total, counts.reads],
         Listed::Refused(number) => [number as u64, 0, 0, 0],
+        Listed::Width(attribute) => [14, attribute as u64, 0, 0],
     }
 }
 

@@ -1,7 +1,7 @@
 -- Laws of the promise of save, one for each way that the call ends. Assumes nothing.
-use Prim.Native.Nat.{ℕ, _≤_, _<_}
+use Prim.Native.Nat.{ℕ, zero, suc, _≤_, _<_}
 use mathlib.Core.Path.{_≡_, refl, sym, ap, _∙_}
-use mathlib.Core.Bool.{true, false, false≢true}
+use mathlib.Core.Bool.{false≢true}
 use mathlib.Core.List.{List, _++_, map, append-assoc}
 use mathlib.Core.Logic.{inl, inr}
 use native.Mathlib.Decide.{decLt}
@@ -9,15 +9,18 @@ use native.Mathlib.Omega.{arith}
 use lib.ListN.{length, drop, length-map}
 use borrow.Author.Tests.{lt-ltb, le-ltb}
 use Rattle.lists.specs.Members.{All}
-use Rattle.shape.specs.Refusal.{Answer, accepted, refused, answered}
+use Rattle.shape.specs.Amiss.{refusedFor}
+use Rattle.shape.specs.Refusal.{Answer, accepted, refused, answered, RefusedFirst}
 use Rattle.shape.specs.declared.Shape.{Shape}
+use Rattle.shape.proofs.RefusalLaws.{refusedFirst-none, refusedFirst-for}
 use Rattle.record.specs.Record.{Record}
 use Rattle.record.specs.Bytes.{recordOf, recordsBytes}
 use Rattle.model.specs.Model.{ifAccepted}
 use Rattle.page_matches.proofs.EmitLaws.{IsField}
 use Rattle.store.specs.declared.State.{State}
-use Rattle.store.specs.Store.{Store, store}
+use Rattle.store.specs.Store.{Store, store, lentConditions}
 use Rattle.store.specs.Promises.{SoundWhere, lentNumber}
+use Rattle.store.proofs.NumberLaws.{named-lent}
 use Rattle.refusals.specs.Lengths.{lentNumberBy}
 use Rattle.refusals.proofs.LentLaws.{lentNumber-by}
 use Rattle.list_call.proofs.LentLaws.{lentNumberBy-sound}
@@ -45,10 +48,13 @@ module _ (st : State) (words bytes out : List ℕ) where
 
   -- ---- refused early
 
-  pub promise-early : (n : ℕ) → n ≡ number → (n ≡ 0 → ⊥) → SavePromise here out (refused n) out
-  promise-early n e z = record {
-    early-refused = λ m d. ap refused (e ∙ sym (lentNumber-by st words bytes) ∙ d);
-    unchanged = λ m d. refl;
+  -- 1, 14, 15 or 2, none of them on a sound store
+  pub promise-early : (n : ℕ) → n ≡ number → (n ≡ 0 → ⊥) → SavePromise here out (refusedFor shape n) out
+  promise-early zero e z = absurd (z refl)
+  promise-early (suc n) e z = record {
+    early-refused = refusedFirst-for shape (lentConditions here) (named-lent here) n
+        (lentNumber-by st words bytes ∙ sym e);
+    unchanged = λ d. refl;
     ordinary = λ d. absurd (z (e ∙ sym (lentNumber-by st words bytes) ∙ d));
     saved-as = λ S h. absurd (z (e ∙ lentNumberBy-sound st words bytes everyLeaf S h));
   }
@@ -57,12 +63,15 @@ module _ (st : State) (words bytes out : List ℕ) where
     none-early : lentNumber here ≡ 0
     none-early = lentNumber-by st words bytes ∙ none
 
+    none-first : (answer : Answer ℕ) → RefusedFirst (lentConditions here) answer
+    none-first = refusedFirst-none shape (lentConditions here) none-early
+
     -- ---- refused with 9
 
     pub promise-nine : ((S : List Record) → SoundWhere here everyLeaf S → ⊥) → SavePromise here out (refused 9) out
     promise-nine unsound = record {
-      early-refused = λ m d. absurd (omega (arith, none-early, d));
-      unchanged = λ m d. refl;
+      early-refused = none-first (refused 9);
+      unchanged = λ d. refl;
       ordinary = λ d. inr (inr refl);
       saved-as = λ S h. absurd (unsound S h);
     }
@@ -77,8 +86,8 @@ module _ (st : State) (words bytes out : List ℕ) where
 
       pub promise-short : length out < fileSize (length fs) → SavePromise here out (refused 2) out
       promise-short l = record {
-        early-refused = λ m d. absurd (omega (arith, none-early, d));
-        unchanged = λ m d. refl;
+        early-refused = none-first (refused 2);
+        unchanged = λ d. refl;
         ordinary = λ d. inr (inl (refl, omega (arith, l, few)));
         saved-as = λ S h.
             let none-fit = fitNumber-short S out (omega (arith, l, same-count S h)) in
@@ -106,8 +115,8 @@ module _ (st : State) (words bytes out : List ℕ) where
 
         pub promise-saved : SavePromise here out (accepted (fileSize (length fs))) (withFile shape fs out)
         promise-saved = record {
-          early-refused = λ m d. absurd (omega (arith, none-early, d));
-          unchanged = λ m d. let z : false ≡ true = cc in absurd (false≢true z);
+          early-refused = none-first (accepted (fileSize (length fs)));
+          unchanged = λ d. absurd (false≢true d);
           ordinary = λ d. inl (
             length fs,
             recordsBytes shape (map (recordOf shape) fs),

@@ -14,11 +14,13 @@ use record::RECORD_SIZE;
 use refusals::lent_number;
 use refusals::limits_hold;
 use shape::Shape;
+use shape::bad_width;
 use store::State;
 ghost use mathlib.Core.Path.{_≡_};
 ghost use Prim.Native.Nat.{_≤_};
 ghost use mathlib.Core.List.{flatMap};
 ghost use lib.ListN.{length, take};
+ghost use Rattle.shape.specs.Amiss.{refusedFor};
 ghost use Rattle.shape.specs.Shape.{shapeNumber};
 ghost use Rattle.store.specs.Store.{store};
 ghost use Rattle.query_seen.specs.Seen.{walkSeen};
@@ -30,16 +32,16 @@ ghost use Rattle.file.specs.Promises.{SavePromise};
 ghost use Rattle.save.specs.Private.{Filed, freeBits};
 
 // Writes the file of the store's records from the output's first byte on, and returns how many
-// bytes it has; the bytes behind it stay. Refused with 1, 2 for short slices, 9, or 2 for an output
-// shorter than the file, the first that holds in this order; a refused call leaves the output as it
-// came. Writes nothing in the store.
+// bytes it has; the bytes behind it stay. Refused with 1, 14, 15, 2 for short slices, 9, or 2 for an
+// output shorter than the file, the first that holds in this order; a refused call leaves the output
+// as it came. Writes nothing in the store.
 pub fn save(state: State, dir: &[u32], pages: &[u8], out: &mut [u8]) -> Saved
     ensures { λ r. ⌜ SavePromise (store state (now (dir .entry)) (now (pages .entry))) (now (out .entry))
         (savedAnswer r) (now (out .exit)) ⌝ }
 {
     let number = lent_number(state, dir.len(), pages.len());
     if number != 0 {
-        return Saved::Refused(number);
+        return refuse_save(state.shape, number);
     }
     if !limits_hold(state) {
         return Saved::Refused(9);
@@ -50,6 +52,17 @@ pub fn save(state: State, dir: &[u32], pages: &[u8], out: &mut [u8]) -> Saved
         return Saved::Refused(9);
     };
     write_file(state.shape, pages, &list, n, out)
+}
+
+// The answer to a save that is refused before any look into words and pages, by the number: 14 with
+// the lowest attribute of the shape whose width is outside its bounds, any other alone.
+fn refuse_save(shape: Shape, number: u32) -> Saved
+    ensures { λ r. ⌜ savedAnswer r ≡ refusedFor shape number ⌝ }
+{
+    if number == 14 {
+        return Saved::Width(bad_width(shape));
+    }
+    Saved::Refused(number)
 }
 
 // Notes the pages of all leaves that are not empty, in the order of a query's walk.

@@ -10,7 +10,7 @@ use lib.Dec.{ltb}
 use lib.ListN.{length}
 use lib.Pow.{pow-mono, pow-pos}
 use borrow.Author.Tests.{ltb-true, le-ltb, ne-eqb}
-use Rattle.shape.specs.Refusal.{accepted, answered, firstNumber}
+use Rattle.shape.specs.Refusal.{accepted, firstNumber}
 use Rattle.shape.specs.Shape.{widthsOf, total, shapeNumber}
 use Rattle.shape.specs.declared.Shape.{Shape}
 use Rattle.shape.proofs.ShapeLaws.{shapeNumber-true, inBounds-of}
@@ -35,6 +35,7 @@ use Rattle.file.proofs.AcceptedLaws.{Passed, loadNumber-passed}
 use Rattle.file.proofs.FreshLaws.{isSet-freshShape}
 use Rattle.file.proofs.FileLaws.{SmallPayloads, fileShape-fileOf, isPlain-fileOf, shapeNumber-fileOf, isWhole-fileOf}
 use Rattle.file.proofs.FileLaws.{fileRecords-fileOf, isSet-fileOf}
+use Rattle.file.proofs.LoadingLaws.{answeredBy-load}
 use Rattle.file.proofs.SoundLaws.{fileSize-set-lt, payloads-of-sound}
 use Rattle.saved.specs.Again.{LargeEnough, LoadsAgain, OwnSlicesEnough}
 use Rattle.saved.proofs.JoinLaws.{firstNumber-join}
@@ -191,7 +192,7 @@ loads-again store S sound bytes m =
       exactly = λ answer after p. (
         λ e. largeEnough-of-accepted s good S (sound .set) small few m after
             (subst (λ a. LoadPromise (fileOf s S) m a after) e p),
-        λ large. p .answered-as ∙ ap (λ n. answered n tt) (none-met large),
+        λ large. p .answered-as ∙ answeredBy-load (fileOf s S) m (none-met large),
       );
       shown = shown-fileOf s good S (sound .set) small few m;
     }

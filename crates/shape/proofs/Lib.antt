@@ -1,3 +1,4 @@
+pub mod AmissLaws
 pub mod AttributeLaws
 pub mod BoundsLaws
 pub mod ComplementLaws

@@ -1,7 +1,7 @@
 -- Laws of shapes: their number; how many widths they have, and how large; values below them. Assumes nothing.
 use Prim.Native.Nat.{ℕ, zero, suc, _*_, _^_, _≤_, _<_}
 use mathlib.Core.Path.{_≡_, refl}
-use mathlib.Core.Bool.{Bool, true, false, cond, _&&_}
+use mathlib.Core.Bool.{Bool, true, false, not, cond, _&&_}
 use mathlib.Core.List.{List, [], _∷_}
 use native.Mathlib.Omega.{arith}
 use lib.Dec.{ltb, leb}
@@ -10,38 +10,42 @@ use lib.Pow.{pow-pos}
 use borrow.Author.Tests.{ltb-true, lt-ltb, le-ltb, leb-true}
 use Rattle.lists.proofs.Bools.{and-split}
 use Rattle.shape.specs.Refusal.{firstNumber}
-use Rattle.shape.specs.Shape.{within, allBelow, inBounds, shapeConditions, shapeNumber, widthOf, widthsOf, total}
+use Rattle.shape.specs.Shape.{countFits, widthsFit, capacityFits, inBounds, shapeConditions, shapeNumber}
+use Rattle.shape.specs.Shape.{widthOf, widthsOf, total}
 use Rattle.shape.specs.Shape.{Fit, indexFits}
 use Rattle.shape.specs.declared.Shape.{Shape}
 use Rattle.shape.proofs.BoundsLaws.{within-le, width-of-inBounds}
 
 -- ---- the number of a shape
 
-module _ (s : Shape) where
-  pub shapeNumber-true : inBounds s ≡ true → shapeNumber s ≡ 0
-  unfolding shapeNumber shapeConditions firstNumber
-  shapeNumber-true e = rw e
+-- the three of its conditions
+three-none : (a b c : Bool) → _≡_ {A = ℕ} (cond (not a) 1 (cond (not b) 14 (cond (not c) 15 0))) 0
+    → (a ≡ true) × (b ≡ true) × (c ≡ true)
+three-none false b c e = absurd (omega arith)
+three-none true false c e = absurd (omega arith)
+three-none true true false e = absurd (omega arith)
+three-none true true true e = (refl, refl, refl)
 
-  pub shapeNumber-false : inBounds s ≡ false → shapeNumber s ≡ 1
+module _ (s : Shape) where
+  -- what each of them asks
+  pub shape-parts : shapeNumber s ≡ 0 → (countFits s ≡ true) × (widthsFit s ≡ true) × (capacityFits s ≡ true)
   unfolding shapeNumber shapeConditions firstNumber
-  shapeNumber-false e = rw e
+  shape-parts = three-none (countFits s) (widthsFit s) (capacityFits s)
+
+  pub shapeNumber-first : firstNumber (shapeConditions s) ≡ 0 → shapeNumber s ≡ 0
+  unfolding shapeNumber
+  shapeNumber-first e = e
+
+  pub shapeNumber-true : inBounds s ≡ true → shapeNumber s ≡ 0
+  unfolding inBounds shapeNumber shapeConditions firstNumber
+  shapeNumber-true e =
+      let first = and-split (countFits s) (widthsFit s && capacityFits s) e in
+      let rest = and-split (widthsFit s) (capacityFits s) (first .1) in
+      rw (first .0, rest .0, rest .1)
 
   pub inBounds-of : shapeNumber s ≡ 0 → inBounds s ≡ true
-  inBounds-of n = go (inBounds s) refl
-    where
-      go : (b : Bool) → inBounds s ≡ b → inBounds s ≡ true
-      go true e = e
-      go false e = absurd (omega (arith, shapeNumber-false e))
-
-  pub inBounds-out : (shapeNumber s ≡ 0 → ⊥) → inBounds s ≡ false
-  inBounds-out n = go (inBounds s) refl
-    where
-      go : (b : Bool) → inBounds s ≡ b → inBounds s ≡ false
-      go true e = absurd (n (shapeNumber-true e))
-      go false e = e
-
-  pub shapeNumber-out : (shapeNumber s ≡ 0 → ⊥) → shapeNumber s ≡ 1
-  shapeNumber-out n = shapeNumber-false (inBounds-out n)
+  unfolding inBounds
+  inBounds-of n = let parts = shape-parts n in rw (parts .0, parts .1, parts .2)
 
 -- ---- widths
 
@@ -96,10 +100,6 @@ indexFits-below (w ∷ ws) (i ∷ is) e (suc r) l =
 -- ---- capacity
 
 pub capacity-bounds : (s : Shape) → shapeNumber s ≡ 0 → (1 ≤ s .capacity) × (s .capacity ≤ 16)
-unfolding inBounds
 capacity-bounds s n =
-    let widths-in : Bool = allBelow (s .attributes) (λ j. within 1 16 (getD (s .widths) j 0)) in
-    let rest = and-split (within 1 4 (s .attributes)) (widths-in && within 1 16 (s .capacity)) (inBounds-of s n) .1 in
-    let range = and-split widths-in (within 1 16 (s .capacity)) rest .1 in
-    let c = and-split (leb 1 (s .capacity)) (leb (s .capacity) 16) range in
+    let c = and-split (leb 1 (s .capacity)) (leb (s .capacity) 16) (shape-parts s n .2) in
     (leb-true 1 (s .capacity) (c .0), leb-true (s .capacity) 16 (c .1))

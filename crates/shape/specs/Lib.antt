@@ -1,3 +1,4 @@
+pub mod Amiss
 pub mod Integers
 pub mod Key
 pub mod Range

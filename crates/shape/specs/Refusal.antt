@@ -1,9 +1,11 @@
--- Refused calls (document 01; document 02, request 6): conditions with their numbers, and what a call answers. Assumes
--- nothing.
+-- Refused calls (document 01; document 02, requests 6 and 7): conditions with their numbers, and what a call answers.
+-- Assumes nothing.
 use Prim.Native.Nat.{ℕ, zero, suc}
+use mathlib.Core.Path.{_≡_}
 use mathlib.Core.Bool.{Bool, true, false, cond}
 use mathlib.Core.List.{List, [], _∷_}
 use mathlib.Core.Option.{Option, none, some}
+use lib.Dec.{eqb}
 
 -- a row of the table: its number, whether its condition holds, and the value that goes with the number, if one does
 pub record Condition : Type 0 where
@@ -49,3 +51,21 @@ refusedBy n (some x) = refusedWith n x
 unfoldable pub answeredBy : {A : Type 0} → List Condition → A → Answer A
 answeredBy [] x = accepted x
 answeredBy (c ∷ cs) x = cond (c .holds) (refusedBy (c .number) (c .carries)) (answeredBy cs x)
+
+-- a call for which one of the conditions holds answers with the first, whatever it would return if it were accepted
+abbrev pub RefusedFirst : {A : Type 0} → List Condition → Answer A → Type 0
+RefusedFirst {A} cs answer = (n : ℕ) → firstNumber cs ≡ suc n → (x : A) → answer ≡ answeredBy cs x
+
+-- ---- an answer as numbers
+
+-- its number, 0 for an accepted call
+abbrev pub numberTold : {A : Type 0} → Answer A → ℕ
+numberTold (accepted x) = 0
+numberTold (refused n) = n
+numberTold (refusedWith n x) = n
+
+-- the value that it carries beside one number, 0 beside any other
+abbrev pub carriedBeside : {A : Type 0} → ℕ → Answer A → ℕ
+carriedBeside n (accepted x) = 0
+carriedBeside n (refused m) = 0
+carriedBeside n (refusedWith m x) = cond (eqb m n) x 0

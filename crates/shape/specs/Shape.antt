@@ -1,10 +1,10 @@
--- Shapes and their widths (document 01, "Shape and split steps"). Assumes nothing.
+-- Shapes and their widths (document 01, "Shape and split steps"; document 02, request 7). Assumes nothing.
 use Prim.Native.Nat.{ℕ, zero, suc, _+_, _^_, _≤_}
 use mathlib.Core.Bool.{Bool, true, cond, not, _&&_}
 use mathlib.Core.List.{List, [], _∷_}
 use lib.Dec.{leb, ltb}
 use lib.ListN.{getD}
-use Rattle.shape.specs.Refusal.{Condition, refusal, firstNumber}
+use Rattle.shape.specs.Refusal.{Condition, refusal, refusalWith, firstNumber}
 use Rattle.shape.specs.declared.Shape.{Shape}
 use Rattle.shape.specs.declared.Widths.{Widths}
 
@@ -19,16 +19,49 @@ abbrev pub allBelow : ℕ → (ℕ → Bool) → Bool
 allBelow zero test = true
 allBelow (suc n) test = allBelow n test && test n
 
--- "A shape is: the attribute count d (1–4), a width w_j in bits for each attribute j (1–16, j from
--- 0 to d−1), and a page capacity b (1–16 records)."
-unfoldable pub inBounds : Shape → Bool
-inBounds s =
-    within 1 4 (s .attributes)
-    && (allBelow (s .attributes) (λ j. within 1 16 (getD (s .widths) j 0)) && within 1 16 (s .capacity))
+-- "the attribute count d (1–4)"
+abbrev pub countFits : Shape → Bool
+countFits s = within 1 4 (s .attributes)
 
--- "1 | shape outside its bounds": the first rows of the table, for every call that is given a shape
+-- "a width w_j in bits .. (1–16)"
+abbrev pub widthFits : Shape → ℕ → Bool
+widthFits s j = within 1 16 (getD (s .widths) j 0)
+
+-- "for each attribute j (.. j from 0 to d−1)"
+abbrev pub widthsFit : Shape → Bool
+widthsFit s = allBelow (s .attributes) (λ j. widthFits s j)
+
+-- "a page capacity b (1–16 records)"
+abbrev pub capacityFits : Shape → Bool
+capacityFits s = within 1 16 (s .capacity)
+
+-- "A shape is: the attribute count d .., a width .., and a page capacity b"
+unfoldable pub inBounds : Shape → Bool
+inBounds s = countFits s && (widthsFit s && capacityFits s)
+
+-- ---- what is amiss
+
+-- the lowest number below n that passes a test; n if none does
+abbrev pub lowestBelow : ℕ → (ℕ → Bool) → ℕ
+lowestBelow zero test = 0
+lowestBelow (suc n) test = cond (test 0) 0 (suc (lowestBelow n (λ j. test (suc j))))
+
+-- attribute j is one of the shape, and has "a width outside 1–16"
+abbrev pub badWidth : Shape → ℕ → Bool
+badWidth s j = ltb j (s .attributes) && not (widthFits s j)
+
+-- "A bad width names its attribute, the lowest where there are several.": of the four that a shape may have
+unfoldable pub lowestBad : Shape → ℕ
+lowestBad s = lowestBelow 4 (badWidth s)
+
+-- "Number 1 remains for the attribute count"; "14, a width outside 1–16, after 1; then 15, capacity outside 1–16; both
+-- before 2": the first rows of the table, for every call that is given a shape
 unfoldable pub shapeConditions : Shape → List Condition
-shapeConditions s = refusal 1 (not (inBounds s)) ∷ []
+shapeConditions s =
+    refusal 1 (not (countFits s))
+    ∷ refusalWith 14 (not (widthsFit s)) (lowestBad s)
+    ∷ refusal 15 (not (capacityFits s))
+    ∷ []
 
 -- 0 for a shape within its bounds
 unfoldable pub shapeNumber : Shape → ℕ

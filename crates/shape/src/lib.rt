@@ -1,7 +1,9 @@
-// Shapes of a store, keys, queries and ranges (document 01, "Shape and split steps", "Calls").
+// Shapes of a store, keys, queries and ranges (document 01, "Shape and split steps", "Calls"; document
+// 02, request 7).
 ghost use mathlib.Core.Path.{_≡_};
 ghost use Prim.Native.Nat.{_<_, _≤_};
-ghost use Rattle.shape.specs.Shape.{within, inBounds, shapeNumber, widthOf, widthsOf, widthList, Fit, total};
+ghost use Rattle.shape.specs.Shape.{within, widthsFit, badWidth, lowestBad, shapeNumber, widthOf, widthsOf};
+ghost use Rattle.shape.specs.Shape.{widthList, Fit, total};
 
 // The attribute count d, a width in bits for each attribute, the page capacity b in records, and the
 // marks of signed attributes, bit j for attribute j. Widths and marks past d are ignored.
@@ -59,11 +61,37 @@ pub struct Range {
     pub attributes: [RangeAttribute; 4],
 }
 
-// The number of the first refusal that a shape meets: 1 outside its bounds, 0 for none.
+// The number of the first refusal that a shape meets: 1 for d outside 1 to 4, 14 for a width in use
+// outside 1 to 16, 15 for a capacity outside 1 to 16; 0 for none.
 pub fn shape_number(shape: Shape) -> u32
     ensures { λ r. ⌜ r ≡ shapeNumber shape ⌝ }
 {
-    if in_bounds(shape) { 0 } else { 1 }
+    if !in_range(1, 4, shape.attributes) {
+        return 1;
+    }
+    if !widths_fit(shape) {
+        return 14;
+    }
+    if in_range(1, 16, shape.capacity) {
+        0
+    } else {
+        15
+    }
+}
+
+// The lowest attribute below d whose width is outside 1 to 16, which 14 names; 4 where there is none.
+// Only a refused call asks for it.
+pub fn bad_width(shape: Shape) -> u32
+    ensures { λ r. ⌜ r ≡ lowestBad shape ⌝ }
+{
+    let mut j: usize = 0;
+    while j < 4 {
+        if is_bad(shape, j) {
+            return j as u32;
+        }
+        j += 1;
+    }
+    4
 }
 
 // The widths that count, of any shape.
@@ -85,25 +113,34 @@ pub fn total_of(widths: Widths) -> u64
     widths.w0 + widths.w1 + widths.w2 + widths.w3
 }
 
-// Whether d is 1 to 4, each width in use 1 to 16, and the capacity 1 to 16.
-fn in_bounds(shape: Shape) -> bool
-    ensures { λ r. ⌜ r ≡ inBounds shape ⌝ }
+// Whether each width in use is 1 to 16.
+fn widths_fit(shape: Shape) -> bool
+    requires { ⌜ shape .attributes ≤ 4 ⌝ }
+    ensures { λ r. ⌜ r ≡ widthsFit shape ⌝ }
 {
-    let attributes = shape.attributes;
     let widths = shape.widths;
-    if !in_range(1, 4, attributes) {
-        return false;
-    }
-    let count = attributes as usize;
+    let count = shape.attributes as usize;
     let mut j: usize = 0;
     while j < count {
-        let width = widths[j];
-        if !in_range(1, 16, width) {
+        if !in_range(1, 16, widths[j]) {
             return false;
         }
         j += 1;
     }
-    in_range(1, 16, shape.capacity)
+    true
+}
+
+// Whether attribute j is below d and its width outside 1 to 16.
+fn is_bad(shape: Shape, j: usize) -> bool
+    requires { ⌜ j < 4 ⌝ }
+    ensures { λ r. ⌜ r ≡ badWidth shape j ⌝ }
+{
+    let widths = shape.widths;
+    let d = shape.attributes as usize;
+    if d <= j {
+        return false;
+    }
+    !in_range(1, 16, widths[j])
 }
 
 // Whether x is from lo to hi, both included.

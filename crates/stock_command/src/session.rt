@@ -20,5 +20,6 @@ pub fn begin(session: Session, making: Making) -> Session
     match answer {
         Made::Done => Session { begun: true, state },
         Made::Refused(_) => session,
+        Made::Width(_) => session,
     }
 }

@@ -2,20 +2,23 @@
 -- needs to be printed. Assumes nothing.
 use Prim.Native.Nat.{ℕ, zero, suc, _*_, _≤_}
 use mathlib.Core.Path.{_≡_, refl, ap}
-use mathlib.Core.Bool.{Bool, true, false, not, cond, false≢true}
+use mathlib.Core.Bool.{true, false, not, false≢true}
 use mathlib.Core.List.{List}
 use mathlib.Core.Logic.{⊎-elim}
 use mathlib.Core.Option.{Option}
 use native.Mathlib.Omega.{arith}
 use lib.ListN.{length}
-use Rattle.shape.specs.Refusal.{Answer, accepted, refused, refusedWith, isRefused, firstNumber}
-use Rattle.shape.specs.Shape.{inBounds, shapeConditions}
-use Rattle.shape.proofs.BoundsLaws.{attributes-le}
+use borrow.Author.Tests.{not-false}
+use Rattle.shape.specs.Refusal.{Answer, accepted, refused, refusedWith, isRefused}
+use Rattle.shape.specs.Shape.{countFits, shapeConditions}
+use Rattle.shape.proofs.BoundsLaws.{within-le}
+use Rattle.shape.proofs.RefusalLaws.{accepted-answeredBy}
 use Rattle.record.specs.Bytes.{recordSize}
 use Rattle.record.specs.declared.Content.{Content}
 use Rattle.model.specs.Model.{Reply, changed, found, listed}
+use Rattle.model.proofs.ConditionLaws.{firstNumber-zero}
 use Rattle.store.specs.Store.{store, lentConditions}
-use Rattle.store.specs.Promises.{queryNumber, InsertPromise, DeletePromise, QueryPromise}
+use Rattle.store.specs.Promises.{queryRefusals, queryNumber, InsertPromise, DeletePromise, QueryPromise}
 use Rattle.store.specs.declared.State.{State}
 use Rattle.stock_line.specs.declared.Line.{Line}
 use Rattle.stock_text.specs.Text.{Grown}
@@ -80,12 +83,10 @@ reply-asked session line m m′ text text′ at next asks e promise = rw (← e)
 module _ (state : State) (words bytes : List ℕ) (q : List (Option ℕ)) where
   -- no refusal 1 among the early ones: d is at most 4
   d-of-queryNumber : queryNumber (store state words bytes) q ≡ 0 → state .shape .attributes ≤ 4
-  unfolding queryNumber lentConditions shapeConditions firstNumber
-  d-of-queryNumber e = attributes-le (state .shape) (go (inBounds (state .shape)) _ e)
-    where
-      go : (β : Bool) (n : ℕ) → _≡_ {A = ℕ} (cond (not β) 1 n) 0 → β ≡ true
-      go true n h = refl
-      go false n h = absurd (omega arith)
+  unfolding queryRefusals lentConditions shapeConditions
+  d-of-queryNumber e =
+      within-le 1 4 (state .shape .attributes)
+      (not-false _ (firstNumber-zero 0 (not (countFits (state .shape))) _ e .0))
 
   module _ (out out′ : List ℕ) (short : length out ≤ outputSize) where
     -- how many records an answer wrote
@@ -107,7 +108,10 @@ module _ (state : State) (words bytes : List ℕ) (q : List (Option ℕ)) where
         by-number : (n : ℕ) → queryNumber (store state words bytes) q ≡ n
             → (state .shape .attributes ≤ 4) × (written ≤ outputRecords) × (recordSize * written ≤ length out′)
         by-number (suc n) e =
-            let z : false ≡ true = ap isRefused (promise .listed-as .early-refused n e) in absurd (false≢true z)
+            let none =
+            accepted-answeredBy _ _ (queryRefusals (store state words bytes) q)
+            (promise .listed-as .early-refused n e (listed 0 0 0)) in
+            absurd (omega (arith, none, e))
         by-number zero e =
             ⊎-elim
             (λ w.

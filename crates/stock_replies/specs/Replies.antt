@@ -18,7 +18,7 @@ outputSize = outputRecords * recordSize
 abbrev pub replySize : ℕ
 replySize = (outputRecords + 1) * lineSize
 
--- "It prints `ok`, `no` and the number", and no depth
+-- "It prints `ok`, `no` and the number", and neither depth nor attribute
 abbrev pub answerText : {A : Type 0} → Answer A → List ℕ
 answerText (accepted x) = okText
 answerText (refused n) = refusedText n

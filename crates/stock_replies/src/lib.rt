@@ -27,7 +27,7 @@ pub const OUTPUT_SIZE: usize = OUTPUT_RECORDS * RECORD_SIZE;
 // The bytes that the longest reply is given: a line for each of these records, and one for the sum.
 pub const REPLY_SIZE: usize = (OUTPUT_RECORDS + 1) * LINE_SIZE;
 
-// Writes `ok`, or `no` and the number, for a shape.
+// Writes `ok`, or `no` and the number, for a shape; the attribute beside 14 is not printed.
 pub fn put_made(text: &mut [u8], at: usize, answer: Made) -> usize
     requires { ⌜ at + replySize ≤ length (now text) ⌝ }
     ensures { λ r. ⌜ Grown (now (text .entry)) at (answerText (madeAnswer answer)) (now (text .exit)) r ⌝ }
@@ -35,10 +35,12 @@ pub fn put_made(text: &mut [u8], at: usize, answer: Made) -> usize
     match answer {
         Made::Done => put_ok(text, at),
         Made::Refused(number) => put_refused(text, at, number),
+        Made::Width(_) => put_refused(text, at, 14),
     }
 }
 
-// Writes `ok`, or `no` and the number, for a record that is put or cut; depths are not printed.
+// Writes `ok`, or `no` and the number, for a record that is put or cut; neither a depth nor the
+// attribute beside 14 is printed.
 pub fn put_changed(text: &mut [u8], at: usize, answer: Changed) -> usize
     requires { ⌜ at + replySize ≤ length (now text) ⌝ }
     ensures { λ r. ⌜ Grown (now (text .entry)) at (answerText (changedAnswer answer)) (now (text .exit)) r ⌝ }
@@ -47,6 +49,7 @@ pub fn put_changed(text: &mut [u8], at: usize, answer: Changed) -> usize
         Changed::Done(_) => put_ok(text, at),
         Changed::Absent(_) => put_refused(text, at, 5),
         Changed::Refused(number) => put_refused(text, at, number),
+        Changed::Width(_) => put_refused(text, at, 14),
     }
 }
 
@@ -59,6 +62,7 @@ pub fn put_listed(text: &mut [u8], at: usize, out: &[u8], listed: Listed, d: usi
     match listed {
         Listed::Records(counts) => put_found(text, at, out, counts, d),
         Listed::Refused(number) => put_refused(text, at, number),
+        Listed::Width(_) => put_refused(text, at, 14),
     }
 }
 

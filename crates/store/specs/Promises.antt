@@ -1,6 +1,7 @@
--- What each call on a store promises (document 01, "Calls", "Refused calls", "Lent memory"; document 02, requests 1, 2
--- and 6). Each promise of a call is one definition, which the call's `ensures` and demand 3 both cite. Assumes nothing.
-use Prim.Native.Nat.{ℕ, suc, _-_, _*_, _^_, _≤_, _<_}
+-- What each call on a store promises (document 01, "Calls", "Refused calls", "Lent memory"; document 02, requests 1, 2,
+-- 6 and 7). Each promise of a call is one definition, which the call's `ensures` and demand 3 both cite. Assumes
+-- nothing.
+use Prim.Native.Nat.{ℕ, _-_, _*_, _^_, _≤_, _<_}
 use mathlib.Core.Path.{_≡_}
 use mathlib.Core.Bool.{Bool, true, false}
 use mathlib.Core.List.{List, [], _∷_, _++_}
@@ -9,7 +10,7 @@ use mathlib.Core.Option.{Option, some}
 use lib.ListN.{length, drop, getD}
 use Rattle.lists.specs.Filter.{nonEmpty}
 use Rattle.lists.specs.Members.{Member}
-use Rattle.shape.specs.Refusal.{Answer, accepted, refused, refusedWith, isRefused, firstNumber}
+use Rattle.shape.specs.Refusal.{Condition, Answer, accepted, refused, refusedWith, isRefused, firstNumber, RefusedFirst}
 use Rattle.shape.specs.Key.{perAttribute, encodings}
 use Rattle.shape.specs.Range.{Interval}
 use Rattle.shape.specs.Shape.{widthsOf}
@@ -33,27 +34,39 @@ use Rattle.store.specs.Store.{Store, fixedOf, pagesSize, wordAt, lentCon
 use Rattle.store.specs.Sound.{Sound}
 use Rattle.store.specs.Contained.{Contained}
 
--- ---- refusals that need no look into words and pages: "after 1, 2, 8 and 3", and document 02's 10 and 11
+-- ---- refusals that need no look into words and pages: "after 1, 2, 8 and 3", and document 02's 10, 11, 14 and 15
 
-unfoldable pub lentNumber : Store → ℕ
+abbrev pub lentNumber : Store → ℕ
 lentNumber s = firstNumber (lentConditions s)
 
--- 1, 2, 3
-unfoldable pub keyNumber : Store → List ℕ → ℕ
-keyNumber s values = firstNumber (lentConditions s ++ keyConditions (s .state .shape) values)
+-- 1, 14, 15, 2, 3
+unfoldable pub keyRefusals : Store → List ℕ → List Condition
+keyRefusals s values = lentConditions s ++ keyConditions (s .state .shape) values
 
--- 1, 2, 3, 11
-unfoldable pub insertNumber : Store → List ℕ → Content → ℕ
-insertNumber s values content =
-    firstNumber (lentConditions s ++ keyConditions (s .state .shape) values ++ payloadConditions content)
+abbrev pub keyNumber : Store → List ℕ → ℕ
+keyNumber s values = firstNumber (keyRefusals s values)
 
--- 1, 2, 8, 3
-unfoldable pub queryNumber : Store → List (Option ℕ) → ℕ
-queryNumber s q = firstNumber (lentConditions s ++ queryConditions (s .state .shape) q)
+-- 1, 14, 15, 2, 3, 11
+unfoldable pub insertRefusals : Store → List ℕ → Content → List Condition
+insertRefusals s values content =
+    lentConditions s ++ keyConditions (s .state .shape) values ++ payloadConditions content
 
--- 1, 2, 8, 3, 10
-unfoldable pub rangeNumber : Store → List (Option Interval) → ℕ
-rangeNumber s r = firstNumber (lentConditions s ++ rangeConditions (s .state .shape) r)
+abbrev pub insertNumber : Store → List ℕ → Content → ℕ
+insertNumber s values content = firstNumber (insertRefusals s values content)
+
+-- 1, 14, 15, 2, 8, 3
+unfoldable pub queryRefusals : Store → List (Option ℕ) → List Condition
+queryRefusals s q = lentConditions s ++ queryConditions (s .state .shape) q
+
+abbrev pub queryNumber : Store → List (Option ℕ) → ℕ
+queryNumber s q = firstNumber (queryRefusals s q)
+
+-- 1, 14, 15, 2, 8, 3, 10
+unfoldable pub rangeRefusals : Store → List (Option Interval) → List Condition
+rangeRefusals s r = lentConditions s ++ rangeConditions (s .state .shape) r
+
+abbrev pub rangeNumber : Store → List (Option Interval) → ℕ
+rangeNumber s r = firstNumber (rangeRefusals s r)
 
 -- ---- pages of leaves
 
@@ -88,20 +101,21 @@ depthAt s values =
 
 -- ---- calls that change the store
 
--- `joins` says whether the call may join leaves, `values` are those of its key, `early` is the number of the refusals
--- above, `answers x` are the others that it may give with the depth x; `modelAnswer S` and `modelNext S` are what the
--- model answers where it has the set S, and the set that it has then. Left free on an accepted change of a store that
--- is not sound: T and the tally; the words of the key's leaf and of the leaves joined with it, with those at the new
--- 2^T and above; the bytes of their pages and of the page newly taken. All else is said by the fields from `ordinary`
--- to `contained`
-pub record ChangePromise (joins : Bool) (values : List ℕ) (early : ℕ) (answers : ℕ → List (Answer Reply))
+-- `joins` says whether the call may join leaves, `values` are those of its key, `early` are the conditions for the
+-- refusals above, `answers x` are the other answers that it may give with the depth x; `modelAnswer S` and `modelNext S`
+-- are what the model answers where it has the set S, and the set that it has then. Left free on an accepted change of a
+-- store that is not sound: T and the tally; the words of the key's leaf and of the leaves joined with it, with those at
+-- the new 2^T and above; the bytes of their pages and of the page newly taken. All else is said by the fields from
+-- `ordinary` to `contained`
+pub record ChangePromise (joins : Bool) (values : List ℕ) (early : List Condition) (answers : ℕ → List (Answer Reply))
     (modelAnswer : List Record → Answer Reply) (modelNext : List Record → List Record) (before : Store)
     (answer : Answer Reply) (after : Store) : Type 0 where
-  pub early-refused : (n : ℕ) → early ≡ suc n → answer ≡ refused (suc n)
+  -- 14 with its attribute, any other with its number alone. Shut out: the highest bad width; 2 before 15
+  pub early-refused : RefusedFirst early answer
   -- "All of them return the number and change nothing."
   pub unchanged : isRefused answer ≡ true → after ≡ before
   -- on any store "9 or ordinary"; a depth is that of the word at the key's cell afterwards
-  pub ordinary : early ≡ 0 → Member answer (answers (depthAt after values))
+  pub ordinary : firstNumber early ≡ 0 → Member answer (answers (depthAt after values))
   -- shape, P and L are kept whole
   pub shape-kept : after .state .shape ≡ before .state .shape
   pub limits-kept : after .state .limits ≡ before .state .limits
@@ -139,7 +153,7 @@ deleteAnswers x = accepted (changed x) ∷ refusedWith 5 x ∷ refused 9 ∷ []
 abbrev pub AddPromise : Store → List ℕ → Content → Answer Reply → Store → Type 0
 AddPromise before values content answer after =
     let f = fixedOf (before .state) in
-    ChangePromise false values (keyNumber before values) insertAnswers (λ S. addAnswer f S values content)
+    ChangePromise false values (keyRefusals before values) insertAnswers (λ S. addAnswer f S values content)
     (λ S. addNext f S values content) before answer after
 
 -- "An insert with payload 0 is to be turned down even when its key is stored already." Shut out: "no page" without
@@ -148,7 +162,7 @@ AddPromise before values content answer after =
 abbrev pub InsertPromise : Store → List ℕ → Content → Answer Reply → Store → Type 0
 InsertPromise before values content answer after =
     let f = fixedOf (before .state) in
-    ChangePromise false values (insertNumber before values content) insertAnswers
+    ChangePromise false values (insertRefusals before values content) insertAnswers
     (λ S. outcome f S (insertCall values content) .answer) (λ S. next f S (insertCall values content)) before answer
     after
 
@@ -157,7 +171,7 @@ InsertPromise before values content answer after =
 abbrev pub DeletePromise : Store → List ℕ → Answer Reply → Store → Type 0
 DeletePromise before values answer after =
     let f = fixedOf (before .state) in
-    ChangePromise true values (keyNumber before values) deleteAnswers (λ S. outcome f S (deleteCall values) .answer)
+    ChangePromise true values (keyRefusals before values) deleteAnswers (λ S. outcome f S (deleteCall values) .answer)
     (λ S. next f S (deleteCall values)) before answer after
 
 -- ---- calls that read
@@ -199,7 +213,7 @@ keyQuery s values = queryBits s (perAttribute (λ j. some (getD values j 0)))
 -- Shut out: "absent" without reading, 5 with 0 for an empty leaf (answered-as); 5 without a depth, or another than that
 -- of the word, on any store (ordinary)
 pub record LookupPromise (store : Store) (values : List ℕ) (answer : Answer Reply) : Type 0 where
-  pub early-refused : (n : ℕ) → keyNumber store values ≡ suc n → answer ≡ refused (suc n)
+  pub early-refused : RefusedFirst (keyRefusals store values) answer
   -- on any store a content with 1 read or 5, with the depth of the word at the key's cell; or 9
   pub ordinary : keyNumber store values ≡ 0
       → ((content : Content) × (answer ≡ accepted (found content 1 (depthAt store values))))
@@ -208,14 +222,14 @@ pub record LookupPromise (store : Store) (values : List ℕ) (answer : Answer Re
   pub answered-as : (S : List Record) → SoundWhereRead store (keyQuery (store .state .shape) values) S
       → answer ≡ outcome (fixedOf (store .state)) S (lookupCall values) .answer
 
--- a call that lists records into its output: `early` is the number of the refusals above, `reads` tells the leaves that
--- it reads, `model S` is what the model answers and leaves as the output
-pub record ListPromise (early : ℕ) (reads : LeafTest Record) (model : List Record → Outcome) (store : Store)
-    (out : List ℕ) (answer : Answer Reply) (out′ : List ℕ) : Type 0 where
-  pub early-refused : (n : ℕ) → early ≡ suc n → answer ≡ refused (suc n)
-  pub unchanged : (n : ℕ) → answer ≡ refused n → out′ ≡ out
+-- a call that lists records into its output: `early` are the conditions for the refusals above, `reads` tells the
+-- leaves that it reads, `model S` is what the model answers and leaves as the output
+pub record ListPromise (early : List Condition) (reads : LeafTest Record) (model : List Record → Outcome)
+    (store : Store) (out : List ℕ) (answer : Answer Reply) (out′ : List ℕ) : Type 0 where
+  pub early-refused : RefusedFirst early answer
+  pub unchanged : isRefused answer ≡ true → out′ ≡ out
   -- on any store 9, or counts with "written never exceeds total", in bounds, "other output bytes untouched"
-  pub ordinary : early ≡ 0
+  pub ordinary : firstNumber early ≡ 0
       → ((written total reads : ℕ) × (answer ≡ accepted (listed written total reads)) × (written ≤ total)
       × (recordSize * written ≤ length out) × (drop (recordSize * written) out′ ≡ drop (recordSize * written) out))
       ⊎ (answer ≡ refused 9)
@@ -228,7 +242,7 @@ pub record ListPromise (early : ℕ) (reads : LeafTest Record) (model : List Rec
 -- (SoundWhereRead)
 pub record QueryPromise (store : Store) (q : List (Option ℕ)) (out : List ℕ) (answer : Answer Reply)
     (out′ : List ℕ) : Type 0 where
-  pub listed-as : ListPromise (queryNumber store q) (agreeing (queryBits (store .state .shape) q))
+  pub listed-as : ListPromise (queryRefusals store q) (agreeing (queryBits (store .state .shape) q))
       (λ S. outcome (fixedOf (store .state)) S (queryCall q out)) store out answer out′
   -- and reads within the bound
   pub bounded : (S : List Record) → SoundWhereRead store (queryBits (store .state .shape) q) S
@@ -244,12 +258,12 @@ meeting s box p x rs = boxMeets s box p x
 abbrev pub RangePromise : Store → List (Option Interval) → List ℕ → Answer Reply → List ℕ → Type 0
 RangePromise store r out answer out′ =
     let s = store .state .shape in
-    ListPromise (rangeNumber store r) (meeting s (boxOf s r))
+    ListPromise (rangeRefusals store r) (meeting s (boxOf s r))
     (λ S. outcome (fixedOf (store .state)) S (rangeCall r out)) store out answer out′
 
 -- "says yes exactly for a sound store and otherwise no; it never gives 9". Shut out: always yes, always no
 pub record CheckPromise (store : Store) (answer : Answer Bool) : Type 0 where
-  pub early-refused : (n : ℕ) → lentNumber store ≡ suc n → answer ≡ refused (suc n)
+  pub early-refused : RefusedFirst (lentConditions store) answer
   pub verdict : lentNumber store ≡ 0
       → ((answer ≡ accepted true) × ((S : List Record) × Sound store S))
       ⊎ ((answer ≡ accepted false) × ((S : List Record) → Sound store S → ⊥))

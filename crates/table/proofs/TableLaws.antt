@@ -2,12 +2,12 @@
 use mathlib.Core.Path.{refl}
 use mathlib.Core.List.{flatten}
 use Rattle.shape.specs.Refusal.{firstNumber, answeredBy}
-use Rattle.shape.specs.Shape.{inBounds, shapeConditions, widthsOf}
+use Rattle.shape.specs.Shape.{shapeConditions, widthsOf}
 use Rattle.shape.specs.Key.{marked, valueFits, encode, decode, keyFits, encodings, namesUnused, queryFits}
 use Rattle.split.specs.Steps.{stepsBelow, steps, step, stepNumber, stepsOf, attributeDepth}
 use Rattle.split.specs.Bits.{splitBit}
 use Rattle.address.specs.Address.{highestBit, createdBy, latestStep, formula, addressFrom, address}
-use Rattle.address_calls.specs.Answers.{addressNumber, addressAnswer, indexNumber, indexAnswer}
+use Rattle.address_calls.specs.Answers.{addressRefusals, addressAnswer, indexRefusals, indexAnswer}
 use Rattle.address.specs.Doubling.{layers, box, sides, appended, doublingArray}
 use Rattle.cell.specs.Cell.{sumBits, cell, cellAddress}
 use Rattle.record.specs.Record.{matches}
@@ -19,10 +19,10 @@ use Rattle.table.specs.Table.{TableHolds}
 
 pub table-holds : TableHolds
 unfolding
-    firstNumber answeredBy inBounds shapeConditions widthsOf
+    firstNumber answeredBy shapeConditions widthsOf
     marked valueFits encode decode keyFits encodings namesUnused queryFits
     stepsBelow steps step stepNumber stepsOf attributeDepth splitBit
-    highestBit createdBy latestStep formula addressFrom address addressNumber addressAnswer indexNumber indexAnswer
+    highestBit createdBy latestStep formula addressFrom address addressRefusals addressAnswer indexRefusals indexAnswer
     layers box sides appended doublingArray sumBits cell cellAddress matches recordBytes flatten
     logarithm pageLimitOf depthLimitOf freshShape fixedBy
     numberFor replyTo setAfter outputOf outputAfter outcome next run

@@ -8,8 +8,8 @@ use mathlib.Core.Option.{Option, none, some}
 use lib.Dec.{eqb}
 use lib.ListN.{length, replicate}
 use Rattle.lists.specs.Filter.{all, nonEmpty}
-use Rattle.shape.specs.Refusal.{Answer, accepted, refused, refusedWith}
-use Rattle.shape.specs.Shape.{widthsOf, total}
+use Rattle.shape.specs.Refusal.{Answer, accepted, refused, refusedWith, numberTold}
+use Rattle.shape.specs.Shape.{widthsOf}
 use Rattle.shape.specs.Key.{encodings}
 use Rattle.shape.specs.declared.Shape.{Shape}
 use Rattle.split.specs.Steps.{bitValue}
@@ -40,11 +40,6 @@ abbrev pub acceptedAs : {A : Type 0} → (A → Bool) → Answer A → Bool
 acceptedAs test (accepted x) = test x
 acceptedAs test (refused n) = false
 acceptedAs test (refusedWith n x) = false
-
-abbrev pub numberOfAnswer : Answer Reply → ℕ
-numberOfAnswer (accepted x) = 0
-numberOfAnswer (refused n) = n
-numberOfAnswer (refusedWith n x) = n
 
 -- written, total and reads of an accepted query
 abbrev pub countsIn : Answer Reply → List ℕ
@@ -167,7 +162,7 @@ entryHolds (lists cs q records reads bound) =
     sameNumbers (o .output) (flatten records ++ replicate 3 255)
     && (sameNumbers (countsIn (o .answer)) (n ∷ n ∷ reads ∷ []) && eqb (readsBound twoTwo q S) bound)
 entryHolds (numbers words pages expected) =
-    sameNumbers (map (λ o. numberOfAnswer (o .answer)) (run (fixedWith words pages) [] fourInserts)) expected
+    sameNumbers (map (λ o. numberTold (o .answer)) (run (fixedWith words pages) [] fourInserts)) expected
 entryHolds (both e e′) = entryHolds e && entryHolds e′
 
 -- "Twelve entries make up the table"

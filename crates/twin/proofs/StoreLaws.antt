@@ -5,7 +5,7 @@ use mathlib.Core.Path.{_≡_, refl, sym, ap, subst, _∙_}
 use mathlib.Core.List.{List, [], _∷_}
 use native.Mathlib.Nat.{zero-mod}
 use lib.ListN.{length}
-use Rattle.shape.specs.Shape.{inBounds, shapeConditions, widthsOf}
+use Rattle.shape.specs.Shape.{inBounds, lowestBad, shapeConditions, widthsOf}
 use Rattle.shape.specs.declared.Shape.{Shape}
 use Rattle.region.specs.Division.{leafDepth, leafRecords}
 use Rattle.record.specs.Record.{Record}
@@ -14,7 +14,7 @@ use Rattle.model.specs.Limits.{pageLimitOf, depthLimitOf, freshShape}
 use Rattle.model.specs.Sets.{isSet, divisionOf}
 use Rattle.store.specs.Store.{Memory, store, pagesSize, wordAt}
 use Rattle.store.specs.Sound.{LeafWord, Sound}
-use Rattle.store.specs.Fresh.{freshNumber, freshState, freshMemory}
+use Rattle.store.specs.Fresh.{freshRefusals, freshState, freshMemory}
 use Rattle.store.specs.declared.State.{State}
 use Rattle.twin.specs.Twin.{unmarkedState, SoundTwin, FreshTwin}
 
@@ -83,10 +83,10 @@ sound-twin st words bytes encoded twin S = (
 -- ---- Fresh
 
 pub fresh-twin : (s : Shape) (m : Memory) → FreshTwin s m
-unfolding freshNumber freshMemory freshState shapeConditions inBounds widthsOf pageLimitOf depthLimitOf freshShape
+unfolding freshRefusals freshMemory freshState lowestBad shapeConditions widthsOf pageLimitOf depthLimitOf freshShape
 fresh-twin s m =
     record {
-      same-number = refl;
+      same-refusals = refl;
       same-memory = refl;
       same-state =
           ap

@@ -17,7 +17,7 @@ use Rattle.model.specs.Model.{Fixed, Call, insertCall, deleteCall, lookupCall, 
 use Rattle.model.specs.Model.{matching, inside, writtenFor, outcome, next, run, lastSet}
 use Rattle.store.specs.Store.{Memory, store}
 use Rattle.store.specs.Sound.{Sound}
-use Rattle.store.specs.Fresh.{freshNumber, freshState, freshMemory}
+use Rattle.store.specs.Fresh.{freshRefusals, freshState, freshMemory}
 use Rattle.store.specs.declared.State.{State}
 
 -- ---- without marks
@@ -90,8 +90,8 @@ TwinExists =
     → Sound (store st words bytes) S
     → (encoded : List ℕ) × Encoded st bytes encoded × ((i : ℕ) → getD encoded i 0 < 256)
 
--- Fresh answers alike and leaves the same words, bytes, T and tally
+-- Fresh answers alike, with the value that a refusal carries, and leaves the same words, bytes, T and tally
 pub record FreshTwin (s : Shape) (m : Memory) : Type 0 where
-  pub same-number : freshNumber s m ≡ freshNumber (unmarked s) m
+  pub same-refusals : freshRefusals s m ≡ freshRefusals (unmarked s) m
   pub same-memory : freshMemory s m ≡ freshMemory (unmarked s) m
   pub same-state : unmarkedState (freshState s m) ≡ freshState (unmarked s) m

@@ -227,7 +227,8 @@ pub use store::{Deleted, Found, Inserted, Listing, Store, STATE_WORDS};
 /// The address of an index vector in the directory of a shape.
 ///
 /// The directory grows by doubling and moves no word: an index vector has one address at every size, whichever
-/// attributes are signed. Refused with [`Refusal::Shape`], or with [`Refusal::Value`] for an index past its width.
+/// attributes are signed. Refused with [`Refusal::Shape`], [`Refusal::Width`] or [`Refusal::Capacity`], or with
+/// [`Refusal::Value`] for an index past its width.
 ///
 /// ```
 /// use mdeh::{address, Refusal, Shape};
@@ -245,8 +246,8 @@ pub fn address(shape: Shape, index: impl Into<Index>) -> Result<u64, Refusal> {
 
 /// The index vector at an address, 0 for an unused attribute: the inverse of [`address`].
 ///
-/// Refused with [`Refusal::Shape`], or with [`Refusal::Value`] for an address of 2^W or more, W being the sum of the
-/// widths.
+/// Refused with [`Refusal::Shape`], [`Refusal::Width`] or [`Refusal::Capacity`], or with [`Refusal::Value`] for an
+/// address of 2^W or more, W being the sum of the widths.
 ///
 /// ```
 /// use mdeh::{index, Refusal, Shape};

@@ -21,11 +21,15 @@ use core::fmt::{self, Display, Formatter};
 /// let refusal = store.delete([3, 8]).unwrap_err();
 /// assert_eq!(refusal, Refusal::Absent { depth: 0 });
 /// assert_eq!((refusal.number(), refusal.to_string()), (5, "the key is not stored".into()));
+///
+/// let refusal = Store::fresh(Shape::new(&[4, 17], 1), &mut directory, &mut pages).unwrap_err();
+/// assert_eq!(refusal, Refusal::Width { attribute: 1 });
+/// assert_eq!((refusal.number(), refusal.to_string()), (14, "the width of attribute 1 is outside 1 to 16".into()));
 /// # Ok::<(), Refusal>(())
 /// ```
 #[derive(Clone, Copy, Debug, PartialEq, Eq, Hash)]
 pub enum Refusal {
-    /// Number 1: a shape outside its bounds, also in the state of a reopened store and in a file.
+    /// Number 1: an attribute count outside 1 to 4, also in the state of a reopened store and in a file.
     Shape,
     /// Number 2. Fresh and load: no directory word or no whole page. Later: fewer words or pages than the store has use
     /// for. Save: an output that is shorter than the file.
@@ -60,6 +64,13 @@ pub enum Refusal {
     /// Number 13. Load: a stray byte in the shape, a value outside its bounds, or records that do not strictly rise in
     /// split order.
     Content,
+    /// Number 14: a width outside 1 to 16, also in the state of a reopened store and in a file.
+    Width {
+        /// the attribute that has it, counted from 0; the lowest where there are several
+        attribute: usize,
+    },
+    /// Number 15: a page capacity outside 1 to 16, also in the state of a reopened store and in a file.
+    Capacity,
 }
 
 impl Refusal {
@@ -80,18 +91,15 @@ impl Refusal {
             Refusal::Payload => 11,
             Refusal::File => 12,
             Refusal::Content => 13,
+            Refusal::Width { .. } => 14,
+            Refusal::Capacity => 15,
         }
     }
 
-    /// The reason with a number from 1 to 13, of a call that never gives 5; the library gives no other.
+    /// The reason with a number from 1 to 15, the attribute that 14 carries and the depth that 5 carries; the library
+    /// gives no other.
     #[inline]
-    pub(crate) fn of(number: u32) -> Refusal {
-        Refusal::with_depth(Refused { number, depth: 0 })
-    }
-
-    /// The reason with a number from 1 to 13, and the depth that 5 carries; the library gives no other.
-    #[inline]
-    pub(crate) fn with_depth(Refused { number, depth }: Refused) -> Refusal {
+    pub(crate) fn of(Refused { number, attribute, depth }: Refused) -> Refusal {
         match number {
             1 => Refusal::Shape,
             2 => Refusal::Memory,
@@ -105,6 +113,8 @@ impl Refusal {
             11 => Refusal::Payload,
             12 => Refusal::File,
             13 => Refusal::Content,
+            14 => Refusal::Width { attribute: attribute as usize },
+            15 => Refusal::Capacity,
             _ => Refusal::Unsound,
         }
     }
@@ -113,7 +123,7 @@ impl Refusal {
 impl Display for Refusal {
     fn fmt(&self, f: &mut Formatter<'_>) -> fmt::Result {
         f.write_str(match self {
-            Refusal::Shape => "the shape is outside its bounds",
+            Refusal::Shape => "the attribute count is outside 1 to 4",
             Refusal::Memory => "too few words or bytes are lent",
             Refusal::Value => "a value, index or address is outside its bounds, or an unused value is not 0",
             Refusal::Stored => "the key is stored already",
@@ -126,6 +136,10 @@ impl Display for Refusal {
             Refusal::Payload => "the payload is 0",
             Refusal::File => "the bytes are no whole file",
             Refusal::Content => "the file has a stray byte, a value out of bounds or records out of order",
+            Refusal::Width { attribute } => {
+                return write!(f, "the width of attribute {attribute} is outside 1 to 16");
+            }
+            Refusal::Capacity => "the page capacity is outside 1 to 16",
         })
     }
 }
@@ -138,15 +152,28 @@ mod tests {
 
     #[test]
     fn each_number_names_its_reason() {
-        (1..=13).for_each(|number| assert_eq!(Refusal::of(number).number(), number));
+        for number in 1..=15 {
+            assert_eq!(Refusal::of(Refused { number, attribute: 0, depth: 0 }).number(), number);
+        }
     }
 
     #[test]
     fn number_5_alone_carries_its_depth() {
-        for number in 1..=13 {
-            let refusals = [0, 3].map(|depth| Refusal::with_depth(Refused { number, depth }));
+        for number in 1..=15 {
+            let refusals = [0, 3].map(|depth| Refusal::of(Refused { number, attribute: 2, depth }));
             assert_eq!(refusals[0] == refusals[1], number != 5);
         }
-        assert_eq!(Refusal::with_depth(Refused { number: 5, depth: 3 }), Refusal::Absent { depth: 3 });
+        let absent = Refusal::of(Refused { number: 5, attribute: 0, depth: 3 });
+        assert_eq!(absent, Refusal::Absent { depth: 3 });
+    }
+
+    #[test]
+    fn number_14_alone_carries_its_attribute() {
+        for number in 1..=15 {
+            let refusals = [0, 3].map(|attribute| Refusal::of(Refused { number, attribute, depth: 2 }));
+            assert_eq!(refusals[0] == refusals[1], number != 14);
+        }
+        let width = Refusal::of(Refused { number: 14, attribute: 3, depth: 0 });
+        assert_eq!(width, Refusal::Width { attribute: 3 });
     }
 }

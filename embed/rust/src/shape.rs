@@ -5,7 +5,10 @@ use core::ops::RangeInclusive;
 /// The attribute count, a width in bits for each attribute, the page capacity, and the marks of signed attributes.
 ///
 /// In bounds are one to four attributes, widths of 1 to 16 and a capacity of 1 to 16 records. Any other values can be
-/// written down too: a call that is given them is refused with [`Refusal::Shape`](crate::Refusal::Shape).
+/// written down too: a call that is given them, itself, in a state or in a file, says what to correct. It is refused
+/// with [`Refusal::Shape`](crate::Refusal::Shape) for the attribute count, then with
+/// [`Refusal::Width`](crate::Refusal::Width), which names the lowest attribute whose width is out of bounds, then with
+/// [`Refusal::Capacity`](crate::Refusal::Capacity).
 ///
 /// ```
 /// use mdeh::{Refusal, Shape, Store};
@@ -13,9 +16,11 @@ use core::ops::RangeInclusive;
 /// let shape = Shape::new(&[8, 8, 10], 16);
 /// assert_eq!(shape.page_bytes(), 194);
 ///
-/// let wide = Shape::new(&[8, 17], 16);
-/// let refused = Store::fresh(wide, &mut [0; 8], &mut [0; 1000]).unwrap_err();
-/// assert_eq!(refused, Refusal::Shape);
+/// let refused = |shape| Store::fresh(shape, &mut [0; 8], &mut [0; 1000]).unwrap_err();
+/// assert_eq!(refused(Shape::new(&[8, 8, 8, 8, 8], 16)), Refusal::Shape);
+/// assert_eq!(refused(Shape::new(&[8, 17, 0], 20)), Refusal::Width { attribute: 1 });
+/// assert_eq!(refused(Shape::new(&[8, 10, 0], 20)), Refusal::Width { attribute: 2 });
+/// assert_eq!(refused(Shape::new(&[8, 10], 20)), Refusal::Capacity);
 /// ```
 #[repr(C)]
 #[derive(Clone, Copy, Debug, PartialEq, Eq)]
@@ -32,7 +37,7 @@ pub struct Shape {
 
 impl Shape {
     /// The shape with these widths, one for each attribute, and this page capacity, no attribute marked as signed. More
-    /// than four widths give a shape outside the bounds.
+    /// than four widths give an attribute count outside its bounds.
     #[inline]
     pub const fn new(widths: &[u32], capacity: u32) -> Shape {
         let mut four = [0; 4];

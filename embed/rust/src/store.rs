@@ -2,7 +2,7 @@
 use crate::key::Key;
 use crate::query::Query;
 use crate::range::Range;
-use crate::raw::{self, QueryResult};
+use crate::raw::{self, Counts, QueryResult};
 use crate::record::{Record, Records};
 use crate::refusal::Refusal;
 use crate::shape::Shape;
@@ -63,7 +63,8 @@ pub struct Listing<'o> {
 impl<'m> Store<'m> {
     /// Makes a store without records in lent memory, whatever it held before.
     ///
-    /// Refused with [`Refusal::Shape`], or with [`Refusal::Memory`] where there is no directory word or no whole page.
+    /// Refused with [`Refusal::Shape`], [`Refusal::Width`] or [`Refusal::Capacity`], or with [`Refusal::Memory`] where
+    /// there is no directory word or no whole page.
     #[inline]
     pub fn fresh(shape: Shape, directory: &'m mut [u32], pages: &'m mut [u8]) -> Result<Store<'m>, Refusal> {
         let mut state = [0; STATE_WORDS];
@@ -101,9 +102,10 @@ impl<'m> Store<'m> {
     /// Makes a store of a file's shape and records in lent memory, whatever it held before. All bytes are the file's.
     ///
     /// How far the store can grow is fixed by the memory, as of [`Store::fresh`]. Payloads are not looked at: one of 0
-    /// loads. Refused with [`Refusal::File`], [`Refusal::Shape`], [`Refusal::Content`] or [`Refusal::Memory`], then with
-    /// [`Refusal::Depth`] or [`Refusal::Pages`] at the first record that an insert into a store of those before it would
-    /// refuse so; the memory is then as it was. A file has no sum: a changed payload is not told.
+    /// loads. Refused with [`Refusal::File`], [`Refusal::Shape`], [`Refusal::Width`], [`Refusal::Capacity`],
+    /// [`Refusal::Content`] or [`Refusal::Memory`], then with [`Refusal::Depth`] or [`Refusal::Pages`] at the first
+    /// record that an insert into a store of those before it would refuse so; the memory is then as it was. A file has
+    /// no sum: a changed payload is not told.
     ///
     /// ```
     /// use mdeh::{file_bytes, Refusal, Shape, Store};
@@ -122,6 +124,8 @@ impl<'m> Store<'m> {
     ///
     /// file[0] = 3; // the first key is (3, 1) now, as the second
     /// assert_eq!(Store::load(&file, &mut directory, &mut pages).unwrap_err(), Refusal::Content);
+    /// file[26] = 0; // the width of attribute 1
+    /// assert_eq!(Store::load(&file, &mut directory, &mut pages).unwrap_err(), Refusal::Width { attribute: 1 });
     /// # Ok::<(), Refusal>(())
     /// ```
     #[inline]
@@ -133,9 +137,10 @@ impl<'m> Store<'m> {
 
     /// Adds a record, whose payload is not 0, and returns how deep it lies then.
     ///
-    /// Refused with [`Refusal::Shape`], [`Refusal::Memory`], [`Refusal::Value`], [`Refusal::Payload`],
-    /// [`Refusal::Stored`], [`Refusal::Depth`], [`Refusal::Pages`] or [`Refusal::Unsound`]. A payload of 0 is refused
-    /// whatever the directory and the pages hold, also where the key is stored already or has no room.
+    /// Refused with [`Refusal::Shape`], [`Refusal::Width`], [`Refusal::Capacity`], [`Refusal::Memory`],
+    /// [`Refusal::Value`], [`Refusal::Payload`], [`Refusal::Stored`], [`Refusal::Depth`], [`Refusal::Pages`] or
+    /// [`Refusal::Unsound`]. A payload of 0 is refused whatever the directory and the pages hold, also where the key is
+    /// stored already or has no room.
     ///
     /// ```
     /// use mdeh::{Refusal, Shape, Store};
@@ -154,13 +159,13 @@ impl<'m> Store<'m> {
     pub fn insert(&mut self, key: impl Into<Key>, payload: u32) -> Result<Inserted, Refusal> {
         raw::insert(&mut self.state, self.directory, self.pages, key.into().values, payload)
             .map(|depth| Inserted { depth })
-            .map_err(Refusal::with_depth)
+            .map_err(Refusal::of)
     }
 
     /// Removes the record of a key, and returns the depth of the leaf in which the key falls then.
     ///
-    /// Refused with [`Refusal::Shape`], [`Refusal::Memory`], [`Refusal::Value`], [`Refusal::Absent`] or
-    /// [`Refusal::Unsound`].
+    /// Refused with [`Refusal::Shape`], [`Refusal::Width`], [`Refusal::Capacity`], [`Refusal::Memory`],
+    /// [`Refusal::Value`], [`Refusal::Absent`] or [`Refusal::Unsound`].
     ///
     /// ```
     /// use mdeh::{Refusal, Shape, Store};
@@ -178,25 +183,25 @@ impl<'m> Store<'m> {
     pub fn delete(&mut self, key: impl Into<Key>) -> Result<Deleted, Refusal> {
         raw::delete(&mut self.state, self.directory, self.pages, key.into().values)
             .map(|depth| Deleted { depth })
-            .map_err(Refusal::with_depth)
+            .map_err(Refusal::of)
     }
 
     /// The payload of a key's record, and how deep it lies.
     ///
-    /// Refused with [`Refusal::Shape`], [`Refusal::Memory`], [`Refusal::Value`], [`Refusal::Absent`] or
-    /// [`Refusal::Unsound`].
+    /// Refused with [`Refusal::Shape`], [`Refusal::Width`], [`Refusal::Capacity`], [`Refusal::Memory`],
+    /// [`Refusal::Value`], [`Refusal::Absent`] or [`Refusal::Unsound`].
     #[inline]
     pub fn lookup(&self, key: impl Into<Key>) -> Result<Found, Refusal> {
         raw::lookup(&self.state, self.directory, self.pages, key.into().values)
             .map(|(payload, reads, depth)| Found { payload, reads, depth })
-            .map_err(Refusal::with_depth)
+            .map_err(Refusal::of)
     }
 
     /// Writes the records that match a query into `out`, in split order, while whole ones fit.
     ///
     /// A short output is no refusal: [`Listing::total`] then is more than [`Listing::written`]. Refused with
-    /// [`Refusal::Shape`], [`Refusal::Memory`], [`Refusal::Attribute`], [`Refusal::Value`] or [`Refusal::Unsound`];
-    /// `out` is then as it was.
+    /// [`Refusal::Shape`], [`Refusal::Width`], [`Refusal::Capacity`], [`Refusal::Memory`], [`Refusal::Attribute`],
+    /// [`Refusal::Value`] or [`Refusal::Unsound`]; `out` is then as it was.
     ///
     /// ```
     /// use mdeh::{Query, Shape, Store, RECORD_BYTES};
@@ -228,8 +233,8 @@ impl<'m> Store<'m> {
     /// Writes the records that lie in a range into `out`, in split order, while whole ones fit.
     ///
     /// A short output is no refusal: [`Listing::total`] then is more than [`Listing::written`]. Refused with
-    /// [`Refusal::Shape`], [`Refusal::Memory`], [`Refusal::Attribute`], [`Refusal::Value`], [`Refusal::Interval`] or
-    /// [`Refusal::Unsound`]; `out` is then as it was.
+    /// [`Refusal::Shape`], [`Refusal::Width`], [`Refusal::Capacity`], [`Refusal::Memory`], [`Refusal::Attribute`],
+    /// [`Refusal::Value`], [`Refusal::Interval`] or [`Refusal::Unsound`]; `out` is then as it was.
     ///
     /// ```
     /// use mdeh::{Range, Shape, Store, RECORD_BYTES};
@@ -262,7 +267,7 @@ impl<'m> Store<'m> {
     /// Whether the memory holds a sound store: state, words and pages show one set of records, from which every call is
     /// then answered. To be asked before people act on a list.
     ///
-    /// Refused with [`Refusal::Shape`] or [`Refusal::Memory`].
+    /// Refused with [`Refusal::Shape`], [`Refusal::Width`], [`Refusal::Capacity`] or [`Refusal::Memory`].
     #[inline]
     pub fn check(&self) -> Result<bool, Refusal> {
         raw::check(&self.state, self.directory, self.pages).map_err(Refusal::of)
@@ -271,9 +276,10 @@ impl<'m> Store<'m> {
     /// Writes the file of the records into `out`, from its first byte on, and returns how many bytes it has; the bytes
     /// behind it are left as they are.
     ///
-    /// Refused with [`Refusal::Shape`], [`Refusal::Memory`] or [`Refusal::Unsound`], then with [`Refusal::Memory`] for an
-    /// output that is shorter than the file; `out` is then as it was. [`file_bytes`](crate::file_bytes) of the records
-    /// has room, and [`file_bytes`](crate::file_bytes) of 65,536, the most that a store holds, always has.
+    /// Refused with [`Refusal::Shape`], [`Refusal::Width`], [`Refusal::Capacity`], [`Refusal::Memory`] or
+    /// [`Refusal::Unsound`], then with [`Refusal::Memory`] for an output that is shorter than the file; `out` is then
+    /// as it was. [`file_bytes`](crate::file_bytes) of the records has room, and [`file_bytes`](crate::file_bytes) of
+    /// 65,536, the most that a store holds, always has.
     ///
     /// ```
     /// use mdeh::{file_bytes, Query, Refusal, Shape, Store};
@@ -337,12 +343,8 @@ impl<'o> Listing<'o> {
     /// What the library returned of an output of a store of this shape.
     #[inline]
     fn of(result: QueryResult, shape: Shape, out: &'o [u8]) -> Result<Listing<'o>, Refusal> {
-        match result {
-            QueryResult { number: 0, written, total, reads } => {
-                Ok(Listing { written, total, reads, shape, out })
-            }
-            QueryResult { number, .. } => Err(Refusal::of(number)),
-        }
+        let Counts { written, total, reads } = result.counts().map_err(Refusal::of)?;
+        Ok(Listing { written, total, reads, shape, out })
     }
 
     /// The records that were written, in split order.

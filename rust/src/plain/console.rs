@@ -57,8 +57,8 @@ impl Console {
         }
         let shape =
             Shape { attributes, widths: four(&numbers[1..=d], 0), capacity: numbers[d + 1], signs: 0 };
-        let fresh = Model::fresh(shape, WORDS, BYTES);
-        Some(changed(fresh.map(|model| self.model = Some(model))))
+        let fresh = Model::fresh(shape, WORDS, BYTES).map(|model| self.model = Some(model));
+        Some(changed(number(fresh)))
     }
 }
 
@@ -94,8 +94,8 @@ fn four<T: Copy>(items: &[T], rest: T) -> [T; 4] {
     std::array::from_fn(|j| items.get(j).copied().unwrap_or(rest))
 }
 
-/// The number of a refusal; no depth is printed.
-fn number(answer: Result<u32, Refused>) -> Result<(), u32> {
+/// The number of a refusal; neither depth nor attribute is printed.
+fn number<T>(answer: Result<T, Refused>) -> Result<(), u32> {
     answer.map(|_| ()).map_err(|refused| refused.number)
 }
 
@@ -107,7 +107,7 @@ fn changed(answer: Result<(), u32>) -> String {
 fn listed(model: &Model, query: [Option<i32>; 4]) -> String {
     let mut out = [0; OUTPUT];
     match model.query(query, &mut out) {
-        Err(number) => format!("no {number}\n"),
+        Err(Refused { number, .. }) => format!("no {number}\n"),
         Ok((written, total, reads)) => {
             let records = out.chunks(12).take(written as usize);
             let mut text: String =

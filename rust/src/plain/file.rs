@@ -1,8 +1,8 @@
-//! Files of saved stores (document 02, request 5), written and read from its words.
+//! Files of saved stores (document 02, requests 5 and 7), written and read from its words.
 use super::model::Model;
-use super::refusal::{key_refused, shape_refused};
+use super::refusal::{key_refused, refusal, shape_refused};
 use super::value::{number_in, used_signs};
-use crate::host::Shape;
+use crate::host::{Refused, Shape};
 
 /// "Eight bytes of shape follow", and "The trailer is the last 16 bytes".
 pub const END: usize = 8 + 16;
@@ -38,11 +38,11 @@ pub fn file_of(model: &Model) -> Vec<u8> {
     file
 }
 
-/// The model of an accepted load into so many words and page bytes, or the number of the refusal.
-pub fn load(file: &[u8], words: usize, bytes: usize) -> Result<Model, u32> {
+/// The model of an accepted load into so many words and page bytes, or the refusal.
+pub fn load(file: &[u8], words: usize, bytes: usize) -> Result<Model, Refused> {
     // "12, fewer than 24 bytes, or trailer letters or distances not those of its count and the file's length"
     let Some(count) = whole_count(file) else {
-        return Err(12);
+        return Err(refusal(12));
     };
     let (records, end) = file.split_at(file.len() - END);
     let &[attributes, a, b, c, d, capacity, signs, last, ..] = end else { unreachable!("it has 24 bytes") };
@@ -52,16 +52,17 @@ pub fn load(file: &[u8], words: usize, bytes: usize) -> Result<Model, u32> {
         capacity: capacity.into(),
         signs: signs.into(),
     };
-    if shape_refused(shape) {
-        return Err(1);
+    // "The load of a saved store uses the same numbers."
+    if let Some(refused) = shape_refused(shape) {
+        return Err(refused);
     }
     if last != 0 || !is_plain(shape) {
-        return Err(13);
+        return Err(refusal(13));
     }
     let records: Vec<([i32; 4], u32)> = records.chunks(RECORD).map(|bytes| record_in(shape, bytes)).collect();
     assert_eq!(records.len(), count);
     if !is_set(shape, &records) {
-        return Err(13);
+        return Err(refusal(13));
     }
     // "with P and L set as by Fresh"
     let mut model = Model::fresh(shape, words, bytes)?;

@@ -5,38 +5,34 @@
 use super::image::{page_of, word_of, Image, DEPTH, DEPTH_LIMIT, PAGE_LIMIT, SIGNS, TALLY};
 use super::leaves::{greatest_depth, leaf_of, leaves, tally, Record};
 use super::model::Model;
-use super::refusal::{key_refused, memory_refused, shape_refused, used_widths};
+use super::refusal::{key_refused, memory_refused, refusal, shape_refused, used_widths};
 use crate::cells::Cells;
+use crate::host::Refused;
 
-/// The number of the refusal, 1 or 2; else whether the store is sound.
-pub fn judge(image: &Image) -> Result<bool, u32> {
-    match early_number(image) {
-        Some(number) => Err(number),
+/// The refusal with 1, 14, 15 or 2; else whether the store is sound.
+pub fn judge(image: &Image) -> Result<bool, Refused> {
+    match early_refusal(image) {
+        Some(refused) => Err(refused),
         None => Ok(is_sound(image)),
     }
 }
 
-/// 1 or 2, of a call on a lent store.
-pub fn early_number(image: &Image) -> Option<u32> {
+/// 1, 14, 15 or 2, of a call on a lent store.
+pub fn early_refusal(image: &Image) -> Option<Refused> {
     let shape = image.shape();
     let (p, l) = (image.state[PAGE_LIMIT], image.state[DEPTH_LIMIT]);
-    if shape_refused(shape) {
-        Some(1)
-    } else if memory_refused(shape, p, l, image.dir.len(), image.pages.len()) {
-        Some(2)
-    } else {
-        None
-    }
+    shape_refused(shape)
+        .or_else(|| memory_refused(shape, p, l, image.dir.len(), image.pages.len()).then_some(refusal(2)))
 }
 
-/// "P is 1–4,096, L is at most 12 and at most W, and T is at most L". After 1 and 2.
+/// "P is 1–4,096, L is at most 12 and at most W, and T is at most L". After the early numbers.
 pub fn limits_hold(image: &Image) -> bool {
     let [p, l, t] = [PAGE_LIMIT, DEPTH_LIMIT, DEPTH].map(|place| image.state[place]);
     let bits = used_widths(image.shape()).iter().sum::<u32>();
     (1..=4096).contains(&p) && l <= 12 && l <= bits && t <= l
 }
 
-/// After 1 and 2.
+/// After the early numbers.
 fn is_sound(image: &Image) -> bool {
     if !limits_hold(image) {
         return false;

@@ -3,7 +3,7 @@ use super::samples::random_payload;
 use crate::random::Random;
 
 /// Lines at the edges of the line form, one run of them.
-pub const EDGES: [&[u8]; 49] = [
+pub const EDGES: [&[u8]; 55] = [
     b"list *",
     b"put 1 2",
     b"shape",
@@ -20,6 +20,12 @@ pub const EDGES: [&[u8]; 49] = [
     b"shape 1 0 1",
     b"shape 1 1 17",
     b"shape 1 1 0",
+    b"shape 2 0 3 2",
+    b"shape 2 3 17 17",
+    b"shape 2 3 3 17",
+    b"shape 5 0 0 0 0 0 0",
+    b"shape 2 0 3",
+    b"shape 1 4294967296 0",
     b"list 0",
     b"shape 2 2 2 2",
     b"put 0 0 1\r",

@@ -1,5 +1,5 @@
-//! The plain model (document 01, "The plain model of demand 3"; document 02, request 6): a list of records, scanned in
-//! full for every answer.
+//! The plain model (document 01, "The plain model of demand 3"; document 02, requests 6 and 7): a list of records,
+//! scanned in full for every answer.
 use super::leaves::{greatest_depth, leaves, Leaf, Record};
 use super::range::{range_refused, Intervals};
 use super::refusal::{absent, insert_refused, key_refused, page_size, query_refused};
@@ -20,14 +20,14 @@ pub struct Model {
 }
 
 impl Model {
-    /// The model of an accepted Fresh, or the number of the refusal.
-    pub fn fresh(mut shape: Shape, words: usize, bytes: usize) -> Result<Model, u32> {
-        if shape_refused(shape) {
-            return Err(1);
+    /// The model of an accepted Fresh, or the refusal.
+    pub fn fresh(mut shape: Shape, words: usize, bytes: usize) -> Result<Model, Refused> {
+        if let Some(refused) = shape_refused(shape) {
+            return Err(refused);
         }
         let whole_pages = bytes / page_size(shape);
         if words == 0 || whole_pages == 0 {
-            return Err(2);
+            return Err(refusal(2));
         }
         // "the smallest of 12, W and the rounded-down base-2 logarithm of the directory's length"
         let bits = used_widths(shape).iter().sum::<u32>() as usize;
@@ -119,28 +119,28 @@ impl Model {
 
     /// The depth of the key's leaf "afterwards".
     pub fn insert(&mut self, key: [i32; 4], payload: u32) -> Result<u32, Refused> {
-        if let Some(number) = insert_refused(self.shape, key, payload) {
-            return Err(refusal(number));
+        if let Some(refused) = insert_refused(self.shape, key, payload) {
+            return Err(refused);
         }
-        self.join(key, payload).map(|()| self.depth(key)).map_err(refusal)
+        self.join(key, payload).map(|()| self.depth(key))
     }
 
     /// An insert of a key within its bounds, after 11: 4, 6 or 7.
-    pub fn join(&mut self, key: [i32; 4], payload: u32) -> Result<(), u32> {
+    pub fn join(&mut self, key: [i32; 4], payload: u32) -> Result<(), Refused> {
         if self.records.iter().any(|record| record.key == key) {
-            return Err(4);
+            return Err(refusal(4));
         }
         let new = self.record(key, payload);
         let first = &new.bits[..self.depth_limit];
         let sharing = self.records.iter().filter(|record| record.bits.starts_with(first)).count();
         if sharing >= self.shape.capacity as usize {
-            return Err(6);
+            return Err(refusal(6));
         }
         self.records.push(new);
         let pages = self.leaves().iter().filter(|leaf| !leaf.records.is_empty()).count();
         if pages > self.page_limit {
             self.records.pop();
-            return Err(7);
+            return Err(refusal(7));
         }
         Ok(())
     }
@@ -166,17 +166,17 @@ impl Model {
     }
 
     /// Written, total and reads.
-    pub fn query(&self, query: [Option<i32>; 4], out: &mut [u8]) -> Result<(u64, u64, u64), u32> {
-        if let Some(number) = query_refused(self.shape, query) {
-            return Err(number);
+    pub fn query(&self, query: [Option<i32>; 4], out: &mut [u8]) -> Result<(u64, u64, u64), Refused> {
+        if let Some(refused) = query_refused(self.shape, query) {
+            return Err(refused);
         }
         Ok(self.list(|record| record.matches(query), &self.agreeing(query), out))
     }
 
     /// Written, total and reads.
-    pub fn range(&self, range: Intervals, out: &mut [u8]) -> Result<(u64, u64, u64), u32> {
-        if let Some(number) = range_refused(self.shape, range) {
-            return Err(number);
+    pub fn range(&self, range: Intervals, out: &mut [u8]) -> Result<(u64, u64, u64), Refused> {
+        if let Some(refused) = range_refused(self.shape, range) {
+            return Err(refused);
         }
         Ok(self.list(|record| record.lies_in(range), &self.meeting(range), out))
     }

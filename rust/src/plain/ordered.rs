@@ -111,8 +111,8 @@ impl Ordered {
 
     /// The depth of the key's leaf afterwards.
     pub fn insert(&mut self, key: [i32; 4], payload: u32) -> Result<u32, Refused> {
-        if let Some(number) = insert_refused(self.model.shape, key, payload) {
-            return Err(refusal(number));
+        if let Some(refused) = insert_refused(self.model.shape, key, payload) {
+            return Err(refused);
         }
         let code = self.code(key);
         let Err(place) = self.find(code) else {
@@ -151,18 +151,18 @@ impl Ordered {
     }
 
     /// Written, total and reads.
-    pub fn query(&self, query: [Option<i32>; 4], out: &mut [u8]) -> Result<(u64, u64, u64), u32> {
-        if let Some(number) = query_refused(self.model.shape, query) {
-            return Err(number);
+    pub fn query(&self, query: [Option<i32>; 4], out: &mut [u8]) -> Result<(u64, u64, u64), Refused> {
+        if let Some(refused) = query_refused(self.model.shape, query) {
+            return Err(refused);
         }
         let (written, total) = self.list(|record| record.matches(query), out);
         Ok((written, total, self.reads(query)))
     }
 
     /// Written, total and reads.
-    pub fn range(&self, range: Intervals, out: &mut [u8]) -> Result<(u64, u64, u64), u32> {
-        if let Some(number) = range_refused(self.model.shape, range) {
-            return Err(number);
+    pub fn range(&self, range: Intervals, out: &mut [u8]) -> Result<(u64, u64, u64), Refused> {
+        if let Some(refused) = range_refused(self.model.shape, range) {
+            return Err(refused);
         }
         let (written, total) = self.list(|record| record.lies_in(range), out);
         let [least, greatest] = [0, u64::MAX].map(|code| self.key_of(code));

@@ -1,23 +1,24 @@
 //! Ranges (document 02, requests 1 and 4), by intervals of values.
 use super::leaves::{Leaf, Record};
 use super::model::Model;
+use super::refusal::refusal;
 use super::value::is_value;
-use crate::host::Shape;
+use crate::host::{Refused, Shape};
 
 /// "leaves each attribute free or gives it an interval, low to high, both included".
 pub type Intervals = [Option<(i32, i32)>; 4];
 
 /// 8 for an interval of attribute d or above, then 3 for an end out of bounds in any attribute, then "10, low above high
 /// in some attribute, checked after 3".
-pub fn range_refused(shape: Shape, range: Intervals) -> Option<u32> {
+pub fn range_refused(shape: Shape, range: Intervals) -> Option<Refused> {
     if range[shape.attributes as usize..].iter().any(Option::is_some) {
-        return Some(8);
+        return Some(refusal(8));
     }
     let outside = |j, (low, high)| !is_value(shape, j, low) || !is_value(shape, j, high);
     if (0..4).any(|j| range[j].is_some_and(|ends| outside(j, ends))) {
-        return Some(3);
+        return Some(refusal(3));
     }
-    range.iter().flatten().any(|(low, high)| low > high).then_some(10)
+    range.iter().flatten().any(|(low, high)| low > high).then_some(refusal(10))
 }
 
 impl Record {

@@ -5,7 +5,8 @@ use super::model::Model;
 use super::refusal::key_refused;
 use crate::cells::Cells;
 
-/// A store after 1 and 2 whose limits hold, and the cells of its widths, in directories up to its depth at least.
+/// A store after the early numbers whose limits hold, and the cells of its widths, in directories up to its depth at
+/// least.
 pub struct Reading<'a> {
     pub image: &'a Image,
     pub cells: &'a Cells,

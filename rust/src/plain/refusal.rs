@@ -1,17 +1,22 @@
 //! The refusals that need no look into words and pages, from the table of document 01, "Refused calls", and from
-//! document 02, requests 2 and 4; and what refusals carry, from its request 6.
+//! document 02, requests 2, 4 and 7; and what refusals carry, from its requests 6 and 7.
 use super::value::is_value;
 use crate::host::{Refused, Shape};
 
-/// A refusal without a depth: "no other number carries a depth".
+/// A refusal that carries nothing: "no other number carries a depth" than 5, and 14 alone names an attribute.
 pub const fn refusal(number: u32) -> Refused {
-    assert!(number != 5, "5 carries a depth");
-    Refused { number, depth: 0 }
+    assert!(number != 5 && number != 14, "5 carries a depth, 14 an attribute");
+    Refused { number, attribute: 0, depth: 0 }
 }
 
 /// "number 5 carries the depth of the present leaf that the absent key's split bits begin with".
 pub const fn absent(depth: u32) -> Refused {
-    Refused { number: 5, depth }
+    Refused { number: 5, attribute: 0, depth }
+}
+
+/// 14: "A bad width names its attribute".
+pub const fn bad_width(attribute: u32) -> Refused {
+    Refused { number: 14, attribute, depth: 0 }
 }
 
 /// A page's bytes: "A page has 2 + 12b bytes".
@@ -24,11 +29,17 @@ pub fn used_widths(shape: Shape) -> Vec<u32> {
     shape.widths[..shape.attributes as usize].to_vec()
 }
 
-/// 1: "shape outside its bounds".
-pub fn shape_refused(shape: Shape) -> bool {
-    !(1..=4).contains(&shape.attributes)
-        || !(1..=16).contains(&shape.capacity)
-        || used_widths(shape).iter().any(|width| !(1..=16).contains(width))
+/// "Number 1 remains for the attribute count"; "14, a width outside 1–16, after 1", which names "the lowest where there
+/// are several"; "then 15, capacity outside 1–16".
+pub fn shape_refused(shape: Shape) -> Option<Refused> {
+    if !(1..=4).contains(&shape.attributes) {
+        return Some(refusal(1));
+    }
+    let outside = used_widths(shape).iter().position(|width| !(1..=16).contains(width));
+    if let Some(j) = outside {
+        return Some(bad_width(j as u32));
+    }
+    (!(1..=16).contains(&shape.capacity)).then_some(refusal(15))
 }
 
 /// 2, of a later call: "fewer than 2^L words or P pages", whatever P and L are.
@@ -44,17 +55,17 @@ pub fn key_refused(shape: Shape, key: [i32; 4]) -> bool {
 }
 
 /// 3, then "11, payload 0 on insert, after 3 and before 4".
-pub fn insert_refused(shape: Shape, key: [i32; 4], payload: u32) -> Option<u32> {
+pub fn insert_refused(shape: Shape, key: [i32; 4], payload: u32) -> Option<Refused> {
     if key_refused(shape, key) {
-        return Some(3);
+        return Some(refusal(3));
     }
-    (payload == 0).then_some(11)
+    (payload == 0).then_some(refusal(11))
 }
 
 /// 8: "query names attribute d or above", then 3 for a given value; "A value of a free attribute is ignored."
-pub fn query_refused(shape: Shape, query: [Option<i32>; 4]) -> Option<u32> {
+pub fn query_refused(shape: Shape, query: [Option<i32>; 4]) -> Option<Refused> {
     if query[shape.attributes as usize..].iter().any(Option::is_some) {
-        return Some(8);
+        return Some(refusal(8));
     }
-    (0..4).any(|j| query[j].is_some_and(|value| !is_value(shape, j, value))).then_some(3)
+    (0..4).any(|j| query[j].is_some_and(|value| !is_value(shape, j, value))).then_some(refusal(3))
 }

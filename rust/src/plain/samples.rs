@@ -2,8 +2,9 @@
 use super::image::{Image, STATE};
 use super::model::Model;
 use super::range::Intervals;
+use super::refusal::{bad_width, refusal};
 use super::value::bounds;
-use crate::host::Shape;
+use crate::host::{Refused, Shape};
 use crate::random::Random;
 use crate::shapes::{marked, random_widths};
 
@@ -93,23 +94,30 @@ pub fn outside(shape: Shape, j: usize) -> [i32; 8] {
     [least - 1, least - 2, -(1 << 16), i32::MIN, greatest + 1, greatest + 2, 1 << 16, i32::MAX]
 }
 
-/// A store with a bad shape, too few state words, words or pages, or both, and the number that refuses each.
-pub fn early_refused(image: &Image, model: &Model) -> Vec<(Image, u32)> {
-    let changed = |change: &dyn Fn(&mut Image), number| {
+/// A store with a bad shape, too few state words, words or pages, or several of these, and the refusal of each.
+pub fn early_refused(image: &Image, model: &Model) -> Vec<(Image, Refused)> {
+    let changed = |change: &dyn Fn(&mut Image), refused| {
         let mut image = image.clone();
         change(&mut image);
-        (image, number)
+        (image, refused)
     };
     let words = (1 << model.depth_limit) - 1;
     let bytes = image.clone().page(0).len() * model.page_limit - 1;
+    let last = model.shape.attributes;
     vec![
-        changed(&|image| image.state[0] = 5, 1),
-        changed(&|image| image.state[1] = 17, 1),
-        changed(&|image| image.state[5] = 0, 1),
-        changed(&|image| image.state.truncate(STATE - 1), 1),
-        changed(&|image| image.state.clear(), 1),
-        changed(&|image| image.dir.truncate(words), 2),
-        changed(&|image| image.pages.truncate(bytes), 2),
-        changed(&|image| (image.dir, image.pages, image.state[5]) = (vec![], vec![], 17), 1),
+        changed(&|image| image.state[0] = 5, refusal(1)),
+        changed(&|image| image.state[1] = 17, bad_width(0)),
+        changed(&|image| image.state[last as usize] = 0, bad_width(last - 1)),
+        changed(&|image| image.state[5] = 0, refusal(15)),
+        changed(&|image| image.state.truncate(STATE - 1), refusal(1)),
+        changed(&|image| image.state.clear(), refusal(1)),
+        changed(&|image| image.dir.truncate(words), refusal(2)),
+        changed(&|image| image.pages.truncate(bytes), refusal(2)),
+        changed(&|image| (image.dir, image.pages, image.state[5]) = (vec![], vec![], 17), refusal(15)),
+        changed(&|image| (image.dir, image.state[1], image.state[5]) = (vec![], 0, 0), bad_width(0)),
+        changed(&|image| (image.pages, image.state[0], image.state[1]) = (vec![], 0, 0), refusal(1)),
     ]
 }
+
+/// How many stores `early_refused` makes.
+pub const EARLY: u64 = 11;

@@ -6,23 +6,23 @@ use super::reading::{sibling, Reading};
 use crate::cells::Cell;
 
 impl Reading<'_> {
-    /// Whether a lookup of a key has to be answered with 9, after 1, 2 and 3.
+    /// Whether a lookup of a key has to be answered with 9, after 1, 14, 15, 2 and 3.
     pub fn lookup_told(&self, key: [i32; 4]) -> bool {
         let bits = self.model.split_bits(key);
         self.leaf_told(&bits, self.word(&bits))
     }
 
-    /// Whether a query has to be answered with 9, after 1, 2, 8 and 3.
+    /// Whether a query has to be answered with 9, after 1, 14, 15, 2, 8 and 3.
     pub fn query_told(&self, query: [Option<i32>; 4]) -> bool {
         self.walk_told(&[], &|side| self.model.agrees(side, query))
     }
 
-    /// Whether a range has to be answered with 9, after 1, 2, 8, 3 and 10.
+    /// Whether a range has to be answered with 9, after 1, 14, 15, 2, 8, 3 and 10.
     pub fn range_told(&self, range: Intervals) -> bool {
         self.walk_told(&[], &|side| self.model.meets(side, range))
     }
 
-    /// Whether an insert of a key has to be answered with 9, after 1, 2, 3 and 11.
+    /// Whether an insert of a key has to be answered with 9, after 1, 14, 15, 2, 3 and 11.
     pub fn insert_told(&self, key: [i32; 4]) -> bool {
         let bits = self.model.split_bits(key);
         let word = self.word(&bits);
@@ -36,7 +36,7 @@ impl Reading<'_> {
         sets && free && !self.holds(leaf, word)
     }
 
-    /// Whether a delete of a key has to be answered with 9, after 1, 2 and 3.
+    /// Whether a delete of a key has to be answered with 9, after 1, 14, 15, 2 and 3.
     pub fn delete_told(&self, key: [i32; 4]) -> bool {
         let bits = self.model.split_bits(key);
         let word = self.word(&bits);

@@ -6,19 +6,23 @@ use crate::plain::image::STATE;
 /// The words of a call.
 pub const CALL_SIZE: usize = 15;
 
-/// The words of an answer: its number, and three more. Of an insert, a delete and a lookup the last one is the depth.
+/// The words of an answer: its number, and three more. Of an insert, a delete and a lookup the last one is the depth;
+/// with number 14 the first of the three is the attribute.
 pub const ANSWER_SIZE: usize = 4;
 
-/// The number of Fresh's or the load's refusal, 0 where it is accepted, and the words of the state after the calls.
+/// The number of Fresh's or the load's refusal, 0 where it is accepted, the attribute that 14 names, and the words of
+/// the state after the calls.
 #[derive(Clone, Debug)]
 pub struct Replayed {
     pub number: u32,
+    pub attribute: u32,
     pub state: [u32; STATE],
 }
 
 #[repr(C)]
 struct ReplayFields {
     number: u32,
+    attribute: u32,
     state: State,
 }
 
@@ -53,7 +57,7 @@ extern "C" {
 }
 
 /// Makes a store in lent memory and runs the calls on it, as many as there are whole ones and as many as the answers
-/// have room for. Refused with 1 or 2 as Fresh is; then nothing is changed.
+/// have room for. Refused as Fresh is; then nothing is changed.
 pub fn replay(
     shape: Shape,
     dir: &mut [u32],
@@ -63,7 +67,7 @@ pub fn replay(
     out: &mut [u8],
 ) -> Replayed {
     // SAFETY: nothing is required; each pointer and length are of one slice, and no two slices overlap.
-    let ReplayFields { number, state } = unsafe {
+    let ReplayFields { number, attribute, state } = unsafe {
         probe_replay(
             shape,
             dir.as_mut_ptr(),
@@ -78,7 +82,7 @@ pub fn replay(
             out.len(),
         )
     };
-    Replayed { number, state: state.words() }
+    Replayed { number, attribute, state: state.words() }
 }
 
 /// The same on a store made of a file. Refused as load is; then nothing is changed.
@@ -91,7 +95,7 @@ pub fn replay_file(
     out: &mut [u8],
 ) -> Replayed {
     // SAFETY: nothing is required; each pointer and length are of one slice, and no two slices overlap.
-    let ReplayFields { number, state } = unsafe {
+    let ReplayFields { number, attribute, state } = unsafe {
         probe_replay_file(
             file.as_ptr(),
             file.len(),
@@ -107,5 +111,5 @@ pub fn replay_file(
             out.len(),
         )
     };
-    Replayed { number, state: state.words() }
+    Replayed { number, attribute, state: state.words() }
 }

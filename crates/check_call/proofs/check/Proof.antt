@@ -24,11 +24,15 @@ limits c = sym (c .before .limits-hold .ensures) ∙ not-false _ (c .if2 .left)
 lent-number-requires : tie.Need-lent-number-requires
 lent-number-requires c κs = search needs
 
+refuse-check-requires : tie.Need-refuse-check-requires
+refuse-check-requires c κs = search needs
+
 returns : tie.Need-returns
-unfolding checkedAnswer
 returns c =
-    let a = c .before .before .before .before .args in
-    check-refused (a .state) (a .dir .now) (a .pages .now) _ (c .if1 .taken) (c .before .lent-number .ensures)
+    let n = c .before .before in
+    let a = n .before .before .before .args in
+    rw (c .refuse-check .ensures)
+    (check-refused (a .state) (a .dir .now) (a .pages .now) _ (c .before .if1 .taken) (n .lent-number .ensures))
 
 limits-hold-requires : tie.Need-limits-hold-requires
 limits-hold-requires c κs = memoryLent _ _ _ (none c) .shape
@@ -70,6 +74,7 @@ check-spec =
     tie.close
     (tie.spec
     lent-number-requires
+    refuse-check-requires
     returns
     limits-hold-requires
     returns-2

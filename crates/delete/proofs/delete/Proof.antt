@@ -75,15 +75,18 @@ joined c =
 lent-number-requires : tie.Need-lent-number-requires
 lent-number-requires c κs = search needs
 
+refuse-change-requires : tie.Need-refuse-change-requires
+refuse-change-requires c κs = search needs
+
 returns : tie.Need-returns
-unfolding changedAnswer
 returns c =
-    let n = c .before in
+    let some = c .before .if1 .taken in
+    let n = c .before .before in
     let s = n .before .before .before in
     let a = s .args in
-    promise-early (given s) (a .key .values) (n .lent-number .result)
-    (number-lent (a .state) (a .dir .now) (a .pages .now) _ (n .lent-number .ensures) (a .key .values) (c .if1 .taken))
-    (c .if1 .taken)
+    rw (c .refuse-change .ensures)
+    (promise-early (given s) (a .key .values) (n .lent-number .result)
+    (number-lent (a .state) (a .dir .now) (a .pages .now) _ (n .lent-number .ensures) (a .key .values) some) some)
 
 encode-key-requires : tie.Need-encode-key-requires
 encode-key-requires c κs =
@@ -273,6 +276,7 @@ delete-spec =
     tie.close
     (tie.spec
     lent-number-requires
+    refuse-change-requires
     returns
     encode-key-requires
     encodings-fit-requires

@@ -24,17 +24,21 @@ some-word c =
 shape-number-requires : tie.Need-shape-number-requires
 shape-number-requires c κs = search needs
 
+refuse-made-requires : tie.Need-refuse-made-requires
+refuse-made-requires c κs = search needs
+
 refuse-requires : tie.Need-refuse-requires
 refuse-requires c κs = search needs
 
 returns : tie.Need-returns
 returns c =
-    let s = c .before .before .before .before .before .args in
-    let n = c .before .before .shape-number in
+    let tested = c .before .before in
+    let s = tested .before .before .before .before .args in
+    let n = tested .before .shape-number in
     promise-refused (s .shape) (s .dir .now) (s .pages .now) _ _ (n .result)
-    (freshNumber-shape-out (s .shape) (s .dir .now) (s .pages .now) (λ e. c .before .if1 .taken (n .ensures ∙ e))
+    (freshNumber-shape-out (s .shape) (s .dir .now) (s .pages .now) (λ e. tested .if1 .taken (n .ensures ∙ e))
     ∙ sym (n .ensures))
-    (c .before .if1 .taken) (c .refuse .ensures .0) (c .refuse .ensures .1)
+    (tested .if1 .taken) (c .refuse .ensures .0 ∙ c .before .refuse-made .ensures) (c .refuse .ensures .1)
 
 lacks-word-or-page-requires : tie.Need-lacks-word-or-page-requires
 lacks-word-or-page-requires c κs = search needs
@@ -43,6 +47,7 @@ refuse-requires-2 : tie.Need-refuse-requires-2
 refuse-requires-2 c κs = search needs
 
 returns-2 : tie.Need-returns-2
+unfolding madeAnswer
 returns-2 c =
     let s = c .before .before .before .before .before .before .before .args in
     let lacks = c .before .before in
@@ -97,6 +102,7 @@ fresh-spec =
     tie.close
     (tie.spec
     shape-number-requires
+    refuse-made-requires
     refuse-requires
     returns
     lacks-word-or-page-requires

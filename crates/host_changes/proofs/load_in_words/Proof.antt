@@ -27,7 +27,7 @@ returns c =
     let a = long .before .before .before .before .before .args in
     let settled = c .before .before .settle .ensures in
     long-settled (a .file .now) (a .state .now) (a .dir .now) (a .pages .now) (long .if1 .taken) _ _ _ _
-    (call .load .ensures) _ _ (settled .0) (settled .1)
+    (call .load .ensures) _ _ _ (settled .0) (settled .1)
 
 sub-load : tie.Need-sub-load
 sub-load c = search needs
@@ -75,7 +75,7 @@ returns-2 c =
     let a = short .before .before .before .before .before .args in
     let settled = c .before .before .settle2 .ensures in
     short-settled (a .file .now) (a .state .now) (a .dir .now) (a .pages .now) (short .if1 .left) _ _ _ _
-    (call .load2 .ensures) _ _ (settled .0) (settled .1)
+    (call .load2 .ensures) _ _ _ (settled .0) (settled .1)
 
 pub load-in-words-spec : {M : Type 1} → statement M
 load-in-words-spec =

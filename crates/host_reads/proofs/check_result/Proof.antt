@@ -5,7 +5,7 @@ use Rattle.store.specs.Store.{store}
 use Rattle.store.specs.Promises.{CheckPromise}
 use Rattle.store.specs.declared.State.{State}
 use Rattle.host_results.proofs.ResultLaws.{keeps-reported}
-use Rattle.host_reads.proofs.RefusalLaws.{check-not-zero}
+use Rattle.host_reads.proofs.RefusalLaws.{check-numbers}
 use borrow.Author.Needs.{needs}
 use Rattle.host_reads.proofs.check_result.Statement.{statement}
 use Rattle.host_reads.proofs.check_result.Tie as tie
@@ -23,12 +23,12 @@ check-requires : tie.Need-check-requires
 check-requires c κs = search needs
 
 checked-result-requires : tie.Need-checked-result-requires
-checked-result-requires c κs = check-not-zero _ _ (c .check .ensures)
+checked-result-requires c κs = check-numbers _ _ (c .check .ensures)
 
 returns : tie.Need-returns
 returns c =
     let s = c .before in (
-      keeps-reported _ _ _ _ _ (subst (Promise s) (s .before .state-in .ensures) (s .check .ensures))
+      keeps-reported _ _ _ _ _ _ (subst (Promise s) (s .before .state-in .ensures) (s .check .ensures))
           (c .checked-result .ensures .0),
       c .checked-result .ensures .1,
     )

@@ -28,7 +28,7 @@ found-result-requires c κs = lookup-numbers _ _ _ (c .lookup .ensures)
 returns : tie.Need-returns
 returns c =
     let s = c .before in
-    keepsDepth-told _ _ _ _ _ _ (subst (Promise s) (s .before .state-in .ensures) (s .lookup .ensures))
+    keepsDepth-told _ _ _ _ _ _ _ (subst (Promise s) (s .before .state-in .ensures) (s .lookup .ensures))
     (c .found-result .ensures)
 
 pub lookup-result-spec : {M : Type 1} → statement M

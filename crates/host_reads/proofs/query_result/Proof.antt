@@ -7,9 +7,10 @@ use Rattle.store.specs.Answers.{listedAnswer}
 use Rattle.store.specs.Store.{store}
 use Rattle.store.specs.Promises.{QueryPromise}
 use Rattle.store.specs.declared.State.{State}
+use Rattle.store.proofs.NumberLaws.{named-query}
 use Rattle.host_results.specs.Wanted.{wantedOf}
 use Rattle.host_results.proofs.ResultLaws.{keeps-reported}
-use Rattle.host_reads.proofs.RefusalLaws.{list-not-zero}
+use Rattle.host_reads.proofs.RefusalLaws.{list-numbers}
 use borrow.Author.Needs.{needs}
 use Rattle.host_reads.proofs.query_result.Statement.{statement}
 use Rattle.host_reads.proofs.query_result.Tie as tie
@@ -31,7 +32,8 @@ query-requires : tie.Need-query-requires
 query-requires c κs = search needs
 
 listed-result-requires : tie.Need-listed-result-requires
-listed-result-requires c κs = list-not-zero _ _ _ _ _ _ _ (c .before .before .query .ensures .listed-as)
+listed-result-requires c κs =
+    list-numbers _ _ _ _ _ _ _ (named-query _ _) (c .before .before .query .ensures .listed-as)
 
 same-length : tie.Need-same-length
 same-length c = search needs
@@ -43,7 +45,7 @@ returns c =
     let asked =
     subst (λ q. Promise s q (s .before .before .before .state-in .result)) (s .before .before .store-query .ensures)
     (s .query .ensures) in
-    keeps-reported _ _ _ _ _
+    keeps-reported _ _ _ _ _ _
     (subst (Promise s (wantedOf (a .wanted .given) (a .wanted .values))) (s .before .before .before .state-in .ensures)
     asked)
     (c .listed-result .ensures)

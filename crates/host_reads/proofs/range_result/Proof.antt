@@ -7,9 +7,10 @@ use Rattle.store.specs.Answers.{listedAnswer}
 use Rattle.store.specs.Store.{store}
 use Rattle.store.specs.Promises.{RangePromise}
 use Rattle.store.specs.declared.State.{State}
+use Rattle.store.proofs.NumberLaws.{named-range}
 use Rattle.shape.specs.Range.{intervalsOf}
 use Rattle.host_results.proofs.ResultLaws.{keeps-reported}
-use Rattle.host_reads.proofs.RefusalLaws.{list-not-zero}
+use Rattle.host_reads.proofs.RefusalLaws.{list-numbers}
 use borrow.Author.Needs.{needs}
 use Rattle.host_reads.proofs.range_result.Statement.{statement}
 use Rattle.host_reads.proofs.range_result.Tie as tie
@@ -31,7 +32,7 @@ range-requires : tie.Need-range-requires
 range-requires c κs = search needs
 
 listed-result-requires : tie.Need-listed-result-requires
-listed-result-requires c κs = list-not-zero _ _ _ _ _ _ _ (c .before .before .range .ensures)
+listed-result-requires c κs = list-numbers _ _ _ _ _ _ _ (named-range _ _) (c .before .before .range .ensures)
 
 same-length : tie.Need-same-length
 same-length c = search needs
@@ -43,7 +44,7 @@ returns c =
     let asked =
     subst (λ r. Promise s r (s .before .before .before .state-in .result)) (s .before .before .store-range .ensures)
     (s .range .ensures) in
-    keeps-reported _ _ _ _ _
+    keeps-reported _ _ _ _ _ _
     (subst (Promise s (intervalsOf (a .within .given) (a .within .lows) (a .within .highs)))
     (s .before .before .before .state-in .ensures) asked)
     (c .listed-result .ensures)

@@ -5,7 +5,7 @@ use Rattle.store.specs.declared.State.{State}
 use Rattle.file.specs.Answers.{savedAnswer}
 use Rattle.file.specs.Promises.{SavePromise}
 use Rattle.host_results.proofs.ResultLaws.{keeps-reported}
-use Rattle.host_reads.proofs.RefusalLaws.{save-not-zero}
+use Rattle.host_reads.proofs.RefusalLaws.{save-numbers}
 use borrow.Author.Needs.{needs}
 use Rattle.host_reads.proofs.save_result.Statement.{statement}
 use Rattle.host_reads.proofs.save_result.Tie as tie
@@ -24,7 +24,7 @@ save-requires : tie.Need-save-requires
 save-requires c κs = search needs
 
 saved-result-requires : tie.Need-saved-result-requires
-saved-result-requires c κs = save-not-zero _ _ _ _ (c .before .before .save .ensures)
+saved-result-requires c κs = save-numbers _ _ _ _ (c .before .before .save .ensures)
 
 same-length : tie.Need-same-length
 same-length c = search needs
@@ -32,7 +32,7 @@ same-length c = search needs
 returns : tie.Need-returns
 returns c =
     let s = c .before .before .before in
-    keeps-reported _ _ _ _ _ (subst (Promise s) (s .before .before .state-in .ensures) (s .save .ensures))
+    keeps-reported _ _ _ _ _ _ (subst (Promise s) (s .before .before .state-in .ensures) (s .save .ensures))
     (c .saved-result .ensures)
 
 pub save-result-spec : {M : Type 1} → statement M

@@ -1,11 +1,12 @@
--- `insert::insert` meets its contract: 1 and 2 come first, then 3, then 11, then the record is added. Assumes nothing.
+-- `insert::insert` meets its contract: 1, 14, 15 and 2 come first, then 3, then 11, then the record is added. Assumes
+-- nothing.
 use Prim.Native.Nat.{ℕ, zero, suc}
-use mathlib.Core.Path.{_≡_, refl, sym, _∙_}
+use mathlib.Core.Path.{_≡_, refl, sym}
 use mathlib.Core.List.{List}
 use native.Mathlib.Omega.{arith}
 use borrow.Author.Needs.{needs}
 use borrow.Author.Tests.{not-true, not-false}
-use Rattle.shape.specs.Refusal.{refused}
+use Rattle.shape.specs.Amiss.{refusedFor}
 use Rattle.record.specs.declared.Content.{Content}
 use Rattle.store.specs.Answers.{changedAnswer}
 use Rattle.store.specs.Promises.{keyNumber, InsertPromise}
@@ -24,11 +25,11 @@ given s = store (s .args .state) (s .args .dir .now) (s .args .pages .now)
 
 -- an early refusal keeps the promise
 early : (before : Store) (values : List ℕ) (content : Content) (n : ℕ) → n ≡ keyNumber before values
-    → (n ≡ 0 → ⊥) → InsertPromise before values content (refused n) before
+    → (n ≡ 0 → ⊥) → InsertPromise before values content (refusedFor (before .state .shape) n) before
 early before values content zero e some = absurd (some refl)
 early before values content (suc k) e some = insert-early before values content k (sym e)
 
--- none of 1, 2 and 3 holds
+-- none of 1, 14, 15, 2 and 3 holds
 none : (c : tie.Else2)
     → let s = start (c .before .before .before .before) in keyNumber (given s) (s .args .key .values) ≡ 0
 none c =
@@ -41,15 +42,18 @@ none c =
 lent-number-requires : tie.Need-lent-number-requires
 lent-number-requires c κs = search needs
 
+refuse-change-requires : tie.Need-refuse-change-requires
+refuse-change-requires c κs = search needs
+
 returns : tie.Need-returns
-unfolding changedAnswer
 returns c =
-    let n = c .before in
+    let some = c .before .if1 .taken in
+    let n = c .before .before in
     let s = start n in
     let a = s .args in
-    early (given s) (a .key .values) (a .content) (n .lent-number .result)
-    (number-lent (a .state) (a .dir .now) (a .pages .now) _ (n .lent-number .ensures) (a .key .values) (c .if1 .taken))
-    (c .if1 .taken)
+    rw (c .refuse-change .ensures)
+    (early (given s) (a .key .values) (a .content) (n .lent-number .result)
+    (number-lent (a .state) (a .dir .now) (a .pages .now) _ (n .lent-number .ensures) (a .key .values) some) some)
 
 encode-key-requires : tie.Need-encode-key-requires
 encode-key-requires c κs =
@@ -105,6 +109,7 @@ insert-spec =
     tie.close
     (tie.spec
     lent-number-requires
+    refuse-change-requires
     returns
     encode-key-requires
     encodings-fit-requires

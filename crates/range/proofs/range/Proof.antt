@@ -21,12 +21,16 @@ use Rattle.range.proofs.range.Tie as tie
 range-number-requires : tie.Need-range-number-requires
 range-number-requires c κs = search needs
 
+refuse-list-requires : tie.Need-refuse-list-requires
+refuse-list-requires c κs = search needs
+
 returns : tie.Need-returns
-unfolding listedAnswer
 returns c =
-    let a = c .before .before .before .before .before .args in
-    promise-early (a .state) (a .dir .now) (a .pages .now) (rangeIntervals (a .range)) (a .out .now) _
-    (c .before .range-number .ensures) (c .if1 .taken)
+    let e = c .before in
+    let a = e .before .before .before .before .before .args in
+    rw (c .refuse-list .ensures)
+    (promise-early (a .state) (a .dir .now) (a .pages .now) (rangeIntervals (a .range)) (a .out .now) _
+    (e .before .range-number .ensures) (e .if1 .taken))
 
 limits-hold-requires : tie.Need-limits-hold-requires
 limits-hold-requires c κs =
@@ -146,6 +150,7 @@ range-spec =
     tie.close
     (tie.spec
     range-number-requires
+    refuse-list-requires
     returns
     limits-hold-requires
     returns-2

@@ -6,7 +6,6 @@ use Rattle.shape.specs.Shape.{shapeNumber}
 use Rattle.shape.specs.Key.{encodedWanted, queryFits}
 use Rattle.shape.specs.Range.{rangeIntervals, rangeRises}
 use Rattle.page_matches.specs.Pattern.{GivenSixteenBits}
-use Rattle.refusals.proofs.LentLaws.{memoryLent}
 use Rattle.key_between.specs.Between.{liesBetween}
 use Rattle.query_number.specs.Number.{queryNumberBy}
 use Rattle.query_number.proofs.EarlyLaws.{sixteen-of-fits, parts-of-queryNumberBy}
@@ -48,8 +47,7 @@ low-none c = sym (low-number (c .before)) ∙ c .if1 .left
 shaped : (c : tie.Else1) → shapeNumber (c .before .before .before .args .state .shape) ≡ 0
 shaped c =
     let a = c .before .before .before .args in
-    memoryLent (a .state) (a .words) (a .bytes)
-    (parts-of-queryNumberBy (a .state) (a .words) (a .bytes) (lowEnds (rangeIntervals (a .range))) (low-none c) .0)
+    parts-of-queryNumberBy (a .state) (a .words) (a .bytes) (lowEnds (rangeIntervals (a .range))) (low-none c) .0
     .shape
 
 high-ends-requires : tie.Need-high-ends-requires

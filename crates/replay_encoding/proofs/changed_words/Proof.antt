@@ -9,20 +9,26 @@ use Rattle.replay_encoding.proofs.changed_words.Tie as tie
 enum-known-answer : tie.Need-enum-known-answer
 enum-known-answer c = search needs
 
-cast-t6 : tie.Need-cast-t6
-cast-t6 c = search needs
+cast-t7 : tie.Need-cast-t7
+cast-t7 c = search needs
 
 enum-known-answer-2 : tie.Need-enum-known-answer-2
 enum-known-answer-2 c = search needs
 
-cast-t7 : tie.Need-cast-t7
-cast-t7 c = search needs
+cast-t8 : tie.Need-cast-t8
+cast-t8 c = search needs
 
 enum-known-answer-3 : tie.Need-enum-known-answer-3
 enum-known-answer-3 c = search needs
 
-cast-t8 : tie.Need-cast-t8
-cast-t8 c = search needs
+cast-t9 : tie.Need-cast-t9
+cast-t9 c = search needs
+
+enum-known-answer-4 : tie.Need-enum-known-answer-4
+enum-known-answer-4 c = search needs
+
+cast-t10 : tie.Need-cast-t10
+cast-t10 c = search needs
 
 returns : tie.Need-returns
 unfolding answerWords changedAnswer
@@ -36,8 +42,12 @@ returns-3 : tie.Need-returns-3
 unfolding answerWords changedAnswer
 returns-3 c = ap (λ a. answerWords (changedAnswer a)) (sym (c .before .answer3 .given .1))
 
+returns-4 : tie.Need-returns-4
+unfolding answerWords changedAnswer
+returns-4 c = ap (λ a. answerWords (changedAnswer a)) (sym (c .before .answer4 .given .1))
+
 pub changed-words-spec : {M : Type 1} → statement M
 changed-words-spec =
     tie.close
-    (tie.spec enum-known-answer cast-t6 enum-known-answer-2 cast-t7 enum-known-answer-3 cast-t8 returns returns-2
-    returns-3)
+    (tie.spec enum-known-answer cast-t7 enum-known-answer-2 cast-t8 enum-known-answer-3 cast-t9 enum-known-answer-4
+    cast-t10 returns returns-2 returns-3 returns-4)

@@ -12,8 +12,14 @@ enum-known-answer c = search needs
 enum-known-answer-2 : tie.Need-enum-known-answer-2
 enum-known-answer-2 c = search needs
 
-cast-t5 : tie.Need-cast-t5
-cast-t5 c = search needs
+cast-t6 : tie.Need-cast-t6
+cast-t6 c = search needs
+
+enum-known-answer-3 : tie.Need-enum-known-answer-3
+enum-known-answer-3 c = search needs
+
+cast-t7 : tie.Need-cast-t7
+cast-t7 c = search needs
 
 returns : tie.Need-returns
 unfolding answerWords listedAnswer
@@ -23,6 +29,11 @@ returns-2 : tie.Need-returns-2
 unfolding answerWords listedAnswer
 returns-2 c = ap (λ a. answerWords (listedAnswer a)) (sym (c .before .answer2 .given .1))
 
+returns-3 : tie.Need-returns-3
+unfolding answerWords listedAnswer
+returns-3 c = ap (λ a. answerWords (listedAnswer a)) (sym (c .before .answer3 .given .1))
+
 pub listed-words-spec : {M : Type 1} → statement M
 listed-words-spec =
-    tie.close (tie.spec enum-known-answer enum-known-answer-2 cast-t5 returns returns-2)
+    tie.close
+    (tie.spec enum-known-answer enum-known-answer-2 cast-t6 enum-known-answer-3 cast-t7 returns returns-2 returns-3)

@@ -18,12 +18,16 @@ use Rattle.save.proofs.save.Tie as tie
 lent-number-requires : tie.Need-lent-number-requires
 lent-number-requires c κs = search needs
 
+refuse-save-requires : tie.Need-refuse-save-requires
+refuse-save-requires c κs = search needs
+
 returns : tie.Need-returns
-unfolding savedAnswer
 returns c =
-    let a = c .before .before .before .before .before .args in
-    promise-early (a .state) (a .dir .now) (a .pages .now) (a .out .now) _ (c .before .lent-number .ensures)
-    (c .if1 .taken)
+    let n = c .before .before in
+    let a = n .before .before .before .before .args in
+    rw (c .refuse-save .ensures)
+    (promise-early (a .state) (a .dir .now) (a .pages .now) (a .out .now) _ (n .lent-number .ensures)
+    (c .before .if1 .taken))
 
 limits-hold-requires : tie.Need-limits-hold-requires
 limits-hold-requires c κs =
@@ -105,6 +109,7 @@ save-spec =
     tie.close
     (tie.spec
     lent-number-requires
+    refuse-save-requires
     returns
     limits-hold-requires
     returns-2

@@ -22,6 +22,12 @@ enum-known-answer c = search needs
 put-refused-requires-2 : tie.Need-put-refused-requires-2
 put-refused-requires-2 c κs = search needs
 
+enum-told-3 : tie.Need-enum-told-3
+enum-told-3 c = search needs
+
+put-refused-requires-3 : tie.Need-put-refused-requires-3
+put-refused-requires-3 c κs = search needs
+
 same-length : tie.Need-same-length
 same-length c = search needs
 
@@ -45,6 +51,13 @@ returns-3 c =
     let at-answer = c .before .before .before .before .before in
     rw (at-answer .answer .given .1) (c .before .before .put-refused2 .ensures)
 
+same-length-4 : tie.Need-same-length-4
+same-length-4 c = search needs
+
+returns-4 : tie.Need-returns-4
+unfolding changedAnswer
+returns-4 c = rw (c .before .before .before .before .enum-told3 .given .1) (c .before .before .put-refused3 .ensures)
+
 pub put-changed-spec : {M : Type 1} → statement M
 put-changed-spec =
     tie.close
@@ -55,9 +68,13 @@ put-changed-spec =
     put-refused-requires
     enum-known-answer
     put-refused-requires-2
+    enum-told-3
+    put-refused-requires-3
     same-length
     returns
     same-length-2
     returns-2
     same-length-3
-    returns-3)
+    returns-3
+    same-length-4
+    returns-4)

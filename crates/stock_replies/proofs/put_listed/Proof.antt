@@ -21,6 +21,12 @@ enum-known-listed-2 c = search needs
 put-refused-requires : tie.Need-put-refused-requires
 put-refused-requires c κs = search needs
 
+enum-told : tie.Need-enum-told
+enum-told c = search needs
+
+put-refused-requires-2 : tie.Need-put-refused-requires-2
+put-refused-requires-2 c κs = search needs
+
 same-length : tie.Need-same-length
 same-length c = search needs
 
@@ -39,6 +45,13 @@ returns-2 c =
     let at-listed2 = c .before .before .before .before .before in
     rw (at-listed2 .listed2 .given .1) (c .before .before .put-refused .ensures)
 
+same-length-3 : tie.Need-same-length-3
+same-length-3 c = search needs
+
+returns-3 : tie.Need-returns-3
+unfolding listedAnswer
+returns-3 c = rw (c .before .before .before .before .enum-told .given .1) (c .before .before .put-refused2 .ensures)
+
 pub put-listed-spec : {M : Type 1} → statement M
 put-listed-spec =
     tie.close
@@ -47,7 +60,11 @@ put-listed-spec =
     put-found-requires
     enum-known-listed-2
     put-refused-requires
+    enum-told
+    put-refused-requires-2
     same-length
     returns
     same-length-2
-    returns-2)
+    returns-2
+    same-length-3
+    returns-3)

@@ -1,23 +1,16 @@
 //! The calls that change a store over lent memory: insert and delete.
-use super::Key;
+use super::{Key, Refused};
 
-/// Of an insert or a delete: number 0 and the depth of the key's leaf afterwards, or the number of the refusal and 0;
-/// with number 5 the depth of the leaf in which the absent key falls.
+/// Of an insert or a delete: number 0 and the depth of the key's leaf afterwards, or the number of the refusal and
+/// zeros; with number 14 the attribute, with number 5 the depth of the leaf in which the absent key falls.
 #[repr(C)]
 #[derive(Clone, Copy, Debug, PartialEq, Eq)]
 pub struct ChangeResult {
     /// 0, or the refusal's number
     pub number: u32,
+    /// with number 14 the lowest whose width is out of bounds
+    pub attribute: u32,
     /// of the key's leaf
-    pub depth: u32,
-}
-
-/// Why an insert, a delete or a lookup is refused.
-#[derive(Clone, Copy, Debug, PartialEq, Eq)]
-pub struct Refused {
-    /// the refusal's number
-    pub number: u32,
-    /// with number 5 that of the leaf in which the absent key falls, otherwise 0
     pub depth: u32,
 }
 
@@ -108,16 +101,7 @@ pub fn delete(state: &mut [u32], dir: &mut [u32], pages: &mut [u8], key: [i32; 4
 #[inline]
 fn changed(result: ChangeResult) -> Result<u32, Refused> {
     match result {
-        ChangeResult { number: 0, depth } => Ok(depth),
-        ChangeResult { number, depth } => Err(Refused { number, depth }),
-    }
-}
-
-/// 0 for an accepted call, otherwise the number of the refusal.
-#[inline]
-pub(super) fn done(number: u32) -> Result<(), u32> {
-    match number {
-        0 => Ok(()),
-        number => Err(number),
+        ChangeResult { number: 0, depth, .. } => Ok(depth),
+        ChangeResult { number, attribute, depth } => Err(Refused { number, attribute, depth }),
     }
 }

@@ -1,12 +1,14 @@
 //! Save and load over lent memory: a store's records as the bytes of a file, and a store made of them.
-use super::changes::done;
+use super::{accepted, MakeResult, Refused};
 
-/// Number 0 and the bytes of the file, or the number of the refusal and 0.
+/// Number 0 and the bytes of the file, or the number of the refusal and 0; with number 14 the attribute.
 #[repr(C)]
 #[derive(Clone, Copy, Debug, PartialEq, Eq)]
 pub struct SaveResult {
     /// 0, or the refusal's number
     pub number: u32,
+    /// with number 14 the lowest whose width is out of bounds
+    pub attribute: u32,
     /// bytes of the file
     pub size: u64,
 }
@@ -31,7 +33,7 @@ extern "C" {
         words: usize,
         pages: *mut u8,
         bytes: usize,
-    ) -> u32;
+    ) -> MakeResult;
 }
 
 /// The file of a store's records, written into `out`, and its bytes, as the library returns them.
@@ -53,21 +55,12 @@ pub fn save_result(state: &[u32], dir: &[u32], pages: &[u8], out: &mut [u8]) -> 
     }
 }
 
-/// Writes the file of a store's records into `out`, and returns how many bytes it has or the number of the refusal.
+/// Makes a store of a file's shape and records, with what the library returns.
 #[inline]
-pub fn save(state: &[u32], dir: &[u32], pages: &[u8], out: &mut [u8]) -> Result<u64, u32> {
-    match save_result(state, dir, pages, out) {
-        SaveResult { number: 0, size } => Ok(size),
-        SaveResult { number, .. } => Err(number),
-    }
-}
-
-/// Makes a store of a file's shape and records, or returns the number of the refusal.
-#[inline]
-pub fn load(file: &[u8], state: &mut [u32], dir: &mut [u32], pages: &mut [u8]) -> Result<(), u32> {
+pub fn load_result(file: &[u8], state: &mut [u32], dir: &mut [u32], pages: &mut [u8]) -> MakeResult {
     // SAFETY: each pointer and length are of one slice, the slices do not overlap, and the function has no
     // `requires`.
-    let number = unsafe {
+    unsafe {
         mdeh_load(
             file.as_ptr(),
             file.len(),
@@ -78,6 +71,20 @@ pub fn load(file: &[u8], state: &mut [u32], dir: &mut [u32], pages: &mut [u8]) -
             pages.as_mut_ptr(),
             pages.len(),
         )
-    };
-    done(number)
+    }
+}
+
+/// Writes the file of a store's records into `out`, and returns how many bytes it has, or the refusal.
+#[inline]
+pub fn save(state: &[u32], dir: &[u32], pages: &[u8], out: &mut [u8]) -> Result<u64, Refused> {
+    let SaveResult { number, attribute, size } = save_result(state, dir, pages, out);
+    accepted(number, attribute)?;
+    Ok(size)
+}
+
+/// Makes a store of a file's shape and records, or returns the refusal.
+#[inline]
+pub fn load(file: &[u8], state: &mut [u32], dir: &mut [u32], pages: &mut [u8]) -> Result<(), Refused> {
+    let MakeResult { number, attribute } = load_result(file, state, dir, pages);
+    accepted(number, attribute)
 }

@@ -1,5 +1,5 @@
 //! The range call over lent memory.
-use super::store::{Counts, QueryResult};
+use super::{Counts, QueryResult, Refused};
 
 /// A range: attribute j is given the interval from `low[j]` to `high[j]`, both included, where `given[j]` is not 0, and
 /// is free otherwise.
@@ -66,8 +66,7 @@ pub fn range_result(
     }
 }
 
-/// Writes the records inside a range into `out` while whole ones fit, and returns the counts or the number of the
-/// refusal.
+/// Writes the records inside a range into `out` while whole ones fit, and returns the counts or the refusal.
 #[inline]
 pub fn range(
     state: &[u32],
@@ -75,9 +74,6 @@ pub fn range(
     pages: &[u8],
     range: [Option<(i32, i32)>; 4],
     out: &mut [u8],
-) -> Result<Counts, u32> {
-    match range_result(state, dir, pages, HostRange::new(range), out) {
-        QueryResult { number: 0, written, total, reads } => Ok(Counts { written, total, reads }),
-        QueryResult { number, .. } => Err(number),
-    }
+) -> Result<Counts, Refused> {
+    range_result(state, dir, pages, HostRange::new(range), out).counts()
 }

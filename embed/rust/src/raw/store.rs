@@ -1,7 +1,6 @@
 //! Fresh and the calls that read, over lent memory. The state lies in 32-bit words, the directory too, the pages in
 //! bytes.
-use super::changes::{done, Refused};
-use super::{Key, Shape};
+use super::{accepted, Key, Refused, Shape};
 
 /// The words of a state: d, the four widths, b, P, L, T, the tally of depths 0 to 12, and the marks of signed
 /// attributes.
@@ -17,13 +16,25 @@ pub struct HostQuery {
     pub values: [i32; 4],
 }
 
+/// Of Fresh or a load: number 0, or the number of the refusal; with number 14 the attribute.
+#[repr(C)]
+#[derive(Clone, Copy, Debug, PartialEq, Eq)]
+pub struct MakeResult {
+    /// 0, or the refusal's number
+    pub number: u32,
+    /// with number 14 the lowest whose width is out of bounds
+    pub attribute: u32,
+}
+
 /// Number 0, the payload, the pages read and the depth of the key's leaf, or the number of the refusal and zeros; with
-/// number 5 the depth of the leaf in which the absent key falls.
+/// number 14 the attribute, with number 5 the depth of the leaf in which the absent key falls.
 #[repr(C)]
 #[derive(Clone, Copy, Debug, PartialEq, Eq)]
 pub struct LookupResult {
     /// 0, or the refusal's number
     pub number: u32,
+    /// with number 14 the lowest whose width is out of bounds
+    pub attribute: u32,
     /// of the key's record
     pub payload: u32,
     /// pages read
@@ -33,12 +44,14 @@ pub struct LookupResult {
 }
 
 /// Of a query or a range: number 0 and how many records were written, how many match, how many pages were read, or the
-/// number of the refusal and zeros.
+/// number of the refusal and zeros; with number 14 the attribute.
 #[repr(C)]
 #[derive(Clone, Copy, Debug, PartialEq, Eq)]
 pub struct QueryResult {
     /// 0, or the refusal's number
     pub number: u32,
+    /// with number 14 the lowest whose width is out of bounds
+    pub attribute: u32,
     /// records in the output
     pub written: u64,
     /// records that match
@@ -47,12 +60,14 @@ pub struct QueryResult {
     pub reads: u64,
 }
 
-/// Number 0 and 1 for a sound store, 0 for any other, or the number of the refusal and 0.
+/// Number 0 and 1 for a sound store, 0 for any other, or the number of the refusal and 0; with number 14 the attribute.
 #[repr(C)]
 #[derive(Clone, Copy, Debug, PartialEq, Eq)]
 pub struct CheckResult {
     /// 0, or the refusal's number
     pub number: u32,
+    /// with number 14 the lowest whose width is out of bounds
+    pub attribute: u32,
     /// 1 for a sound store
     pub sound: u32,
 }
@@ -77,7 +92,7 @@ extern "C" {
         words: usize,
         pages: *mut u8,
         bytes: usize,
-    ) -> u32;
+    ) -> MakeResult;
     fn mdeh_lookup(
         state: *const u32,
         state_words: usize,
@@ -117,12 +132,22 @@ impl HostQuery {
     }
 }
 
-/// Makes a store without records, or returns the number of the refusal.
+impl QueryResult {
+    /// The counts beside number 0, otherwise the refusal.
+    #[inline]
+    pub fn counts(self) -> Result<Counts, Refused> {
+        let QueryResult { number, attribute, written, total, reads } = self;
+        accepted(number, attribute)?;
+        Ok(Counts { written, total, reads })
+    }
+}
+
+/// Makes a store without records, with what the library returns.
 #[inline]
-pub fn fresh(shape: Shape, state: &mut [u32], dir: &mut [u32], pages: &mut [u8]) -> Result<(), u32> {
+pub fn fresh_result(shape: Shape, state: &mut [u32], dir: &mut [u32], pages: &mut [u8]) -> MakeResult {
     // SAFETY: each pointer and length are of one slice, the slices do not overlap, and the function has no
     // `requires`.
-    let number = unsafe {
+    unsafe {
         mdeh_fresh(
             shape,
             state.as_mut_ptr(),
@@ -132,8 +157,7 @@ pub fn fresh(shape: Shape, state: &mut [u32], dir: &mut [u32], pages: &mut [u8])
             pages.as_mut_ptr(),
             pages.len(),
         )
-    };
-    done(number)
+    }
 }
 
 /// The payload of a key's record, the pages read and the depth of its leaf, as the library returns them.
@@ -186,17 +210,23 @@ pub fn check_result(state: &[u32], dir: &[u32], pages: &[u8]) -> CheckResult {
     unsafe { mdeh_check(state.as_ptr(), state.len(), dir.as_ptr(), dir.len(), pages.as_ptr(), pages.len()) }
 }
 
+/// Makes a store without records, or returns the refusal.
+#[inline]
+pub fn fresh(shape: Shape, state: &mut [u32], dir: &mut [u32], pages: &mut [u8]) -> Result<(), Refused> {
+    let MakeResult { number, attribute } = fresh_result(shape, state, dir, pages);
+    accepted(number, attribute)
+}
+
 /// The payload of a key's record, the pages read and the depth of its leaf, or the refusal.
 #[inline]
 pub fn lookup(state: &[u32], dir: &[u32], pages: &[u8], key: [i32; 4]) -> Result<(u32, u32, u32), Refused> {
     match lookup_result(state, dir, pages, key) {
-        LookupResult { number: 0, payload, reads, depth } => Ok((payload, reads, depth)),
-        LookupResult { number, depth, .. } => Err(Refused { number, depth }),
+        LookupResult { number: 0, payload, reads, depth, .. } => Ok((payload, reads, depth)),
+        LookupResult { number, attribute, depth, .. } => Err(Refused { number, attribute, depth }),
     }
 }
 
-/// Writes the records that match a query into `out` while whole ones fit, and returns the counts or the number
-/// of the refusal.
+/// Writes the records that match a query into `out` while whole ones fit, and returns the counts or the refusal.
 #[inline]
 pub fn query(
     state: &[u32],
@@ -204,18 +234,14 @@ pub fn query(
     pages: &[u8],
     query: [Option<i32>; 4],
     out: &mut [u8],
-) -> Result<Counts, u32> {
-    match query_result(state, dir, pages, HostQuery::new(query), out) {
-        QueryResult { number: 0, written, total, reads } => Ok(Counts { written, total, reads }),
-        QueryResult { number, .. } => Err(number),
-    }
+) -> Result<Counts, Refused> {
+    query_result(state, dir, pages, HostQuery::new(query), out).counts()
 }
 
-/// Whether the lent store is sound, or the number of the refusal.
+/// Whether the lent store is sound, or the refusal.
 #[inline]
-pub fn check(state: &[u32], dir: &[u32], pages: &[u8]) -> Result<bool, u32> {
-    match check_result(state, dir, pages) {
-        CheckResult { number: 0, sound } => Ok(sound != 0),
-        CheckResult { number, .. } => Err(number),
-    }
+pub fn check(state: &[u32], dir: &[u32], pages: &[u8]) -> Result<bool, Refused> {
+    let CheckResult { number, attribute, sound } = check_result(state, dir, pages);
+    accepted(number, attribute)?;
+    Ok(sound != 0)
 }
