@@ -2,7 +2,7 @@
  * A multidimensional extendible hash store in memory that its host lends: the C interface.
  *
  * Records have a key of one to four values and a payload of 32 bits. A query gives some of the values, a range the
- * intervals of some, and both leave the others free. Link target/staticlib/libhost.a, which `rt staticlib host` writes:
+ * intervals of some, and both leave the others free. Link target/staticlib/libmdeh.a, which `rt staticlib mdeh` writes:
  * code for x86-64 (System V) that calls memcpy, memmove and memset alone. C99 or later, or C++.
  *
  * SLICES. A lent slice is two arguments, a pointer and how many elements it has. The memory is the host's, of any kind:

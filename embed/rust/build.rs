@@ -2,5 +2,5 @@
 mod link;
 
 fn main() {
-    link::library("../..", "host");
+    link::library("../..", "mdeh");
 }

@@ -199,7 +199,7 @@
 //!
 //! # Linking
 //!
-//! `rt staticlib host` in the repository writes the library that this crate's build script links. It is code for x86-64
+//! `rt staticlib mdeh` in the repository writes the library that this crate's build script links. It is code for x86-64
 //! and needs nothing but `memcpy`, `memmove` and `memset`.
 #![no_std]
 #![deny(missing_docs, unsafe_code)]
