@@ -421,10 +421,8 @@ static inline MdehRoom mdeh_room(MdehShape shape, uint32_t records) {
     while (depth < deepest && !mdeh_room_deep(depth, bits, shape.capacity, records))
         depth++;
     room.holds = n <= (uint64_t)1 << (bits < 32 ? bits : 32) && mdeh_room_deep(depth, bits, shape.capacity, records);
-    if (!room.holds) {
+    if (!room.holds)
         depth = deepest;
-        n = n < MDEH_MOST_RECORDS ? n : MDEH_MOST_RECORDS;
-    }
     room.words = (size_t)1 << depth;
     pages = (7 * n + 4 * shape.capacity - 1) / (4 * shape.capacity) + 8;
     pages = pages < room.words ? pages : room.words;

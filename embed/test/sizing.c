@@ -165,7 +165,7 @@ void room_values(void) {
     }
 }
 
-/* Whether a depth is deep enough, read off n^(b+1) / ((b+1)! * 2^(L b)) * 1000 <= 1: -1 where it is too close to say. */
+/* Whether a depth is deep enough, read as 1000 * n^(b+1) / (b+1)! <= 2^(L b): -1 where it is too close to say. */
 static int deep_enough(uint32_t bits, uint32_t capacity, uint32_t depth, uint32_t n) {
     double most = 1, choices = 1000;
     uint32_t i;
@@ -180,8 +180,8 @@ static int deep_enough(uint32_t bits, uint32_t capacity, uint32_t depth, uint32_
     return choices < most * (1 - 1e-9) ? 1 : choices > most * (1 + 1e-9) ? 0 : -1;
 }
 
-/* mdeh_room gives a depth that is enough, and the depth before it is not; or it gives the deepest and says so. The pages
-   are enough for records at 4 of 7 of the capacity, and not many more. */
+/* mdeh_room gives a depth that is enough, and the depth before it is not; or it gives the deepest and says so. The
+   pages are 8 more than take the records at 4 of 7 of the capacity, if not one for each word or record. */
 static void compare_room(MdehShape shape, uint32_t n) {
     MdehRoom room = mdeh_room(shape, n);
     uint32_t bits = model_bits(&shape), deepest = bits < 12 ? bits : 12, depth = 0;
@@ -270,7 +270,7 @@ void room_fills(void) {
             tried++;
         }
     }
-    /* 6 in less than one fill of 1,000; with half of the words in more than one of forty, with a quarter in nearly all */
+    /* 6 in less than one fill of 1,000; with half of the words in more than one of 40, with a quarter in nearly all */
     HOLDS(fills > 1500 && 1000 * (fills - taken) < fills);
     HOLDS(tried > 100 && 40 * half > tried && 10 * quarter > 9 * tried);
 }
