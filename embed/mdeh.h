@@ -385,7 +385,7 @@ MdehIndexResult mdeh_index(MdehShape shape, uint64_t address);
 typedef struct {
     size_t words;   /* of the directory */
     size_t bytes;   /* of the pages */
-    uint32_t holds; /* 1 if evenly spread keys fit, 0 if these are the most that the shape has use for */
+    uint32_t holds; /* 1 if keys drawn at random fit, but for one fill of 1,000; otherwise 0 */
 } MdehRoom;
 
 /* Whether depth L is deep enough for n records with `bits` split bits: a cell has no more keys than a page takes, or

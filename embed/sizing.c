@@ -1,7 +1,7 @@
 /*
  * 20,000 random rows of a gateway in one store, sized as the header says (SIZING): releases start at 0, all values are
- * spread over the least widths, a spare attribute evens out the leaves, and mdeh_room gives the memory. Asks for code 30
- * and releases 400 to 479, a range of the spread values, and turns the first records back.
+ * spread over the least widths, a spare attribute evens out the leaves, and mdeh_room gives the memory. Asks for code
+ * 30 and releases 400 to 479, a range of the spread values, and prints the values of the first records.
  */
 #include "mdeh.h"
 

@@ -1,7 +1,7 @@
 #!/usr/bin/env bash
-# Installs into folders of the given one, which are made anew, and builds the gateway's host from what is there, by the flags of its
-# pkg-config file alone: against the archive, and against the shared library with a run path. Both have to print what
-# is kept of the host. The versions of the header, pkg-config file, crate and Python package have to be one.
+# Installs into folders of the given one, which are made anew, and builds the gateway's host from what is there, by the
+# flags of the pkg-config file alone: against the archive, and against the shared library with a run path. Both have to
+# print what is kept of the host. Header, pkg-config file, crate and Python package have to be of one version.
 # Needs make, gcc and pkg-config, and the archive or what `make` needs to build it; no network, no root.
 #     install.sh FOLDER [ARGUMENTS OF make]
 set -eu
