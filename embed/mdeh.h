@@ -2,8 +2,11 @@
  * A multidimensional extendible hash store in memory that its host lends: the C interface.
  *
  * Records have a key of one to four values and a payload of 32 bits. A query gives some of the values, a range the
- * intervals of some, and both leave the others free. Link target/staticlib/libmdeh.a, which `rt staticlib mdeh` writes:
- * code for x86-64 (System V) that calls memcpy, memmove and memset alone. C99 or later, or C++.
+ * intervals of some, and both leave the others free. The library is libmdeh.a: code for x86-64 (System V) that calls
+ * memcpy, memmove and memset alone. C99 or later, or C++. `make` proves and builds it, `make install` installs it with
+ * libmdeh.so, the same code; then `gcc host.c $(pkg-config --cflags --libs mdeh)` links a host. It takes libmdeh.so,
+ * which outside of the system's folders needs a run path (-Wl,-rpath,FOLDER); -l:libmdeh.a, in place of -lmdeh, takes
+ * the archive.
  *
  * SLICES. A lent slice is two arguments, a pointer and how many elements it has. The memory is the host's, of any kind:
  * it is lent for the call, and no call keeps a pointer, allocates or frees.
@@ -41,10 +44,37 @@
  * mdeh_insert and mdeh_delete that of its leaf afterwards, once leaves are divided or joined. With 5 lookup and delete
  * give that of the leaf in which the absent key falls, with records or without. Beside any other number the depth is 0
  * and says nothing. On an unsound store it is the depth in the word of the key's cell.
- * To size a store, fill it and look at the depths. A full leaf is divided by the next insert into it, unless it lies at
- * depth L: then the insert is refused with 6. So depths near L mean that 6 is near; it comes at lesser depths too,
- * where keys agree in many of their first split bits. Twice the directory words make L one greater, up to 12 and to the
- * sum of the widths; with a larger capacity leaves are divided later.
+ *
+ * SIZING. Leaves are divided by the first L split bits of the keys, the highest bits of each value's width in turn.
+ * Where these do not vary, 6 comes early in any memory. So choose widths and values first:
+ *   widths    the least: 2^width at or just above the number of different values. Codes 0 to 99 take 7 bits; in 16 bits
+ *             their first nine are 0.
+ *   bias      take the least value off: releases 398 to 479 become 0 to 81, in 7 bits and not 9. Sparse values become
+ *             their ranks in a sorted list. Values below 0 need no bias: mark the attribute (SIGNED).
+ *   spread    mdeh_spread lays `count` ranks evenly over 2^width values, mdeh_rank takes them back. Order is kept: the
+ *             range of ranks low to high is that of their spread values.
+ *   reversed  mdeh_reversed turns the bits of a value round, for values that cluster or whose ends are not known. Such
+ *             an attribute is asked by equality alone: a range of values is none of reversed ones.
+ *   spare     to fewer than four attributes add a last one of width 2: the sum of the ranks, before they are spread,
+ *             modulo 4. It is a part of each key, and free in every query. Beside reversed values it does nothing.
+ * Then mdeh_room gives directory words and page bytes for n records, and says whether keys drawn at random hold in
+ * them: with b = 16, and 17 split bits or more, up to 12,004 do. On the average they take n / (0.68 b) pages. Certain
+ * of any keys, W being the sum of the widths:
+ *   - with 2^L pages 7 never comes, so it does not with 4,096;
+ *   - while 2^(W-L) <= b, 6 never comes, so it does not with W <= 16, b = 16 and 4,096 words.
+ * Of 20,000 random rows of a gateway (codes 0 to 99, slots 0 to 23, releases 398 to 479; some 19,000 different keys), a
+ * store with b = 16 and 4,096 words holds before the first 6 (medians of 1,000 fills; embed/sizing.c is the fifth):
+ *   widths 16, 16, 16                           16 rows
+ *   widths 7, 5, 9                           2,952
+ *   widths 7, 5, 7, releases less 398       10,490
+ *   the same, spread or reversed            all, in 65 of 100 fills
+ *   the same, spread, a spare attribute     all, in 98 of 100 fills
+ *   two stores, of even and odd slots       all, in 5,000 of 5,000 fills (widths 7, 4, 7, spread)
+ * A full leaf is divided by the next insert into it, unless it lies at depth L: so depths near L tell that 6 is near.
+ *   on 6      choose values as above, b = 16, and more words: twice as many make L one greater, up to 12 and W; then
+ *             several stores, by an attribute or a digest of the key
+ *   on 7      more pages, or a larger b
+ * Longer slices take the records by a file (RECIPES); another shape has them inserted again, into a fresh store.
  *
  * SOUND. A store is sound if it shows a set of records as the layouts below say. mdeh_fresh and mdeh_load make sound
  * stores, and every call leaves a sound store sound. On an unsound one (memory that something else wrote) a call still
@@ -79,6 +109,22 @@
  * slices that are as long as before or longer and ask mdeh_check: number 0 and sound 1. It does not tell a changed
  * payload or an older copy; add a sum of your own where the medium may alter bytes. A state that an earlier version
  * kept has no marks and one word less: a word of 0 behind it makes it a state. To carry records elsewhere, save a file.
+ * Slices may be a mapped file, but not the only copy. An accepted change is many writes, to words, pages and state, in
+ * no promised order. Where a process ends in the middle of one, some of them are done; where the machine stops, any
+ * writes of earlier calls may be missing on the medium too. The three may then show no set, which mdeh_check tells. Or
+ * they show a set that the store never held, without one of its records, or with a payload that is half written: that
+ * is sound, and no call tells it. To guard, save a file, write it under another name beside the last one, sync it
+ * (fsync), rename it over the last one and sync the folder. A start loads the file of that name, which is whole, and
+ * the host inserts what came after it.
+ *
+ * RECIPES.
+ *   replace a payload   mdeh_delete, then mdeh_insert with the other payload. On a sound store, once the delete is
+ *                       accepted, the insert of a payload that is not 0 is too: the key is absent (4), and with it the
+ *                       keys are as before (6, 7). Between the two calls a lookup gives 5.
+ *   grow a store        mdeh_save, then mdeh_load into longer slices; P and L are fixed by their lengths, and the shape
+ *                       stays. The shorter slices are the host's again once the load is accepted.
+ *   size an output      a query or a range with an output of 0 bytes gives `total`; total * MDEH_RECORD_BYTES bytes are
+ *                       room for all its records.
  *
  * FILES. mdeh_save writes the records of a store as the bytes of a file, and mdeh_load makes a store of these bytes, in
  * any slices. To write and read them is the host's: no call does input or output. A file of n records has
@@ -104,8 +150,7 @@
  *   2   as of mdeh_fresh: fewer words than a state has, no directory word, no whole page
  *   6   or 7, at the first record that an insert into a store of those before it would refuse so
  * Payloads are not looked at: a payload of 0 loads. P and L are fixed by the lengths of the new slices, as by
- * mdeh_fresh, so a store that has no room (6, 7) grows by mdeh_save, and mdeh_load into longer slices. A file has no
- * sum: a changed payload, or records that are gone together with their count, are not told.
+ * mdeh_fresh. A file has no sum: a changed payload, or records that are gone together with their count, are not told.
  *
  * THREADS. There is no hidden state. Calls on different stores may run at once; on one store, lookups, checks, and
  * queries, ranges and saves with outputs of their own may, while mdeh_fresh, mdeh_load, mdeh_insert and mdeh_delete
@@ -139,6 +184,12 @@
 extern "C" {
 #endif
 
+/* The version of this header and of its library, as numbers and as text. */
+#define MDEH_VERSION_MAJOR 0
+#define MDEH_VERSION_MINOR 2
+#define MDEH_VERSION_PATCH 0
+#define MDEH_VERSION "0.2.0"
+
 /* The words of a state. */
 #define MDEH_STATE_WORDS 23
 
@@ -155,6 +206,9 @@ extern "C" {
 #define MDEH_MOST_WORDS 4096
 #define MDEH_MOST_PAGES 4096
 #define MDEH_MOST_RECORDS 65536
+
+/* A number that is a value of no attribute: calls refuse it with 3. */
+#define MDEH_NO_VALUE UINT32_C(65536)
 
 /* What a number says. */
 enum {
@@ -326,6 +380,83 @@ MdehAddressResult mdeh_address(MdehShape shape, MdehIndex index);
 
 /* The index vector at a directory address. Refused with 1, 14, 15, 3. */
 MdehIndexResult mdeh_index(MdehShape shape, uint64_t address);
+
+/* Memory for records of a shape. */
+typedef struct {
+    size_t words;   /* of the directory */
+    size_t bytes;   /* of the pages */
+    uint32_t holds; /* 1 if keys drawn at random fit, but for one fill of 1,000; otherwise 0 */
+} MdehRoom;
+
+/* Whether depth L is deep enough for n records with `bits` split bits: a cell has no more keys than a page takes, or
+   keys drawn at random meet 6 in less than one fill of 1,000. The expected number of choices of b + 1 of them that
+   share a cell is at most 2^L * (n / 2^L)^(b+1) / (b+1)!. A part of mdeh_room: depth <= 12, bits <= 64. */
+static inline int mdeh_room_deep(uint32_t depth, uint32_t bits, uint32_t capacity, uint32_t records) {
+    double cells = (double)(UINT32_C(1) << depth), refused = 1000 * cells;
+    uint32_t i;
+    if (bits - depth <= 15 && UINT32_C(1) << (bits - depth) <= capacity)
+        return 1;
+    for (i = 1; i <= capacity + 1; i++)
+        refused *= (double)records / ((double)i * cells);
+    return refused <= 1;
+}
+
+/* The memory for n records of a shape (SIZING): the least directory that is deep enough, or the longest one; pages a
+   sixth more than on the average and 8, at most one for each record and each word. Where holds is 0, the shape has
+   fewer keys than n, or none of its directories is deep enough for keys drawn at random. A shape out of bounds: all 0.
+   For nearly all keys of a shape with capacity 15, lend as many pages as words. */
+static inline MdehRoom mdeh_room(MdehShape shape, uint32_t records) {
+    MdehRoom room = {0, 0, 0};
+    uint32_t bits = 0, deepest, depth, j;
+    uint64_t n = records, pages;
+    if (shape.attributes - 1 > 3 || shape.capacity - 1 > 15)
+        return room;
+    for (j = 0; j < shape.attributes; j++) {
+        if (shape.widths[j] - 1 > 15)
+            return room;
+        bits += shape.widths[j];
+    }
+    deepest = bits < 12 ? bits : 12;
+    depth = 0;
+    while (depth < deepest && !mdeh_room_deep(depth, bits, shape.capacity, records))
+        depth++;
+    room.holds = n <= (uint64_t)1 << (bits < 32 ? bits : 32) && mdeh_room_deep(depth, bits, shape.capacity, records);
+    if (!room.holds)
+        depth = deepest;
+    room.words = (size_t)1 << depth;
+    pages = (7 * n + 4 * shape.capacity - 1) / (4 * shape.capacity) + 8;
+    pages = pages < room.words ? pages : room.words;
+    pages = pages < n ? pages : n;
+    room.bytes = (size_t)(pages > 0 ? pages : 1) * MDEH_PAGE_BYTES(shape.capacity);
+    return room;
+}
+
+/* The value of rank r among `count` values that are spread evenly over 2^width, order kept: floor(r * 2^width / count).
+   MDEH_NO_VALUE for a rank of `count` or more, more values than 2^width, or a width above 16. */
+static inline uint32_t mdeh_spread(uint32_t rank, uint32_t count, uint32_t width) {
+    if (width > 16 || count > UINT32_C(1) << width || rank >= count)
+        return MDEH_NO_VALUE;
+    return (uint32_t)(((uint64_t)rank << width) / count);
+}
+
+/* The rank whose value mdeh_spread gives; of a number between two such values the rank of the upper one, the least rank
+   whose value is not below it. `count` where there is none, also where mdeh_spread has no value for any rank. */
+static inline uint32_t mdeh_rank(uint32_t spread, uint32_t count, uint32_t width) {
+    if (width > 16 || count > UINT32_C(1) << width || spread >= UINT32_C(1) << width)
+        return count;
+    return (uint32_t)(((uint64_t)spread * count + (UINT32_C(1) << width) - 1) >> width);
+}
+
+/* The value whose bits are those of the given one in reverse; its own inverse. MDEH_NO_VALUE for a value of 2^width or
+   more, or a width above 16. */
+static inline uint32_t mdeh_reversed(uint32_t value, uint32_t width) {
+    uint32_t reversed = 0, k;
+    if (width > 16 || value >= UINT32_C(1) << width)
+        return MDEH_NO_VALUE;
+    for (k = 0; k < width; k++)
+        reversed |= (value >> k & 1) << (width - 1 - k);
+    return reversed;
+}
 
 /* The shape in the words of a state. */
 static inline MdehShape mdeh_shape(const uint32_t *state) {

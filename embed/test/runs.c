@@ -12,6 +12,7 @@
 #include "model_file.h"
 #include "shapes.h"
 #include "signs.h"
+#include "sizing.h"
 
 #include <stdio.h>
 #include <stdlib.h>
@@ -444,6 +445,15 @@ int main(int count, char **arguments) {
     shapes_of_files();
     shapes_of_addresses();
     shape_reasons();
+    version_text();
+    room_values();
+    room_bounds();
+    room_fills();
+    certain_rooms();
+    spread_ranks();
+    reversed_values();
+    gateway_rows();
+    replaced_payloads();
     for (seed = 1; seed <= 1500; seed++)
         list(seed * 0x9e3779b97f4a7c15);
     for (number = MDEH_ACCEPTED; number <= MDEH_REFUSED_CAPACITY; number++)
