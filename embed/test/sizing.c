@@ -129,10 +129,10 @@ static const struct {
 } rooms[] = {
     {{3, {7, 5, 9, 0}, 16, 0}, 0, 1, 1, 1},
     {{3, {7, 5, 9, 0}, 16, 0}, 1, 1, 1, 1},
-    {{3, {7, 5, 9, 0}, 16, 0}, 100, 32, 19, 1},
-    {{3, {7, 5, 9, 99}, 16, 7}, 12004, 4096, 1321, 1}, /* the most that hold with 4,096 words */
-    {{3, {7, 5, 9, 0}, 16, 0}, 12005, 4096, 1322, 0},
-    {{4, {7, 5, 7, 2}, 16, 0}, 20000, 4096, 2196, 0},
+    {{3, {7, 5, 9, 0}, 16, 0}, 100, 32, 20, 1},
+    {{3, {7, 5, 9, 99}, 16, 7}, 12004, 4096, 1415, 1}, /* the most that hold with 4,096 words */
+    {{3, {7, 5, 9, 0}, 16, 0}, 12005, 4096, 1415, 0},
+    {{4, {7, 5, 7, 2}, 16, 0}, 20000, 4096, 2352, 0},
     {{4, {16, 16, 16, 16}, 16, 15}, UINT32_MAX, 4096, 4096, 0},
     {{1, {16, 0, 0, 0}, 16, 0}, 65536, 4096, 4096, 1}, /* all keys */
     {{1, {16, 0, 0, 0}, 16, 0}, 65537, 4096, 4096, 0}, /* one more than there are */
@@ -181,7 +181,7 @@ static int deep_enough(uint32_t bits, uint32_t capacity, uint32_t depth, uint32_
 }
 
 /* mdeh_room gives a depth that is enough, and the depth before it is not; or it gives the deepest and says so. The
-   pages are 8 more than take the records at 4 of 7 of the capacity, if not one for each word or record. */
+   pages are 8 more than take the records at 8 of 15 of the capacity, if not one for each word or record. */
 static void compare_room(MdehShape shape, uint32_t n) {
     MdehRoom room = mdeh_room(shape, n);
     uint32_t bits = model_bits(&shape), deepest = bits < 12 ? bits : 12, depth = 0;
@@ -198,8 +198,8 @@ static void compare_room(MdehShape shape, uint32_t n) {
         HOLDS(depth == deepest && (n > keys || deep_enough(bits, shape.capacity, depth, n) != 1));
     }
     HOLDS(pages <= room.words && (pages <= counted || counted == 0));
-    HOLDS(pages == room.words || pages >= counted || (pages - 8) * 4 * shape.capacity >= 7 * counted);
-    HOLDS(pages <= 9 || (pages - 9) * 4 * shape.capacity < 7 * counted);
+    HOLDS(pages == room.words || pages >= counted || (pages - 8) * 8 * shape.capacity >= 15 * counted);
+    HOLDS(pages <= 9 || (pages - 9) * 8 * shape.capacity < 15 * counted);
 }
 
 void room_bounds(void) {
@@ -258,9 +258,6 @@ void room_fills(void) {
         for (n = 1; mdeh_room(shape, n).holds; n++) {
             MdehRoom room = mdeh_room(shape, n);
             n = most_in(shape, room.words, n);
-            /* nearly all keys and a capacity of 15 take more pages */
-            if (shape.capacity == 15 && n == (uint64_t)1 << model_bits(&shape))
-                break;
             taken += (uint32_t)compare_fill(&keys, shape, n, number64(&seed));
             fills++;
             if (shape.capacity < 12 || room.words < 64 || model_bits(&shape) < 20)
@@ -430,7 +427,8 @@ static MdehKey row_key(Choice choice, uint32_t code, uint32_t slot, uint32_t rel
 static Filled store_rows(Choice choice, MdehShape shape, uint64_t seed) {
     Filled filled = {MDEH_ACCEPTED, 0, 0};
     MdehRoom room = mdeh_room(shape, 20000);
-    Memory memory = lend_store(&seed, shape, room.words, room.bytes);
+    uint64_t bytes_seed = seed; /* the rows are the same whatever the memory is */
+    Memory memory = lend_store(&bytes_seed, shape, room.words, room.bytes);
     uint32_t row;
     first_seed = seed;
     for (row = 0; row < 20000 && filled.number == MDEH_ACCEPTED; row++) {
@@ -455,7 +453,7 @@ void gateway_rows(void) {
         {{3, {7, 5, 7, 0}, 16, 0}, BIASED, 6000, 13500, 0},
         {{3, {7, 5, 7, 0}, 16, 0}, SPREAD, 11000, 19200, 20},
         {{3, {7, 5, 7, 0}, 16, 0}, REVERSED, 11000, 19200, 20},
-        {{4, {7, 5, 7, 2}, 16, 0}, SPARE, 18800, 19200, 40},
+        {{4, {7, 5, 7, 2}, 16, 0}, SPARE, 15000, 19200, 38},
     };
     uint32_t i, turn;
     for (i = 0; i < 6; i++) {
