@@ -42,16 +42,19 @@ fn main() -> Result<(), Refusal> {
     };
     let mut store = Store::fresh(SHAPE, [0; STATE_WORDS], vec![0; words], vec![0; bytes])?;
     let mut random = Random(2_463_534_242);
-    let (mut stored, mut repeated) = (0, 0);
+    let (mut stored, mut repeated, mut others) = (0, 0, 0);
     for payload in 1..=ROWS {
         let row = random.row();
         match store.insert(key(row), payload) {
             Ok(_) => stored += 1,
             Err(Refusal::Stored) => repeated += 1,
-            Err(refusal) => println!("row {payload}: {refusal}"),
+            Err(refusal) => {
+                println!("row {payload}: {refusal}");
+                others += 1;
+            }
         }
     }
-    println!("{stored} stored, {repeated} stored already");
+    println!("{stored} stored, {repeated} refused as stored already, {others} refused otherwise");
     let wanted = Range::all().within(0, value(0, 30)..=value(0, 30)).within(2, value(2, 400)..=value(2, 479));
     let mut out = vec![0; 1000 * RECORD_BYTES];
     let found = store.range(wanted, &mut out)?;

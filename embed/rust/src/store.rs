@@ -372,11 +372,9 @@ impl<S: AsRef<[u32]>, D: AsRef<[u32]>, P: AsRef<[u8]>> Store<S, D, P> {
     /// The shape that the state has: zeros, which every call refuses, where it has fewer than [`STATE_WORDS`] words.
     #[inline]
     pub fn shape(&self) -> Shape {
-        let [attributes, a, b, c, d, capacity, .., signs] = match self.state().first_chunk() {
-            Some(state) => state,
-            None => &[0; STATE_WORDS],
-        };
-        Shape { attributes: *attributes, widths: [*a, *b, *c, *d], capacity: *capacity, signs: *signs }
+        let [attributes, a, b, c, d, capacity, .., signs] =
+            *self.state().first_chunk().unwrap_or(&[0; STATE_WORDS]);
+        Shape { attributes, widths: [a, b, c, d], capacity, signs }
     }
 
     /// The same store over borrowed memory, read-only, for code that is written for one type of store.
