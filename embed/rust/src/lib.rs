@@ -73,10 +73,10 @@
 //! each. With more than b it is divided by one bit more, down to depth L, the smallest of 12, the sum W of the widths
 //! and the base-2 logarithm of the directory's length. So a store takes many records if the highest bits of their
 //! values vary. [`Shape::room`] says how many words and bytes n records need, and whether they hold n, for keys that
-//! are evenly spread. Certain, whatever the keys:
+//! are drawn at random. Certain, whatever the keys:
 //!
-//! - A store uses at most 2^L pages: with [`MOST_PAGES`] of them [`Refusal::Pages`] (7) never comes. Evenly spread keys
-//!   use about n / (0.68 b).
+//! - A store uses at most 2^L pages: with [`MOST_PAGES`] of them [`Refusal::Pages`] (7) never comes. Random keys use
+//!   n / (0.68 b) on the average.
 //! - [`Refusal::Depth`] (6) never comes where 2^(W-L) is at most b: so with W up to 16, b = 16 and 4,096 words.
 //!
 //! To make the highest bits vary:
@@ -99,8 +99,8 @@
 //! | widths | values | 6 comes |
 //! |---|---|---|
 //! | 16, 16, 16 | plain | at the 17th record |
-//! | 7, 5, 9 | plain | after some 2,500 |
-//! | 7, 5, 7 | 398 taken off | after some 9,700 |
+//! | 7, 5, 9 | plain | after some 3,000, as the fill may be |
+//! | 7, 5, 7 | 398 taken off | after some 10,500 |
 //! | 7, 5, 7 | spread, or bits reversed | in 35 of 100 fills |
 //! | 7, 5, 7, 2 | spread, and the spare attribute | in 13 of 1,000 fills |
 //!
@@ -353,7 +353,7 @@ pub use range::Range;
 pub use record::{Record, Records, RECORD_BYTES};
 pub use refusal::Refusal;
 pub use shape::Shape;
-pub use sizing::{rank, reversed, spread, Room};
+pub use sizing::{rank, reversed, spread, Room, NO_VALUE};
 pub use store::{LentStore, SharedStore, Store, MOST_PAGES, MOST_RECORDS, MOST_WORDS, STATE_WORDS};
 pub use words::Words;
 

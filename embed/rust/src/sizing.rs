@@ -15,18 +15,20 @@ pub struct Room {
     pub words: usize,
     /// of the pages
     pub bytes: usize,
-    /// whether the records find room in them, if their keys are evenly spread
+    /// whether the records find room in them, if their keys are drawn at random
     pub holds: bool,
 }
 
 impl Shape {
     /// The directory words and page bytes for so many records of this shape.
     ///
-    /// Where `holds` is true, keys that are drawn evenly from all keys find room: an insert is refused with
+    /// Where `holds` is true, keys that are drawn at random find room: an insert is refused with
     /// [`Refusal::Depth`](crate::Refusal::Depth) in less than one fill of a thousand, and the pages are a sixth more than
-    /// such keys use on the average, and eight. Otherwise the words and bytes are the most that so many records have
-    /// use for, and it is to be tried whether they hold; where there are more records than keys, they do not. A shape
-    /// outside its bounds has no room: zeros.
+    /// such keys use on the average, and eight. Keys that are more even than chance, as all keys of a grid, can take up
+    /// to 2n / b pages: with as many pages as words [`Refusal::Pages`](crate::Refusal::Pages) never comes.
+    ///
+    /// Otherwise the words and bytes are the most that so many records have use for, and it is to be tried whether they
+    /// hold; where there are more records than keys, they do not. A shape outside its bounds has no room: zeros.
     ///
     /// ```
     /// use mdeh::{Room, Shape};
@@ -87,8 +89,9 @@ impl Shape {
         self.key_bits() >= u32::BITS || records as u64 <= 1 << self.key_bits()
     }
 
-    /// Whether so many evenly spread keys stay within the page capacity in the cells of this depth, which is at most W:
-    /// no cell has more keys, or less than 1/1000 choices of one key more than a page takes are expected to share one.
+    /// Whether so many random keys stay within the page capacity in the cells of this depth, which is at most W: no cell
+    /// has more keys, or the choices of one key more than a page takes that share a cell are at most 1/1000 on the
+    /// average.
     const fn divides(&self, records: u32, depth: u32) -> bool {
         let rest = self.key_bits() - depth;
         if rest < WIDEST && 1 << rest <= self.capacity {
@@ -118,50 +121,49 @@ impl Shape {
     }
 }
 
+/// A number that is a value of no attribute: calls that are given it are refused with
+/// [`Refusal::Value`](crate::Refusal::Value).
+pub const NO_VALUE: u32 = 1 << WIDEST;
+
 /// The value of a rank among so many, from 0 on, spread over an attribute of this width: rank * 2^width / count, rounded
 /// down.
 ///
 /// The ranks of `count` values, evenly used, then fill the whole attribute. Order is kept: the ranks from `low` to `high`
-/// are the values from `spread(low, ..)` to `spread(high, ..)`. Up to 2^width ranks have values of their own, which
-/// [`rank`] takes back; more share some.
+/// are the values from `spread(low, ..)` to `spread(high, ..)`. [`rank`] takes them back.
 ///
-/// A rank of `count` or more gives 2^width, which is no value of the attribute: a call that is given it is refused with
-/// [`Refusal::Value`](crate::Refusal::Value). A width above 16 counts as 16.
+/// Gives [`NO_VALUE`] for a rank of `count` or more, for a count above 2^width and for a width above 16.
 ///
 /// ```
-/// use mdeh::{rank, spread};
+/// use mdeh::{rank, spread, NO_VALUE};
 ///
 /// assert_eq!([0, 1, 2, 81].map(|release| spread(release, 82, 7)), [0, 1, 3, 126]);
 /// assert_eq!([0, 1, 3, 126].map(|value| rank(value, 82, 7)), [0, 1, 2, 81]);
-/// assert_eq!(spread(82, 82, 7), 128);
+/// assert_eq!(spread(82, 82, 7), NO_VALUE);
 /// ```
 #[inline]
 #[must_use]
 pub const fn spread(rank: u32, count: u32, width: u32) -> u32 {
-    let width = narrowed(width);
-    if rank >= count {
-        return 1 << width;
+    if width > WIDEST || count > 1 << width || rank >= count {
+        return NO_VALUE;
     }
-    (((rank as u64) << width) / count as u64) as u32
+    (rank << width) / count
 }
 
-/// The rank among so many whose value is at least this one: the inverse of [`spread`], value * count / 2^width, rounded
-/// up.
+/// The rank among so many whose value [`spread`] gives: value * count / 2^width, rounded up.
 ///
-/// For any value it is the least rank that is spread to it or above, and `count` where there is none: for a value above
-/// those of all ranks. A width above 16 counts as 16.
+/// For a value that no rank has it is the least rank whose value is above, and `count` where there is none; `count` also
+/// for a count above 2^width, a value of 2^width or more and a width above 16.
 ///
 /// ```
 /// use mdeh::{rank, spread};
 ///
 /// assert!((0..100).all(|code| rank(spread(code, 100, 7), 100, 7) == code));
-/// assert_eq!([2, 3, 4].map(|value| rank(value, 82, 7)), [2, 2, 3]); // 2 is the value of none
+/// assert_eq!([2, 3, 4].map(|value| rank(value, 82, 7)), [2, 2, 3]); // no rank has 2
 /// ```
 #[inline]
 #[must_use]
 pub const fn rank(spread: u32, count: u32, width: u32) -> u32 {
-    let width = narrowed(width);
-    if spread >> width > 0 {
+    if width > WIDEST || count > 1 << width || spread >= 1 << width {
         return count;
     }
     (spread as u64 * count as u64).div_ceil(1 << width) as u32
@@ -170,31 +172,21 @@ pub const fn rank(spread: u32, count: u32, width: u32) -> u32 {
 /// The value whose `width` bits are those of this one in reverse; its own inverse.
 ///
 /// For an attribute that is asked by equality and not by ranges: its values cluster, or their ends are not known, but
-/// the lowest bits vary. A value of 2^width or more, which is none of the attribute, is given back as it is, so that
-/// the store refuses it. A width above 16 counts as 16.
+/// their lowest bits vary. Gives [`NO_VALUE`] for a value of 2^width or more and for a width above 16.
 ///
 /// ```
-/// use mdeh::reversed;
+/// use mdeh::{reversed, NO_VALUE};
 ///
 /// assert_eq!([0, 1, 2, 3, 412].map(|release| reversed(release, 9)), [0, 256, 128, 384, 115]);
 /// assert_eq!(reversed(115, 9), 412);
-/// assert_eq!(reversed(512, 9), 512);
+/// assert_eq!(reversed(512, 9), NO_VALUE);
 /// ```
 #[inline]
 #[must_use]
 pub const fn reversed(value: u32, width: u32) -> u32 {
-    let width = narrowed(width);
-    if width == 0 || value >> width > 0 {
-        return value;
+    if width > WIDEST || value >= 1 << width {
+        return NO_VALUE;
     }
-    value.reverse_bits() >> (u32::BITS - width)
-}
-
-/// A width, at most the greatest of an attribute.
-const fn narrowed(width: u32) -> u32 {
-    if width < WIDEST {
-        width
-    } else {
-        WIDEST
-    }
+    // in two steps, for a width of 0
+    value.reverse_bits() >> (WIDEST - width) >> WIDEST
 }
