@@ -117,51 +117,56 @@ fn random_key(random: &mut Random) -> [i32; 3] {
     [random.below(256) as i32, random.below(256) as i32, random.below(1024) as i32 - 512]
 }
 
+/// A record: its key and its payload.
+type Stored = ([i32; 3], u32);
+
+/// Fills the store in a file by three mappings, and closes it. Returns the records.
+fn fill(file: &File, keys: &[[i32; 3]]) -> Vec<Stored> {
+    let mut gateway = Gateway::new(file);
+    let stored = |(&key, payload)| gateway.store.insert(key, payload).map(|_| (key, payload));
+    keys.iter().zip(1..).flat_map(stored).collect()
+}
+
+/// Asserts that the store in a file is sound and has these records, in a mapping that cannot be written.
+fn read(file: &File, stored: &[Stored]) {
+    let mapped = Mapped::new(file, 0, END, PROT_READ);
+    let (head, pages) = mapped.as_ref().split_at(PAGES);
+    let (state, directory) = head.split_at(DIRECTORY);
+    let [state, directory] = [state, directory].map(|bytes| Words::new(bytes).expect("mappings are aligned"));
+    let store = Store::open(state, directory, pages);
+    assert_eq!((store.check(), store.shape()), (Ok(true), SHAPE));
+    for &(key, payload) in stored {
+        assert_eq!(store.lookup(key).map(|found| found.payload), Ok(payload));
+    }
+}
+
+/// Deletes these records, in one mapping that is divided.
+fn delete(file: &File, records: &[Stored]) {
+    let mut mapped = MappedMut::new(file, 0, END);
+    let (head, pages) = mapped.as_mut().split_at_mut(PAGES);
+    let (state, directory) = head.split_at_mut(DIRECTORY);
+    let state = &mut state[..4 * STATE_WORDS];
+    let [state, directory] = [state, directory].map(|bytes| Words::new(bytes).expect("mappings are aligned"));
+    let mut store = Store::open(state, directory, pages);
+    records.iter().for_each(|&(key, _)| assert!(store.delete(key).is_ok()));
+}
+
 #[test]
 fn a_store_is_kept_in_a_file() {
     let file = new_file("kept");
     let mut random = Random::new(SEED);
-    let mut gateway = Gateway::new(&file);
     let keys: Vec<_> = (0..4000).map(|_| random_key(&mut random)).collect();
-    let stored = |(&key, payload)| gateway.store.insert(key, payload).map(|_| (key, payload));
-    let mut stored: Vec<_> = keys.iter().zip(1..).flat_map(stored).collect();
+    let stored = fill(&file, &keys);
     assert!(stored.len() > 3900);
-    drop(gateway);
-
-    // a second mapping, which cannot be written
-    let mapped = Mapped::new(&file, 0, END, PROT_READ);
-    let (head, pages) = mapped.as_ref().split_at(PAGES);
-    let [state, directory] = [&head[..DIRECTORY], &head[DIRECTORY..]]
-        .map(|bytes| Words::new(bytes).expect("mappings are aligned"));
-    let store = Store::open(state, directory, pages);
-    assert_eq!((store.check(), store.shape()), (Ok(true), SHAPE));
-    for &(key, payload) in &stored {
-        assert_eq!(store.lookup(key).map(|found| found.payload), Ok(payload));
-    }
-    drop(mapped);
-
-    // one mapping, divided and changed
-    let mut mapped = MappedMut::new(&file, 0, END);
-    let (head, pages) = mapped.as_mut().split_at_mut(PAGES);
-    let (state, directory) = head.split_at_mut(4 * STATE_WORDS);
-    let directory = &mut directory[DIRECTORY - 4 * STATE_WORDS..];
-    let [state, directory] = [state, directory].map(|bytes| Words::new(bytes).expect("aligned"));
-    let mut store = Store::open(state, directory, pages);
-    for (key, _) in stored.split_off(100) {
-        assert!(store.delete(key).is_ok());
-    }
-    drop(mapped);
-
-    // an owned store over three mappings that cannot be written
+    read(&file, &stored);
+    let (kept, deleted) = stored.split_at(100);
+    delete(&file, deleted);
+    read(&file, kept);
+    // a store that owns three mappings, none of which can be written
     let part = |start, end| Mapped::new(&file, start, end, PROT_READ);
     let words = |start, end| Words::new(part(start, end)).expect("mappings are aligned");
     let store = Store::open(words(0, DIRECTORY), words(DIRECTORY, PAGES), part(PAGES, END));
-    assert_eq!(store.check(), Ok(true));
-    for key in keys {
-        let found = store.lookup(key).map(|found| found.payload);
-        match stored.iter().find(|record| record.0 == key) {
-            Some(&(_, payload)) => assert_eq!(found, Ok(payload)),
-            None => assert!(matches!(found, Err(Refusal::Absent { .. }))),
-        }
+    for &(key, _) in deleted {
+        assert!(matches!(store.lookup(key), Err(Refusal::Absent { .. })));
     }
 }

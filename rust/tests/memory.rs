@@ -77,9 +77,9 @@ struct Arena {
 }
 
 impl Arena {
-    /// So many bytes, and eight more.
+    /// At least so many bytes, and 16 more.
     fn new(count: usize) -> Arena {
-        let bytes = vec![0; count + 16];
+        let bytes = vec![0; count + 32];
         Arena { start: bytes.as_ptr().align_offset(4), bytes, shift: Cell::new(0) }
     }
 }

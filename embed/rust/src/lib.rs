@@ -99,8 +99,8 @@
 //! | widths | values | 6 comes |
 //! |---|---|---|
 //! | 16, 16, 16 | plain | at the 17th record |
-//! | 7, 5, 9 | plain | after some 3,000, as the fill may be |
-//! | 7, 5, 7 | 398 taken off | after some 10,500 |
+//! | 7, 5, 9 | plain | after 2,900 on the average |
+//! | 7, 5, 7 | 398 taken off | after 10,500 on the average |
 //! | 7, 5, 7 | spread, or bits reversed | in 35 of 100 fills |
 //! | 7, 5, 7, 2 | spread, and the spare attribute | in 13 of 1,000 fills |
 //!

@@ -23,9 +23,9 @@ impl Shape {
     /// The directory words and page bytes for so many records of this shape.
     ///
     /// Where `holds` is true, keys that are drawn at random find room: an insert is refused with
-    /// [`Refusal::Depth`](crate::Refusal::Depth) in less than one fill of a thousand, and the pages are a sixth more than
-    /// such keys use on the average, and eight. Keys that are more even than chance, as all keys of a grid, can take up
-    /// to 2n / b pages: with as many pages as words [`Refusal::Pages`](crate::Refusal::Pages) never comes.
+    /// [`Refusal::Depth`](crate::Refusal::Depth) in less than one fill of a thousand, and the pages are a sixth more
+    /// than such keys use on the average, and eight. Keys that are more even than chance, as all keys of a grid, can
+    /// take up to 2n / b pages: with as many pages as words [`Refusal::Pages`](crate::Refusal::Pages) never comes.
     ///
     /// Otherwise the words and bytes are the most that so many records have use for, and it is to be tried whether they
     /// hold; where there are more records than keys, they do not. A shape outside its bounds has no room: zeros.
@@ -89,9 +89,9 @@ impl Shape {
         self.key_bits() >= u32::BITS || records as u64 <= 1 << self.key_bits()
     }
 
-    /// Whether so many random keys stay within the page capacity in the cells of this depth, which is at most W: no cell
-    /// has more keys, or the choices of one key more than a page takes that share a cell are at most 1/1000 on the
-    /// average.
+    /// Whether so many random keys stay within the page capacity in the cells of this depth, which is at most W: no
+    /// cell has more keys, or the choices of one key more than a page takes that share a cell are at most 1/1000 on
+    /// the average.
     const fn divides(&self, records: u32, depth: u32) -> bool {
         let rest = self.key_bits() - depth;
         if rest < WIDEST && 1 << rest <= self.capacity {
@@ -125,11 +125,11 @@ impl Shape {
 /// [`Refusal::Value`](crate::Refusal::Value).
 pub const NO_VALUE: u32 = 1 << WIDEST;
 
-/// The value of a rank among so many, from 0 on, spread over an attribute of this width: rank * 2^width / count, rounded
-/// down.
+/// The value of a rank among so many, from 0 on, spread over an attribute of this width: rank * 2^width / count,
+/// rounded down.
 ///
-/// The ranks of `count` values, evenly used, then fill the whole attribute. Order is kept: the ranks from `low` to `high`
-/// are the values from `spread(low, ..)` to `spread(high, ..)`. [`rank`] takes them back.
+/// The ranks of `count` values, evenly used, then fill the whole attribute. Order is kept: the ranks from `low` to
+/// `high` are the values from `spread(low, ..)` to `spread(high, ..)`. [`rank`] takes them back.
 ///
 /// Gives [`NO_VALUE`] for a rank of `count` or more, for a count above 2^width and for a width above 16.
 ///
@@ -151,8 +151,8 @@ pub const fn spread(rank: u32, count: u32, width: u32) -> u32 {
 
 /// The rank among so many whose value [`spread`] gives: value * count / 2^width, rounded up.
 ///
-/// For a value that no rank has it is the least rank whose value is above, and `count` where there is none; `count` also
-/// for a count above 2^width, a value of 2^width or more and a width above 16.
+/// For a value that no rank has it is the least rank whose value is above, and `count` where there is none; `count`
+/// also for a count above 2^width, a value of 2^width or more and a width above 16.
 ///
 /// ```
 /// use mdeh::{rank, spread};

@@ -26,12 +26,14 @@ pub const MOST_RECORDS: usize = 65_536;
 /// store is in these three; the type adds nothing to them. Calls that read need [`AsRef`] of the memory, calls that
 /// write need [`AsMut`]: a store over shared memory is read-only, and the compiler says so.
 ///
-/// Calls that read take `&self` and write nothing in the store, so threads may share it. Refusals are listed in the
-/// order in which they are looked for; a refused call has changed nothing. [`Refusal::Unsound`] is never given on a
-/// store that [`Store::check`] finds sound; [`Store::fresh`] and [`Store::load`] make a sound store, and every call
-/// leaves it sound. A store over fewer than [`STATE_WORDS`] words of state refuses every call with [`Refusal::Shape`].
+/// Calls that read take `&self` and write nothing in the store, so threads may share it where its memory is [`Sync`].
+/// Refusals are listed in the order in which they are looked for; a refused call has changed nothing.
+/// [`Refusal::Unsound`] is never given on a store that [`Store::check`] finds sound; [`Store::fresh`] and
+/// [`Store::load`] make a sound store, and every call leaves it sound. A store over fewer than [`STATE_WORDS`] words of
+/// state refuses every call with [`Refusal::Shape`].
 ///
-/// A clone is a store of its own, in memory of its own. There are no implicit copies, which a change would leave behind.
+/// A clone is a store of its own, in memory of its own. A store is never copied implicitly: the copy would miss what is
+/// done to the other.
 #[derive(Clone)]
 pub struct Store<S, D, P> {
     state: S,
