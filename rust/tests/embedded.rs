@@ -1,6 +1,7 @@
 //! The safe crate: random lists of all calls on `mdeh::Store` compared with the plain model, and on stores of any kind
 //! with the calls on lent slices.
-use mdeh::{file_bytes, Key, Listing, Query, Range, Record, Refusal, Shape, Store, RECORD_BYTES};
+use mdeh::{file_bytes, Key, LentStore, Listing, Query, Range, Record, Refusal, Shape, SharedStore, Store};
+use mdeh::{RECORD_BYTES, STATE_WORDS};
 use mdeh_tests::compare::Comparisons;
 use mdeh_tests::host::{self, Refused};
 use mdeh_tests::lent::{lend_bytes, lend_words, Lent};
@@ -21,8 +22,8 @@ use std::ops::Bound::{self, Excluded, Included, Unbounded};
 
 const SEED: u64 = 0x6d64_6568_2d30_3134;
 
-/// Directory and pages between guards.
-type Memory = (Lent<u32>, Lent<u8>);
+/// State, directory and pages between guards.
+type Memory = (Lent<u32>, Lent<u32>, Lent<u8>);
 
 /// A key near those of a model, one in sixteen with a bit changed that may be past a width.
 fn any_key(random: &mut Random, model: &Model) -> [i32; 4] {
@@ -74,7 +75,7 @@ fn range_from(random: &mut Random, model: &Model, intervals: Intervals) -> Range
 }
 
 /// A query into so many bytes: counts, records and every byte of the output.
-fn compare_query(count: &mut Comparisons, random: &mut Random, store: &Store, model: &Model) {
+fn compare_query(count: &mut Comparisons, random: &mut Random, store: SharedStore, model: &Model) {
     let wanted = query_of(random.below(16), any_key(random, model));
     let query = query_from(count, wanted);
     let length = random.below(200);
@@ -86,7 +87,7 @@ fn compare_query(count: &mut Comparisons, random: &mut Random, store: &Store, mo
 }
 
 /// The same of a range.
-fn compare_range(count: &mut Comparisons, random: &mut Random, store: &Store, model: &Model) {
+fn compare_range(count: &mut Comparisons, random: &mut Random, store: SharedStore, model: &Model) {
     let keys = [0; 2].map(|_| any_key(random, model));
     let subset = random.below(16);
     let wanted = range_of(random, model, subset, keys);
@@ -155,7 +156,7 @@ fn refused(refusal: Refusal) -> Refused {
 fn turn(
     count: &mut Comparisons,
     random: &mut Random,
-    store: &mut Store,
+    store: &mut LentStore,
     model: &mut Model,
 ) -> Result<u32, Refused> {
     let key = any_key(random, model);
@@ -171,14 +172,14 @@ fn turn(
     let about = format_args!("{key:?}: {model:?}");
     let found = store.lookup(key).map(|found| (found.payload, found.reads, found.depth));
     count.same(found.map_err(refused), model.lookup(key), about);
-    compare_query(count, random, store, model);
-    compare_range(count, random, store, model);
+    compare_query(count, random, store.shared(), model);
+    compare_range(count, random, store.shared(), model);
     count.same(store.check(), Ok(true), about);
-    count.same(store.state()[..].to_vec(), state_words(model, &model.leaves()), about);
+    count.same(store.state()[..STATE].to_vec(), state_words(model, &model.leaves()), about);
     expected
 }
 
-/// Stores that are dropped and reopened while their lists run, and stores that Fresh refuses.
+/// Stores that are dropped and opened again while their lists run, and stores that Fresh refuses.
 #[test]
 fn lists_of_calls() {
     let mut count = Comparisons::default();
@@ -193,17 +194,26 @@ fn lists_of_calls() {
             shape.widths[random.below(4)] = [0, 17, u32::MAX][random.below(3)];
         }
         let (words, bytes) = (random.below(100), random.below(800));
-        let content = (random.words(words), random.bytes(bytes));
-        let mut memory = (lend_words(&mut random, &content.0), lend_bytes(&mut random, &content.1));
-        let fresh = Store::fresh(shape, memory.0.slice_mut(), memory.1.slice_mut());
-        let state = fresh.map(|store| *store.state());
+        let behind = random.below(3);
+        let content = (random.words(STATE_WORDS + behind), random.words(words), random.bytes(bytes));
+        let (state, dir) = (lend_words(&mut random, &content.0), lend_words(&mut random, &content.1));
+        let mut memory = (state, dir, lend_bytes(&mut random, &content.2));
+        let (state, dir, pages) = &mut memory;
+        let fresh = Store::fresh(shape, state.slice_mut(), dir.slice_mut(), pages.slice_mut());
+        let fresh = fresh.map(drop).map_err(refused);
         let model = Model::fresh(shape, words, bytes);
-        count.same(state.err().map(refused), model.as_ref().err().copied(), format_args!("{shape:?}"));
-        if let (Ok(state), Ok(mut model)) = (state, model) {
-            elevens += sessions(&mut count, &mut random, state, &mut memory, &mut model);
+        count.same(fresh.err(), model.as_ref().err().copied(), format_args!("{shape:?}"));
+        if let Ok(mut model) = model {
+            elevens += sessions(&mut count, &mut random, &mut memory, &mut model);
             accepted += 1;
         }
-        assert!(memory.0.guards_stay() && memory.1.guards_stay(), "a guard is changed");
+        let (state, dir, pages) = &memory;
+        assert!(state.guards_stay() && dir.guards_stay() && pages.guards_stay(), "a guard is changed");
+        assert_eq!(
+            state.slice()[STATE_WORDS..],
+            content.0[STATE_WORDS..],
+            "a word behind the state is changed"
+        );
     }
     println!("{elevens} refused with 11");
     assert!(elevens > 1000);
@@ -213,22 +223,16 @@ fn lists_of_calls() {
 const SESSIONS: u64 = 4;
 const TURNS: u64 = 40;
 
-/// Reopens the store several times, with a list of calls each time. Returns how many were refused with 11.
-fn sessions(
-    count: &mut Comparisons,
-    random: &mut Random,
-    mut state: [u32; mdeh::STATE_WORDS],
-    memory: &mut Memory,
-    model: &mut Model,
-) -> u64 {
+/// Opens the store several times, with a list of calls each time. Returns how many were refused with 11.
+fn sessions(count: &mut Comparisons, random: &mut Random, memory: &mut Memory, model: &mut Model) -> u64 {
+    let (state, dir, pages) = memory;
     let mut refused = 0;
     for _ in 0..SESSIONS {
-        let mut store = Store::reopen(state, memory.0.slice_mut(), memory.1.slice_mut());
+        let mut store = Store::open(state.slice_mut(), dir.slice_mut(), pages.slice_mut());
         for _ in 0..TURNS {
             refused += u64::from(turn(count, random, &mut store, model) == Err(refusal(11)));
         }
         assert_eq!(store.shape(), model.shape);
-        state = *store.state();
     }
     refused
 }
@@ -242,9 +246,8 @@ fn same_answers(
     model: &Model,
     image: &Image,
 ) -> Result<u32, Refused> {
-    let state = image.state[..].try_into().expect("the words of a state");
-    let (mut dir, mut pages) = (image.dir.clone(), image.pages.clone());
-    let mut store = Store::reopen(state, &mut dir, &mut pages);
+    let Image { state, dir, pages } = image.clone();
+    let mut store = Store::open(state, dir, pages);
     let Image { state, dir, pages } = &mut image.clone();
     let about = format_args!("{:?}, {model:?}", image.state);
     count.same(store.check().map_err(refused), host::check(state, dir, pages), about);
@@ -285,7 +288,7 @@ fn same_answers(
     count.same(found.map_err(refused), host::delete(state, dir, pages, key), about);
     let after = Image { state: state.to_vec(), dir: dir.to_vec(), pages: pages.to_vec() };
     let Image { state, dir, pages } = &after;
-    count.same((&store.state()[..], store.directory(), store.pages()), (state, dir, pages), about);
+    count.same((store.state(), store.directory(), store.pages()), (state, dir, pages), about);
     inserted
 }
 
@@ -320,20 +323,20 @@ fn files_as_the_calls_on_slices() {
         }
         let (words, bytes) = (random.below(300), random.below(6000));
         let Image { mut state, mut dir, mut pages } = Image::random(&mut random, words, bytes);
-        let (mut directory, mut lent) = (dir.clone(), pages.clone());
+        let (mut head, mut directory, mut lent) = (state.clone(), dir.clone(), pages.clone());
         let plain = host::load(&file, &mut state, &mut dir, &mut pages);
         met[plain.map_or_else(|refused| refused.number as usize, |()| 0)] += 1;
         let about = format_args!("{words} words, {bytes} bytes: {file:?}");
-        let found = Store::load(&file, &mut directory, &mut lent);
-        let loaded = found.as_ref().map(|store| (store.state().to_vec(), store.shape()));
-        let expected = plain.and_then(|()| Ok((state, load(&file, words, bytes)?.shape)));
+        let found = Store::load(&file, &mut head, &mut directory, &mut lent);
+        let loaded = found.as_ref().map(|store| store.shape());
+        let expected = plain.and_then(|()| Ok(load(&file, words, bytes)?.shape));
         count.same(loaded.map_err(|&refusal| refused(refusal)), expected, about);
         if let Ok(store) = found {
             let mut out = vec![7; file.len() + 9];
             count.same(store.save(&mut out), Ok(file_bytes((file.len() - 24) / 12)), about);
             count.same(out, [&file[..], &[7; 9]].concat(), about);
         }
-        count.same((directory, lent), (dir, pages), about);
+        count.same((head, directory, lent), (state, dir, pages), about);
     }
     println!("answers by number: {met:?}");
     assert!([0, 1, 2, 6, 7, 12, 13, 14, 15].iter().all(|&number| met[number] > 10));
@@ -349,10 +352,9 @@ fn an_attribute_that_no_shape_has() {
     for _ in 0..100 {
         let model = random_model(&mut random);
         let image = Laid::new(&mut random, &model).image;
-        let early = early_refused(&image, &model).into_iter().filter(|(image, _)| image.state.len() == STATE);
-        for (Image { state, mut dir, mut pages }, expected) in early.chain([(image, refusal(8))]) {
-            let state = state[..].try_into().expect("the words of a state");
-            let store = Store::reopen(state, &mut dir, &mut pages);
+        let early = early_refused(&image, &model);
+        for (Image { state, dir, pages }, expected) in early.into_iter().chain([(image, refusal(8))]) {
+            let store = Store::open(&state, &dir, &pages);
             for attribute in [4, 5, 1 << 32, usize::MAX] {
                 let query = Query::all().given(0, i32::MAX).given(attribute, 0);
                 let found = store.query(query, &mut []);
@@ -363,8 +365,7 @@ fn an_attribute_that_no_shape_has() {
             }
         }
     }
-    // without the two stores whose state is too short
-    count.end(100 * (EARLY - 2 + 1) * 4 * 2);
+    count.end(100 * (EARLY + 1) * 4 * 2);
 }
 
 /// Every form of a range of Rust on an attribute of four bits that has all its values, marked or not: the values in it
@@ -373,8 +374,7 @@ fn an_attribute_that_no_shape_has() {
 fn ranges_of_every_form() {
     let mut count = Comparisons::default();
     for shape in [Shape::new(&[4], 2), Shape::new(&[4], 2).signed(0)] {
-        let (mut directory, mut pages) = ([0; 16], [0; 16 * 26]);
-        let mut store = Store::fresh(shape, &mut directory, &mut pages).expect("accepted");
+        let mut store = Store::fresh(shape, [0; STATE_WORDS], [0; 16], [0; 16 * 26]).expect("accepted");
         let (least, greatest) = bounds(shape, 0);
         (least..=greatest).for_each(|value| assert!(store.insert([value], 1).is_ok()));
         let ends = || {
@@ -432,7 +432,8 @@ fn shapes_of_any_widths() {
     for (widths, attributes) in [(&[][..], 0), (&[3; 4], 4), (&[3; 5], 5), (&[3; 900], 5)] {
         assert_eq!(Shape::new(widths, 1).attributes, attributes);
     }
-    assert_eq!(Store::fresh(Shape::new(&[3; 5], 1), &mut [0], &mut [0; 14]).unwrap_err(), Refusal::Shape);
+    let fresh = Store::fresh(Shape::new(&[3; 5], 1), [0; STATE_WORDS], [0], [0; 14]);
+    assert_eq!(fresh.unwrap_err(), Refusal::Shape);
     assert_eq!(Shape::new(&[3], u32::MAX).page_bytes(), 2 + 12 * 0xffff_ffff);
 }
 
@@ -461,8 +462,6 @@ fn reasons_as_in_the_header() {
         let numbered = format!("MDEH_REFUSED_{name} = {}", reason.number());
         assert!(header.contains(&numbered), "the header lacks {numbered}");
         let told = match reason {
-            // a state of fewer words is none of the crate's
-            Shape => format!("{reason}, or the words of a state are too few"),
             // the number alone names no attribute
             Width { .. } => reason.to_string().replace("attribute 0", "an attribute"),
             _ => reason.to_string(),

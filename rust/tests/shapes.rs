@@ -1,7 +1,7 @@
 //! What is amiss in a shape (document 02, request 7): all combinations of an attribute count, four widths, a capacity
 //! and memory, in bounds and out, in Fresh, in a state passed in to every call, in a loaded file, in the address calls
 //! and through `replay`. A refused call changes nothing, and 14 alone names an attribute (`LentStore` compares both).
-use mdeh::{Refusal, Store};
+use mdeh::{Refusal, Store, STATE_WORDS};
 use mdeh_tests::compare::Comparisons;
 use mdeh_tests::host::{self, AddressResult, Index, IndexResult, MakeResult, Refused, Shape};
 use mdeh_tests::lent::{lend_bytes, lend_words, Lent, LentStore};
@@ -351,13 +351,12 @@ fn replays_of_files() {
 
 // ---- the crate
 
-/// `Store` says the same, in words too; a state that is passed in to `reopen` is judged by each call.
+/// `Store` says the same, in words too; a state that is opened is judged by each call.
 #[test]
 fn reasons() {
     let mut count = Comparisons::default();
     let mut accepted = 0;
     each_shape(COUNTS, NUMBERS, |_, shape| {
-        let (mut directory, mut pages) = ([0; 1], [0; 194]);
         let reason = amiss(shape).map(|refused| match refused.number {
             1 => Refusal::Shape,
             14 => Refusal::Width { attribute: refused.attribute as usize },
@@ -365,20 +364,21 @@ fn reasons() {
         });
         let words = match reason {
             None => "no refusal".to_owned(),
-            Some(Refusal::Shape) => "the attribute count is outside 1 to 4".to_owned(),
+            Some(Refusal::Shape) => {
+                "the attribute count is outside 1 to 4, or the words of a state are too few".to_owned()
+            }
             Some(Refusal::Width { attribute }) => {
                 format!("the width of attribute {attribute} is outside 1 to 16")
             }
             Some(_) => "the page capacity is outside 1 to 16".to_owned(),
         };
         let about = format_args!("{shape:?}");
-        let fresh = Store::fresh(shape, &mut directory, &mut pages).map(drop).err();
+        let fresh = Store::fresh(shape, [0; STATE_WORDS], [0; 1], [0; 194]).err();
         count.same(fresh, reason, about);
         count.same(fresh.map_or("no refusal".to_owned(), |refusal| refusal.to_string()), words, about);
         count.same(fresh.map(Refusal::number), amiss(shape).map(|refused| refused.number), about);
-        let Image { state, .. } = empty_store(shape, [STATE, 1, 194]);
-        let state = state.try_into().expect("the words of a state");
-        let mut store = Store::reopen(state, &mut directory, &mut pages);
+        let Image { state, dir, pages } = empty_store(shape, [STATE, 1, 194]);
+        let mut store = Store::open(state, dir, pages);
         count.same(store.check().err(), reason, about);
         count.same(store.insert([0], 7).err(), reason, about);
         count.same(mdeh::address(shape, [0]).err(), reason, about);

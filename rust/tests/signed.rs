@@ -1,6 +1,6 @@
 //! Attributes that are marked as signed (document 02, request 4): "Its values run from −2^(w−1) to 2^(w−1) − 1, and its
 //! encoding is the value plus 2^(w−1). Pages and output hold the value in 16-bit two's complement."
-use mdeh::{Query, Record, Records, Store, RECORD_BYTES};
+use mdeh::{Query, Record, Records, SharedStore, Store, RECORD_BYTES, STATE_WORDS};
 use mdeh_tests::compare::Comparisons;
 use mdeh_tests::host::Shape;
 use mdeh_tests::lent::{lend_bytes, Lent, LentStore};
@@ -333,10 +333,10 @@ fn any_field_of_random_stores() {
 // ---- split order and what is listed
 
 /// All records that a query lists, by the crate's reader.
-fn listed(store: &Store, query: Query) -> Vec<Record> {
+fn listed(store: SharedStore, query: Query) -> Vec<Record> {
     let mut out = [0; 70 * RECORD_BYTES];
     let listing = store.query(query, &mut out).expect("accepted");
-    assert_eq!(listing.written, listing.total);
+    assert!(listing.is_complete());
     listing.records().collect()
 }
 
@@ -349,8 +349,8 @@ fn offsets_are_listed_from_the_least_to_the_greatest() {
     for capacity in 1..=16 {
         for drive in 0..4 {
             let shape = Shape::new(&[2, 10], capacity).signed(1);
-            let (mut directory, mut pages) = ([0; 4096], [0; 26 * 194]);
-            let mut store = Store::fresh(shape, &mut directory, &mut pages).expect("accepted");
+            let mut store =
+                Store::fresh(shape, [0; STATE_WORDS], [0; 4096], [0; 26 * 194]).expect("accepted");
             let mut order = offsets;
             random.shuffle(&mut order);
             for offset in order {
@@ -358,7 +358,7 @@ fn offsets_are_listed_from_the_least_to_the_greatest() {
                 // another drive, which is not listed
                 store.insert([drive ^ 1, offset], 9).expect("accepted");
             }
-            let records = listed(&store, Query::all().given(0, drive));
+            let records = listed(store.shared(), Query::all().given(0, drive));
             let expected = offsets
                 .map(|offset| Record { values: [drive, offset, 0, 0], payload: (1000 + offset) as u32 });
             count.same(&records[..], &expected[..], format_args!("b = {capacity}, {drive}"));
@@ -392,12 +392,11 @@ fn every_key_of_two_marked_attributes_in_split_order() {
     ];
     for capacity in 1..=16 {
         let shape = Shape::new(&[2, 2], capacity).signed(0).signed(1);
-        let (mut directory, mut pages) = ([0; 16], [0; 16 * 194]);
-        let mut store = Store::fresh(shape, &mut directory, &mut pages).expect("accepted");
+        let mut store = Store::fresh(shape, [0; STATE_WORDS], [0; 16], [0; 16 * 194]).expect("accepted");
         let mut keys = order;
         random.shuffle(&mut keys);
         keys.iter().for_each(|&key| assert!(store.insert(key, 1).is_ok()));
-        let records = listed(&store, Query::all());
+        let records = listed(store.shared(), Query::all());
         let found: Vec<[i32; 2]> =
             records.iter().map(|record| [record.values[0], record.values[1]]).collect();
         count.same(&found[..], &order[..], format_args!("b = {capacity}"));
@@ -476,9 +475,7 @@ fn records_are_read_back_with_their_signs() {
     for _ in 0..500 {
         let model = random_model(&mut random);
         let Laid { image, leaves, .. } = Laid::new(&mut random, &model);
-        let (mut dir, mut pages) = (image.dir.clone(), image.pages.clone());
-        let state = image.state[..].try_into().expect("the words of a state");
-        let store = Store::reopen(state, &mut dir, &mut pages);
+        let store = Store::open(&image.state, &image.dir, &image.pages);
         let mut out = vec![0; RECORD_BYTES * model.records.len() + 5];
         let listing = store.query(Query::all(), &mut out).expect("accepted");
         let found: Vec<_> = listing.records().map(|record| (record.values, record.payload)).collect();

@@ -1,5 +1,5 @@
 //! What `embed/mdeh.h` says of threads: calls that read share a store, and a call needs little stack.
-use mdeh::{file_bytes, Query, Range, Refusal, Shape, Store, RECORD_BYTES};
+use mdeh::{file_bytes, LentStore, Query, Range, Refusal, Shape, Store, RECORD_BYTES, STATE_WORDS};
 use mdeh_tests::random::Random;
 use std::thread;
 
@@ -9,9 +9,9 @@ const SHAPE: Shape = Shape::new(&[8, 8, 10], 16).signed(2);
 /// The stack that the header says, and what a thread itself needs.
 const STACK: usize = (32 + 8) << 10;
 
-/// Words and bytes for the greatest store.
-fn memory() -> (Vec<u32>, Vec<u8>) {
-    (vec![0; 4096], vec![0; 4096 * SHAPE.page_bytes()])
+/// State, words and bytes for the greatest store.
+fn memory() -> ([u32; STATE_WORDS], Vec<u32>, Vec<u8>) {
+    ([0; STATE_WORDS], vec![0; 4096], vec![0; 4096 * SHAPE.page_bytes()])
 }
 
 /// The payload of a key, 0 for one of eight.
@@ -23,7 +23,7 @@ fn payload_of([a, b, c]: [i32; 3]) -> u32 {
 }
 
 /// Random keys, those refused for their payload or their depth left out.
-fn fill(store: &mut Store, random: &mut Random) -> Vec<[i32; 3]> {
+fn fill(mut store: LentStore, random: &mut Random) -> Vec<[i32; 3]> {
     let bounds = [(0, 255), (0, 255), (-512, 511)];
     let mut value = |(least, greatest)| least + random.below((greatest - least) as usize + 1) as i32;
     let mut keys: Vec<_> = (0..30_000).map(|_| bounds.map(&mut value)).collect();
@@ -40,9 +40,9 @@ fn fill(store: &mut Store, random: &mut Random) -> Vec<[i32; 3]> {
 
 #[test]
 fn threads_share_a_store() {
-    let (mut directory, mut pages) = memory();
-    let mut store = Store::fresh(SHAPE, &mut directory, &mut pages).expect("accepted");
-    let keys = fill(&mut store, &mut Random::new(SEED));
+    let (state, directory, pages) = memory();
+    let mut store = Store::fresh(SHAPE, state, directory, pages).expect("accepted");
+    let keys = fill(store.lent(), &mut Random::new(SEED));
     let (store, keys) = (&store, &keys);
     let mut saved = vec![0; file_bytes(keys.len())];
     assert_eq!(store.save(&mut saved), Ok(saved.len()));
@@ -65,12 +65,12 @@ fn threads_share_a_store() {
 
 #[test]
 fn every_call_on_a_small_stack() {
-    let (mut directory, mut pages) = memory();
+    let (mut state, mut directory, mut pages) = memory();
     let mut out = vec![0; 30_000 * RECORD_BYTES];
     let mut file = vec![0; file_bytes(30_000)];
     let calls = move || {
-        let mut store = Store::fresh(SHAPE, &mut directory, &mut pages).expect("accepted");
-        let keys = fill(&mut store, &mut Random::new(SEED));
+        let mut store = Store::fresh(SHAPE, &mut state, &mut directory, &mut pages).expect("accepted");
+        let keys = fill(store.lent(), &mut Random::new(SEED));
         let listed = store.query(Query::all(), &mut out).expect("accepted").records().count();
         assert_eq!((listed, store.check()), (keys.len(), Ok(true)));
         let range = Range::all().within(1, 1..).within(2, ..100);
@@ -79,7 +79,7 @@ fn every_call_on_a_small_stack() {
         let size = store.save(&mut file).expect("accepted");
         assert_eq!(size, file_bytes(keys.len()));
         assert!(keys.iter().all(|&key| store.lookup(key).is_ok() && store.delete(key).is_ok()));
-        let store = Store::load(&file[..size], &mut directory, &mut pages).expect("accepted");
+        let store = Store::load(&file[..size], &mut state, &mut directory, &mut pages).expect("accepted");
         assert_eq!(store.query(Query::all(), &mut []).expect("accepted").total, keys.len() as u64);
     };
     thread::Builder::new().stack_size(STACK).spawn(calls).expect("a thread").join().expect("the calls end");

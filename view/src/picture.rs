@@ -1,6 +1,6 @@
 //! What a store's memory shows: its cells by address, its leaves in split order, its pages with their records (document
 //! 01, "Lent memory").
-use mdeh::{Record, Records, Shape, Store};
+use mdeh::{Record, Records, Shape, SharedStore};
 
 /// A sound store, taken apart.
 pub struct Picture {
@@ -45,8 +45,8 @@ pub struct Bits {
 
 impl Picture {
     /// What a sound store shows.
-    pub fn of(store: &Store) -> Picture {
-        let state = store.state().map(|word| word as usize);
+    pub fn of(store: &SharedStore) -> Picture {
+        let state: Vec<usize> = store.state().iter().map(|&word| word as usize).collect();
         let (shape, depth) = (store.shape(), state[8]);
         let steps = steps(&state[1..5], depth);
         let mut cells: Vec<Cell> = (0..1 << depth).map(|address| cell(shape, &steps, address)).collect();
@@ -144,7 +144,7 @@ fn cell(shape: Shape, steps: &[(usize, usize)], address: usize) -> Cell {
 }
 
 /// The leaves in split order; each cell is told its leaf.
-fn leaves(store: &Store, cells: &mut [Cell], depth: usize) -> Vec<Leaf> {
+fn leaves(store: &SharedStore, cells: &mut [Cell], depth: usize) -> Vec<Leaf> {
     let mut addresses = vec![0; cells.len()];
     cells.iter().enumerate().for_each(|(address, cell)| addresses[cell.bits.value] = address);
     let mut leaves: Vec<Leaf> = Vec::new();
@@ -162,7 +162,7 @@ fn leaves(store: &Store, cells: &mut [Cell], depth: usize) -> Vec<Leaf> {
 
 /// The leaf of a directory word, which "packs the page number plus one into bits 0–15, or 0 for no page, and the
 /// leaf's depth into bits 16–19". Its first cell in split order has the split bits `value`.
-fn leaf(store: &Store, word: u32, value: usize, depth: usize) -> Leaf {
+fn leaf(store: &SharedStore, word: u32, value: usize, depth: usize) -> Leaf {
     let count = (word >> 16) as usize;
     let page = (word as usize & 0xffff).checked_sub(1);
     let records = page.map_or_else(Vec::new, |page| records(store, page));
@@ -170,7 +170,7 @@ fn leaf(store: &Store, word: u32, value: usize, depth: usize) -> Leaf {
 }
 
 /// "count (2), then records in split order".
-fn records(store: &Store, page: usize) -> Vec<Record> {
+fn records(store: &SharedStore, page: usize) -> Vec<Record> {
     let bytes = &store.pages()[page * store.shape().page_bytes()..];
     let count = u16::from_le_bytes([bytes[0], bytes[1]]);
     Records::new(store.shape(), &bytes[2..], count.into()).collect()

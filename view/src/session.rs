@@ -1,6 +1,6 @@
 //! What lines do to a store in memory that is lent as `stock` lends it.
 use crate::lines::{command, Command};
-use mdeh::{Refusal, Shape, Store, STATE_WORDS};
+use mdeh::{Refusal, Shape, SharedStore, Store, STATE_WORDS};
 
 /// "It lends 4,096 words, 32,768 page bytes".
 const WORDS: usize = 4096;
@@ -18,31 +18,26 @@ pub enum Fault {
 pub struct Session {
     /// the marks of signed attributes in every shape, bit j for attribute j
     signs: u32,
-    lent: Option<Lent>,
+    store: Option<Owned>,
 }
 
-/// The state of a store, and the memory that it is lent.
-struct Lent {
-    state: [u32; STATE_WORDS],
-    directory: Vec<u32>,
-    pages: Vec<u8>,
-}
+/// A store that owns its memory.
+type Owned = Store<[u32; STATE_WORDS], Vec<u32>, Vec<u8>>;
 
 impl Session {
     /// A session whose shapes have these marks of signed attributes. If there is one, values may have a minus sign.
     pub fn signed(signs: u32) -> Session {
-        Session { signs, lent: None }
+        Session { signs, store: None }
     }
 
     /// Does what a line without its newline says. Changes nothing where it returns a fault.
     pub fn take(&mut self, line: &[u8]) -> Result<(), Fault> {
-        let attributes = self.lent.as_ref().map_or(0, |lent| lent.state[0] as usize);
+        let attributes = self.store.as_ref().map_or(0, |store| store.shape().attributes as usize);
         match command(line, attributes, self.signs != 0).ok_or(Fault::Bad)? {
             Command::Shape(shape) => {
                 let shape = Shape { signs: self.signs, ..shape };
-                let (mut directory, mut pages) = (vec![0; WORDS], vec![0; BYTES]);
-                let store = Store::fresh(shape, &mut directory, &mut pages).map_err(Fault::Refused)?;
-                self.lent = Some(Lent { state: *store.state(), directory, pages });
+                let store = Store::fresh(shape, [0; STATE_WORDS], vec![0; WORDS], vec![0; BYTES]);
+                self.store = Some(store.map_err(Fault::Refused)?);
                 Ok(())
             }
             Command::Put(key, payload) => self.call(|store| store.insert(key, payload)),
@@ -53,23 +48,14 @@ impl Session {
     }
 
     /// The store, if there is one.
-    pub fn store(&mut self) -> Option<Store<'_>> {
-        self.lent.as_mut().map(Lent::store)
+    pub fn store(&self) -> Option<SharedStore<'_>> {
+        self.store.as_ref().map(Owned::shared)
     }
 
     /// A call on the store, whose answer is left aside; a line "before an accepted `shape`" is bad.
-    fn call<T>(&mut self, call: impl FnOnce(&mut Store) -> Result<T, Refusal>) -> Result<(), Fault> {
-        let lent = self.lent.as_mut().ok_or(Fault::Bad)?;
-        let mut store = lent.store();
-        call(&mut store).map_err(Fault::Refused)?;
-        lent.state = *store.state();
-        Ok(())
-    }
-}
-
-impl Lent {
-    fn store(&mut self) -> Store<'_> {
-        Store::reopen(self.state, &mut self.directory, &mut self.pages)
+    fn call<T>(&mut self, call: impl FnOnce(&mut Owned) -> Result<T, Refusal>) -> Result<(), Fault> {
+        let store = self.store.as_mut().ok_or(Fault::Bad)?;
+        call(store).map(drop).map_err(Fault::Refused)
     }
 }
 

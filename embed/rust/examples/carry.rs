@@ -2,7 +2,7 @@
 //! release, and how often. The gateway saves its store and writes the bytes to the file that the argument names; the
 //! workshop reads them, loads them into memory of its own, adds a record and asks for code 30. The library writes and
 //! reads no file: that is the host's.
-use mdeh::{file_bytes, Query, Refusal, Shape, Store, RECORD_BYTES};
+use mdeh::{file_bytes, Query, Refusal, Shape, Store, RECORD_BYTES, STATE_WORDS};
 use std::error::Error;
 use std::fs;
 use std::path::Path;
@@ -37,9 +37,7 @@ fn main() -> Result<(), Box<dyn Error>> {
 
 /// The gateway: a store in little memory, and its file.
 fn gateway(path: &Path) -> Result<(), Box<dyn Error>> {
-    let mut directory = [0; 128];
-    let mut pages = [0; 5 * SHAPE.page_bytes()];
-    let mut store = Store::fresh(SHAPE, &mut directory, &mut pages)?;
+    let mut store = Store::fresh(SHAPE, [0; STATE_WORDS], [0; 128], [0; 5 * SHAPE.page_bytes()])?;
     for (key, count) in SEEN {
         store.insert(key, count)?;
     }
@@ -54,12 +52,13 @@ fn gateway(path: &Path) -> Result<(), Box<dyn Error>> {
 /// The workshop: the file in more memory, and a list of code 30.
 fn workshop(path: &Path) -> Result<(), Box<dyn Error>> {
     let file = fs::read(path)?;
-    let mut directory = [0; 4096];
-    let mut pages = [0; 100 * SHAPE.page_bytes()];
+    let mut state = [0; STATE_WORDS];
+    let mut directory = vec![0; 4096];
+    let mut pages = vec![0; 100 * SHAPE.page_bytes()];
     // a file that was cut off is refused, and the memory left as it is
-    let cut = Store::load(&file[..file.len() - 1], &mut directory, &mut pages);
+    let cut = Store::load(&file[..file.len() - 1], &mut state, &mut directory, &mut pages);
     println!("workshop: one byte less: {}", told(cut));
-    let mut store = Store::load(&file, &mut directory, &mut pages)?;
+    let mut store = Store::load(&file, state, directory, pages)?;
     println!("workshop: loaded {} records", store.query(Query::all(), &mut [])?.total);
     println!("workshop: one record more: {}", told(store.insert(MORE.0, MORE.1)));
     let mut out = [0; SEEN.len() * RECORD_BYTES];

@@ -1,7 +1,7 @@
 //! A gateway's records: which display code came from which container slot under which image release, and how often.
 //! Fills a store, says how deep its keys lie, checks it, asks for code 30, then for its releases from 400 to 479, and
 //! prints the slots and releases.
-use mdeh::{Listing, Query, Range, Refusal, Shape, Store, RECORD_BYTES};
+use mdeh::{Listing, Query, Range, Refusal, Shape, Store, RECORD_BYTES, STATE_WORDS};
 
 /// Codes are below 2^7, slots below 2^5, releases below 2^9, none is signed; a page holds four records.
 const SHAPE: Shape = Shape::new(&[7, 5, 9], 4);
@@ -33,9 +33,9 @@ const SEEN: [([i32; 3], u32); 22] = [
 ];
 
 fn main() -> Result<(), Refusal> {
-    let mut directory = [0; 1024];
+    let (mut state, mut directory) = ([0; STATE_WORDS], [0; 1024]);
     let mut pages = [0; 24 * SHAPE.page_bytes()];
-    let mut store = Store::fresh(SHAPE, &mut directory, &mut pages)?;
+    let mut store = Store::fresh(SHAPE, &mut state, &mut directory, &mut pages)?;
     let mut deepest = 0;
     for (key, count) in SEEN {
         deepest = deepest.max(store.insert(key, count)?.depth);
@@ -56,11 +56,11 @@ fn main() -> Result<(), Refusal> {
 /// Prints what a list has of slots and releases.
 fn show(asked: &str, found: Listing) {
     println!("{asked}: {} records, {} pages read", found.total, found.reads);
-    for record in found.records() {
+    for record in &found {
         let [_, slot, release, _] = record.values;
         println!("slot {slot}, release {release}, count {}", record.payload);
     }
-    if found.written < found.total {
+    if !found.is_complete() {
         println!("and {} more", found.total - found.written);
     }
 }

@@ -31,6 +31,7 @@ impl Query {
     /// [`Refusal::Attribute`](crate::Refusal::Attribute), a number that is no value of the attribute with
     /// [`Refusal::Value`](crate::Refusal::Value).
     #[inline]
+    #[must_use]
     pub const fn given(mut self, attribute: usize, value: i32) -> Query {
         if attribute < 4 {
             self.raw.given[attribute] = 1;

@@ -51,10 +51,9 @@ impl Range {
     /// where one is not, so too for a start that excludes the greatest value.
     ///
     /// ```
-    /// use mdeh::{Range, Refusal, Shape, Store};
+    /// use mdeh::{Range, Refusal, Shape, Store, STATE_WORDS};
     ///
-    /// let (mut directory, mut pages) = ([0; 8], [0; 60]);
-    /// let mut store = Store::fresh(Shape::new(&[4, 4], 2).signed(1), &mut directory, &mut pages)?;
+    /// let mut store = Store::fresh(Shape::new(&[4, 4], 2).signed(1), [0; STATE_WORDS], [0; 8], [0; 60])?;
     /// store.insert([7, -3], 13)?;
     /// let total = |range| store.range(range, &mut []).map(|listing| listing.total);
     ///
@@ -78,6 +77,7 @@ impl Range {
     /// # Ok::<(), Refusal>(())
     /// ```
     #[inline]
+    #[must_use]
     pub fn within(mut self, attribute: usize, values: impl RangeBounds<i32>) -> Range {
         if attribute >= 4 {
             self.beyond = true;

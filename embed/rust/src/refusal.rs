@@ -7,10 +7,9 @@ use core::fmt::{self, Display, Formatter};
 /// nothing.
 ///
 /// ```
-/// use mdeh::{Refusal, Shape, Store};
+/// use mdeh::{Refusal, Shape, Store, STATE_WORDS};
 ///
-/// let (mut directory, mut pages) = ([0; 1], [0; 14]);
-/// let mut store = Store::fresh(Shape::new(&[4, 4], 1), &mut directory, &mut pages)?;
+/// let mut store = Store::fresh(Shape::new(&[4, 4], 1), [0; STATE_WORDS], [0; 1], [0; 14])?;
 /// store.insert([3, 9], 7)?;
 ///
 /// let refusal = store.insert([3, 16], 8).unwrap_err();
@@ -22,17 +21,18 @@ use core::fmt::{self, Display, Formatter};
 /// assert_eq!(refusal, Refusal::Absent { depth: 0 });
 /// assert_eq!((refusal.number(), refusal.to_string()), (5, "the key is not stored".into()));
 ///
-/// let refusal = Store::fresh(Shape::new(&[4, 17], 1), &mut directory, &mut pages).unwrap_err();
+/// let refusal = Store::fresh(Shape::new(&[4, 17], 1), [0; STATE_WORDS], [0; 1], [0; 14]).unwrap_err();
 /// assert_eq!(refusal, Refusal::Width { attribute: 1 });
 /// assert_eq!((refusal.number(), refusal.to_string()), (14, "the width of attribute 1 is outside 1 to 16".into()));
 /// # Ok::<(), Refusal>(())
 /// ```
 #[derive(Clone, Copy, Debug, PartialEq, Eq, Hash)]
 pub enum Refusal {
-    /// Number 1: an attribute count outside 1 to 4, also in the state of a reopened store and in a file.
+    /// Number 1: an attribute count outside 1 to 4, also in the state of a store that is opened and in a file. All calls
+    /// but fresh and load: fewer words than a state has, which show no shape.
     Shape,
-    /// Number 2. Fresh and load: no directory word or no whole page. Later: fewer words or pages than the store has use
-    /// for. Save: an output that is shorter than the file.
+    /// Number 2. Fresh and load: fewer words than a state has, no directory word or no whole page. Later: fewer words or
+    /// pages than the store has use for. Save: an output that is shorter than the file.
     Memory,
     /// Number 3: a number that is no value of its attribute ([`Shape::values`](crate::Shape::values)), an index past
     /// its attribute's width, an address past the last, or an unused value other than 0.
@@ -47,7 +47,7 @@ pub enum Refusal {
     /// Number 6. Insert: a full page holds keys that the directory cannot tell from this one at its greatest depth.
     /// Load: so of some record and those before it.
     Depth,
-    /// Number 7. Insert and load: the records would need more pages than are lent.
+    /// Number 7. Insert and load: the records would need more pages than there are.
     Pages,
     /// Number 8. Query and range: an attribute is given that the shape does not have.
     Attribute,
@@ -64,12 +64,12 @@ pub enum Refusal {
     /// Number 13. Load: a stray byte in the shape, a value outside its bounds, or records that do not strictly rise in
     /// split order.
     Content,
-    /// Number 14: a width outside 1 to 16, also in the state of a reopened store and in a file.
+    /// Number 14: a width outside 1 to 16, also in the state of a store that is opened and in a file.
     Width {
         /// the attribute that has it, counted from 0; the lowest where there are several
         attribute: usize,
     },
-    /// Number 15: a page capacity outside 1 to 16, also in the state of a reopened store and in a file.
+    /// Number 15: a page capacity outside 1 to 16, also in the state of a store that is opened and in a file.
     Capacity,
 }
 
@@ -123,7 +123,7 @@ impl Refusal {
 impl Display for Refusal {
     fn fmt(&self, f: &mut Formatter<'_>) -> fmt::Result {
         f.write_str(match self {
-            Refusal::Shape => "the attribute count is outside 1 to 4",
+            Refusal::Shape => "the attribute count is outside 1 to 4, or the words of a state are too few",
             Refusal::Memory => "too few words or bytes are lent",
             Refusal::Value => "a value, index or address is outside its bounds, or an unused value is not 0",
             Refusal::Stored => "the key is stored already",

@@ -11,12 +11,12 @@ use core::ops::RangeInclusive;
 /// [`Refusal::Capacity`](crate::Refusal::Capacity).
 ///
 /// ```
-/// use mdeh::{Refusal, Shape, Store};
+/// use mdeh::{Refusal, Shape, Store, STATE_WORDS};
 ///
 /// let shape = Shape::new(&[8, 8, 10], 16);
 /// assert_eq!(shape.page_bytes(), 194);
 ///
-/// let refused = |shape| Store::fresh(shape, &mut [0; 8], &mut [0; 1000]).unwrap_err();
+/// let refused = |shape| Store::fresh(shape, [0; STATE_WORDS], [0; 8], [0; 1000]).unwrap_err();
 /// assert_eq!(refused(Shape::new(&[8, 8, 8, 8, 8], 16)), Refusal::Shape);
 /// assert_eq!(refused(Shape::new(&[8, 17, 0], 20)), Refusal::Width { attribute: 1 });
 /// assert_eq!(refused(Shape::new(&[8, 10, 0], 20)), Refusal::Width { attribute: 2 });
@@ -65,6 +65,7 @@ impl Shape {
     /// assert_eq!(DRIVES.signed(4), DRIVES);
     /// ```
     #[inline]
+    #[must_use]
     pub const fn signed(mut self, attribute: usize) -> Shape {
         if attribute < 4 {
             self.signs |= 1 << attribute;

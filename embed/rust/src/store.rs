@@ -1,137 +1,129 @@
-//! A store over borrowed memory.
+//! A store over the memory that it holds.
+use crate::answer::{Deleted, Found, Inserted, Listing};
 use crate::key::Key;
 use crate::query::Query;
 use crate::range::Range;
-use crate::raw::{self, Counts, QueryResult};
-use crate::record::{Record, Records};
+use crate::raw;
 use crate::refusal::Refusal;
 use crate::shape::Shape;
 use core::fmt::{self, Debug, Formatter};
 
 pub use crate::raw::STATE_WORDS;
 
-/// A store: its state, and the directory and pages that the host lends.
+/// The most directory words that a store has use for.
+pub const MOST_WORDS: usize = 4096;
+
+/// The most pages that a store has use for.
+pub const MOST_PAGES: usize = 4096;
+
+/// The most records that a store holds.
+pub const MOST_RECORDS: usize = 65_536;
+
+/// A store: its state, its directory and its pages, each in memory that it owns or borrows.
 ///
-/// Calls that read take `&self` and write nothing in the store, so threads may share it. Refusals are listed in the
-/// order in which they are looked for; a refused call has changed nothing. [`Refusal::Unsound`] is never given on a
-/// store that [`Store::check`] finds sound; [`Store::fresh`] and [`Store::load`] make a sound store, and every call
-/// leaves it sound.
-pub struct Store<'m> {
-    state: [u32; STATE_WORDS],
-    directory: &'m mut [u32],
-    pages: &'m mut [u8],
+/// The words of the state are in `S`, those of the directory in `D`, the bytes of the pages in `P`: arrays, `Vec`s,
+/// boxed slices, slices that are borrowed, or a mapping ([`Words`](crate::Words) shows its bytes as words). All of a
+/// store is in these three; the type adds nothing to them. Calls that read need [`AsRef`] of the memory, calls that
+/// write need [`AsMut`]: a store over shared memory is read-only, and the compiler says so.
+///
+/// Calls that read take `&self` and write nothing in the store, so threads may share it where its memory is [`Sync`].
+/// Refusals are listed in the order in which they are looked for; a refused call has changed nothing.
+/// [`Refusal::Unsound`] is never given on a store that [`Store::check`] finds sound; [`Store::fresh`] and
+/// [`Store::load`] make a sound store, and every call leaves it sound. A store over fewer than [`STATE_WORDS`] words of
+/// state refuses every call with [`Refusal::Shape`].
+///
+/// A clone is a store of its own, in memory of its own. A store is never copied implicitly: the copy would miss what is
+/// done to the other.
+#[derive(Clone)]
+pub struct Store<S, D, P> {
+    state: S,
+    directory: D,
+    pages: P,
 }
 
-/// What an insert tells of the record that is stored now.
-#[derive(Clone, Copy, Debug, PartialEq, Eq)]
-pub struct Inserted {
-    /// how deep it lies: the depth of its leaf, once leaves are divided
-    pub depth: u32,
-}
+/// A store that borrows its memory, and may write it.
+pub type LentStore<'m> = Store<&'m mut [u32], &'m mut [u32], &'m mut [u8]>;
 
-/// What a delete tells of the key that is not stored any more.
-#[derive(Clone, Copy, Debug, PartialEq, Eq)]
-pub struct Deleted {
-    /// the depth of the leaf in which it falls, once leaves are joined
-    pub depth: u32,
-}
+/// A store that borrows its memory and only reads it.
+pub type SharedStore<'m> = Store<&'m [u32], &'m [u32], &'m [u8]>;
 
-/// What a lookup finds.
-#[derive(Clone, Copy, Debug, PartialEq, Eq)]
-pub struct Found {
-    /// the payload of the key's record; 0 only of one that an earlier version stored
-    pub payload: u32,
-    /// how many pages were read: 1
-    pub reads: u32,
-    /// how deep the record lies: the depth of its leaf
-    pub depth: u32,
-}
-
-/// What a query or a range finds: its counts, and the records that fit the output.
-#[derive(Clone, Copy, Debug)]
-pub struct Listing<'o> {
-    /// how many records were written into the output
-    pub written: u64,
-    /// how many records match; more than written where the output was short
-    pub total: u64,
-    /// how many pages were read
-    pub reads: u64,
-    shape: Shape,
-    out: &'o [u8],
-}
-
-impl<'m> Store<'m> {
-    /// Makes a store without records in lent memory, whatever it held before.
-    ///
-    /// Refused with [`Refusal::Shape`], [`Refusal::Width`] or [`Refusal::Capacity`], or with [`Refusal::Memory`] where
-    /// there is no directory word or no whole page.
+impl<S, D, P> Store<S, D, P> {
+    /// The memory of the store: state, directory and pages. [`Store::open`] takes it up again.
     #[inline]
-    pub fn fresh(shape: Shape, directory: &'m mut [u32], pages: &'m mut [u8]) -> Result<Store<'m>, Refusal> {
-        let mut state = [0; STATE_WORDS];
-        raw::fresh(shape, &mut state, directory, pages).map_err(Refusal::of)?;
-        Ok(Store { state, directory, pages })
+    pub fn into_parts(self) -> (S, D, P) {
+        (self.state, self.directory, self.pages)
     }
+}
 
-    /// Takes up a store that was kept: its state, and its directory and pages, which may be longer now.
+/// The calls that make a store or change it.
+impl<S: AsMut<[u32]>, D: AsMut<[u32]>, P: AsMut<[u8]>> Store<S, D, P> {
+    /// Makes a store without records in this memory, whatever it held before.
     ///
-    /// Nothing is tested and nothing is trusted: every call stays within the memory and ends, whatever it holds. Ask
-    /// [`Store::check`] whether it is a sound store. A state that an earlier version kept has no marks of signed
-    /// attributes and one word less: a word of 0 behind it makes it a state.
+    /// How far the store can grow is fixed by the memory: [`Shape::room`] says how much to take. Refused with
+    /// [`Refusal::Shape`], [`Refusal::Width`] or [`Refusal::Capacity`], or with [`Refusal::Memory`] where there are
+    /// fewer words than a state has, no directory word or no whole page. Memory that was handed over is dropped then,
+    /// memory that was lent is as it was.
     ///
     /// ```
-    /// use mdeh::{Shape, Store};
+    /// use mdeh::{Shape, Store, STATE_WORDS};
     ///
-    /// let (mut directory, mut pages) = ([0; 8], [0; 60]);
-    /// let mut store = Store::fresh(Shape::new(&[2, 2], 2), &mut directory, &mut pages)?;
-    /// store.insert([2, 1], 13)?;
-    /// let state = *store.state(); // kept beside directory and pages
+    /// const SHAPE: Shape = Shape::new(&[7, 5], 16);
+    /// let room = SHAPE.room(500);
+    /// let owned = Store::fresh(SHAPE, [0; STATE_WORDS], vec![0; room.words], vec![0; room.bytes])?;
     ///
-    /// let store = Store::reopen(state, &mut directory, &mut pages);
-    /// assert_eq!(store.check(), Ok(true));
-    /// assert_eq!(store.lookup([2, 1])?.payload, 13);
-    ///
-    /// directory[0] = 99; // a page number that the store does not have
-    /// assert_eq!(Store::reopen(state, &mut directory, &mut pages).check(), Ok(false));
+    /// let (mut state, mut directory, mut pages) = ([0; STATE_WORDS], [0; 256], [0; 10_000]);
+    /// let borrowed = Store::fresh(SHAPE, &mut state, &mut directory, &mut pages)?;
+    /// assert_eq!(owned.shape(), borrowed.shape());
     /// # Ok::<(), mdeh::Refusal>(())
     /// ```
     #[inline]
-    pub fn reopen(state: [u32; STATE_WORDS], directory: &'m mut [u32], pages: &'m mut [u8]) -> Store<'m> {
-        Store { state, directory, pages }
+    pub fn fresh(
+        shape: Shape,
+        mut state: S,
+        mut directory: D,
+        mut pages: P,
+    ) -> Result<Store<S, D, P>, Refusal> {
+        raw::fresh(shape, state.as_mut(), directory.as_mut(), pages.as_mut()).map_err(Refusal::of)?;
+        Ok(Store { state, directory, pages })
     }
 
-    /// Makes a store of a file's shape and records in lent memory, whatever it held before. All bytes are the file's.
+    /// Makes a store of a file's shape and records in this memory, whatever it held before. All bytes are the file's.
     ///
     /// How far the store can grow is fixed by the memory, as of [`Store::fresh`]. Payloads are not looked at: one of 0
     /// loads. Refused with [`Refusal::File`], [`Refusal::Shape`], [`Refusal::Width`], [`Refusal::Capacity`],
     /// [`Refusal::Content`] or [`Refusal::Memory`], then with [`Refusal::Depth`] or [`Refusal::Pages`] at the first
-    /// record that an insert into a store of those before it would refuse so; the memory is then as it was. A file has
-    /// no sum: a changed payload is not told.
+    /// record that an insert into a store of those before it would refuse so. Memory that was handed over is dropped
+    /// then, memory that was lent is as it was. A file has no sum: a changed payload is not told.
     ///
     /// ```
-    /// use mdeh::{file_bytes, Refusal, Shape, Store};
+    /// use mdeh::{file_bytes, Refusal, Shape, Store, STATE_WORDS};
     ///
-    /// let (mut directory, mut pages) = ([0; 8], [0; 60]);
-    /// let mut store = Store::fresh(Shape::new(&[2, 2], 2), &mut directory, &mut pages)?;
+    /// let mut store = Store::fresh(Shape::new(&[2, 2], 2), [0; STATE_WORDS], [0; 8], [0; 60])?;
     /// store.insert([2, 1], 13)?;
     /// store.insert([3, 1], 12)?;
     /// let mut file = [0; file_bytes(2)];
     /// store.save(&mut file)?;
     ///
-    /// let (mut directory, mut pages) = ([0; 4096], [0; 1000]);
-    /// let loaded = Store::load(&file, &mut directory, &mut pages)?;
+    /// let (mut state, mut directory, mut pages) = ([0; STATE_WORDS], [0; 4096], [0; 1000]);
+    /// let loaded = Store::load(&file, &mut state, &mut directory, &mut pages)?;
     /// assert_eq!((loaded.shape(), loaded.check()), (store.shape(), Ok(true)));
     /// assert_eq!(loaded.lookup([2, 1])?.payload, 13);
     ///
+    /// let mut load = |file: &[u8]| Store::load(file, &mut state, &mut directory, &mut pages).err();
     /// file[0] = 3; // the first key is (3, 1) now, as the second
-    /// assert_eq!(Store::load(&file, &mut directory, &mut pages).unwrap_err(), Refusal::Content);
+    /// assert_eq!(load(&file), Some(Refusal::Content));
     /// file[26] = 0; // the width of attribute 1
-    /// assert_eq!(Store::load(&file, &mut directory, &mut pages).unwrap_err(), Refusal::Width { attribute: 1 });
+    /// assert_eq!(load(&file), Some(Refusal::Width { attribute: 1 }));
     /// # Ok::<(), Refusal>(())
     /// ```
     #[inline]
-    pub fn load(file: &[u8], directory: &'m mut [u32], pages: &'m mut [u8]) -> Result<Store<'m>, Refusal> {
-        let mut state = [0; STATE_WORDS];
-        raw::load(file, &mut state, directory, pages).map_err(Refusal::of)?;
+    pub fn load(
+        file: &[u8],
+        mut state: S,
+        mut directory: D,
+        mut pages: P,
+    ) -> Result<Store<S, D, P>, Refusal> {
+        raw::load(file, state.as_mut(), directory.as_mut(), pages.as_mut()).map_err(Refusal::of)?;
         Ok(Store { state, directory, pages })
     }
 
@@ -143,10 +135,9 @@ impl<'m> Store<'m> {
     /// stored already or has no room.
     ///
     /// ```
-    /// use mdeh::{Refusal, Shape, Store};
+    /// use mdeh::{Refusal, Shape, Store, STATE_WORDS};
     ///
-    /// let (mut directory, mut pages) = ([0; 8], [0; 60]);
-    /// let mut store = Store::fresh(Shape::new(&[2, 2], 2), &mut directory, &mut pages)?;
+    /// let mut store = Store::fresh(Shape::new(&[2, 2], 2), [0; STATE_WORDS], [0; 8], [0; 60])?;
     /// assert_eq!(store.insert([2, 1], 0), Err(Refusal::Payload));
     /// assert_eq!(store.insert([2, 1], 1)?.depth, 0); // payloads start at 1
     ///
@@ -157,7 +148,8 @@ impl<'m> Store<'m> {
     /// ```
     #[inline]
     pub fn insert(&mut self, key: impl Into<Key>, payload: u32) -> Result<Inserted, Refusal> {
-        raw::insert(&mut self.state, self.directory, self.pages, key.into().values, payload)
+        let (state, directory, pages) = self.slices_mut();
+        raw::insert(state, directory, pages, key.into().values, payload)
             .map(|depth| Inserted { depth })
             .map_err(Refusal::of)
     }
@@ -168,10 +160,9 @@ impl<'m> Store<'m> {
     /// [`Refusal::Value`], [`Refusal::Absent`] or [`Refusal::Unsound`].
     ///
     /// ```
-    /// use mdeh::{Refusal, Shape, Store};
+    /// use mdeh::{Refusal, Shape, Store, STATE_WORDS};
     ///
-    /// let (mut directory, mut pages) = ([0; 16], [0; 60]);
-    /// let mut store = Store::fresh(Shape::new(&[2, 2], 1), &mut directory, &mut pages)?;
+    /// let mut store = Store::fresh(Shape::new(&[2, 2], 1), [0; STATE_WORDS], [0; 16], [0; 60])?;
     /// store.insert([2, 0], 11)?;
     /// assert_eq!(store.insert([2, 1], 13)?.depth, 4); // two keys that differ in their last split bit
     ///
@@ -181,9 +172,67 @@ impl<'m> Store<'m> {
     /// ```
     #[inline]
     pub fn delete(&mut self, key: impl Into<Key>) -> Result<Deleted, Refusal> {
-        raw::delete(&mut self.state, self.directory, self.pages, key.into().values)
+        let (state, directory, pages) = self.slices_mut();
+        raw::delete(state, directory, pages, key.into().values)
             .map(|depth| Deleted { depth })
             .map_err(Refusal::of)
+    }
+
+    /// The same store over borrowed memory, for code that is written for one type of store.
+    #[inline]
+    pub fn lent(&mut self) -> LentStore<'_> {
+        let (state, directory, pages) = self.slices_mut();
+        Store { state, directory, pages }
+    }
+
+    /// The three slices, to be written.
+    #[inline]
+    fn slices_mut(&mut self) -> (&mut [u32], &mut [u32], &mut [u8]) {
+        (self.state.as_mut(), self.directory.as_mut(), self.pages.as_mut())
+    }
+}
+
+/// The calls that read.
+impl<S: AsRef<[u32]>, D: AsRef<[u32]>, P: AsRef<[u8]>> Store<S, D, P> {
+    /// Takes up a store that is in this memory: its state, and its directory and pages, which may be longer than
+    /// before. Over shared memory the store is read-only.
+    ///
+    /// Nothing is copied, tested or trusted: every call stays within the memory and ends, whatever it holds. Ask
+    /// [`Store::check`] whether it is a sound store. A state that an earlier version kept has no marks of signed
+    /// attributes and one word less: a word of 0 behind it makes it a state.
+    ///
+    /// ```
+    /// use mdeh::{Shape, Store, STATE_WORDS};
+    ///
+    /// let (mut state, mut directory, mut pages) = ([0; STATE_WORDS], [0; 8], [0; 60]);
+    /// let mut store = Store::fresh(Shape::new(&[2, 2], 2), &mut state, &mut directory, &mut pages)?;
+    /// store.insert([2, 1], 13)?;
+    ///
+    /// let mut store = Store::open(&mut state, &mut directory, &mut pages);
+    /// store.insert([3, 1], 12)?;
+    ///
+    /// let store = Store::open(&state, &directory, &pages); // read-only
+    /// assert_eq!(store.check(), Ok(true));
+    /// assert_eq!(store.lookup([2, 1])?.payload, 13);
+    ///
+    /// directory[0] = 99; // a page number that the store does not have
+    /// assert_eq!(Store::open(&state, &directory, &pages).check(), Ok(false));
+    /// # Ok::<(), mdeh::Refusal>(())
+    /// ```
+    ///
+    /// A read-only store has no calls that write:
+    ///
+    /// ```compile_fail
+    /// # use mdeh::{Shape, Store, STATE_WORDS};
+    /// # let (mut state, mut directory, mut pages) = ([0; STATE_WORDS], [0; 8], [0; 60]);
+    /// # Store::fresh(Shape::new(&[2, 2], 2), &mut state, &mut directory, &mut pages)?;
+    /// let mut store = Store::open(&state, &directory, &pages);
+    /// store.insert([3, 1], 12)?;
+    /// # Ok::<(), mdeh::Refusal>(())
+    /// ```
+    #[inline]
+    pub fn open(state: S, directory: D, pages: P) -> Store<S, D, P> {
+        Store { state, directory, pages }
     }
 
     /// The payload of a key's record, and how deep it lies.
@@ -192,7 +241,8 @@ impl<'m> Store<'m> {
     /// [`Refusal::Value`], [`Refusal::Absent`] or [`Refusal::Unsound`].
     #[inline]
     pub fn lookup(&self, key: impl Into<Key>) -> Result<Found, Refusal> {
-        raw::lookup(&self.state, self.directory, self.pages, key.into().values)
+        let (state, directory, pages) = self.slices();
+        raw::lookup(state, directory, pages, key.into().values)
             .map(|(payload, reads, depth)| Found { payload, reads, depth })
             .map_err(Refusal::of)
     }
@@ -204,10 +254,9 @@ impl<'m> Store<'m> {
     /// [`Refusal::Value`] or [`Refusal::Unsound`]; `out` is then as it was.
     ///
     /// ```
-    /// use mdeh::{Query, Shape, Store, RECORD_BYTES};
+    /// use mdeh::{Query, Shape, Store, RECORD_BYTES, STATE_WORDS};
     ///
-    /// let (mut directory, mut pages) = ([0; 8], [0; 60]);
-    /// let mut store = Store::fresh(Shape::new(&[2, 2], 2), &mut directory, &mut pages)?;
+    /// let mut store = Store::fresh(Shape::new(&[2, 2], 2), [0; STATE_WORDS], [0; 8], [0; 60])?;
     /// store.insert([2, 1], 13)?;
     /// store.insert([3, 1], 12)?;
     ///
@@ -226,7 +275,8 @@ impl<'m> Store<'m> {
             // after the reasons that check has too
             return Err(self.check().err().unwrap_or(Refusal::Attribute));
         }
-        let result = raw::query_result(&self.state, self.directory, self.pages, query.raw, out);
+        let (state, directory, pages) = self.slices();
+        let result = raw::query_result(state, directory, pages, query.raw, out);
         Listing::of(result, self.shape(), out)
     }
 
@@ -237,10 +287,9 @@ impl<'m> Store<'m> {
     /// [`Refusal::Value`], [`Refusal::Interval`] or [`Refusal::Unsound`]; `out` is then as it was.
     ///
     /// ```
-    /// use mdeh::{Range, Shape, Store, RECORD_BYTES};
+    /// use mdeh::{Range, Shape, Store, RECORD_BYTES, STATE_WORDS};
     ///
-    /// let (mut directory, mut pages) = ([0; 8], [0; 60]);
-    /// let mut store = Store::fresh(Shape::new(&[7, 9], 2), &mut directory, &mut pages)?;
+    /// let mut store = Store::fresh(Shape::new(&[7, 9], 2), [0; STATE_WORDS], [0; 8], [0; 60])?;
     /// store.insert([30, 398], 1)?;
     /// store.insert([30, 431], 17)?;
     /// store.insert([41, 431], 3)?;
@@ -260,7 +309,8 @@ impl<'m> Store<'m> {
             return Err(self.check().err().unwrap_or(Refusal::Attribute));
         }
         let shape = self.shape();
-        let result = raw::range_result(&self.state, self.directory, self.pages, range.closed(shape), out);
+        let (state, directory, pages) = self.slices();
+        let result = raw::range_result(state, directory, pages, range.closed(shape), out);
         Listing::of(result, shape, out)
     }
 
@@ -270,7 +320,8 @@ impl<'m> Store<'m> {
     /// Refused with [`Refusal::Shape`], [`Refusal::Width`], [`Refusal::Capacity`] or [`Refusal::Memory`].
     #[inline]
     pub fn check(&self) -> Result<bool, Refusal> {
-        raw::check(&self.state, self.directory, self.pages).map_err(Refusal::of)
+        let (state, directory, pages) = self.slices();
+        raw::check(state, directory, pages).map_err(Refusal::of)
     }
 
     /// Writes the file of the records into `out`, from its first byte on, and returns how many bytes it has; the bytes
@@ -282,10 +333,9 @@ impl<'m> Store<'m> {
     /// 65,536, the most that a store holds, always has.
     ///
     /// ```
-    /// use mdeh::{file_bytes, Query, Refusal, Shape, Store};
+    /// use mdeh::{file_bytes, Query, Refusal, Shape, Store, STATE_WORDS};
     ///
-    /// let (mut directory, mut pages) = ([0; 8], [0; 60]);
-    /// let mut store = Store::fresh(Shape::new(&[2, 2], 2), &mut directory, &mut pages)?;
+    /// let mut store = Store::fresh(Shape::new(&[2, 2], 2), [0; STATE_WORDS], [0; 8], [0; 60])?;
     /// store.insert([2, 1], 13)?;
     ///
     /// let records = store.query(Query::all(), &mut [])?.total as usize;
@@ -298,68 +348,72 @@ impl<'m> Store<'m> {
     /// ```
     #[inline]
     pub fn save(&self, out: &mut [u8]) -> Result<usize, Refusal> {
-        raw::save(&self.state, self.directory, self.pages, out).map(|size| size as usize).map_err(Refusal::of)
+        let (state, directory, pages) = self.slices();
+        raw::save(state, directory, pages, out).map(|size| size as usize).map_err(Refusal::of)
     }
 
     /// The words of the state: d, the four widths, b, P, L, T, how many leaves there are at depths 0 to 12, and the
-    /// marks of signed attributes.
+    /// marks of signed attributes; then those that are behind it.
     #[inline]
-    pub fn state(&self) -> &[u32; STATE_WORDS] {
-        &self.state
+    pub fn state(&self) -> &[u32] {
+        self.state.as_ref()
     }
 
-    /// The directory as it was lent, of which the first 2^T words are in use.
+    /// The words of the directory, of which the first 2^T are in use.
     #[inline]
     pub fn directory(&self) -> &[u32] {
-        self.directory
+        self.directory.as_ref()
     }
 
-    /// The bytes of the pages as they were lent.
+    /// The bytes of the pages.
     #[inline]
     pub fn pages(&self) -> &[u8] {
-        self.pages
+        self.pages.as_ref()
     }
 
-    /// The shape that the state has.
+    /// The shape that the state has: zeros, which every call refuses, where it has fewer than [`STATE_WORDS`] words.
     #[inline]
     pub fn shape(&self) -> Shape {
-        let [attributes, a, b, c, d, capacity, .., signs] = self.state;
+        let [attributes, a, b, c, d, capacity, .., signs] =
+            *self.state().first_chunk().unwrap_or(&[0; STATE_WORDS]);
         Shape { attributes, widths: [a, b, c, d], capacity, signs }
     }
+
+    /// The same store over borrowed memory, read-only, for code that is written for one type of store.
+    ///
+    /// ```
+    /// use mdeh::{Query, Refusal, Shape, SharedStore, Store, STATE_WORDS};
+    ///
+    /// /// How many records a store holds, whatever memory it is in.
+    /// fn records(store: SharedStore) -> Result<u64, Refusal> {
+    ///     Ok(store.query(Query::all(), &mut [])?.total)
+    /// }
+    ///
+    /// let mut store = Store::fresh(Shape::new(&[2, 2], 2), [0; STATE_WORDS], vec![0; 8], vec![0; 60])?;
+    /// store.insert([2, 1], 13)?;
+    /// assert_eq!(records(store.shared()), Ok(1));
+    /// # Ok::<(), Refusal>(())
+    /// ```
+    #[inline]
+    pub fn shared(&self) -> SharedStore<'_> {
+        let (state, directory, pages) = self.slices();
+        Store { state, directory, pages }
+    }
+
+    /// The three slices.
+    #[inline]
+    fn slices(&self) -> (&[u32], &[u32], &[u8]) {
+        (self.state(), self.directory(), self.pages())
+    }
 }
 
-/// The state and the lengths of the lent slices.
-impl Debug for Store<'_> {
+/// The words of the state, and the lengths of directory and pages.
+impl<S: AsRef<[u32]>, D: AsRef<[u32]>, P: AsRef<[u8]>> Debug for Store<S, D, P> {
     fn fmt(&self, f: &mut Formatter<'_>) -> fmt::Result {
         f.debug_struct("Store")
-            .field("state", &self.state)
-            .field("words", &self.directory.len())
-            .field("bytes", &self.pages.len())
+            .field("state", &self.state())
+            .field("words", &self.directory().len())
+            .field("bytes", &self.pages().len())
             .finish()
-    }
-}
-
-impl<'o> Listing<'o> {
-    /// What the library returned of an output of a store of this shape.
-    #[inline]
-    fn of(result: QueryResult, shape: Shape, out: &'o [u8]) -> Result<Listing<'o>, Refusal> {
-        let Counts { written, total, reads } = result.counts().map_err(Refusal::of)?;
-        Ok(Listing { written, total, reads, shape, out })
-    }
-
-    /// The records that were written, in split order.
-    #[inline]
-    pub fn records(&self) -> Records<'o> {
-        Records::new(self.shape, self.out, self.written as usize)
-    }
-}
-
-impl<'o> IntoIterator for Listing<'o> {
-    type Item = Record;
-    type IntoIter = Records<'o>;
-
-    #[inline]
-    fn into_iter(self) -> Records<'o> {
-        self.records()
     }
 }
