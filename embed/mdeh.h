@@ -402,9 +402,9 @@ static inline int mdeh_room_deep(uint32_t depth, uint32_t bits, uint32_t capacit
 }
 
 /* The memory for n records of a shape (SIZING): the least directory that is deep enough, or the longest one; pages that
-   take the records at 8 of 15 of their capacity, and 8 more, at most one for each record and each word. Where holds is
-   0, the shape has fewer keys than n, or none of its directories is deep enough for keys drawn at random. A shape out
-   of bounds: all 0. */
+   take the records half full, and 8 more, at most one for each record and each word. Where holds is 0, the shape has
+   fewer keys than n, or none of its directories is deep enough for keys drawn at random. A shape out of bounds: all
+   0. */
 static inline MdehRoom mdeh_room(MdehShape shape, uint32_t records) {
     MdehRoom room = {0, 0, 0};
     uint32_t bits = 0, deepest, depth, j;
@@ -424,7 +424,7 @@ static inline MdehRoom mdeh_room(MdehShape shape, uint32_t records) {
     if (!room.holds)
         depth = deepest;
     room.words = (size_t)1 << depth;
-    pages = (15 * n + 8 * shape.capacity - 1) / (8 * shape.capacity) + 8;
+    pages = (2 * n + shape.capacity - 1) / shape.capacity + 8;
     pages = pages < room.words ? pages : room.words;
     pages = pages < n ? pages : n;
     room.bytes = (size_t)(pages > 0 ? pages : 1) * MDEH_PAGE_BYTES(shape.capacity);

@@ -46,11 +46,11 @@ static MdehKey key_of(const uint32_t row[3]) {
 
 /* A random number below a count that is not 0, the same ones on every run (xorshift64). */
 static uint32_t below(uint32_t count) {
-    static uint64_t seed = 20;
+    static uint64_t seed = 2463534242;
     seed ^= seed << 13;
     seed ^= seed >> 7;
     seed ^= seed << 17;
-    return (uint32_t)(seed >> 32) % count;
+    return (uint32_t)(seed >> 33) % count;
 }
 
 /* Stores random rows, each with its number as payload, and tells how many are refused. */
@@ -67,7 +67,8 @@ static int fill(void) {
         again += number == MDEH_REFUSED_STORED;
         others += number != MDEH_ACCEPTED && number != MDEH_REFUSED_STORED;
     }
-    printf("%" PRIu32 " rows stored, %" PRIu32 " stored already, %" PRIu32 " without room\n", stored, again, others);
+    printf("%" PRIu32 " stored, %" PRIu32 " refused as stored already, %" PRIu32 " refused otherwise\n", stored, again,
+           others);
     return others != 0;
 }
 
@@ -80,8 +81,7 @@ static int ask(MdehRange range) {
     if (!out)
         return 1;
     found = mdeh_range(state, MDEH_STATE_WORDS, directory, room.words, pages, room.bytes, range, out, out_bytes);
-    printf("%" PRIu64 " records, %" PRIu64 " of them written, %" PRIu64 " pages read\n", found.total, found.written,
-           found.reads);
+    printf("%" PRIu64 " records, %" PRIu64 " pages read\n", found.total, found.reads);
     for (i = 0; i < found.written && i < 3; i++) {
         MdehRecord record = mdeh_record(shape, out, i);
         printf("code %" PRIu32 ", slot %" PRIu32 ", release %" PRIu32 ", row %" PRIu32 "\n", value_of(CODE, &record),

@@ -129,17 +129,17 @@ static const struct {
 } rooms[] = {
     {{3, {7, 5, 9, 0}, 16, 0}, 0, 1, 1, 1},
     {{3, {7, 5, 9, 0}, 16, 0}, 1, 1, 1, 1},
-    {{3, {7, 5, 9, 0}, 16, 0}, 100, 32, 20, 1},
-    {{3, {7, 5, 9, 99}, 16, 7}, 12004, 4096, 1415, 1}, /* the most that hold with 4,096 words */
-    {{3, {7, 5, 9, 0}, 16, 0}, 12005, 4096, 1415, 0},
-    {{4, {7, 5, 7, 2}, 16, 0}, 20000, 4096, 2352, 0},
+    {{3, {7, 5, 9, 0}, 16, 0}, 100, 32, 21, 1},
+    {{3, {7, 5, 9, 99}, 16, 7}, 12004, 4096, 1509, 1}, /* the most that hold with 4,096 words */
+    {{3, {7, 5, 9, 0}, 16, 0}, 12005, 4096, 1509, 0},
+    {{4, {7, 5, 7, 2}, 16, 0}, 20000, 4096, 2508, 0},
     {{4, {16, 16, 16, 16}, 16, 15}, UINT32_MAX, 4096, 4096, 0},
     {{1, {16, 0, 0, 0}, 16, 0}, 65536, 4096, 4096, 1}, /* all keys */
     {{1, {16, 0, 0, 0}, 16, 0}, 65537, 4096, 4096, 0}, /* one more than there are */
     {{2, {16, 1, 0, 0}, 16, 0}, 65536, 4096, 4096, 0},
     {{1, {16, 0, 0, 0}, 15, 0}, 65536, 4096, 4096, 0},
     {{2, {2, 2, 0, 0}, 16, 0}, 16, 1, 1, 1}, /* all keys in one page */
-    {{2, {2, 2, 0, 0}, 16, 0}, 17, 16, 10, 0},
+    {{2, {2, 2, 0, 0}, 16, 0}, 17, 16, 11, 0},
     {{2, {2, 2, 0, 0}, 2, 0}, 4, 8, 4, 1},
     {{2, {2, 2, 0, 0}, 1, 0}, 16, 16, 16, 1},
     {{1, {12, 0, 0, 0}, 1, 0}, 4096, 4096, 4096, 1},
@@ -181,7 +181,7 @@ static int deep_enough(uint32_t bits, uint32_t capacity, uint32_t depth, uint32_
 }
 
 /* mdeh_room gives a depth that is enough, and the depth before it is not; or it gives the deepest and says so. The
-   pages are 8 more than take the records at 8 of 15 of the capacity, if not one for each word or record. */
+   pages are 8 more than take the records half full, if not one for each word or record. */
 static void compare_room(MdehShape shape, uint32_t n) {
     MdehRoom room = mdeh_room(shape, n);
     uint32_t bits = model_bits(&shape), deepest = bits < 12 ? bits : 12, depth = 0;
@@ -198,8 +198,8 @@ static void compare_room(MdehShape shape, uint32_t n) {
         HOLDS(depth == deepest && (n > keys || deep_enough(bits, shape.capacity, depth, n) != 1));
     }
     HOLDS(pages <= room.words && (pages <= counted || counted == 0));
-    HOLDS(pages == room.words || pages >= counted || (pages - 8) * 8 * shape.capacity >= 15 * counted);
-    HOLDS(pages <= 9 || (pages - 9) * 8 * shape.capacity < 15 * counted);
+    HOLDS(pages == room.words || pages >= counted || (pages - 8) * shape.capacity >= 2 * counted);
+    HOLDS(pages <= 9 || (pages - 9) * shape.capacity < 2 * counted);
 }
 
 void room_bounds(void) {

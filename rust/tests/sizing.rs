@@ -46,8 +46,8 @@ fn room_of(shape: Shape, records: u32) -> Room {
         true => (depth.expect("it holds"), records.into()),
         false => (deepest, u64::from(records).min(65_536)),
     };
-    let average = (7 * records).div_ceil(4 * u64::from(shape.capacity)) + 8;
-    let pages = average.min(records.max(1)).min(1 << depth) as usize;
+    let half_full = (2 * records).div_ceil(shape.capacity.into()) + 8;
+    let pages = half_full.min(records.max(1)).min(1 << depth) as usize;
     Room { words: 1 << depth, bytes: pages * (2 + 12 * shape.capacity as usize), holds }
 }
 
@@ -80,8 +80,8 @@ fn rooms_by_hand() {
     assert_eq!(gateway.room(0), Room { words: 1, bytes: 194, holds: true });
     assert_eq!(Shape::new(&[4], 16).room(16), Room { words: 1, bytes: 194, holds: true });
     assert_eq!(Shape::new(&[5], 16).room(32), Room { words: 2, bytes: 2 * 194, holds: true });
-    // more records than keys: 4 pages on the average and 8
-    assert_eq!(Shape::new(&[5], 16).room(33), Room { words: 32, bytes: 12 * 194, holds: false });
+    // more records than keys: 5 pages half full and 8
+    assert_eq!(Shape::new(&[5], 16).room(33), Room { words: 32, bytes: 13 * 194, holds: false });
     // every key of 16 bits
     assert_eq!(Shape::new(&[16], 16).room(65_536), Room { words: 4096, bytes: 4096 * 194, holds: true });
     assert_eq!(
@@ -170,18 +170,15 @@ fn each_room(random: &mut Random, rounds: usize, mut each: impl FnMut(&mut Rando
     }
 }
 
-/// Random keys fit in exactly the words and bytes. All keys of a shape with b = 15 are more even than random ones: they
-/// take a page for each word.
+/// Random keys fit in exactly the words and bytes.
 #[test]
 fn random_keys_find_room() {
     let mut random = Random::new(SEED);
     let (mut fills, mut depths, mut pages) = (0, 0, 0);
     each_room(&mut random, 120, |random, shape, records, room| {
         let keys = even_keys(random, shape, records as usize);
-        let grid = shape.capacity == 15 && u64::from(records) == 1 << bits(shape);
-        let bytes = if grid { room.words * shape.page_bytes() } else { room.bytes };
         fills += 1;
-        match filled(shape, &keys, room.words, bytes) {
+        match filled(shape, &keys, room.words, room.bytes) {
             None => (),
             Some(Refusal::Depth) => depths += 1,
             Some(refusal) => {
@@ -193,6 +190,21 @@ fn random_keys_find_room() {
     println!("{fills} fills: {depths} refused with 6, {pages} with 7");
     // at most one of a thousand with 6
     assert!(fills > 1500 && depths <= 6 && pages == 0);
+}
+
+/// Ranks that are spread as an even grid fit too: a leaf is divided into halves that are half full.
+#[test]
+fn grids_find_room() {
+    for (capacity, bits) in (1..=16).flat_map(|capacity| (6..=13).map(move |bits| (capacity, bits))) {
+        let shape = Shape::new(&[bits], capacity);
+        for count in (1..=1 << bits).step_by((1 << bits) / 40 + 1) {
+            let keys: Vec<[i32; 4]> =
+                (0..count).map(|rank| [spread(rank, count, bits) as i32, 0, 0, 0]).collect();
+            let room = shape.room(count);
+            let refusal = filled(shape, &keys, room.words, room.bytes);
+            assert!(refusal.is_none() || !room.holds, "{shape:?}, {count} ranks: {refusal:?}");
+        }
+    }
 }
 
 /// With an eighth of the words 6 comes in most fills where it is a matter of chance, with half of the pages 7 in all

@@ -1,10 +1,7 @@
 //! A store sized for 20,000 random gateway rows: codes from 0 to 99, slots from 0 to 23, releases from 398 to 479. The
 //! ranks of the values are spread over the least widths, and a spare attribute of two bits evens out the cells. Fills
 //! the store, says what was refused, and asks for code 30 and the releases from 400 to 479.
-use mdeh::{
-    rank, spread, Range, Record, Refusal, Room, Shape, Store, MOST_PAGES, MOST_WORDS, RECORD_BYTES,
-    STATE_WORDS,
-};
+use mdeh::{rank, spread, Range, Record, Refusal, Room, Shape, Store, RECORD_BYTES, STATE_WORDS};
 
 /// Code, slot and release in the least widths, and the spare attribute; a page holds sixteen records.
 const SHAPE: Shape = Shape::new(&[7, 5, 7, 2], 16);
@@ -35,11 +32,9 @@ impl Random {
 }
 
 fn main() -> Result<(), Refusal> {
-    let (words, bytes) = match SHAPE.room(ROWS) {
-        Room { words, bytes, holds: true } => (words, bytes),
-        // the most that a store has use for
-        _ => (MOST_WORDS, MOST_PAGES * SHAPE.page_bytes()),
-    };
+    let Room { words, bytes, holds } = SHAPE.room(ROWS);
+    let fit = if holds { "fit" } else { "may not all fit" };
+    println!("{words} words, {bytes} bytes of pages; keys drawn at random {fit}");
     let mut store = Store::fresh(SHAPE, [0; STATE_WORDS], vec![0; words], vec![0; bytes])?;
     let mut random = Random(2_463_534_242);
     let (mut stored, mut repeated, mut others) = (0, 0, 0);
@@ -56,7 +51,8 @@ fn main() -> Result<(), Refusal> {
     }
     println!("{stored} stored, {repeated} refused as stored already, {others} refused otherwise");
     let wanted = Range::all().within(0, value(0, 30)..=value(0, 30)).within(2, value(2, 400)..=value(2, 479));
-    let mut out = vec![0; 1000 * RECORD_BYTES];
+    // how many there are, then all of them
+    let mut out = vec![0; store.range(wanted, &mut [])?.total as usize * RECORD_BYTES];
     let found = store.range(wanted, &mut out)?;
     println!("code 30, releases 400 to 479: {} records, {} pages read", found.total, found.reads);
     for record in found.records().take(3) {

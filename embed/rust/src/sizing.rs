@@ -23,9 +23,9 @@ impl Shape {
     /// The directory words and page bytes for so many records of this shape.
     ///
     /// Where `holds` is true, keys that are drawn at random find room: an insert is refused with
-    /// [`Refusal::Depth`](crate::Refusal::Depth) in less than one fill of a thousand, and the pages are a sixth more
-    /// than such keys use on the average, and eight. Keys that are more even than chance, as all keys of a grid, can
-    /// take up to 2n / b pages: with as many pages as words [`Refusal::Pages`](crate::Refusal::Pages) never comes.
+    /// [`Refusal::Depth`](crate::Refusal::Depth) in less than one fill of a thousand. The pages take the records half
+    /// full, and eight more: random keys use n / (0.68 b) on the average, keys of an even grid up to 2n / b. With as many
+    /// pages as words [`Refusal::Pages`](crate::Refusal::Pages) never comes, whatever the keys.
     ///
     /// Otherwise the words and bytes are the most that so many records have use for, and it is to be tried whether they
     /// hold; where there are more records than keys, they do not. A shape outside its bounds has no room: zeros.
@@ -38,8 +38,8 @@ impl Shape {
     /// static DIRECTORY: [u32; ROOM.words] = [0; ROOM.words];
     ///
     /// assert!(ROOM.holds);
-    /// assert_eq!((DIRECTORY.len(), ROOM.bytes), (4096, 1102 * SHAPE.page_bytes()));
-    /// assert_eq!(SHAPE.room(100), Room { words: 32, bytes: 19 * SHAPE.page_bytes(), holds: true });
+    /// assert_eq!((DIRECTORY.len(), ROOM.bytes), (4096, 1258 * SHAPE.page_bytes()));
+    /// assert_eq!(SHAPE.room(100), Room { words: 32, bytes: 21 * SHAPE.page_bytes(), holds: true });
     /// assert!(!SHAPE.room(20_000).holds);
     /// assert_eq!(Shape::new(&[7, 17], 16).room(100), Room { words: 0, bytes: 0, holds: false });
     /// ```
@@ -107,10 +107,10 @@ impl Shape {
         expected <= 1.0
     }
 
-    /// The words of a directory of this depth, and the pages for so many records: not more than leaves or records.
+    /// The words of a directory of this depth, and the pages for so many records, half full: not more than leaves or records.
     const fn room_at(&self, depth: u32, records: usize, holds: bool) -> Room {
         let words = 1 << depth;
-        let mut pages = (7 * records).div_ceil(4 * self.capacity as usize) + 8;
+        let mut pages = (2 * records).div_ceil(self.capacity as usize) + 8;
         if pages > records {
             pages = if records == 0 { 1 } else { records };
         }
