@@ -39,9 +39,10 @@
 //! - mapped: any type that shows its bytes by [`AsRef`], and by [`AsMut`] if they may be written. [`Words`] shows bytes
 //!   as words, for the state and the directory. One mapping may be divided, or each part have its own.
 //!
-//! To keep a store, keep all three parts as they are. The layouts are in `embed/mdeh.h`. A crash in mid-change leaves a
-//! mapped store as it was at that moment, and perhaps unsound: see Check, then ask, below. A file that is saved beside
-//! and then renamed is whole.
+//! To keep a store, keep all three parts as they are. The layouts are in `embed/mdeh.h`. A crash in mid-change leaves
+//! some of its writes in a mapped store: it may be unsound, which [`Store::check`] tells, or sound and without a record,
+//! which nothing tells. So a mapping is not the only copy: save a file beside the last one, sync it and rename it; a
+//! start loads the file.
 //!
 //! ```
 //! use mdeh::{Refusal, Room, Shape, Store, STATE_WORDS};
@@ -102,7 +103,8 @@
 //! | 7, 5, 9 | plain | after 2,900 on the average |
 //! | 7, 5, 7 | 398 taken off | after 10,500 on the average |
 //! | 7, 5, 7 | spread, or bits reversed | in 35 of 100 fills |
-//! | 7, 5, 7, 2 | spread, and the spare attribute | in 13 of 1,000 fills |
+//! | 7, 5, 7, 2 | spread, and the spare attribute | in 14 of 1,000 fills |
+//! | 7, 4, 7 | spread, even and odd slots in two stores | in none of 5,000 fills |
 //!
 //! On 6: the steps above, a capacity of 16, 4,096 words; then several stores, by an attribute or by a digest of the
 //! key. On 7: more pages, or a larger capacity. In both cases save and load into longer memory ([`Store::load`]; the
