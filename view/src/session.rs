@@ -1,9 +1,10 @@
 //! What lines do to a store in memory that is lent as `stock` lends it.
+use crate::ask::refused;
+use crate::lent::Lent;
 use crate::lines::{command, Command};
-use mdeh::{Refusal, Shape, Store, STATE_WORDS};
+use mdeh::{Refusal, Shape, Store};
 
 /// "It lends 4,096 words, 32,768 page bytes".
-const WORDS: usize = 4096;
 const BYTES: usize = 32768;
 
 /// Why a line was passed over: it is of another form, or the store refused its call.
@@ -21,13 +22,6 @@ pub struct Session {
     lent: Option<Lent>,
 }
 
-/// The state of a store, and the memory that it is lent.
-struct Lent {
-    state: [u32; STATE_WORDS],
-    directory: Vec<u32>,
-    pages: Vec<u8>,
-}
-
 impl Session {
     /// A session whose shapes have these marks of signed attributes. If there is one, values may have a minus sign.
     pub fn signed(signs: u32) -> Session {
@@ -36,13 +30,11 @@ impl Session {
 
     /// Does what a line without its newline says. Changes nothing where it returns a fault.
     pub fn take(&mut self, line: &[u8]) -> Result<(), Fault> {
-        let attributes = self.lent.as_ref().map_or(0, |lent| lent.state[0] as usize);
+        let attributes = self.lent.as_ref().map_or(0, Lent::attributes);
         match command(line, attributes, self.signs != 0).ok_or(Fault::Bad)? {
             Command::Shape(shape) => {
                 let shape = Shape { signs: self.signs, ..shape };
-                let (mut directory, mut pages) = (vec![0; WORDS], vec![0; BYTES]);
-                let store = Store::fresh(shape, &mut directory, &mut pages).map_err(Fault::Refused)?;
-                self.lent = Some(Lent { state: *store.state(), directory, pages });
+                self.lent = Some(Lent::fresh(shape, BYTES).map_err(Fault::Refused)?);
                 Ok(())
             }
             Command::Put(key, payload) => self.call(|store| store.insert(key, payload)),
@@ -53,23 +45,14 @@ impl Session {
     }
 
     /// The store, if there is one.
-    pub fn store(&mut self) -> Option<Store<'_>> {
-        self.lent.as_mut().map(Lent::store)
+    pub fn store(self) -> Option<Lent> {
+        self.lent
     }
 
     /// A call on the store, whose answer is left aside; a line "before an accepted `shape`" is bad.
     fn call<T>(&mut self, call: impl FnOnce(&mut Store) -> Result<T, Refusal>) -> Result<(), Fault> {
         let lent = self.lent.as_mut().ok_or(Fault::Bad)?;
-        let mut store = lent.store();
-        call(&mut store).map_err(Fault::Refused)?;
-        lent.state = *store.state();
-        Ok(())
-    }
-}
-
-impl Lent {
-    fn store(&mut self) -> Store<'_> {
-        Store::reopen(self.state, &mut self.directory, &mut self.pages)
+        lent.call(call).map(drop).map_err(Fault::Refused)
     }
 }
 
@@ -78,7 +61,7 @@ impl std::fmt::Display for Fault {
     fn fmt(&self, f: &mut std::fmt::Formatter<'_>) -> std::fmt::Result {
         match self {
             Fault::Bad => write!(f, "bad line"),
-            Fault::Refused(refusal) => write!(f, "no {} ({refusal})", refusal.number()),
+            Fault::Refused(refusal) => f.write_str(&refused(refusal)),
         }
     }
 }
