@@ -57,31 +57,24 @@ pub fn many_cells(picture: &Picture) -> String {
 
 /// Where an insert is refused with 6, or how near that is.
 pub fn next(picture: &Picture) -> String {
-    let (fullest, split_bits) = (&picture.fullest, picture.depth_limit);
-    let (records, capacity) = (fullest.records, picture.capacity());
-    let regions = |one: &str, more: &str| {
-        let regions = counted(fullest.regions.len(), "region", "regions");
-        format!(
-            "{regions} of {split_bits} split bits {}",
-            if fullest.regions.len() == 1 { one } else { more }
-        )
-    };
-    match fullest.more {
-        _ if fullest.never => {
-            format!("Refusal 6 never comes: a region of {split_bits} split bits has no more keys than a page takes")
-        }
-        0 => format!("Refusal 6 comes next for a further key in {} full", regions("that is", "that are")),
-        _ if records == 0 => {
+    let fullest = &picture.fullest;
+    let bits = format!("of {} split bits", picture.depth_limit);
+    let capacity = counted(picture.capacity(), "record", "records");
+    let regions = counted(fullest.regions.len(), "region", "regions");
+    let (are, have) = if fullest.regions.len() == 1 { ("is", "has") } else { ("are", "have") };
+    let reason = match fullest.more {
+        _ if fullest.never => format!("never comes: a region {bits} has no more keys than a page takes"),
+        _ if fullest.records == 0 => format!("comes in no region {bits} before it has {capacity}"),
+        0 => format!("comes next for a further key in {regions} {bits} that {are} full"),
+        more => {
+            let fit = if more == 1 { "fits" } else { "fit" };
             format!(
-                "Refusal 6 comes in no region of {split_bits} split bits before it has {capacity} records"
+                "comes first in {regions} {bits} that {have} {} of {capacity}: {more} more {fit}",
+                fullest.records
             )
         }
-        more => {
-            let held = regions("that has", "that have");
-            let fit = if more == 1 { "1 more fits" } else { &format!("{more} more fit") };
-            format!("Refusal 6 comes first in {held} {records} of {capacity} records: {fit}")
-        }
-    }
+    };
+    format!("Refusal 6 {reason}")
 }
 
 /// The fullest regions, up to so many, each with its split bits, its leaf's page and its values; then how many more.

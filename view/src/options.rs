@@ -21,8 +21,9 @@ The store is the one that lines of `stock` leave, or that of a saved file, in
                  NAME:from=N          the store's least value stands for N
                  NAME:from=N,to=M     the values N to M, spread over the width:
                                       r above N is stored as floor(r*2^w/count)
---ask ASK        marks the pages that a query reads: NAME=VALUE or NAME=LOW..HIGH,
-                 by an attribute's name or number; given for some, they hold all.
+--ask ASK        marks the pages that a query reads. ASK is NAME=VALUE or
+                 NAME=LOW..HIGH, with an attribute's name or number; of several,
+                 all are to hold.
 
 A bad line or a refused call is told on standard error, and passed over.
 The status is 1 if there is no store to draw, or if the file, a name or a value

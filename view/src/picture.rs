@@ -100,11 +100,12 @@ impl Picture {
 
     /// Whether each encoding of a record is that of a value; otherwise says which is not.
     fn has_values(&self, record: &Record) -> Result<(), String> {
-        for (attribute, encoding) in self.attributes.iter().zip(self.encodings(record)) {
+        let encodings = self.attributes.iter().zip(self.encodings(record));
+        for ((attribute, encoding), value) in encodings.zip(record.values) {
             if attribute.values((encoding, encoding)).is_none() {
                 let ((from, to), name) = (attribute.ends(), &attribute.name);
                 return Err(format!(
-                    "{name}: the store holds {encoding}, which no value from {from} to {to} has"
+                    "{name}: the store holds {value}, which no value from {from} to {to} has"
                 ));
             }
         }

@@ -19,7 +19,7 @@ const MARGIN: f64 = 40.0;
 const HALF: f64 = 460.0;
 
 /// Up to so many leaves, each is drawn on its own, in its own colour and with a title.
-const EACH: usize = 100;
+const EACH: usize = 64;
 
 /// A directory up to this depth is drawn.
 const DRAWN: usize = 8;
@@ -86,7 +86,7 @@ fn header(canvas: &mut Canvas, picture: &Picture) -> f64 {
         (false, true) => "Blue: what is read; grey: what is not; framed in orange: what is asked.",
     };
     let full = match picture.fullest.refuses() {
-        true => " Red: where a further key is refused with 6.",
+        true => " Red: leaves with a region that is full, where a further key is refused with 6.",
         false => "",
     };
     canvas.text(MARGIN, 58.0, "", &format!("{colours}{full}"));

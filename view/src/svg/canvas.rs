@@ -34,6 +34,11 @@ impl Area {
 }
 
 impl Canvas {
+    /// Adds the elements of another canvas.
+    pub fn append(&mut self, other: Canvas) {
+        self.elements += &other.elements;
+    }
+
     /// Opens a group with these attributes; the elements up to its `close` are in it.
     pub fn open(&mut self, attributes: &str) {
         self.elements += &format!("<g {attributes}>\n");

@@ -181,3 +181,66 @@ impl Plane<'_> {
         }
     }
 }
+
+#[cfg(test)]
+mod tests {
+    use super::*;
+    use crate::attribute::Spec;
+    use crate::lent::Lent;
+    use mdeh::Shape;
+
+    /// A store of this shape under names, with keys of all their values.
+    fn picture(shape: Shape, specs: &[&str]) -> Picture {
+        let mut lent = Lent::fresh(shape, 1 << 15).expect("the shape is within its bounds");
+        let specs: Vec<Spec> = specs.iter().map(|spec| Spec::parse(spec).expect("a name")).collect();
+        for i in 1..90u32 {
+            let mut key = [0; 4];
+            for (j, spec) in specs.iter().enumerate() {
+                let attribute = spec.attribute(shape, j).expect("the values fit");
+                let value = attribute.ends().0 + i64::from(i * i + 7 * i * j as u32) % attribute.count;
+                key[j] = shape.values(j).start() + attribute.encoding(value).expect("a value") as i32;
+            }
+            // a key that is stored already is passed over
+            let _ = lent.call(|store| store.insert(key, i));
+        }
+        let mut picture = lent.picture();
+        picture.name(&specs).expect("the values fit");
+        picture
+    }
+
+    /// Each leaf has its records in its tile, on every pair of attributes; the leaves of one or two tile the area.
+    fn compare(shape: Shape, specs: &[&str]) {
+        let picture = picture(shape, specs);
+        assert!(picture.leaves.len() > 8, "{specs:?}");
+        let area = Area::new(3.0, 5.0, 64.0, 256.0);
+        let ups = (0..specs.len()).map(Some).chain([None]);
+        for (across, up) in ups.flat_map(|up| (0..specs.len()).map(move |across| (across, up))) {
+            let plane = Plane { picture: &picture, area, across, up };
+            let mut covered = 0.0;
+            for leaf in &picture.leaves {
+                let Area { x, y, width, height } = plane.tile(&picture.region(leaf.bits));
+                covered += width * height;
+                for (right, down) in leaf.records.iter().map(|record| plane.point(record)) {
+                    assert!(x < right && right < x + width && y < down && down < y + height, "{}", leaf.bits);
+                }
+            }
+            let seen = if up.is_none() { 1 } else { 2 };
+            assert!(
+                specs.len() > seen || up == Some(across) || (covered - 64.0 * 256.0).abs() < 1e-6,
+                "{covered}"
+            );
+        }
+    }
+
+    #[test]
+    fn records_lie_in_their_leaves() {
+        compare(Shape::new(&[7], 3), &["a"]);
+        compare(Shape::new(&[7], 3), &["a:from=-20,to=79"]);
+        for signs in 0..4 {
+            compare(Shape { signs, ..Shape::new(&[6, 5], 2) }, &["a", "b"]);
+        }
+        compare(Shape::new(&[6, 5], 2), &["a:from=7", "b:from=398,to=415"]);
+        compare(Shape::new(&[6, 5, 4], 2), &["a:from=0,to=49", "b", "c:from=-3,to=9"]);
+        compare(Shape::new(&[6, 5, 4, 2], 1).signed(2), &["a", "b:from=1,to=31", "c", "d"]);
+    }
+}

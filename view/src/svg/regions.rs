@@ -10,9 +10,9 @@ use std::ops::Range;
 const BAND: f64 = 30.0;
 const WORDS: f64 = 150.0;
 
-/// The gap beside a region, the least width that is drawn, and the width of a letter.
+/// The gap beside a region, the least width that is drawn of it, and the width of a letter.
 const GAP: f64 = 0.8;
-const LEAST: f64 = 0.8;
+const LEAST: f64 = 1.2;
 const LETTER: f64 = 7.5;
 
 /// Divided regions above this depth are drawn on their own, however many leaves there are.
@@ -44,9 +44,11 @@ pub fn draw(canvas: &mut Canvas, picture: &Picture, area: Area) -> f64 {
     let points = vec![vec![None; regions.width as usize]; picture.depth + 1];
     let leaves = picture.fullest.leaves();
     let mut bands = Bands { picture, area: regions, points, leaves, full: String::new() };
+    let mut own = Canvas::default();
+    bands.region(&mut own, Bits::default(), 0..picture.leaves.len());
     canvas.open("class=\"regions\"");
-    bands.region(canvas, Bits::default(), 0..picture.leaves.len());
     bands.runs(canvas);
+    canvas.append(own);
     canvas.path("full", &bands.full);
     canvas.close();
     (picture.depth + 1) as f64 * BAND
@@ -84,7 +86,7 @@ impl Bands<'_> {
             self.mark(bits, Kind::of(self.picture, place));
         }
         if self.leaves.binary_search(&place).is_ok() {
-            self.full += &Area { height: band.height - 1.0, width: band.width.max(2.0), ..band }.lower_edge();
+            self.full += &Area { height: band.height - 1.0, ..band }.lower_edge();
         }
     }
 
