@@ -15,12 +15,12 @@ pub fn shape(picture: &Picture) -> String {
 
 /// The names, if the attributes were named: " (code, slot)".
 fn names(picture: &Picture) -> String {
-    let attributes = picture.attributes.iter().enumerate();
-    if attributes.clone().all(|(j, attribute)| attribute.name == format!("attribute {j}")) {
-        return String::new();
+    let names: Vec<&str> = picture.attributes.iter().map(|attribute| attribute.name.as_str()).collect();
+    let plain = |(j, name): (usize, &&str)| *name == format!("attribute {j}");
+    match names.iter().enumerate().all(plain) {
+        true => String::new(),
+        false => format!(" ({})", names.join(", ")),
     }
-    let names: Vec<&str> = attributes.map(|(_, attribute)| attribute.name.as_str()).collect();
-    format!(" ({})", names.join(", "))
 }
 
 /// T and L, the cells and the leaves.

@@ -51,9 +51,10 @@ impl Fullest {
 /// The regions of L split bits that hold records, each with their count, in split order. The records of a leaf are in
 /// split order, so those of a region stand together.
 fn counted(picture: &Picture) -> impl Iterator<Item = (usize, Region)> + '_ {
-    picture.leaves.iter().enumerate().flat_map(|(leaf, records)| {
-        let bits: Vec<Bits> = records.records.iter().map(|record| picture.split_bits(record)).collect();
-        let regions = bits.chunk_by(|a, b| a == b).map(|same| (same.len(), Region { bits: same[0], leaf }));
+    picture.leaves.iter().enumerate().flat_map(|(place, leaf)| {
+        let bits: Vec<Bits> = leaf.records.iter().map(|record| picture.split_bits(record)).collect();
+        let runs = bits.chunk_by(|a, b| a == b);
+        let regions = runs.map(|run| (run.len(), Region { bits: run[0], leaf: place }));
         regions.collect::<Vec<_>>()
     })
 }

@@ -18,8 +18,8 @@ pub fn draw(picture: &Picture) -> String {
     let mut lines = header(picture);
     lines.push(String::new());
     lines.extend(match picture.depth {
-        0..=LISTED => listed(picture),
-        ..=GRID => grid(picture),
+        depth if depth <= LISTED => listed(picture),
+        depth if depth <= GRID => grid(picture),
         _ => vec![figures::many_cells(picture)],
     });
     lines.extend([String::new(), figures::next(picture)]);
