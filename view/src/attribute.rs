@@ -28,8 +28,8 @@ pub struct Attribute {
 }
 
 impl Spec {
-    /// What a text says. None for one of another form, for a name that is empty, too long, or has a control character or
-    /// `=`, and for a last value below the first.
+    /// What a text says. None for one of another form, for a name that is empty, too long, or has a control character
+    /// or `=`, and for a last value below the first.
     pub fn parse(text: &str) -> Option<Spec> {
         let (name, values) = match text.split_once(':') {
             Some((name, values)) => (name, Some(values.strip_prefix("from=")?)),

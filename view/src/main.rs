@@ -8,6 +8,7 @@ use std::ffi::{OsStr, OsString};
 use std::io::{self, BufRead, Write};
 use std::process::ExitCode;
 
+/// Prints the drawing or the help; otherwise tells why there is none.
 fn main() -> ExitCode {
     let arguments: Vec<OsString> = std::env::args_os().skip(1).collect();
     let drawn = match (&arguments[..], Options::parse(&arguments)) {

@@ -181,6 +181,7 @@ impl Picture {
 }
 
 impl Leaf {
+    /// The number of its split bits.
     pub fn depth(&self) -> usize {
         self.bits.count
     }

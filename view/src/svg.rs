@@ -1,5 +1,5 @@
-//! The picture as SVG: the cells by address, the keys, where 6 is next, the regions by depth, the pages. It needs nothing
-//! beside itself, and has less than 300,000 bytes for every store.
+//! The picture as SVG: the cells by address, the keys, where 6 is next, the regions by depth, the pages. It needs
+//! nothing beside itself, and has less than 300,000 bytes for every store.
 mod canvas;
 mod cells;
 mod colour;

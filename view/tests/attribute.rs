@@ -7,8 +7,8 @@ fn attribute(text: &str, shape: Shape) -> Attribute {
     Spec::parse(text).expect("a name").attribute(shape, 0).expect("the values fit")
 }
 
-/// Rank r has the encoding floor(r * 2^w / count), and the encoding e back the rank ceil(e * count / 2^w); the values of
-/// an interval are those whose encodings are in it.
+/// Rank r has the encoding floor(r * 2^w / count), and the encoding e back the rank ceil(e * count / 2^w); the values
+/// of an interval are those whose encodings are in it.
 #[test]
 fn spread_values() {
     for width in 1..=6u32 {

@@ -14,6 +14,7 @@ const SEED: u64 = 0x7669_6577_2d70_6963;
 /// Document 01's example.
 const RUN: &str = include_str!("../../crates/stock/stdin");
 
+/// The bits of a string, the first one first.
 fn bits(string: Bits) -> Vec<bool> {
     (0..string.count).map(|step| string.bit(step) == 1).collect()
 }

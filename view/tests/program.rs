@@ -52,6 +52,12 @@ fn arguments() {
     );
     assert!(help.lines().all(|line| line.len() <= 80), "{help}");
     assert_eq!((told.as_str(), status), ("", Some(0)));
+}
+
+/// Arguments of another form are told by the help.
+#[test]
+fn refused_arguments() {
+    let (help, _, _) = run(&["--help"], "");
     let long = "a".repeat(25);
     let refused: [&[&str]; 35] = [
         &["--png"],

@@ -68,7 +68,8 @@ fn between<'s>(svg: &'s str, start: &str, end: &str) -> &'s str {
     after.split_once(end).expect(end).0
 }
 
-/// The picture is well formed and small, and has every cell, leaf, page and record, as far as they are drawn one by one.
+/// The picture is well formed and small, and has every cell, leaf, page and record, as far as they are drawn one by
+/// one.
 fn compare(picture: &Picture) {
     let svg = draw(picture);
     well_formed(&svg);
@@ -97,20 +98,32 @@ fn compare(picture: &Picture) {
     marked(picture, &svg);
 }
 
-/// Among the pages, the leaves that are read are marked, and no others; so are the leaves in which 6 is next.
+/// Among the regions and among the pages, the leaves that are read are marked, and no others; so are the leaves in
+/// which 6 is next. The pages that are read are told.
 fn marked(picture: &Picture, svg: &str) {
-    let (_, pages) = svg.split_once(">Pages by number: ").expect("the last part");
+    let (rest, pages) = svg.split_once(">Pages by number: ").expect("the last part");
+    let (rest, regions) = rest.split_once(">Regions by depth, ").expect("the part before");
     let reads = (0..picture.leaves.len()).filter(|&place| picture.read(place).is_some()).count();
     if let Some(asked) = &picture.asked {
         assert_eq!(reads, asked.answer.reads);
         assert!(svg.contains("class=\"heading answer\">"));
+        let (_, told) = rest.split_once(">Pages that are read<").expect("a part for them");
+        assert_eq!(told.matches(" match, ").count(), reads.min(24));
     }
-    let titled = pages.matches(" match): ").count();
-    match picture.leaves.len() <= EACH || reads <= EACH {
-        true => assert_eq!((titled, strokes(pages, "read")), (reads, 0)),
-        false => assert_eq!((titled, strokes(pages, "read")), (0, reads)),
+    let titled = |part: &str| part.matches(" match): ").count();
+    if picture.leaves.len() <= EACH || reads <= EACH {
+        assert_eq!([titled(pages), titled(regions)], [reads; 2]);
+        assert_eq!([strokes(pages, "read"), strokes(regions, "read")], [0; 2]);
+    } else {
+        assert_eq!((titled(pages), titled(regions), strokes(pages, "read")), (0, 0, reads));
+        assert!((1..=reads).contains(&strokes(regions, "read")));
     }
-    assert_eq!(strokes(pages, "full"), picture.fullest.leaves().len());
+    let full = picture.fullest.leaves().len();
+    assert_eq!([strokes(pages, "full"), strokes(regions, "full")], [full; 2]);
+    // a leaf that is not drawn on its own is in a run
+    let runs = |class: &str| strokes(regions, class) > 0;
+    let unread = picture.pages_used() > reads && picture.leaves.len() > EACH;
+    assert_eq!(runs("plain") || runs("pale"), unread);
 }
 
 #[test]
@@ -170,8 +183,7 @@ fn names_are_escaped() {
     }
 }
 
-/// A store's leaves in several forms: with the longest names that there are, nothing asked, and asks that read few pages
-/// and all.
+/// A store in several forms: with nothing asked, and under the longest names with asks that read few pages and all.
 fn compare_forms(store: &mut Lent, few: &[&str]) {
     compare(&store.picture());
     let attributes = store.attributes();

@@ -121,12 +121,14 @@ fn escaped(text: &str) -> String {
     text.replace('&', "&amp;").replace('<', "&lt;").replace('>', "&gt;")
 }
 
+/// The attributes of a rectangle's bounds.
 fn bounds(area: Area) -> String {
     let Area { x, y, width, height } = area;
     let [x, y, width, height] = [x, y, width, height].map(number);
     format!("x=\"{x}\" y=\"{y}\" width=\"{width}\" height=\"{height}\"")
 }
 
+/// Attributes behind a space, if there are some.
 fn spaced(attributes: &str) -> String {
     if attributes.is_empty() {
         return String::new();

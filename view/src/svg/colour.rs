@@ -27,6 +27,7 @@ impl Kind {
         }
     }
 
+    /// The name of its class in the styles.
     pub fn class(self) -> &'static str {
         match self {
             Kind::Divided => "divided",

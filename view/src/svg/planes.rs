@@ -2,9 +2,9 @@
 mod shading;
 
 use super::canvas::{number, Area, Canvas};
-use super::{colour, each, shortened};
+use super::{colour, each};
 use crate::figures;
-use crate::picture::Picture;
+use crate::picture::{Leaf, Picture};
 use mdeh::Record;
 
 /// The height of a line, and of the words below a line or a plane.
@@ -123,9 +123,7 @@ impl Plane<'_> {
         let outlines = |read: bool| {
             let leaves = self.picture.leaves.iter().enumerate();
             let leaves = leaves.filter(|&(place, _)| self.picture.read(place).is_some() == read);
-            let tile = |(_, leaf): (usize, &crate::picture::Leaf)| {
-                self.tile(&self.picture.region(leaf.bits)).outline()
-            };
+            let tile = |(_, leaf): (usize, &Leaf)| self.tile(&self.picture.region(leaf.bits)).outline();
             let mut outlines: Vec<String> = leaves.map(tile).collect();
             outlines.sort();
             outlines.dedup();
@@ -171,7 +169,7 @@ impl Plane<'_> {
         let (attribute, bottom) = (&self.picture.attributes[self.across], y + height);
         let (least, greatest) = attribute.ends();
         canvas.text(x, bottom + 15.0, "", &least.to_string());
-        canvas.text(x + width / 2.0, bottom + 15.0, "middle", &shortened(&attribute.name, 24));
+        canvas.text(x + width / 2.0, bottom + 15.0, "middle", &attribute.name);
         canvas.text(x + width, bottom + 15.0, "end", &greatest.to_string());
         if let Some(attribute) = self.up.map(|up| &self.picture.attributes[up]) {
             let (least, greatest) = attribute.ends();
