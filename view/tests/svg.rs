@@ -275,6 +275,23 @@ fn squares() {
     assert_eq!((squares(&asked, "read s6"), squares(&asked, "pale s6")), (2, 18));
 }
 
+/// What is asked has a frame, however few of the values it is, unless it is all.
+#[test]
+fn asked_frames() {
+    let mut store = even_store(&mut Random::new(SEED + 8), &[16, 16, 4], 300);
+    let mut frames = |asks: &[&str]| -> Vec<String> {
+        let svg = draw(&asked_picture(&mut store, &[], asks));
+        let frames = svg.lines().filter(|line| line.ends_with(" class=\"asked\"/>"));
+        frames.map(|frame| between(frame, "width=", " class").to_owned()).collect()
+    };
+    // on the pairs 0 and 1, 0 and 2, 1 and 2
+    let [narrow, low] = ["\"1\" height=\"285\"", "\"285\" height=\"1\""].map(str::to_owned);
+    assert_eq!(frames(&["0=3000"]), [narrow.clone(), narrow.clone()]);
+    assert_eq!(frames(&["1=3000"]), [low, narrow]);
+    assert_eq!(frames(&["2=0..7"]), vec!["\"285\" height=\"142.5\""; 2]);
+    assert_eq!(frames(&["2=0..15"]), Vec::<String>::new());
+}
+
 /// Fails unless a picture in docs is this one, which stands then in the tests' folder.
 fn in_docs(name: &str, drawn: &str, docs: &str) {
     let path = format!("{}/{name}", env!("CARGO_TARGET_TMPDIR"));

@@ -153,7 +153,9 @@ impl Plane<'_> {
         if let Some(asked) = &self.picture.asked {
             let tile = self.tile(&asked.wanted);
             if tile.width < self.area.width || tile.height < self.area.height {
-                canvas.plain(tile, "class=\"asked\"");
+                // one value among many is seen too
+                let seen = Area { width: tile.width.max(1.0), height: tile.height.max(1.0), ..tile };
+                canvas.plain(seen, "class=\"asked\"");
             }
         }
         let fullest = &self.picture.fullest;
