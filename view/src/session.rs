@@ -1,9 +1,10 @@
 //! What lines do to a store in memory that is lent as `stock` lends it.
+use crate::ask::refused;
 use crate::lines::{command, Command};
-use mdeh::{Refusal, Shape, SharedStore, Store, STATE_WORDS};
+use crate::owned::{self, Owned};
+use mdeh::{Refusal, Shape};
 
 /// "It lends 4,096 words, 32,768 page bytes".
-const WORDS: usize = 4096;
 const BYTES: usize = 32768;
 
 /// Why a line was passed over: it is of another form, or the store refused its call.
@@ -21,9 +22,6 @@ pub struct Session {
     store: Option<Owned>,
 }
 
-/// A store that owns its memory.
-type Owned = Store<[u32; STATE_WORDS], Vec<u32>, Vec<u8>>;
-
 impl Session {
     /// A session whose shapes have these marks of signed attributes. If there is one, values may have a minus sign.
     pub fn signed(signs: u32) -> Session {
@@ -36,8 +34,7 @@ impl Session {
         match command(line, attributes, self.signs != 0).ok_or(Fault::Bad)? {
             Command::Shape(shape) => {
                 let shape = Shape { signs: self.signs, ..shape };
-                let store = Store::fresh(shape, [0; STATE_WORDS], vec![0; WORDS], vec![0; BYTES]);
-                self.store = Some(store.map_err(Fault::Refused)?);
+                self.store = Some(owned::fresh(shape, BYTES).map_err(Fault::Refused)?);
                 Ok(())
             }
             Command::Put(key, payload) => self.call(|store| store.insert(key, payload)),
@@ -48,8 +45,8 @@ impl Session {
     }
 
     /// The store, if there is one.
-    pub fn store(&self) -> Option<SharedStore<'_>> {
-        self.store.as_ref().map(Owned::shared)
+    pub fn store(self) -> Option<Owned> {
+        self.store
     }
 
     /// A call on the store, whose answer is left aside; a line "before an accepted `shape`" is bad.
@@ -64,7 +61,7 @@ impl std::fmt::Display for Fault {
     fn fmt(&self, f: &mut std::fmt::Formatter<'_>) -> std::fmt::Result {
         match self {
             Fault::Bad => write!(f, "bad line"),
-            Fault::Refused(refusal) => write!(f, "no {} ({refusal})", refusal.number()),
+            Fault::Refused(refusal) => f.write_str(&refused(refusal)),
         }
     }
 }

@@ -1,7 +1,8 @@
 //! What a store shows, beside document 01's table and the plain model.
 mod common;
 
-use common::{picture, random_picture, shape_line, STORES};
+use common::{picture, random_picture, random_store, shape_line, PAGES, STORES};
+use mdeh::{Refusal, Shape};
 use mdeh_tests::cells::Cells;
 use mdeh_tests::plain::model::Model;
 use mdeh_tests::random::Random;
@@ -13,6 +14,7 @@ const SEED: u64 = 0x7669_6577_2d70_6963;
 /// Document 01's example.
 const RUN: &str = include_str!("../../crates/stock/stdin");
 
+/// The bits of a string, the first one first.
 fn bits(string: Bits) -> Vec<bool> {
     (0..string.count).map(|step| string.bit(step) == 1).collect()
 }
@@ -28,7 +30,7 @@ fn table_entry_a() {
     assert_eq!(without, [3, 7]);
 }
 
-/// The picture agrees with itself: counts, cells, pages, the state's tally.
+/// The picture agrees with itself: counts, cells, pages, regions, the state's tally.
 fn consistent(picture: &Picture) {
     let mut cells = vec![0; picture.leaves.len()];
     picture.cells.iter().for_each(|cell| cells[cell.leaf] += 1);
@@ -39,6 +41,14 @@ fn consistent(picture: &Picture) {
         assert_eq!(leaf.page.is_some(), !leaf.records.is_empty());
         assert!(leaf.records.len() <= picture.capacity());
         tally[leaf.depth()] += 1;
+        let region = picture.region(leaf.bits);
+        for record in &leaf.records {
+            assert_eq!(picture.split_bits(record).first(leaf.depth()), leaf.bits);
+            assert!(picture.matches(record, &region), "{record:?} of leaf {}", leaf.bits);
+        }
+        let keys: u64 = region.iter().map(|&(low, high)| u64::from(high - low) + 1).product();
+        let steps = picture.widths().iter().sum::<u32>() - leaf.depth() as u32;
+        assert_eq!(u128::from(keys), 1 << steps, "leaf {}", leaf.bits);
         leaf.page.iter().for_each(|&page| assert!(!std::mem::replace(&mut pages[page], true)));
     }
     assert_eq!(tally, picture.tally);
@@ -58,7 +68,7 @@ fn random_stores() {
 fn compare(random: &mut Random, signs: u32, widths: &[u32], capacity: u32, calls: usize) {
     let mut session = Session::signed(signs);
     session.take(shape_line(widths, capacity).as_bytes()).expect("the shape is within its bounds");
-    let shape = session.store().expect("there is a store").shape();
+    let shape = Shape { signs, ..Shape::new(widths, capacity) };
     let mut model = Model::fresh(shape, 4096, 32768).expect("the same Fresh");
     for payload in 1..=calls as u32 {
         let mut key = [0; 4];
@@ -99,5 +109,58 @@ fn beside_the_plain_model() {
         for signs in [0, 0b0001, 0b1010, 0b1111] {
             compare(&mut random, signs, widths, capacity, 150);
         }
+    }
+}
+
+/// Keys in all of a shape's values.
+fn keys(shape: Shape) -> impl Iterator<Item = [i32; 4]> {
+    let values = move |j: usize| shape.values(j);
+    let pairs = values(0).flat_map(move |a| values(1).map(move |b| (a, b)));
+    pairs.flat_map(move |(a, b)| values(2).map(move |c| [a, b, c, 0]))
+}
+
+/// The store refuses a key with 6 exactly where the picture says so, and a fullest region takes as many as it says.
+fn compare_fullest(random: &mut Random, shape: Shape, count: usize) -> (bool, bool) {
+    let mut store = random_store(random, shape, PAGES, count);
+    let picture = Picture::of(&store);
+    let full: Vec<_> = picture.fullest.regions.iter().map(|region| picture.region(region.bits)).collect();
+    let within = |key: [i32; 4]| {
+        let record = mdeh::Record { values: key, payload: 1 };
+        full.iter().any(|region| picture.matches(&record, region))
+    };
+    for key in keys(shape) {
+        let refused = match store.insert(key, 1) {
+            Ok(_) => store.delete(key).is_err(),
+            Err(refusal) => refusal == Refusal::Depth,
+        };
+        let stored = store.lookup(key).is_ok();
+        assert_eq!(refused, picture.fullest.refuses() && within(key) && !stored, "{key:?} of {shape:?}");
+    }
+    if let (Some(region), false) = (full.first(), picture.fullest.never) {
+        let mut more = 0;
+        for key in keys(shape) {
+            if picture.matches(&mdeh::Record { values: key, payload: 1 }, region) {
+                more += usize::from(store.insert(key, 1).is_ok());
+            }
+        }
+        assert_eq!(more, picture.fullest.more, "{shape:?}");
+    }
+    (picture.fullest.refuses(), picture.fullest.never)
+}
+
+#[test]
+fn where_6_is_next() {
+    let mut random = Random::new(SEED + 2);
+    let mut seen = Vec::new();
+    for (widths, capacity) in
+        [(&[16][..], 3), (&[7, 8], 1), (&[6, 9], 7), (&[5, 4, 6], 4), (&[6, 6], 2), (&[7, 7], 4)]
+    {
+        for keys in [0, 5, 60, 2000] {
+            let shape = Shape::new(widths, capacity).signed(keys % 2);
+            seen.push(compare_fullest(&mut random, shape, keys));
+        }
+    }
+    for kind in [(true, false), (false, false), (false, true)] {
+        assert!(seen.contains(&kind), "{kind:?}");
     }
 }

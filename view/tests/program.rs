@@ -1,4 +1,8 @@
 //! The program: its arguments, its standard output and error, its status.
+mod common;
+
+use mdeh_view::picture::Picture;
+use mdeh_view::{owned, svg, text};
 use std::io::Write;
 use std::process::{Command, Stdio};
 
@@ -44,9 +48,19 @@ fn arguments() {
     assert!(text.starts_with("<svg ") && text.ends_with("</svg>\n") && told.is_empty());
     assert_eq!(status, Some(0));
     let (help, told, status) = run(&["--help"], "");
-    assert!(help.starts_with("view [--svg] [--signed ATTRIBUTES] < LINES\n") && told.is_empty());
-    assert_eq!(status, Some(0));
-    let refused: [&[&str]; 12] = [
+    assert!(
+        help.starts_with("view [--svg] [--signed ATTRIBUTES] [--attribute SPEC]... [--ask ASK]... < LINES\n")
+    );
+    assert!(help.lines().all(|line| line.len() <= 80), "{help}");
+    assert_eq!((told.as_str(), status), ("", Some(0)));
+}
+
+/// Arguments of another form are told by the help.
+#[test]
+fn refused_arguments() {
+    let (help, _, _) = run(&["--help"], "");
+    let long = "a".repeat(25);
+    let refused: [&[&str]; 35] = [
         &["--png"],
         &["--svg", "--svg"],
         &["--svg", "--help"],
@@ -59,6 +73,29 @@ fn arguments() {
         &["--signed", "--svg"],
         &["--signed", "0", "--signed", "1"],
         &["0"],
+        &["--file"],
+        &["--file", "a", "--file", "b"],
+        &["--file", "a", "--signed", "0"],
+        &["--attribute"],
+        &["--attribute", ""],
+        &["--attribute", &long],
+        &["--attribute", ":from=1"],
+        &["--attribute", "a=b"],
+        &["--attribute", "a\nb"],
+        &["--attribute", "a:"],
+        &["--attribute", "a:7"],
+        &["--attribute", "a:to=7"],
+        &["--attribute", "a:from="],
+        &["--attribute", "a:from=+1"],
+        &["--attribute", "a:from=1,to="],
+        &["--attribute", "a:from=2,to=1"],
+        &["--attribute", "a:from=1,to=2147483648"],
+        &["--attribute", "a", "--attribute", "a"],
+        &["--ask"],
+        &["--ask", "a"],
+        &["--ask", "=1"],
+        &["--ask", "a=1.."],
+        &["--ask", "a=1...2"],
     ];
     for arguments in refused {
         assert_eq!(
@@ -92,4 +129,77 @@ fn signed_attributes() {
 fn no_store() {
     let told = "line 1: bad line\nview: no accepted `shape` line, so there is no store to draw\n";
     assert_eq!(run(&[], "list *\n"), (String::new(), told.to_owned(), Some(1)));
+}
+
+/// A folder of the tests' own.
+const FOLDER: &str = env!("CARGO_TARGET_TMPDIR");
+
+#[test]
+fn saved_file() {
+    let store = common::store(0b01, "shape 2 10 4 1\nput -512 0 1\nput 511 15 2\nput 0 8 3\nput -1 8 4");
+    let file = common::saved(&store);
+    let path = format!("{FOLDER}/program.mdeh");
+    std::fs::write(&path, &file).expect("a folder to write in");
+    // as in memory of 4,096 words and 4,096 pages
+    let loaded = Picture::of(&owned::load(&file).expect("a saved file"));
+    assert_eq!((loaded.page_limit, loaded.depth_limit), (4096, 12));
+    let told = String::new();
+    assert_eq!(run(&["--file", &path], "put"), (text::draw(&loaded), told.clone(), Some(0)));
+    assert_eq!(run(&["--svg", "--file", &path], ""), (svg::draw(&loaded), told.clone(), Some(0)));
+    let arguments =
+        ["--file", &path, "--attribute", "offset", "--attribute", "drive:from=1", "--ask", "drive=9"];
+    let asked = common::asked_picture(&store, &["offset", "drive:from=1"], &["drive=9"]);
+    let (text, told, status) = run(&arguments, "");
+    assert_eq!((told.as_str(), status), ("", Some(0)));
+    let line = format!("asked      {}\n", mdeh_view::figures::asked(&asked).expect("something is asked"));
+    assert!(text.contains(&line) && line.contains("drive 9: reads 3 of 4 pages, 2 records match"), "{text}");
+}
+
+#[test]
+fn refused_files() {
+    let mut file = common::saved(&common::store(0, "shape 2 2 2 2\nput 2 1 13\nput 3 1 12"));
+    let path = format!("{FOLDER}/refused.mdeh");
+    let told = |file: &[u8]| {
+        std::fs::write(&path, file).expect("a folder to write in");
+        let (drawn, told, status) = run(&["--svg", "--file", &path], "shape 2 2 2 2\n");
+        assert_eq!((drawn.as_str(), status), ("", Some(1)));
+        told
+    };
+    assert_eq!(told(&file[1..]), format!("view: {path}: no 12 (the bytes are no whole file)\n"));
+    assert!(told(&[]).contains(": no 12 ("));
+    file[26] = 0;
+    assert_eq!(told(&file), format!("view: {path}: no 14 (the width of attribute 1 is outside 1 to 16)\n"));
+    file[26] = 2;
+    file[0] = 3;
+    assert!(told(&file).contains(": no 13 ("));
+    let (drawn, told, status) = run(&["--file", &format!("{path}.none")], "");
+    assert_eq!((drawn.as_str(), status), ("", Some(1)));
+    assert!(told.starts_with(&format!("view: {path}.none: ")), "{told}");
+}
+
+/// Names and values that do not fit the store are told in words.
+#[test]
+fn refused_names_and_values() {
+    let input = "shape 2 4 3 2\nput 0 0 1\nput 15 7 2\nput 3 1 3\n";
+    let refused: [(&[&str], &str); 9] = [
+        (&["--attribute", "a"], "the store has 2 attributes, not 1"),
+        (
+            &["--attribute", "a", "--attribute", "b:from=1,to=9"],
+            "b: 9 values do not fit width 3, which has 8",
+        ),
+        (
+            &["--attribute", "a:from=-5,to=5", "--attribute", "b"],
+            "a: the store holds 3, which no value from -5 to 5 has",
+        ),
+        (&["--ask", "code=1"], "the store has no attribute code"),
+        (&["--ask", "2=1"], "the store has no attribute 2"),
+        (&["--ask", "0=1", "--ask", "attribute 0=2"], "attribute 0 is asked twice"),
+        (&["--ask", "1=8"], "attribute 1 8 is none of 0..7"),
+        (&["--attribute", "a:from=5", "--attribute", "b", "--ask", "a=4..7"], "a 4 is none of 5..20"),
+        (&["--ask", "1=5..4"], "no 10 (an interval's low end is above its high end)"),
+    ];
+    for (arguments, reason) in refused {
+        let expected = (String::new(), format!("view: {reason}\n"), Some(1));
+        assert_eq!(run(arguments, input), expected, "{arguments:?}");
+    }
 }

@@ -1,13 +1,12 @@
 //! The directory: its cells by address, in rows.
 use super::canvas::{Area, Canvas};
-use super::colour;
+use super::{colour, each};
 use crate::figures;
 use crate::picture::{Cell, Picture};
 
-/// The greatest side of a cell, the least with its address in it, and the least with its split bits and page too.
+/// The greatest side of a cell, and the least with its split bits and page beside its address.
 const SIDE: f64 = 115.0;
 const ROOMY: f64 = 50.0;
-const NARROW: f64 = 24.0;
 
 /// Where the cells lie.
 struct Grid {
@@ -30,6 +29,7 @@ pub fn draw(canvas: &mut Canvas, picture: &Picture, area: Area, ratio: f64) -> f
     }
     labels(canvas, picture, &grid);
     blocks(canvas, picture, &grid);
+    full(canvas, picture, &grid);
     grid.side * (picture.cells.len() / columns) as f64
 }
 
@@ -55,31 +55,31 @@ fn title(picture: &Picture, address: usize, cell: &Cell) -> String {
 
 /// The address in each cell, with its split bits and page, as far as there is room.
 fn labels(canvas: &mut Canvas, picture: &Picture, grid: &Grid) {
-    if grid.side < NARROW {
-        return row_labels(canvas, picture, grid);
-    }
     canvas.open("class=\"label\"");
     for (address, cell) in picture.cells.iter().enumerate() {
         let area = grid.place(address, 1);
         let (x, y) = (area.x + grid.side / 2.0, area.y + grid.side / 2.0 + 4.0);
+        let class = if !each(picture) && picture.read(cell.leaf).is_some() { "over " } else { "" };
         if grid.side < ROOMY {
-            canvas.text(x, y, "middle", &address.to_string());
+            canvas.text(x, y, &format!("{class}middle"), &address.to_string());
             continue;
         }
-        canvas.text(x, y - 17.0, "middle strong", &address.to_string());
-        canvas.text(x, y, "middle bits", &cell.bits.to_string());
-        canvas.text(x, y + 17.0, "middle", &figures::page(&picture.leaves[cell.leaf]));
+        canvas.text(x, y - 17.0, &format!("{class}middle strong"), &address.to_string());
+        canvas.text(x, y, &format!("{class}middle bits"), &cell.bits.to_string());
+        canvas.text(x, y + 17.0, &format!("{class}middle"), &figures::page(&picture.leaves[cell.leaf]));
     }
     canvas.close();
 }
 
-/// The addresses of the rows in which a doubling began.
-fn row_labels(canvas: &mut Canvas, picture: &Picture, grid: &Grid) {
-    let starts = (0..picture.depth).map(|step| 1 << step).filter(|&address| address >= grid.columns);
-    for address in std::iter::once(0).chain(starts) {
-        let area = grid.place(address, 1);
-        canvas.text(area.x - 4.0, area.y + grid.side - 0.5, "small end", &address.to_string());
-    }
+/// The lower edge of each cell whose leaf has a region in which 6 is next.
+fn full(canvas: &mut Canvas, picture: &Picture, grid: &Grid) {
+    let leaves = picture.fullest.leaves();
+    let cells = picture.cells.iter().enumerate().filter(|(_, cell)| leaves.contains(&cell.leaf));
+    let edges = cells.map(|(address, _)| grid.place(address, 1)).map(|area| {
+        let inside = Area::new(area.x + 2.0, area.y, area.width - 4.0, area.height - 2.0);
+        inside.lower_edge()
+    });
+    canvas.path("full", &edges.collect::<String>());
 }
 
 /// A frame about the cells that each doubling appended.
