@@ -1,5 +1,5 @@
 //! Attributes as people call them: a name, and the values that encodings stand for.
-use mdeh::Shape;
+use mdeh::{rank, spread, Shape};
 use std::ops::Range;
 
 /// The most characters of a name, so that every picture stays small.
@@ -13,17 +13,16 @@ pub struct Spec {
     pub to: Option<i64>,
 }
 
-/// An attribute of a store. The ranks of `count` values are spread over its encodings: rank r has the encoding
-/// floor(r * room / count), so that values and encodings have one order. With as many values as encodings, each rank is
-/// its encoding.
+/// An attribute of a store. The ranks of `count` values are spread over its encodings, so that values and encodings have
+/// one order. With as many values as encodings, each rank is its encoding.
 #[derive(Clone, Debug, PartialEq, Eq)]
 pub struct Attribute {
     pub name: String,
-    /// how many encodings it has
-    room: i64,
+    /// in bits: it has 2^width encodings
+    width: u32,
     /// the value of rank 0
     from: i64,
-    /// how many values it has, from 1 to `room`
+    /// how many values it has, from 1 to 2^width
     pub count: i64,
 }
 
@@ -50,27 +49,27 @@ impl Spec {
 
     /// The attribute j of a shape that this tells of; otherwise why its values do not fit.
     pub fn attribute(&self, shape: Shape, j: usize) -> Result<Attribute, String> {
-        let Attribute { room, from, .. } = Attribute::plain(shape, j);
+        let Attribute { width, from, count: room, .. } = Attribute::plain(shape, j);
         let from = self.from.unwrap_or(from);
         let count = self.to.map_or(room, |to| to - from + 1);
         if count > room {
-            let (name, width) = (&self.name, shape.widths[j]);
+            let name = &self.name;
             return Err(format!("{name}: {count} values do not fit width {width}, which has {room}"));
         }
-        Ok(Attribute { name: self.name.clone(), room, from, count })
+        Ok(Attribute { name: self.name.clone(), width, from, count })
     }
 }
 
 impl Attribute {
     /// The attribute j of a shape by its number, with the store's values.
     pub fn plain(shape: Shape, j: usize) -> Attribute {
-        let (least, room) = (shape.values(j).start().to_owned(), 1 << shape.widths[j]);
-        Attribute { name: format!("attribute {j}"), room, from: least.into(), count: room }
+        let (least, width) = (shape.values(j).start().to_owned(), shape.widths[j]);
+        Attribute { name: format!("attribute {j}"), width, from: least.into(), count: 1 << width }
     }
 
     /// The greatest encoding; the least is 0.
     pub fn last(&self) -> u32 {
-        self.room as u32 - 1
+        (1 << self.width) - 1
     }
 
     /// The least and the greatest value.
@@ -81,13 +80,13 @@ impl Attribute {
     /// The encoding of a value, if it is one of the attribute.
     pub fn encoding(&self, value: i64) -> Option<u32> {
         let rank = value - self.from;
-        (0..self.count).contains(&rank).then(|| (rank * self.room / self.count) as u32)
+        (0..self.count).contains(&rank).then(|| spread(rank as u32, self.count as u32, self.width))
     }
 
     /// The ranks whose encodings are in an interval, both ends included.
     pub fn ranks(&self, (low, high): (u32, u32)) -> Range<i64> {
-        let least = |encoding: i64| (encoding * self.count + self.room - 1) / self.room;
-        least(low.into())..least(i64::from(high) + 1)
+        let least = |encoding: u32| i64::from(rank(encoding, self.count as u32, self.width));
+        least(low)..least(high + 1)
     }
 
     /// The least and the greatest value whose encodings are in an interval, both ends included, if there is one.
