@@ -1,0 +1,111 @@
+"""The description of a file of records: a small JSON file beside it, with names, biases and what the file lacks."""
+from __future__ import annotations
+
+import hashlib
+import json
+import os
+from dataclasses import dataclass, field
+from typing import Any, Dict, Optional
+
+from . import files
+from .attributes import Attribute
+from .keys import Keys
+from .shape import Shape
+from .unusable import Unusable
+
+_FORMAT = 1
+_OPTIONAL = {"from": "low", "to": "high"}
+
+
+@dataclass(frozen=True)
+class Description:
+    """What the records of a file mean: the attributes, the payload's name, and how many rows an import could not put
+    into it, by the number of the refusal, "0" for rows that could not be read. `sum` is that of the file's bytes."""
+
+    keys: Keys
+    payload: str
+    missing: Dict[str, int] = field(default_factory=dict)
+    sum: str = ""
+
+    def to_json(self) -> str:
+        """The text of the file beside."""
+        attributes = [{"name": a.name, "width": a.width, "from": a.low, "to": a.high, "signed": a.signed,
+                       "reversed": a.reversed} for a in self.keys.attributes]
+        whole = {"mdeh": _FORMAT, "attributes": attributes, "spare": self.keys.spare, "payload": self.payload,
+                 "missing": self.missing, "sha256": self.sum}
+        return json.dumps(whole, indent=2, ensure_ascii=False) + "\n"
+
+    def describes(self, data: bytes) -> bool:
+        """Whether these are the bytes of the file that the description was written with."""
+        return self.sum == sum_of(data)
+
+    def fits(self, shape: Shape) -> bool:
+        """Whether a store of these attributes has this shape."""
+        return self.keys.shape(shape.capacity) == shape
+
+
+def path_of(path: str) -> str:
+    """Where the description of a file is."""
+    return path + ".json"
+
+
+def sum_of(data: bytes) -> str:
+    """The sum of a file's bytes by which its description knows it."""
+    return hashlib.sha256(data).hexdigest()
+
+
+def read(path: str) -> Optional[Description]:
+    """The description of a file; None where there is none. Unusable where it is damaged."""
+    beside = path_of(path)
+    if not os.path.lexists(beside):
+        return None
+    try:
+        return _description(json.loads(files.read(beside).decode("utf-8")))
+    except (ValueError, KeyError, TypeError, AttributeError, RecursionError) as error:
+        raise Unusable(f"{beside}: it is no description of a file of records ({error})") from error
+    except Unusable as error:
+        raise Unusable(f"{beside}: {error}" if not str(error).startswith(beside) else str(error)) from error
+
+
+def write(path: str, data: bytes, description: Description) -> None:
+    """Writes a file and its description. The former description goes first: a crash between leaves a file without one,
+    never a file with another's."""
+    files.remove(path_of(path))
+    files.write(path, data)
+    files.write(path_of(path), description.to_json().encode("utf-8"))
+
+
+def _description(whole: Any) -> Description:
+    """The description in the parts of a JSON text. ValueError, KeyError or TypeError for other parts."""
+    if whole["mdeh"] != _FORMAT:
+        raise ValueError(f"format {whole['mdeh']}")
+    attributes = tuple(_attribute(part) for part in whole["attributes"])
+    missing = {str(_whole(int(number))): _whole(count) for number, count in whole["missing"].items()}
+    payload = _text(whole["payload"])
+    keys = Keys(attributes, _whole(whole["spare"]))
+    if payload in [attribute.name for attribute in attributes]:
+        raise ValueError("the payload has the name of an attribute")
+    return Description(keys, payload, missing, _text(whole["sha256"]))
+
+
+def _attribute(part: Any) -> Attribute:
+    """The attribute in a part of a JSON text."""
+    ends = {name: None if part[key] is None else _whole(part[key]) for key, name in _OPTIONAL.items()}
+    marks = {key: part[key] for key in ("signed", "reversed")}
+    if not all(isinstance(mark, bool) for mark in marks.values()):
+        raise TypeError("a mark is neither true nor false")
+    return Attribute(_text(part["name"]), _whole(part["width"]), **ends, **marks)
+
+
+def _whole(value: Any) -> int:
+    """A whole number. TypeError for other values."""
+    if isinstance(value, bool) or not isinstance(value, int):
+        raise TypeError(f"{value!r} is no whole number")
+    return value
+
+
+def _text(value: Any) -> str:
+    """A printable text. TypeError for other values."""
+    if not isinstance(value, str) or not value.isprintable():
+        raise TypeError(f"{value!r} is no printable text")
+    return value
