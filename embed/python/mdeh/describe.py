@@ -59,20 +59,18 @@ def read(path: str) -> Optional[Description]:
     beside = path_of(path)
     if not os.path.lexists(beside):
         return None
+    data = files.read(beside)
     try:
-        return _description(json.loads(files.read(beside).decode("utf-8")))
-    except (ValueError, KeyError, TypeError, AttributeError, RecursionError) as error:
+        return _description(json.loads(data.decode("utf-8")))
+    except (ValueError, KeyError, TypeError, AttributeError, RecursionError, Unusable) as error:
         raise Unusable(f"{beside}: it is no description of a file of records ({error})") from error
-    except Unusable as error:
-        raise Unusable(f"{beside}: {error}" if not str(error).startswith(beside) else str(error)) from error
 
 
 def write(path: str, data: bytes, description: Description) -> None:
     """Writes a file and its description. The former description goes first: a crash between leaves a file without one,
     never a file with another's."""
-    files.remove(path_of(path))
-    files.write(path, data)
-    files.write(path_of(path), description.to_json().encode("utf-8"))
+    beside = path_of(path)
+    files.write([(path, data), (beside, description.to_json().encode("utf-8"))], stale=[beside])
 
 
 def _description(whole: Any) -> Description:

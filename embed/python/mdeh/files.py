@@ -1,45 +1,40 @@
 """Files on disk: whole reads, and writes that leave the former file or the whole of the latter."""
 from __future__ import annotations
 
+import contextlib
 import os
-from typing import Sequence
+from typing import Iterator, List, Sequence, Tuple
 
 from .unusable import Unusable
 
 
 def read(path: str) -> bytes:
     """The bytes of a file. Unusable where it cannot be read."""
+    with _telling(path), open(path, "rb") as file:
+        return file.read()
+
+
+def write(parts: Sequence[Tuple[str, bytes]], stale: Sequence[str] = ()) -> None:
+    """Writes files beside, and gives them their names in turn once the bytes of all are on the disk: a crash leaves
+    of each the former file or the whole of this one. The stale files go before the first gets its name. Unusable where
+    a file cannot be written, or where the name is that of no ordinary file."""
+    drafts: List[Tuple[str, str]] = []
     try:
-        with open(path, "rb") as file:
-            return file.read()
-    except OSError as error:
-        raise Unusable(f"{path}: {error.strerror or error}") from error
-
-
-def write(path: str, data: bytes) -> None:
-    """Writes a file beside, and gives it the name once its bytes are on the disk: a crash leaves the former file or
-    the whole of this one. Unusable where it cannot be written, or where the name is that of no ordinary file."""
-    target = os.path.realpath(path)
-    beside = f"{target}.{os.getpid()}.part"
-    try:
-        _ordinary(path, target)
-        try:
-            _write_through(beside, data)
-            os.replace(beside, target)
-        except BaseException:
-            remove(beside)
-            raise
-        _settle(os.path.dirname(target))
-    except (OSError, ValueError) as error:
-        raise Unusable(f"{path}: {getattr(error, 'strerror', None) or error}") from error
-
-
-def remove(path: str) -> None:
-    """Removes a file if it is there."""
-    try:
-        os.unlink(path)
-    except FileNotFoundError:
-        pass
+        for path, data in parts:
+            with _telling(path):
+                drafts.append((path, _target(path)))
+                _write_through(_beside(path), data)
+        for path in stale:
+            with _telling(path):
+                _remove(path)
+        for path, target in drafts:
+            with _telling(path):
+                os.replace(_beside(path), target)
+                _settle(os.path.dirname(target))
+    except BaseException:
+        for path, _ in drafts:
+            _remove(_beside(path))
+        raise
 
 
 def apart(outputs: Sequence[str], inputs: Sequence[str] = ()) -> None:
@@ -52,10 +47,32 @@ def apart(outputs: Sequence[str], inputs: Sequence[str] = ()) -> None:
         taken.add(real)
 
 
-def _ordinary(path: str, target: str) -> None:
-    """Refuses to take the place of a folder, a device or a pipe."""
+@contextlib.contextmanager
+def _telling(path: str) -> Iterator[None]:
+    """Tells what the system says against a path."""
+    try:
+        yield
+    except (OSError, ValueError) as error:
+        raise Unusable(f"{path}: {getattr(error, 'strerror', None) or error}") from error
+
+
+def _target(path: str) -> str:
+    """The file that a path names, which is no folder, device or pipe."""
+    target = os.path.realpath(path)
     if os.path.exists(target) and not os.path.isfile(target):
         raise Unusable(f"{path}: it is no ordinary file")
+    return target
+
+
+def _beside(path: str) -> str:
+    """Where the bytes of a file stand until it gets its name."""
+    return f"{os.path.realpath(path)}.{os.getpid()}.part"
+
+
+def _remove(path: str) -> None:
+    """Removes a file if it is there."""
+    with contextlib.suppress(FileNotFoundError):
+        os.unlink(path)
 
 
 def _write_through(path: str, data: bytes) -> None:
@@ -68,13 +85,9 @@ def _write_through(path: str, data: bytes) -> None:
 
 def _settle(folder: str) -> None:
     """Waits until the disk has the names in a folder, where the system can."""
-    try:
+    with contextlib.suppress(OSError):
         opened = os.open(folder, os.O_RDONLY)
-    except OSError:
-        return
-    try:
-        os.fsync(opened)
-    except OSError:
-        pass
-    finally:
-        os.close(opened)
+        try:
+            os.fsync(opened)
+        finally:
+            os.close(opened)
