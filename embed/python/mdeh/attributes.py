@@ -59,7 +59,7 @@ class Attribute:
         if not matched:
             raise Unusable(f"{shown(text)} is no attribute: NAME:WIDTH[:OPTION[,OPTION...]]")
         parts: Dict[str, Union[int, bool]] = {}
-        for option in (matched["options"] or "").split(",") if matched["options"] is not None else []:
+        for option in [] if matched["options"] is None else matched["options"].split(","):
             found = _OPTION.fullmatch(option)
             if not found:
                 raise Unusable(f"{shown(option)} in {shown(text)} is none of from=N, to=M, signed, reversed")

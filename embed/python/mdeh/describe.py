@@ -11,7 +11,7 @@ from . import files
 from .attributes import Attribute
 from .keys import Keys
 from .shape import Shape
-from .unusable import Unusable
+from .unusable import Unusable, shown
 
 _FORMAT = 1
 _OPTIONAL = {"from": "low", "to": "high"}
@@ -26,6 +26,13 @@ class Description:
     payload: str
     missing: Dict[str, int] = field(default_factory=dict)
     sum: str = ""
+
+    def __post_init__(self) -> None:
+        """Tests the payload's name."""
+        if not self.payload or not self.payload.isprintable():
+            raise Unusable(f"{shown(self.payload)} is no printable name of a payload")
+        if self.payload in [attribute.name for attribute in self.keys.attributes]:
+            raise Unusable(f"{shown(self.payload)} is the name of an attribute and of the payload")
 
     def to_json(self) -> str:
         """The text of the file beside."""
@@ -79,11 +86,8 @@ def _description(whole: Any) -> Description:
         raise ValueError(f"format {whole['mdeh']}")
     attributes = tuple(_attribute(part) for part in whole["attributes"])
     missing = {str(_whole(int(number))): _whole(count) for number, count in whole["missing"].items()}
-    payload = _text(whole["payload"])
     keys = Keys(attributes, _whole(whole["spare"]))
-    if payload in [attribute.name for attribute in attributes]:
-        raise ValueError("the payload has the name of an attribute")
-    return Description(keys, payload, missing, _text(whole["sha256"]))
+    return Description(keys, _text(whole["payload"]), missing, _text(whole["sha256"]))
 
 
 def _attribute(part: Any) -> Attribute:
@@ -103,7 +107,7 @@ def _whole(value: Any) -> int:
 
 
 def _text(value: Any) -> str:
-    """A printable text. TypeError for other values."""
-    if not isinstance(value, str) or not value.isprintable():
-        raise TypeError(f"{value!r} is no printable text")
+    """A text. TypeError for other values."""
+    if not isinstance(value, str):
+        raise TypeError(f"{value!r} is no text")
     return value

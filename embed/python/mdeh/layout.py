@@ -56,9 +56,15 @@ def layout_of(store: Store) -> Layout:
 def regions_of(store: Store, depth: int) -> List[Region]:
     """The regions of so many split bits that have records, those with the most first."""
     shape = store.shape
-    counts = Counter(_intervals(shape, record.key, depth) for record in store.query().records)
-    return sorted((Region(intervals, count) for intervals, count in counts.items()),
-                  key=lambda region: (-region.records, region.intervals))
+    drops = [width - bits for width, bits in zip(shape.widths, bits_of(shape.widths, depth))]
+    firsts: Dict[Tuple[int, ...], Tuple[int, ...]] = {}
+    counts: Counter = Counter()
+    for key, _ in store.query().records:
+        tops = tuple([value >> drop for value, drop in zip(key, drops)])
+        firsts.setdefault(tops, key)
+        counts[tops] += 1
+    regions = [Region(_intervals(shape, firsts[tops], depth), count) for tops, count in counts.items()]
+    return sorted(regions, key=lambda region: (-region.records, region.intervals))
 
 
 def bits_of(widths: Sequence[int], depth: int) -> List[int]:

@@ -35,9 +35,6 @@ def payload_column(rows: Rows, attributes: Sequence[str], wanted: Optional[str])
     """The column of the payloads: the wanted one, or `payload` or `log` where it is no attribute; None for the line
     numbers."""
     if wanted is not None:
-        rows.column(wanted)
-        if wanted in attributes:
-            raise Unusable(f"{shown(wanted)} is an attribute and the payload")
         return wanted
     return next((name for name in ("payload", "log") if rows.header.count(name) == 1 and name not in attributes), None)
 

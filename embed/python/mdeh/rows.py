@@ -27,9 +27,10 @@ class Rows(NamedTuple):
 
     def column(self, name: str) -> List[str]:
         """The fields under a name. Unusable where no column or several have it."""
-        if self.header.count(name) != 1:
-            names = ", ".join(shown(known) for known in self.header)
-            raise Unusable(f"{shown(name)} is the name of {self.header.count(name)} columns; there are {names}")
+        if name not in self.header:
+            raise Unusable(f"there is no column {shown(name)}; there are {', '.join(map(shown, self.header))}")
+        if self.header.count(name) > 1:
+            raise Unusable(f"{self.header.count(name)} columns are called {shown(name)}")
         place = self.header.index(name)
         return [fields[place] for fields in self.fields]
 
@@ -81,8 +82,11 @@ def _rows(path: str, file: IO[str], delimiter: str) -> Rows:
 
 
 def _header(path: str, line: int, fields: List[str]) -> List[str]:
-    """The names in the first row, which are not all numbers."""
+    """The names in the first row. Unusable where they are numbers, or one name with another delimiter in it."""
     names = [field.strip() for field in fields]
+    other = next((c for c in ";\t|," if len(names) == 1 and c in names[0]), None)
+    if other is not None:
+        raise Unusable(f"{path}: line {line} is one column, {shown(names[0])}; --delimiter {shown(other)} may be wanted")
     if all(whole(name) is not None for name in names):
         raise Unusable(f"{path}: line {line} has numbers; a header line with the names of the columns is wanted")
     return names

@@ -47,7 +47,7 @@ class Table:
         description = describe.read(path)
         if description is None:
             return cls(store, plain(store.shape), False)
-        test_fit(description, store, describe.path_of(path))
+        expect_fit(description, store, describe.path_of(path))
         return cls(store, description, True, description.describes(data))
 
     @property
@@ -106,7 +106,7 @@ def plain(shape: Shape) -> Description:
     return Description(Keys(tuple(attributes)), "payload")
 
 
-def test_fit(description: Description, store: Store, path: str) -> None:
+def expect_fit(description: Description, store: Store, path: str) -> None:
     """Unusable where the description is of another shape, or a stored key is none of its attributes'."""
     if not description.fits(store.shape):
         raise Unusable(f"{path}: it describes a store of another shape than the file's")
@@ -116,13 +116,20 @@ def test_fit(description: Description, store: Store, path: str) -> None:
         raise Unusable(f"{path}: the file has a key that its attributes cannot have") from refusal
 
 
+def interval_text(low: Optional[int], high: Optional[int]) -> str:
+    """An interval as a command line has it."""
+    if low is not None and low == high:
+        return str(low)
+    return f"{'' if low is None else low}..{'' if high is None else high}"
+
+
 def _cut(attribute: Attribute, low: Optional[int], high: Optional[int]) -> Interval:
     """An interval's part within the attribute's bounds."""
-    low = attribute.least if low is None else low
-    high = attribute.greatest if high is None else high
-    asked = f"{attribute.name} {low}" if low == high else f"{attribute.name} {low}..{high}"
-    if high < attribute.least or low > attribute.greatest:
+    asked = f"{attribute.name} {interval_text(low, high)}"
+    outside = low is not None and low > attribute.greatest or high is not None and high < attribute.least
+    if outside:
         raise Unusable(f"{asked} is outside {attribute.least} to {attribute.greatest}: {told(numbers.VALUE)}")
-    if low > high:
+    if low is not None and high is not None and low > high:
         raise Unusable(f"{asked}: {told(numbers.INTERVAL)}")
-    return max(low, attribute.least), min(high, attribute.greatest)
+    return (attribute.least if low is None else max(low, attribute.least),
+            attribute.greatest if high is None else min(high, attribute.greatest))
