@@ -63,7 +63,7 @@ def warn(path: str, table: Table) -> None:
         print(f"mdeh: {path_of(path)} is not there: attributes are a0, a1 and so on, with the store's values",
               file=sys.stderr)
     elif not table.unchanged:
-        print(f"mdeh: {path} was changed since {path_of(path)} was written: names and values may be others",
+        print(f"mdeh: {path} or {path_of(path)} was changed since they were written: names and values may be others",
               file=sys.stderr)
     elif missing:
         print(f"mdeh: {path} lacks {missing} of the imported rows: an answer may lack them too", file=sys.stderr)

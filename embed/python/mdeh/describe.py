@@ -4,13 +4,12 @@ from __future__ import annotations
 import hashlib
 import json
 import os
-from dataclasses import dataclass, field
+from dataclasses import dataclass, field, replace
 from typing import Any, Dict, Optional
 
 from . import files
 from .attributes import Attribute
 from .keys import Keys
-from .shape import Shape
 from .unusable import Unusable, shown
 
 _FORMAT = 1
@@ -20,7 +19,8 @@ _OPTIONAL = {"from": "low", "to": "high"}
 @dataclass(frozen=True)
 class Description:
     """What the records of a file mean: the attributes, the payload's name, and how many rows an import could not put
-    into it, by the number of the refusal, "0" for rows that could not be read. `sum` is that of the file's bytes."""
+    into it, by the number of the refusal, "0" for rows that could not be read. `sum` is that of the file's bytes and of the
+    other parts: see `sealed`."""
 
     keys: Keys
     payload: str
@@ -42,23 +42,19 @@ class Description:
                  "missing": self.missing, "sha256": self.sum}
         return json.dumps(whole, indent=2, ensure_ascii=False) + "\n"
 
-    def describes(self, data: bytes) -> bool:
-        """Whether these are the bytes of the file that the description was written with."""
-        return self.sum == sum_of(data)
+    def sealed(self, data: bytes) -> Description:
+        """The description with the sum by which it knows a file's bytes, and a change of its own."""
+        bare = replace(self, sum="")
+        return replace(self, sum=hashlib.sha256(data + bare.to_json().encode("utf-8")).hexdigest())
 
-    def fits(self, shape: Shape) -> bool:
-        """Whether a store of these attributes has this shape."""
-        return self.keys.shape(shape.capacity) == shape
+    def describes(self, data: bytes) -> bool:
+        """Whether these are the bytes of the file that the description was written with, and it is as it was."""
+        return self == self.sealed(data)
 
 
 def path_of(path: str) -> str:
     """Where the description of a file is."""
     return path + ".json"
-
-
-def sum_of(data: bytes) -> str:
-    """The sum of a file's bytes by which its description knows it."""
-    return hashlib.sha256(data).hexdigest()
 
 
 def read(path: str) -> Optional[Description]:
@@ -74,10 +70,10 @@ def read(path: str) -> Optional[Description]:
 
 
 def write(path: str, data: bytes, description: Description) -> None:
-    """Writes a file and its description. The former description goes first: a crash between leaves a file without one,
+    """Writes a file and its description, sealed. The former description goes first: a crash between leaves a file without one,
     never a file with another's."""
     beside = path_of(path)
-    files.write([(path, data), (beside, description.to_json().encode("utf-8"))], stale=[beside])
+    files.write([(path, data), (beside, description.sealed(data).to_json().encode("utf-8"))], stale=[beside])
 
 
 def _description(whole: Any) -> Description:

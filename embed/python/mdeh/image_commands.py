@@ -36,12 +36,11 @@ def run_save(args: argparse.Namespace) -> int:
     files.apart([args.output, describe.path_of(args.output)], [args.state, args.directory, args.pages])
     store = sound_image(args.state, args.directory, args.pages)
     data = store.save()
-    description = _description(args, store)
+    description = _description(args, data)
     if description is None:
         files.write([(args.output, data)])
     else:
-        fitted = Description(description.keys, description.payload, {}, describe.sum_of(data))
-        describe.write(args.output, data, fitted)
+        describe.write(args.output, data, Description(description.keys, description.payload))
     count = store.count()
     print(f"saved: {count} record{'s' * (count != 1)}")
     return 0
@@ -73,7 +72,7 @@ def sound_image(state: str, directory: str, pages: str) -> Store:
     return store
 
 
-def _description(args: argparse.Namespace, store: Store) -> Optional[Description]:
+def _description(args: argparse.Namespace, data: bytes) -> Optional[Description]:
     """The description of a saved file: that of the flags, or the one that stands beside the output already; None where
     there is neither. Unusable where it does not fit the store."""
     if args.attribute:
@@ -83,5 +82,5 @@ def _description(args: argparse.Namespace, store: Store) -> Optional[Description
     else:
         description, where = describe.read(args.output), describe.path_of(args.output)
     if description is not None:
-        expect_fit(description, store, where)
+        expect_fit(description, data, where)
     return description

@@ -58,7 +58,7 @@ def _proposed(args: argparse.Namespace, table: Rows, progress: Progress) -> int:
     proposed = proposal.propose(columns.taken, args.spare, args.capacity, events, args.replace, progress)
     print("proposed: " + _flags(args, proposed.keys, payload))
     if columns.left:
-        print("left out: " + ", ".join(columns.left))
+        print("left out (--columns chooses): " + ", ".join(columns.left))
     return _finish(args, proposed, payload, events)
 
 
@@ -79,7 +79,7 @@ def _finish(args: argparse.Namespace, proposed: Proposal, payload: Optional[str]
     data = filled.store.save()
     if payload is None:
         payload = _line_name([attribute.name for attribute in keys.attributes])
-    describe.write(args.output, data, Description(keys, payload, missing, describe.sum_of(data)))
+    describe.write(args.output, data, Description(keys, payload, missing))
     if not args.quiet:
         for line, why in refused_rows(events, filled, keys.attributes):
             print(f"line {line}: {why}", file=sys.stderr)
@@ -104,7 +104,7 @@ def _summary(events: Events, filled: Filled, counts: Dict[int, int]) -> str:
     if counts.get(0):
         told.append(f"unreadable: {counts[0]}")
     parts.append(f"{sum(counts.values())} refused" + (f" ({', '.join(told)})" if told else ""))
-    return f"{total} rows: " + ", ".join(parts)
+    return f"{total} row{'s' * (total != 1)}: " + ", ".join(parts)
 
 
 def _advise(filled: Filled) -> None:

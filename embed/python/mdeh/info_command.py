@@ -9,6 +9,7 @@ from .ask_command import warn
 from .attributes import Attribute
 from .keys import Keys
 from .layout import Region, layout_of, overflows, regions_of, values_in
+from .shape import Shape
 from .table import Table
 
 # how many leaves and regions are listed
@@ -42,9 +43,15 @@ def gather(table: Table) -> Dict[str, Any]:
         "leaves_without_records": sum(layout.leaves.values()) - layout.pages,
         "deepest": deepest,
         "fullest": [_fact(keys, leaf, capacity) for leaf in fullest[:_LISTED]],
+        "never": _never(table.store.shape, layout.depth_limit),
         "full": sum(region.records == capacity for region in near),
         "near": [_fact(keys, region, capacity) for region in near[:_LISTED]],
     }
+
+
+def _never(shape: Shape, depth_limit: int) -> bool:
+    """Whether no region of so many split bits has more keys than a page takes."""
+    return 1 << sum(shape.widths) - depth_limit <= shape.capacity
 
 
 def _fact(keys: Keys, region: Region, capacity: int) -> Dict[str, Any]:
@@ -80,14 +87,16 @@ def _lines(table: Table, facts: Dict[str, Any]) -> List[str]:
     ]
     if facts["fullest"]:
         lines.append(f"fullest leaves of depth {facts['deepest']}:")
-        lines += [f"  {leaf['records']:2} records: {_region_text(leaf)}" for leaf in facts["fullest"]]
+        lines += [f"  {leaf['records']:2} of {facts['capacity']} records: {_region_text(leaf)}" for leaf in facts["fullest"]]
     return lines + _near_lines(facts)
 
 
 def _near_lines(facts: Dict[str, Any]) -> List[str]:
     """What would be refused with 6 next."""
+    if facts["never"]:
+        return ["6 never comes: a region of L split bits has no more keys than a page takes"]
     if not facts["near"]:
-        return ["6 is not near: every region of L split bits that has records has no more keys than a page takes"]
+        return ["6 is not near: no region of L split bits has both records and more keys than a page takes"]
     lines = [f"refused with 6 next ({facts['full']} of the regions of L split bits are full):"]
     for region in facts["near"]:
         if region["more"]:

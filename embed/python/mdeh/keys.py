@@ -2,7 +2,7 @@
 from __future__ import annotations
 
 from dataclasses import dataclass
-from typing import Iterable, List, Optional, Sequence, Tuple
+from typing import List, Optional, Sequence, Tuple
 
 from . import refusal as numbers
 from .attributes import Attribute
@@ -59,17 +59,17 @@ class Keys:
             raise Refusal(numbers.VALUE)
         return values
 
-    def decode_all(self, keys: Iterable[Sequence[int]]) -> List[Tuple[int, ...]]:
-        """The host's values for each of many keys, as `decode` gives them."""
-        columns = list(zip(*keys))
-        tables = [{code: attribute.decode(code) for code in set(column)}
-                  for attribute, column in zip(self.attributes, columns)]
-        rows = list(zip(*(map(table.__getitem__, column) for table, column in zip(tables, columns))))
-        if self.spare and rows:
+    def decode_columns(self, columns: Sequence[Sequence[int]]) -> List[List[int]]:
+        """The host's values for columns of the store's, a row of which is a key, as `decode` gives them."""
+        decoded = []
+        for attribute, column in zip(self.attributes, columns):
+            table = {code: attribute.decode(code) for code in set(column)}
+            decoded.append(list(map(table.__getitem__, column)))
+        if self.spare and columns:
             base, mask = self._base(), (1 << self.spare) - 1
-            if any(sum(row) - base & mask != spare for row, spare in zip(rows, columns[-1])):
+            if any(total - base & mask != spare for total, spare in zip(map(sum, zip(*decoded)), columns[-1])):
                 raise Refusal(numbers.VALUE)
-        return rows
+        return decoded
 
     def _spare_of(self, values: Sequence[int]) -> int:
         """The value of the spare attribute."""

@@ -47,7 +47,7 @@ def columns_of(rows: Rows, payload: Optional[str]) -> Columns:
     for name in rows.header:
         reason = "the payload" if name == payload else _reason_against(rows, name)
         if reason is None and len(taken) == _MOST_ATTRIBUTES:
-            reason = "four are taken; --columns chooses others"
+            reason = "four are taken"
         if reason is None:
             taken.append(name)
         elif name != payload:
@@ -102,7 +102,8 @@ def _reason_against(rows: Rows, name: str) -> Optional[str]:
     values = whole_numbers(fields)
     if None in values:
         row = values.index(None)
-        return f"line {rows.lines[row]}: {shown(fields[row])} is no whole number"
+        return (f"{values.count(None)} of {len(values)} rows have no whole number, "
+                f"the first on line {rows.lines[row]}: {shown(fields[row])}")
     low, high = min(values, default=0), max(values, default=0)
     return _too_wide(low, high) if bits_for(low, high) > _MOST_BITS else None
 

@@ -2,10 +2,14 @@
 from __future__ import annotations
 
 import csv
+import itertools
 import re
 from typing import IO, List, NamedTuple, Optional, Sequence, Tuple
 
 from .unusable import Unusable, shown
+
+# a line behind the last one of a file, which is a row of its own unless a quote is open
+_END = "end of file"
 
 _WHOLE = re.compile(r"\s*[+-]?[0-9]{1,40}\s*")
 
@@ -62,16 +66,7 @@ def whole_numbers(fields: Sequence[str]) -> List[Optional[int]]:
 
 def _rows(path: str, file: IO[str], delimiter: str) -> Rows:
     """The rows of an opened file."""
-    reader = csv.reader(file, delimiter=delimiter, skipinitialspace=True, strict=True)
-    kept: List[Tuple[int, List[str]]] = []
-    begin = 1
-    try:
-        for fields in reader:
-            if len(fields) > 1 or "".join(fields).strip():
-                kept.append((begin, fields))
-            begin = reader.line_num + 1
-    except csv.Error as error:
-        raise Unusable(f"{path}: line {begin}: {error}") from error
+    kept = _numbered(path, file, delimiter)
     if not kept:
         raise Unusable(f"{path}: it is empty; a header line with the names of the columns is wanted")
     header = _header(path, *kept[0])
@@ -79,6 +74,25 @@ def _rows(path: str, file: IO[str], delimiter: str) -> Rows:
     faults = [Fault(line, f"{len(fields)} fields, not {len(header)}")
               for line, fields in kept[1:] if len(fields) != len(header)]
     return Rows(header, [fields for _, fields in whole_rows], [line for line, _ in whole_rows], faults)
+
+
+def _numbered(path: str, file: IO[str], delimiter: str) -> List[Tuple[int, List[str]]]:
+    """The rows that are not blank, each with the line on which it begins. Unusable where a quote is not closed: the
+    line behind the last is then no row of its own."""
+    reader = csv.reader(itertools.chain(file, [_END]), delimiter=delimiter, skipinitialspace=True)
+    numbered: List[Tuple[int, List[str]]] = []
+    begin = 1
+    try:
+        for fields in reader:
+            if len(fields) > 1 or "".join(fields).strip():
+                numbered.append((begin, fields))
+            begin = reader.line_num + 1
+    except csv.Error as error:
+        raise Unusable(f"{path}: line {begin}: {error}") from error
+    line, last = numbered.pop()
+    if last != next(csv.reader([_END], delimiter=delimiter, skipinitialspace=True)):
+        raise Unusable(f"{path}: line {line}: a quote is not closed up to the end of the file")
+    return numbered
 
 
 def _header(path: str, line: int, fields: List[str]) -> List[str]:

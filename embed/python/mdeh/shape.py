@@ -3,9 +3,9 @@ from __future__ import annotations
 
 import struct
 from dataclasses import dataclass
-from typing import Optional, Sequence, Tuple
+from typing import List, Optional, Sequence, Tuple
 
-from .library import MOST_WORDS, STATE_WORDS, MdehShape
+from .library import MOST_WORDS, RECORD_BYTES, STATE_WORDS, MdehShape, file_bytes
 
 _MOST_WORD = 0xFFFFFFFF
 
@@ -38,7 +38,7 @@ class Shape:
     @classmethod
     def of_file(cls, file: bytes) -> Optional[Shape]:
         """The shape near the end of a file; None where the bytes are too few. No other byte is looked at."""
-        if len(file) < 24:
+        if len(file) < file_bytes(0):
             return None
         count, *rest = file[-24:-17]
         return cls.of_state([count, *rest[:5]] + [0] * (STATE_WORDS - 7) + [rest[5]])
@@ -60,6 +60,12 @@ class Shape:
         for j, width in enumerate(self.widths[:4]):
             shape.widths[j] = _word(width)
         return shape
+
+    def columns(self, records: bytes) -> List[List[int]]:
+        """The values of each attribute in the bytes of records, those of a file's beginning for one."""
+        fields = memoryview(records)
+        marked = [fields.cast("h" if j in self.signed else "H") for j in range(min(len(self.widths), 4))]
+        return [field[j::RECORD_BYTES // 2].tolist() for j, field in enumerate(marked)]
 
     def record_format(self) -> struct.Struct:
         """How the used fields of a record and its payload are unpacked."""

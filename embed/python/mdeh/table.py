@@ -8,6 +8,7 @@ from . import refusal as numbers
 from .attributes import Attribute
 from .describe import Description
 from .keys import Keys
+from .library import file_bytes
 from .refusal import Refusal
 from .shape import Shape
 from .store import Store
@@ -29,7 +30,7 @@ class Table:
     """The store of a file, with the names and the host's values of its attributes.
 
     `described` tells whether the file has a description; without one attributes are a0 to a3, with the store's values.
-    `unchanged` tells whether the file is the one that its description was written with.
+    `unchanged` tells whether file and description are those that were written together.
     """
 
     def __init__(self, store: Store, description: Description, described: bool = True, unchanged: bool = True) -> None:
@@ -47,7 +48,7 @@ class Table:
         description = describe.read(path)
         if description is None:
             return cls(store, plain(store.shape), False)
-        expect_fit(description, store, describe.path_of(path))
+        expect_fit(description, data, describe.path_of(path))
         return cls(store, description, True, description.describes(data))
 
     @property
@@ -77,8 +78,8 @@ class Table:
             listing = self.store.query({j: low for j, (low, _) in given.items()})
         else:
             listing = self.store.range(given)
-        values = self.description.keys.decode_all(record.key for record in listing.records)
-        rows = sorted(row + (record.payload,) for row, record in zip(values, listing.records))
+        columns = self.description.keys.decode_columns(list(zip(*(record.key for record in listing.records))))
+        rows = sorted(zip(*columns, (record.payload for record in listing.records)))
         kept = [row for row in rows if all(low <= row[j] <= high for j, (low, high) in filtered.items())]
         return Answer(kept, listing.reads)
 
@@ -106,12 +107,14 @@ def plain(shape: Shape) -> Description:
     return Description(Keys(tuple(attributes)), "payload")
 
 
-def expect_fit(description: Description, store: Store, path: str) -> None:
-    """Unusable where the description is of another shape, or a stored key is none of its attributes'."""
-    if not description.fits(store.shape):
+def expect_fit(description: Description, data: bytes, path: str) -> None:
+    """Unusable where the description is of another shape than a file that loads, or a key is none of its
+    attributes'."""
+    shape = Shape.of_file(data)
+    if description.keys.shape(shape.capacity) != shape:
         raise Unusable(f"{path}: it describes a store of another shape than the file's")
     try:
-        description.keys.decode_all(record.key for record in store.query().records)
+        description.keys.decode_columns(shape.columns(data[:-file_bytes(0)]))
     except Refusal as refusal:
         raise Unusable(f"{path}: the file has a key that its attributes cannot have") from refusal
 
