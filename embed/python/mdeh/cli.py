@@ -167,8 +167,8 @@ def _info_parser() -> Parser:
 
 def _check_parser() -> Parser:
     """The arguments of `mdeh check`."""
-    text = "Checks a file of records, or a memory image: three files with the words (little-endian) of its state and\n" \
-           "its directory, and the bytes of its pages."
+    text = "Checks a file of records, or a memory image: three files with the words (little-endian) of its state\n" \
+           "and its directory, and the bytes of its pages."
     parser = _parser("mdeh check", text, _STATUS, image_commands.run_check)
     parser.usage = "mdeh check FILE | mdeh check STATE DIRECTORY PAGES"
     parser.add_argument("files", metavar="FILE", nargs="+", help="a file of records, or STATE DIRECTORY PAGES")
@@ -218,6 +218,7 @@ def _add_output(parser: Parser) -> None:
 def _number(least: int, most: Optional[int] = None) -> Callable[[str], int]:
     """A reader of whole numbers within bounds."""
     def read(text: str) -> int:
+        """The number of a text."""
         value = int(text) if text.isascii() and text.isdigit() and len(text) < 19 else -1
         if value < least or most is not None and value > most:
             bounds = f"from {least} on" if most is None else f"from {least} to {most}"

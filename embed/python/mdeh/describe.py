@@ -19,8 +19,8 @@ _OPTIONAL = {"from": "low", "to": "high"}
 @dataclass(frozen=True)
 class Description:
     """What the records of a file mean: the attributes, the payload's name, and how many rows an import could not put
-    into it, by the number of the refusal, "0" for rows that could not be read. `sum` is that of the file's bytes and of the
-    other parts: see `sealed`."""
+    into it, by the number of the refusal, "0" for rows that could not be read. `sum` is that of the file's bytes and
+    of the other parts: see `sealed`."""
 
     keys: Keys
     payload: str
@@ -70,8 +70,8 @@ def read(path: str) -> Optional[Description]:
 
 
 def write(path: str, data: bytes, description: Description) -> None:
-    """Writes a file and its description, sealed. The former description goes first: a crash between leaves a file without one,
-    never a file with another's."""
+    """Writes a file and its description, sealed. The former description goes first: a crash between leaves a file
+    without one, never a file with another's."""
     beside = path_of(path)
     files.write([(path, data), (beside, description.sealed(data).to_json().encode("utf-8"))], stale=[beside])
 

@@ -14,7 +14,7 @@ _WORD_BYTES = 4
 
 def read(state: str, directory: str, pages: str) -> Store:
     """The store in three files. Directory words from 2^T on need not be kept: those past the file's end are 0. A state
-    of one word less is that of an earlier version, without signed attributes. Unusable where the words are not whole."""
+    of one word less is that of an earlier version, without signed attributes. Unusable where words are not whole."""
     return Store.open(_words(state, STATE_WORDS, STATE_WORDS - 1), _words(directory, MOST_WORDS, 0),
                       bytearray(files.read(pages)))
 

@@ -87,7 +87,8 @@ def _lines(table: Table, facts: Dict[str, Any]) -> List[str]:
     ]
     if facts["fullest"]:
         lines.append(f"fullest leaves of depth {facts['deepest']}:")
-        lines += [f"  {leaf['records']:2} of {facts['capacity']} records: {_region_text(leaf)}" for leaf in facts["fullest"]]
+        lines += [f"  {leaf['records']:2} of {facts['capacity']} records: {_region_text(leaf)}"
+                  for leaf in facts["fullest"]]
     return lines + _near_lines(facts)
 
 
@@ -113,8 +114,8 @@ def _region_text(region: Dict[str, Any]) -> str:
 
 def _attribute_text(attribute: Attribute) -> str:
     """An attribute with its bounds and how its values are kept."""
-    marks = ["spread"] * (attribute.high is not None) + ["signed"] * attribute.signed + ["reversed"] * attribute.reversed
-    kept = ", ".join([_bits(attribute.width)] + marks)
+    marks = [("spread", attribute.high is not None), ("signed", attribute.signed), ("reversed", attribute.reversed)]
+    kept = ", ".join([_bits(attribute.width)] + [name for name, marked in marks if marked])
     return f"{attribute.name} {attribute.least}..{attribute.greatest} ({kept})"
 
 

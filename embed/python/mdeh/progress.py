@@ -7,8 +7,9 @@ import sys
 class Progress:
     """A line on standard error that is written over; nothing where that is no terminal."""
 
-    def __init__(self, wanted: bool = True) -> None:
-        self._shown = wanted and sys.stderr.isatty()
+    def __init__(self) -> None:
+        """Looks once whether there is a terminal."""
+        self._shown = sys.stderr.isatty()
 
     def tell(self, text: str) -> None:
         """Shows a text in the place of the last."""

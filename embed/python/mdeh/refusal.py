@@ -53,6 +53,7 @@ class Refusal(Exception):
     """
 
     def __init__(self, number: int, attribute: int = 0, depth: int = 0) -> None:
+        """A refusal by its number and what stands beside it."""
         super().__init__(number, attribute, depth)
         self.number = number
         self.attribute = attribute
@@ -64,4 +65,5 @@ class Refusal(Exception):
         return reason_of(self.number, self.attribute)
 
     def __str__(self) -> str:
+        """The reason."""
         return self.reason

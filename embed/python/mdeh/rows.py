@@ -100,7 +100,8 @@ def _header(path: str, line: int, fields: List[str]) -> List[str]:
     names = [field.strip() for field in fields]
     other = next((c for c in ";\t|," if len(names) == 1 and c in names[0]), None)
     if other is not None:
-        raise Unusable(f"{path}: line {line} is one column, {shown(names[0])}; --delimiter {shown(other)} may be wanted")
+        raise Unusable(f"{path}: line {line} is one column, {shown(names[0])}; "
+                       f"--delimiter {shown(other)} may be wanted")
     if all(whole(name) is not None for name in names):
         raise Unusable(f"{path}: line {line} has numbers; a header line with the names of the columns is wanted")
     return names

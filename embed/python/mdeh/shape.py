@@ -56,7 +56,8 @@ class Shape:
 
     def raw(self) -> MdehShape:
         """The shape as a call takes it; numbers past 32 bits become others that are out of bounds."""
-        shape = MdehShape(len(self.widths), capacity=_word(self.capacity), signs=sum(1 << j for j in self.signed if j < 4))
+        marks = sum(1 << j for j in self.signed if j < 4)
+        shape = MdehShape(len(self.widths), capacity=_word(self.capacity), signs=marks)
         for j, width in enumerate(self.widths[:4]):
             shape.widths[j] = _word(width)
         return shape

@@ -20,7 +20,7 @@ Interval = Tuple[int, int]
 
 
 class Answer(NamedTuple):
-    """Rows of the host's values and the payload, sorted; how many there are, and how many pages were read."""
+    """Rows of the host's values and the payload, sorted, and how many pages were read."""
 
     rows: List[Tuple[int, ...]]
     reads: int
@@ -34,6 +34,7 @@ class Table:
     """
 
     def __init__(self, store: Store, description: Description, described: bool = True, unchanged: bool = True) -> None:
+        """Takes a store and a description that fits it."""
         self.store = store
         self.description = description
         self.described = described
@@ -80,8 +81,9 @@ class Table:
             listing = self.store.range(given)
         columns = self.description.keys.decode_columns(list(zip(*(record.key for record in listing.records))))
         rows = sorted(zip(*columns, (record.payload for record in listing.records)))
-        kept = [row for row in rows if all(low <= row[j] <= high for j, (low, high) in filtered.items())]
-        return Answer(kept, listing.reads)
+        for j, (low, high) in filtered.items():
+            rows = [row for row in rows if low <= row[j] <= high]
+        return Answer(rows, listing.reads)
 
 
 def ends(condition: Condition) -> Tuple[Optional[int], Optional[int]]:

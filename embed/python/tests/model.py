@@ -1,7 +1,7 @@
 """The plain model of a store: a dict of keys that is scanned in full for every answer."""
 from __future__ import annotations
 
-from typing import Dict, List, Mapping, Optional, Sequence, Tuple
+from typing import Dict, List, Mapping, Optional, Tuple
 
 from mdeh import Refusal, Shape
 
@@ -12,6 +12,7 @@ class Model:
     """A set of records, a depth limit and a page limit."""
 
     def __init__(self, shape: Shape, depth_limit: int, page_limit: int) -> None:
+        """A model without records."""
         self.shape = shape
         self.depth_limit = depth_limit
         self.page_limit = page_limit

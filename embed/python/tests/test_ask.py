@@ -8,6 +8,7 @@ import os
 import random
 from pathlib import Path
 from typing import Dict, List, Optional, Tuple
+from unittest import mock
 
 from mdeh import Table
 
@@ -37,7 +38,7 @@ class Scanned(FolderTest):
             payloads = first_of(rows)
             self.assertTrue(set(stored) <= {key + (log,) for key, log in payloads.items()})
             self.assertGreater(len(stored), 2000 if specs is MIXED else 18900)
-            for _ in range(24):
+            for _ in range(16):
                 self.compare(stored, self.conditions(draw))
 
     def conditions(self, draw: random.Random) -> Dict[int, Interval]:
@@ -85,6 +86,9 @@ class Scanned(FolderTest):
         self.assertEqual((len(narrow.rows), narrow.reads), box[1:])
         self.assertLess(narrow.reads, query.reads)
         self.assertLess(query.reads, table.ask({}).reads)
+        with mock.patch.object(table.store, "range", side_effect=AssertionError):
+            self.assertEqual(table.ask({"code": 30, "release": (400, 400)}).rows,
+                             [row for row in narrow.rows if row[2] == 400])
 
     def test_limit(self) -> None:
         """--limit prints the first records, and the total is that of all."""
@@ -112,13 +116,15 @@ class Asked(FolderTest):
         """0 for records, 1 for none, 2 for a refusal; options may stand anywhere."""
         self.assertEqual(run("ask", "a.mdeh", "code=35"), (1, "code  release  log\n0 records, 1 page read\n", ""))
         wanted = (0, "code,release,log\n31,405,8\n", "1 record, 1 page read\n")
-        for arguments in (["a.mdeh", "--csv", "code=31", "release=405.."], ["a.mdeh", "code=31", "--csv", "release=405.."],
+        for arguments in (["a.mdeh", "--csv", "code=31", "release=405.."],
+                          ["a.mdeh", "code=31", "--csv", "release=405.."],
                           ["--csv", "a.mdeh", "code=31..31", "release=+405"]):
             self.assertEqual(run("ask", *arguments), wanted)
 
     def test_bounds(self) -> None:
-        """A value or an interval that no record can have is refused with 3; one that reaches beyond is cut, and told."""
-        for text in ("code=29", "code=41", "code=41..50", "code=..29", "code=41..", "code=-30", "code=99999999999999999"):
+        """A value or an interval that no record can have is refused with 3; one that reaches beyond is cut, which is
+        told."""
+        for text in ("code=29", "code=41", "code=41..50", "code=..29", "code=41..", "code=-30", "code=9999999999999"):
             self.refused(run("ask", "a.mdeh", text), text.replace("=", " "), "is outside 30 to 40: 3 (a value")
         self.refused(run("ask", "a.mdeh", "code=35..31"), "code 35..31: 10 (an interval's low end")
         note = "mdeh: release 403..999 reaches beyond the file's values: 403..410 is asked\n"
@@ -137,6 +143,19 @@ class Asked(FolderTest):
         self.refused(run("ask"), "FILE")
         self.refused(run("ask", "gone.mdeh"), "gone.mdeh: No such file")
         self.refused(run("ask", "."), "Is a directory")
+
+    def test_signed(self) -> None:
+        """Values below 0, by a mark and by a bias: intervals may begin below 0 and end above it."""
+        rows = [(x, -3 * x, i + 2) for i, x in enumerate(range(-30, 31))]
+        self.write("s.csv", "\n".join(["x,y"] + [f"{x},{y}" for x, y, _ in rows]))
+        for flags in (["--attribute", "x:6:signed", "--attribute", "y:8:signed"], [],
+                      ["--attribute", "x:6:from=-30", "--attribute", "y:8:signed", "--spare", "2"]):
+            self.assertEqual(run("import", "s.csv", "-o", "s.mdeh", *flags).status, 0)
+            for text, low, high in (("x=-30", -30, -30), ("x=-5..7", -5, 7), ("x=..-29", -30, -29), ("x=0", 0, 0)):
+                found = json.loads(run("ask", "s.mdeh", text, "--json").out)["records"]
+                self.assertEqual([tuple(record.values()) for record in found],
+                                 [row for row in rows if low <= row[0] <= high], (flags, text))
+            self.assertEqual(run("info", "s.mdeh").status, 0)
 
     def test_without_description(self) -> None:
         """Without a description, attributes are a0 and a1 with the store's values, which is told."""
@@ -158,14 +177,14 @@ class Asked(FolderTest):
         """A description that is damaged, or of another shape or other keys, is refused; each part counts."""
         text = Path("a.mdeh.json").read_text()
         whole = json.loads(text)
-        for damaged in ("", "{", "[]", "null", "7", "[" * 100000, '"\\ud800"', text[:-4], text.replace("sha256", "sha"),
-                        text.replace('"mdeh": 1', '"mdeh": 2'), text.replace('"width": 4', '"width": 5'),
-                        text.replace('"width": 4', '"width": 4.0'), text.replace('"spare": 0', '"spare": 1'),
-                        text.replace('"to": 40', '"to": 31'), text.replace('"from": 30', '"from": null'),
-                        text.replace('"signed": false', '"signed": true'), text.replace('"signed": false', '"signed": 0'),
-                        text.replace('"code"', '"release"'), text.replace('"log"', '"code"'),
-                        text.replace('"log"', '"a\\nb"'), text.replace('"log"', "7"), text.replace("{}", '{"a": 1}'),
-                        text.replace("{}", '{"3": "x"}'), json.dumps({**whole, "attributes": whole["attributes"][:1]})):
+        changes = [('"mdeh": 1', '"mdeh": 2'), ("sha256", "sha"), ('"width": 4', '"width": 5'), ("{}", '{"a": 1}'),
+                   ('"width": 4', '"width": 4.0'), ('"spare": 0', '"spare": 1'), ('"to": 40', '"to": 31'),
+                   ('"from": 30', '"from": null'), ('"signed": false', '"signed": true'), ("{}", '{"3": "x"}'),
+                   ('"signed": false', '"signed": 0'), ('"code"', '"release"'), ('"log"', '"code"'),
+                   ('"log"', '"a\\nb"'), ('"log"', "7")]
+        texts = ["", "{", "[]", "null", "7", "[" * 100000, '"\\ud800"', text[:-4]]
+        texts.append(json.dumps({**whole, "attributes": whole["attributes"][:1]}))
+        for damaged in texts + [text.replace(former, latter) for former, latter in changes]:
             self.assertNotEqual(damaged, text)
             Path("a.mdeh.json").write_text(damaged)
             for name in ("ask", "info", "check"):

@@ -12,7 +12,7 @@ from unittest import mock
 
 from mdeh import library, refusal
 
-from .helpers import HEADER, PACKAGES, command
+from .helpers import COMMAND, HEADER, PACKAGES, command
 
 TEXT = HEADER.read_text()
 TYPES = {"uint32_t": ctypes.c_uint32, "int32_t": ctypes.c_int32, "uint64_t": ctypes.c_uint64, "size_t": ctypes.c_size_t}
@@ -89,11 +89,10 @@ class Sources(unittest.TestCase):
 
     def test_old_syntax(self) -> None:
         """Every source has the syntax of Python 3.8, and a text of what each function and type is for."""
-        sources = sorted(PACKAGES.glob("mdeh/*.py")) + [PACKAGES / "bin" / "mdeh"]
+        sources = sorted(PACKAGES.glob("*/*.py")) + [COMMAND]
         self.assertGreater(len(sources), 10)
         for path in sources:
             tree = ast.parse(path.read_text(), feature_version=(3, 8))
             for node in ast.walk(tree):
-                if isinstance(node, (ast.Module, ast.ClassDef, ast.FunctionDef)) and node is not tree:
-                    wanted = node.name.startswith("__") or node.name == "read"
-                    self.assertTrue(wanted or ast.get_docstring(node), f"{path}: {node.name}")
+                if isinstance(node, (ast.Module, ast.ClassDef, ast.FunctionDef)):
+                    self.assertTrue(ast.get_docstring(node), f"{path}: {getattr(node, 'name', 'the file')}")

@@ -68,8 +68,14 @@ class Images(FolderTest):
             self.refused(run("check", *IMAGE), part)
             self.refused(run("save", *IMAGE, "-o", "a.mdeh"), part)
             Path(name).write_bytes(whole[name])
-        self.assertFalse(os.path.exists("a.mdeh"))
         self.assertEqual(run("check", *IMAGE).status, 0)
+        store = self.keep(Shape([2, 2], 4), words=16, pages=16)
+        store.memory.pages[2 + 12] ^= 1
+        self.assertEqual(store.count(), 4)
+        Path("pages").write_bytes(bytes(store.memory.pages))
+        self.refused(run("check", *IMAGE), "9 (the store is not sound)")
+        self.refused(run("save", *IMAGE, "-o", "a.mdeh"), "9 (the store is not sound)")
+        self.assertFalse(os.path.exists("a.mdeh"))
 
     def test_names(self) -> None:
         """A saved image gets its description by flags, and keeps one that fits."""

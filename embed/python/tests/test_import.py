@@ -7,6 +7,7 @@ import random
 import re
 import time
 from pathlib import Path
+from unittest import mock
 
 from mdeh import Store, Table
 
@@ -44,7 +45,7 @@ class Gateway(FolderTest):
     def test_proposal_tries_on(self) -> None:
         """A proposal that meets 6 goes on to a spare attribute; where nothing holds it takes the fewest refused."""
         met = set()
-        for seed in range(1, 7):
+        for seed in (3, 4, 7):
             self.write_rows("events.csv", gateway_rows(seed))
             spread = run("import", "events.csv", "--quiet", "-o", "spread.mdeh", *FLAGS)
             ran = run("import", "events.csv", "--quiet", "-o", "gw.mdeh")
@@ -52,6 +53,9 @@ class Gateway(FolderTest):
             self.assertEqual("--spare" in ran.out or "reversed" in ran.out, spread.status == 2, (seed, ran))
             met.add(spread.status)
         self.assertEqual(met, {0, 2})
+        self.write_rows("events.csv", gateway_rows(5))
+        self.assertIn(" --spare 3 ", run("import", "events.csv", "--quiet", "-o", "gw.mdeh").out)
+        self.assertIn(" --spare 1 ", run("import", "events.csv", "--quiet", "--spare", "1", "-o", "gw.mdeh").out)
         lines = [f"{i % 64},{i // 64}" for i in range(4096)]
         self.write("events.csv", "\n".join(["a,b", "0,0"] + lines + ["65535,65535"]))
         ran = run("import", "events.csv", "--quiet", "-o", "gw.mdeh")
@@ -238,6 +242,22 @@ class Written(FolderTest):
         mask = os.umask(0)
         os.umask(mask)
         self.assertEqual(os.stat("a.mdeh").st_mode & 0o777, 0o666 & ~mask)
+
+    def test_never_with_another_description(self) -> None:
+        """An import that ends between its two files leaves the later one without a description, and nothing beside."""
+        self.write("a.csv", "a\n1\n2\n")
+        self.write("b.csv", "b\n3\n4\n5\n")
+        self.assertEqual(run("import", "a.csv", "-o", "a.mdeh").status, 0)
+        former, renames = Path("a.mdeh").read_bytes(), iter([os.replace])
+
+        def replace(source: str, target: str) -> None:
+            """Renames once, then fails."""
+            next(renames, mock.Mock(side_effect=OSError(5, "no more")))(source, target)
+
+        with mock.patch("os.replace", replace):
+            self.assertEqual(run("import", "b.csv", "-o", "a.mdeh")[::2], (2, "mdeh: a.mdeh.json: no more\n"))
+        self.assertNotEqual(Path("a.mdeh").read_bytes(), former)
+        self.assertEqual(sorted(os.listdir()), ["a.csv", "a.mdeh", "b.csv"])
 
     def test_four_attributes(self) -> None:
         """Four attributes have no place for a spare one, and are answered as others."""

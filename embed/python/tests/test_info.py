@@ -5,9 +5,10 @@ import itertools
 import json
 import random
 
-from mdeh import Refusal, Shape, Store, Table
+from mdeh import Attribute, Keys, Refusal, Shape, Store, Table
 from mdeh.info_command import gather, value_text
-from mdeh.layout import bits_of, layout_of, overflows, regions_of, values_in
+from mdeh.layout import Region, bits_of, layout_of, overflows, regions_of, values_in
+from mdeh.table import plain
 
 from .helpers import FolderTest, gateway_rows, run
 from .model import Model
@@ -18,7 +19,8 @@ class Layouts(FolderTest):
 
     def test_against_model(self) -> None:
         """Leaves by depth, and each leaf's box and records, are the model's; so are the regions of L bits."""
-        for seed, shape in enumerate((Shape([4, 3, 2], 2), Shape([3, 4], 3, [1]), Shape([6], 1), Shape([2, 2, 2, 2], 4))):
+        shapes = [Shape([4, 3, 2], 2), Shape([3, 4], 3, [1]), Shape([6], 1), Shape([2, 2, 2, 2], 4)]
+        for seed, shape in enumerate(shapes):
             draw = random.Random(seed)
             store, model = Store.fresh(shape), Model(shape, min(12, sum(shape.widths)), 4096)
             for _ in range(30):
@@ -38,6 +40,30 @@ class Layouts(FolderTest):
             regions = regions_of(store, 5)
             self.assertEqual(set(regions), wanted_regions)
             self.assertEqual([region.records for region in regions], sorted((r[1] for r in regions), reverse=True))
+
+    def test_overflows(self) -> None:
+        """A region overflows where more keys than a page takes have their encodings in it, counted one by one."""
+        draw, met = random.Random(8), set()
+        specs = ["a:3:from=0,to=4", "b:2:reversed", "c:3:signed"]
+        for spare in (0, 2):
+            keys = Keys(tuple(map(Attribute.parse, specs)), spare)
+            every = [keys.encode(values) for values in itertools.product(range(5), range(4), range(-4, 4))]
+            offsets = [0, 0, 4, 0]
+            for _ in range(200):
+                box = tuple(tuple(sorted(draw.randrange(1 << width) for _ in range(2))) for width in (3, 2, 3, 2))
+                box = box[:3 + bool(spare)]
+                count = sum(all(low <= code + offset <= high for code, offset, (low, high) in zip(key, offsets, box))
+                            for key in every)
+                capacity = draw.choice([count, max(1, count - 1), 1, 2, 16])
+                self.assertEqual(overflows(keys, Region(box, 1), capacity), count > capacity, (spare, box, capacity))
+                met.add(count > capacity)
+        self.assertEqual(met, {True, False})
+
+    def test_never(self) -> None:
+        """6 never comes where a region of L bits has as many keys as a page takes, or fewer."""
+        for width, capacity, never in ((12, 1, True), (13, 2, True), (13, 1, False), (16, 16, True), (16, 15, False)):
+            shape = Shape([width], capacity)
+            self.assertEqual(gather(Table(Store.fresh(shape), plain(shape)))["never"], never)
 
     def test_bits(self) -> None:
         """Split bits are taken in turn, a used-up attribute is passed over."""

@@ -147,8 +147,9 @@ class Refusals(unittest.TestCase):
         store.insert((3, 1), 12)
         file = store.save()
         self.assertEqual(Store.load(bytearray(file)).query().records, [((2, 1), 13), ((3, 1), 12)])
-        for damaged, number in ((b"", 12), (file[1:], 12), (bytes(12) + file[12:], 0), (file[:1] + b"\1" + file[2:], 13),
-                                (file[:24] + b"\5" + file[25:], 1), (file[:26] + b"\0" + file[27:], 14)):
+        cases = [(b"", 12), (file[1:], 12), (bytes(12) + file[12:], 0), (file[:1] + b"\1" + file[2:], 13),
+                 (file[:24] + b"\5" + file[25:], 1), (file[:26] + b"\0" + file[27:], 14)]
+        for damaged, number in cases:
             _, refused = numbered(Store.load, damaged)
             self.assertEqual(refused[0] if refused else 0, number, damaged)
         self.assertEqual(numbered(Store.load, file, 8, 0), (None, (2, 0)))
