@@ -108,8 +108,8 @@ class Printed(FolderTest):
     def test_text(self) -> None:
         """Every line of a small file's facts, and the same as JSON."""
         lines = "\n".join(f"{i},{i % 3}" for i in range(10))
-        run("import", self.write("a.csv", f"code,slot\n{lines}\n"), "--capacity", "2", "--attribute", "code:4:from=0,to=9",
-            "--attribute", "slot:2", "-o", "a.mdeh")
+        run("import", self.write("a.csv", f"code,slot\n{lines}\n"), "--capacity", "2", "-o", "a.mdeh",
+            "--attribute", "code:4:from=0,to=9", "--attribute", "slot:2")
         self.assertEqual(run("info", "a.mdeh"), (0, """\
 attributes  code 0..9 (4 bits, spread), slot 0..3 (2 bits)
 payload     line
