@@ -40,8 +40,8 @@ def payload_column(rows: Rows, attributes: Sequence[str], wanted: Optional[str])
 
 
 def columns_of(rows: Rows, payload: Optional[str]) -> Columns:
-    """The first four columns, the payload's left out, that have nothing but whole numbers, within 16 bits of each
-    other."""
+    """The first four columns, the payload's left out, with whole numbers, within 16 bits of each other, in nine of ten
+    rows. Their other rows are refused one by one."""
     taken: List[str] = []
     left: List[str] = []
     for name in rows.header:
@@ -53,7 +53,7 @@ def columns_of(rows: Rows, payload: Optional[str]) -> Columns:
         elif name != payload:
             left.append(f"{shown(name)} ({reason})")
     if not taken:
-        raise Unusable("no column has nothing but whole numbers; left: " + ", ".join(left))
+        raise Unusable("no column has whole numbers in nine of ten rows; left: " + ", ".join(left))
     return Columns(taken, left)
 
 
@@ -99,10 +99,11 @@ def _reason_against(rows: Rows, name: str) -> Optional[str]:
     if rows.header.count(name) > 1:
         return "its name comes twice"
     fields = rows.column(name)
-    values = whole_numbers(fields)
-    if None in values:
-        row = values.index(None)
-        return (f"{values.count(None)} of {len(values)} rows have no whole number, "
+    read = whole_numbers(fields)
+    values = [value for value in read if value is not None]
+    if 10 * len(values) < 9 * len(read):
+        row = read.index(None)
+        return (f"{len(read) - len(values)} of {len(read)} rows have no whole number, "
                 f"the first on line {rows.lines[row]}: {shown(fields[row])}")
     low, high = min(values, default=0), max(values, default=0)
     return _too_wide(low, high) if bits_for(low, high) > _MOST_BITS else None

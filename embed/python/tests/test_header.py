@@ -46,6 +46,7 @@ class Declared(unittest.TestCase):
         for name in ("STATE_WORDS", "RECORD_BYTES", "MOST_WORDS", "MOST_PAGES", "MOST_RECORDS"):
             self.assertEqual(getattr(library, name), int(re.search(rf"#define MDEH_{name} (\d+)\n", TEXT)[1]), name)
         self.assertEqual((library.page_bytes(16), library.file_bytes(3)), (194, 60))
+        self.assertEqual(library.VERSION, re.search(r'#define MDEH_VERSION "(.*)"\n', TEXT)[1])
 
     def test_reasons(self) -> None:
         """Every number has the header's name and text, also with an attribute."""

@@ -127,6 +127,19 @@ class Columns(FolderTest):
         self.refused(run("import", "a.csv", "--attribute", "a:3", "--payload", "a", "-o", "a.mdeh"), "payload")
         self.refused(run("import", "a.csv", "--attribute", "a:3", "--payload", "z", "-o", "a.mdeh"), '"z"')
 
+    def test_few_unreadable(self) -> None:
+        """A column with whole numbers in nine of ten rows is taken, and its other rows are refused one by one."""
+        rows = [f"{i},{7 if i != 4 else 'seven'}" for i in range(10)]
+        self.write("a.csv", "\n".join(["a,b", *rows]) + "\n")
+        ran = run("import", "a.csv", "-o", "a.mdeh")
+        self.assertEqual((ran.status, ran.err), (2, 'line 6: b "seven" is no whole number\n'))
+        self.assertIn("--attribute a:4:from=0,to=9 --attribute b:1:from=7,to=7\n", ran.out)
+        self.assertEqual(len(Table.load("a.mdeh").ask({}).rows), 9)
+        self.write("a.csv", "\n".join(["a,b", *rows[1:]]) + "\n")
+        ran = run("import", "a.csv", "-o", "a.mdeh")
+        self.assertEqual((ran.status, ran.err), (0, ""))
+        self.assertIn('"b" (1 of 9 rows have no whole number, the first on line 5: "seven")', ran.out)
+
     def test_forms(self) -> None:
         """A byte order mark, quotes, spaces, ends of lines, delimiters and encodings."""
         forms = [('\ufeff"code" , slot,"a ""b"", c"\r\n 30, 2 ,x\r\n"31","3",y\r\n', []),
