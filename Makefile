@@ -5,8 +5,8 @@
 #   make uninstall   removes what install wrote
 #   make clean       removes what make wrote
 #
-# PREFIX is the folder that hosts see, DESTDIR stands before it where files are staged elsewhere. ARCHIVE names another
-# archive to install. An archive that is there is installed as it is, without another proof.
+# PREFIX is the folder that hosts see, DESTDIR stands before it where files are staged elsewhere. The archive is proved
+# and built again only where a source is younger. ARCHIVE names another one, which is installed as it is.
 PREFIX = /usr/local
 DESTDIR =
 ARCHIVE = target/staticlib/libmdeh.a
@@ -18,8 +18,6 @@ bin = $(DESTDIR)$(PREFIX)/bin
 share = $(DESTDIR)$(PREFIX)/share/mdeh
 package = $(share)/python/mdeh
 
-python = $(wildcard embed/python/mdeh/*.py)
-command = $(wildcard embed/python/bin/mdeh)
 version = $(shell sed -n 's/^.define MDEH_VERSION "\(.*\)"$$/\1/p' embed/mdeh.h)
 
 # The shared library of an archive: all of its code, and of the system the C library alone.
@@ -34,32 +32,21 @@ $(SHARED): $(ARCHIVE)
 	@mkdir -p $(@D)
 	$(call link,$@)
 
-target/staticlib/libmdeh.a:
+target/staticlib/libmdeh.a: crates.txt $(shell find crates -name '*.rt' -o -name '*.antt')
 	rt staticlib mdeh
 	@touch $@
 
-# what the archive is proved from: a goal that builds compares its age
-ifneq ($(filter-out install uninstall clean,$(or $(MAKECMDGOALS),all)),)
-target/staticlib/libmdeh.a: crates.txt $(shell find crates -name '*.rt' -o -name '*.antt')
-endif
-
 install: $(ARCHIVE)
-	install -d '$(include)' '$(lib)/pkgconfig'
+	install -d '$(include)' '$(lib)/pkgconfig' '$(package)' '$(bin)'
 	install -m 644 embed/mdeh.h '$(include)/mdeh.h'
 	install -m 644 '$(ARCHIVE)' '$(lib)/libmdeh.a'
 	$(call link,'$(lib)/libmdeh.so')
 	chmod 755 '$(lib)/libmdeh.so'
 	sed -e 's|@prefix@|$(PREFIX)|' -e 's|@version@|$(version)|' embed/mdeh.pc.in >'$(lib)/pkgconfig/mdeh.pc'
 	chmod 644 '$(lib)/pkgconfig/mdeh.pc'
-ifneq ($(python),)
-	install -d '$(package)'
-	install -m 644 $(python) '$(package)'
+	install -m 644 embed/python/mdeh/*.py '$(package)'
 	install -m 755 '$(lib)/libmdeh.so' '$(package)/libmdeh.so'
-endif
-ifneq ($(command),)
-	install -d '$(bin)'
-	install -m 755 $(command) '$(bin)/mdeh'
-endif
+	install -m 755 embed/python/bin/mdeh '$(bin)/mdeh'
 
 uninstall:
 	rm -f '$(include)/mdeh.h' '$(lib)/libmdeh.a' '$(lib)/libmdeh.so' '$(lib)/pkgconfig/mdeh.pc' '$(bin)/mdeh'

@@ -2,7 +2,7 @@
 # Installs into folders of the given one, which are made anew, and builds the gateway's host from what is there, by the
 # flags of the pkg-config file alone: against the archive, and against the shared library with a run path. Both have to
 # print what is kept of the host. Header, pkg-config file, crate and Python package have to be of one version.
-# Needs make, gcc and pkg-config, and the archive or what `make` needs to build it; no network, no root.
+# Needs make, gcc, pkg-config and python3, and the archive or what `make` needs to build it; no network, no root.
 #     install.sh FOLDER [ARGUMENTS OF make]
 set -eu
 unset CDPATH
@@ -59,12 +59,8 @@ gcc -o "$folder/version" "$folder/version.c" "-I$folder/shared/include"
 version=$("$folder/version")
 same_version mdeh.pc "$(flags "$folder/shared" --modversion)"
 same_version embed/rust/Cargo.toml "$(sed -n 's/^version = "\(.*\)"$/\1/p' embed/rust/Cargo.toml)"
-if [ -f embed/python/mdeh/__init__.py ]; then
-    same_version embed/python/mdeh/__init__.py \
-        "$(sed -n 's/^__version__ = ["'\'']\(.*\)["'\'']$/\1/p' embed/python/mdeh/__init__.py)"
-    [ -x "$folder/shared/bin/mdeh" ] || stop "the command mdeh is not installed"
-    cmp "$folder/shared/lib/libmdeh.so" "$folder/shared/share/mdeh/python/mdeh/libmdeh.so"
-fi
+same_version bin/mdeh "$(env -u MDEH_LIBRARY python3 -B "$folder/shared/bin/mdeh" --version | sed 's/^mdeh //')"
+cmp "$folder/shared/lib/libmdeh.so" "$folder/shared/share/mdeh/python/mdeh/libmdeh.so"
 
 make -s uninstall PREFIX="$folder/shared"
 [ "$(cd "$folder/shared" && find . -type f)" = ./host ] || stop "uninstall leaves files behind"
