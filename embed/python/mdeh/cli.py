@@ -41,6 +41,7 @@ room so, with a spare attribute, then with reversed bits. The flags that give th
   mdeh import events.csv -o gw.mdeh
   mdeh import events.csv --columns code,slot,release --payload log -o gw.mdeh
   mdeh import events.csv --attribute code:7:from=0,to=99 --attribute slot:5 --attribute offset:10:signed -o gw.mdeh
+  mdeh import later.csv --like gw.mdeh -o gw.mdeh
 """
 
 _IMPORT_END = """\
@@ -132,6 +133,8 @@ def _import_parser() -> Parser:
     parser.add_argument("csv", metavar="CSV", help="the rows, under a header line with names")
     _add_attributes(parser)
     parser.add_argument("--columns", metavar="NAME,...", help="the columns of which attributes are proposed")
+    parser.add_argument("--like", metavar="FILE",
+                        help="take the attributes and the payload's column of an earlier import (FILE.json)")
     parser.add_argument("--capacity", type=_number(1, 16), default=16, metavar="N",
                         help="records of a page, from 1 to 16 (16)")
     parser.add_argument("--delimiter", type=_delimiter, default=",", metavar="C", help="between fields (,)")

@@ -4,7 +4,7 @@ from __future__ import annotations
 import argparse
 import shlex
 import sys
-from typing import Dict, List, Optional, Sequence
+from typing import Dict, List, Optional, Sequence, Tuple
 
 from . import describe, files, proposal, rows
 from . import refusal as numbers
@@ -29,7 +29,8 @@ def run(args: argparse.Namespace) -> int:
     progress.tell(f"reading {args.csv}")
     table = rows.read(args.csv, args.delimiter, args.encoding)
     try:
-        imported = _given(args, table, progress) if args.attribute else _proposed(args, table, progress)
+        given = args.attribute or args.like is not None
+        imported = _given(args, table, progress) if given else _proposed(args, table, progress)
     except Refusal as refusal:
         raise refused(args.csv, refusal) from refusal
     finally:
@@ -38,15 +39,31 @@ def run(args: argparse.Namespace) -> int:
 
 
 def _given(args: argparse.Namespace, table: Rows, progress: Progress) -> int:
-    """Imports under the attributes of the command line."""
+    """Imports under the attributes of the command line, or of another file's description."""
     if args.columns:
-        raise Unusable("--columns chooses for a proposal, and --attribute gives attributes: one of them")
-    keys = Keys(tuple(map(Attribute.parse, args.attribute)), args.spare or 0)
+        raise Unusable("--columns chooses for a proposal, --attribute and --like give attributes: one of them")
+    keys, wanted = _described(args, table) if args.like is not None else _on_the_line(args)
     names = [attribute.name for attribute in keys.attributes]
-    payload = proposal.payload_column(table, names, args.payload)
+    payload = proposal.payload_column(table, names, wanted)
     events = events_of(table, names, payload)
     filled = fill(keys, args.capacity, events, args.replace, progress)
     return _finish(args, Proposal(keys, filled), payload, events)
+
+
+def _on_the_line(args: argparse.Namespace) -> Tuple[Keys, Optional[str]]:
+    """The attributes and the payload's column of the command line."""
+    return Keys(tuple(map(Attribute.parse, args.attribute)), args.spare or 0), args.payload
+
+
+def _described(args: argparse.Namespace, table: Rows) -> Tuple[Keys, Optional[str]]:
+    """The attributes of the description beside another file, and the payload's column, if the rows have it."""
+    if args.attribute or args.spare:
+        raise Unusable("--like gives all attributes: neither --attribute nor --spare goes with it")
+    description = describe.read(args.like)
+    if description is None:
+        raise Unusable(f"{describe.path_of(args.like)} is not there")
+    named = description.payload if description.payload in table.header else None
+    return description.keys, named if args.payload is None else args.payload
 
 
 def _proposed(args: argparse.Namespace, table: Rows, progress: Progress) -> int:

@@ -127,6 +127,29 @@ class Columns(FolderTest):
         self.refused(run("import", "a.csv", "--attribute", "a:3", "--payload", "a", "-o", "a.mdeh"), "payload")
         self.refused(run("import", "a.csv", "--attribute", "a:3", "--payload", "z", "-o", "a.mdeh"), '"z"')
 
+    def test_like(self) -> None:
+        """Attributes, spare attribute and payload's column of an earlier file, in its place too."""
+        self.write("a.csv", "a,b,log\n1,5,7\n9,6,8\n")
+        self.assertEqual(run("import", "a.csv", "--attribute", "b:3:from=4,to=9", "--attribute", "a:4", "--spare", "1",
+                             "--payload", "log", "-o", "a.mdeh").status, 0)
+        former = json.loads(Path("a.mdeh.json").read_text())
+        self.write("b.csv", "log,a,b,payload\n3,2,9,1\n4,2,10,1\n")
+        ran = run("import", "b.csv", "--like", "a.mdeh", "-o", "a.mdeh")
+        self.assertEqual((ran.status, ran.out), (2, "2 rows: 1 stored, 1 refused (3: 1)\n"))
+        later = json.loads(Path("a.mdeh.json").read_text())
+        for part in ("attributes", "spare", "payload"):
+            self.assertEqual(later[part], former[part])
+        self.assertEqual(Table.load("a.mdeh").ask({}).rows, [(9, 2, 3)])
+        self.assertEqual(run("import", "b.csv", "--like", "a.mdeh", "--payload", "payload", "-o", "b.mdeh").status, 2)
+        self.assertEqual(Table.load("b.mdeh").ask({}).rows, [(9, 2, 1)])
+        self.write("c.csv", "a,b\n2,9\n")
+        self.assertEqual(run("import", "c.csv", "--like", "a.mdeh", "-o", "c.mdeh").status, 0)
+        self.assertEqual(Table.load("c.mdeh").ask({}).rows, [(9, 2, 2)])
+        self.refused(run("import", "c.csv", "--like", "none.mdeh", "-o", "c.mdeh"), "none.mdeh.json")
+        for flags in (["--attribute", "a:3"], ["--spare", "2"]):
+            self.refused(run("import", "c.csv", "--like", "a.mdeh", "-o", "c.mdeh", *flags), "--like")
+        self.refused(run("import", "c.csv", "--like", "a.mdeh", "--columns", "a", "-o", "c.mdeh"), "--columns")
+
     def test_few_unreadable(self) -> None:
         """A column with whole numbers in nine of ten rows is taken, and its other rows are refused one by one."""
         rows = [f"{i},{7 if i != 4 else 'seven'}" for i in range(10)]
