@@ -4,9 +4,9 @@
  * Records have a key of one to four values and a payload of 32 bits. A query gives some of the values, a range the
  * intervals of some, and both leave the others free. The library is libmdeh.a: code for x86-64 (System V) that calls
  * memcpy, memmove and memset alone. C99 or later, or C++. `make` proves and builds it, `make install` installs it with
- * libmdeh.so, the same code; then `gcc host.c $(pkg-config --cflags --libs mdeh)` links a host. It takes libmdeh.so,
- * which outside of the system's folders needs a run path (-Wl,-rpath,FOLDER); -l:libmdeh.a, in place of -lmdeh, takes
- * the archive.
+ * libmdeh.so, the same code; then `gcc host.c $(pkg-config --cflags --libs mdeh)` links a host. It takes libmdeh.so;
+ * -l:libmdeh.a, in place of -lmdeh, takes the archive. With a PREFIX outside of the system's folders pkg-config needs
+ * PKG_CONFIG_PATH=PREFIX/lib/pkgconfig, and a host of libmdeh.so a run path, -Wl,-rpath,PREFIX/lib.
  *
  * SLICES. A lent slice is two arguments, a pointer and how many elements it has. The memory is the host's, of any kind:
  * it is lent for the call, and no call keeps a pointer, allocates or frees.
@@ -55,8 +55,9 @@
  *             range of ranks low to high is that of their spread values.
  *   reversed  mdeh_reversed turns the bits of a value round, for values that cluster or whose ends are not known. Such
  *             an attribute is asked by equality alone: a range of values is none of reversed ones.
- *   spare     to fewer than four attributes add a last one of width 2: the sum of the ranks, before they are spread,
- *             modulo 4. It is a part of each key, and free in every query. Beside reversed values it does nothing.
+ *   spare     where 6 still comes, add a last one of width 2 to fewer than four attributes: the sum of the ranks,
+ *             before they are spread, modulo 4. It is a part of each key, and free in every query. Not where all values
+ *             are reversed: their first split bits give it, and it takes the place of others.
  * Then mdeh_room gives directory words and page bytes for n records, and says whether keys drawn at random hold in
  * them: with b = 16, and 17 split bits or more, up to 12,004 do. On the average they take n / (0.68 b) pages. Certain
  * of any keys, W being the sum of the widths:
@@ -64,13 +65,14 @@
  *   - while 2^(W-L) <= b, 6 never comes, so it does not with W <= 16, b = 16 and 4,096 words.
  * Of 20,000 random rows of a gateway (codes 0 to 99, slots 0 to 23, releases 398 to 479; some 19,000 different keys), a
  * store with b = 16 and 4,096 words holds before the first 6 (medians of 1,000 fills; embed/sizing.c is the fifth):
- *   widths 16, 16, 16                           16 rows
- *   widths 7, 5, 9                           2,952
- *   widths 7, 5, 7, releases less 398       10,490
+ *   widths 16, 16, 16                           16 records
+ *   widths 7, 5, 9                           2,952 records
+ *   widths 7, 5, 7, releases less 398       10,490 records
  *   the same, spread or reversed            all, in 65 of 100 fills
  *   the same, spread, a spare attribute     all, in 98 of 100 fills
- *   two stores, of even and odd slots       all, in 5,000 of 5,000 fills (widths 7, 4, 7, spread)
- * A full leaf is divided by the next insert into it, unless it lies at depth L: so depths near L tell that 6 is near.
+ *   two stores, of even and odd slots       all, in 5,000 of 5,000 fills (slot / 2: 12 values; widths 7, 4, 7, spread)
+ * A full leaf is divided by the next insert into it, unless its keys and the new one agree in their first L split bits,
+ * as at depth L they do. So depths near L tell that 6 is near; lesser ones do not tell that it is far.
  *   on 6      choose values as above, b = 16, and more words: twice as many make L one greater, up to 12 and W; then
  *             several stores, by an attribute or a digest of the key
  *   on 7      more pages, or a larger b
@@ -86,8 +88,8 @@
  * record; on damaged memory a list with number 0 may still lack records or show wrong ones. Before people act on a
  * list, ask mdeh_check, then mdeh_query or mdeh_range, and let nothing write in between. Check reads the whole store,
  * some 15 ns a record: a third of a millisecond for 20,000; what it does not tell stands under KEEPING. Where it says
- * no, or a call gives 9, the memory was damaged: do not act on it; make a fresh store and insert the event records
- * again.
+ * no, or a call gives 9, the memory was damaged: do not act on it; load the last saved file, or make a fresh store, and
+ * insert the event records again.
  *
  * PAYLOADS. Hosts read a payload of 0 as "no log line", so mdeh_insert refuses it with 11: payloads start at 1. A store
  * that an earlier version filled may hold payloads of 0. It stays sound, and they are looked up, listed, deleted, saved
@@ -388,13 +390,13 @@ typedef struct {
     uint32_t holds; /* 1 if keys drawn at random fit, but for one fill of 1,000; otherwise 0 */
 } MdehRoom;
 
-/* Whether depth L is deep enough for n records with `bits` split bits: a cell has no more keys than a page takes, or
-   keys drawn at random meet 6 in less than one fill of 1,000. The expected number of choices of b + 1 of them that
+/* Whether depth L is deep enough for n records with `bits` split bits: one page takes them, a cell has no more keys than
+   a page takes, or keys drawn at random meet 6 in less than one fill of 1,000. The expected number of choices of b + 1 of them that
    share a cell is at most 2^L * (n / 2^L)^(b+1) / (b+1)!. A part of mdeh_room: depth <= 12, bits <= 64. */
 static inline int mdeh_room_deep(uint32_t depth, uint32_t bits, uint32_t capacity, uint32_t records) {
     double cells = (double)(UINT32_C(1) << depth), refused = 1000 * cells;
     uint32_t i;
-    if (bits - depth <= 15 && UINT32_C(1) << (bits - depth) <= capacity)
+    if (records <= capacity || (bits - depth <= 15 && UINT32_C(1) << (bits - depth) <= capacity))
         return 1;
     for (i = 1; i <= capacity + 1; i++)
         refused *= (double)records / ((double)i * cells);

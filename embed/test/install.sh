@@ -48,6 +48,10 @@ host "$folder/archive"
 host "$folder/shared" "-Wl,-rpath,$folder/shared/lib"
 readelf -d "$folder/shared/host" | grep -q 'NEEDED.*\[libmdeh\.so\]' || stop "the shared library is not the one linked"
 
+readelf -d "$folder/shared/lib/libmdeh.so" | grep -q 'SONAME.*\[libmdeh\.so\]' || stop "the library has another soname"
+modes=$(cd "$folder/shared" && stat -c '%a %n' include/mdeh.h lib/libmdeh.a lib/libmdeh.so lib/pkgconfig/mdeh.pc bin/mdeh)
+[ "$(cut -d ' ' -f 1 <<<"$modes" | tr '\n' ' ')" = '644 644 755 644 755 ' ] || stop "installed with other modes: $modes"
+
 # a staged folder has the same files, its pkg-config file names the prefix alone, and nothing is written there
 staged=$folder/staged$folder/prefix
 diff -r -x host -x mdeh.pc "$folder/shared" "$staged" || stop "DESTDIR has other files"
@@ -62,6 +66,8 @@ same_version embed/rust/Cargo.toml "$(sed -n 's/^version = "\(.*\)"$/\1/p' embed
 same_version bin/mdeh "$(env -u MDEH_LIBRARY python3 -B "$folder/shared/bin/mdeh" --version | sed 's/^mdeh //')"
 cmp "$folder/shared/lib/libmdeh.so" "$folder/shared/share/mdeh/python/mdeh/libmdeh.so"
 
+touch "$folder/shared/lib/another"
 make -s uninstall PREFIX="$folder/shared"
-[ "$(cd "$folder/shared" && find . -type f)" = ./host ] || stop "uninstall leaves files behind"
+[ "$(cd "$folder/shared" && find . -type f | sort | tr '\n' ' ')" = './host ./lib/another ' ] ||
+    stop "uninstall leaves files behind, or removes others"
 echo "installed and linked: version $version"

@@ -120,6 +120,7 @@ void version_text(void) {
     char text[40];
     sprintf(text, "%d.%d.%d", MDEH_VERSION_MAJOR, MDEH_VERSION_MINOR, MDEH_VERSION_PATCH);
     HOLDS(strcmp(text, MDEH_VERSION) == 0);
+    HOLDS(MDEH_MOST_PAGES == 4096 && MDEH_MOST_WORDS == 4096 && MDEH_MOST_RECORDS == 16 * MDEH_MOST_PAGES);
 }
 
 /* Shapes and counts, and the words, pages and holds that the formulas give for them by hand. */
@@ -144,6 +145,8 @@ static const struct {
     {{2, {2, 2, 0, 0}, 1, 0}, 16, 16, 16, 1},
     {{1, {12, 0, 0, 0}, 1, 0}, 4096, 4096, 4096, 1},
     {{1, {13, 0, 0, 0}, 1, 0}, 4096, 4096, 4096, 0},
+    {{1, {16, 0, 0, 0}, 1, 0}, 1, 1, 1, 1}, /* one page takes them */
+    {{1, {16, 0, 0, 0}, 16, 0}, 16, 1, 1, 1},
     {{1, {16, 0, 0, 0}, 1, 0}, 2, 2048, 2, 1}, /* 1000 * 2048 * (2/2048)^2 / 2 is below 1, of 1024 words it is not */
     {{0, {7, 5, 9, 0}, 16, 0}, 10, 0, 0, 0},
     {{5, {7, 5, 9, 4}, 16, 0}, 10, 0, 0, 0},
@@ -165,11 +168,11 @@ void room_values(void) {
     }
 }
 
-/* Whether a depth is deep enough, read as 1000 * n^(b+1) / (b+1)! <= 2^(L b): -1 where it is too close to say. */
+/* Whether a depth is deep enough for more records than a page takes, read as 1000 * n^(b+1) / (b+1)! <= 2^(L b): -1 where it is too close to say. */
 static int deep_enough(uint32_t bits, uint32_t capacity, uint32_t depth, uint32_t n) {
     double most = 1, choices = 1000;
     uint32_t i;
-    if (((uint64_t)capacity << depth) >> (bits < 63 ? bits : 63) >= 1)
+    if (n <= capacity || ((uint64_t)capacity << depth) >> (bits < 63 ? bits : 63) >= 1)
         return 1;
     for (i = 0; i < capacity; i++)
         most *= (double)(1 << depth);
@@ -402,7 +405,7 @@ void reversed_values(void) {
 }
 
 /* How a gateway's row becomes a key. */
-typedef enum { PLAIN, BIASED, SPREAD, REVERSED, SPARE } Choice;
+typedef enum { PLAIN, BIASED, SPREAD, REVERSED, SPARE, REVERSED_SPARE } Choice;
 
 static MdehKey row_key(Choice choice, uint32_t code, uint32_t slot, uint32_t release) {
     MdehKey key = {{0, 0, 0, 0}};
@@ -413,12 +416,13 @@ static MdehKey row_key(Choice choice, uint32_t code, uint32_t slot, uint32_t rel
         key.values[0] = (int32_t)mdeh_spread(code, 100, 7);
         key.values[1] = (int32_t)mdeh_spread(slot, 24, 5);
         key.values[2] = (int32_t)mdeh_spread(release, 82, 7);
-        key.values[3] = (int32_t)(choice == SPARE ? (code + slot + release) % 4 : 0);
-    } else if (choice == REVERSED) {
+    } else if (choice == REVERSED || choice == REVERSED_SPARE) {
         key.values[0] = (int32_t)mdeh_reversed(code, 7);
         key.values[1] = (int32_t)mdeh_reversed(slot, 5);
         key.values[2] = (int32_t)mdeh_reversed(release, 7);
     }
+    if (choice == SPARE || choice == REVERSED_SPARE)
+        key.values[3] = (int32_t)((code + slot + release) % 4);
     return key;
 }
 
@@ -447,16 +451,17 @@ void gateway_rows(void) {
         MdehShape shape;
         Choice choice;
         uint32_t least, most, whole; /* stored before the first 6, and how many of 40 fills take all */
-    } choices[6] = {
+    } choices[7] = {
         {{3, {16, 16, 16, 0}, 16, 0}, PLAIN, 16, 16, 0},
         {{3, {7, 5, 9, 0}, 16, 0}, PLAIN, 1500, 4000, 0},
         {{3, {7, 5, 7, 0}, 16, 0}, BIASED, 6000, 13500, 0},
         {{3, {7, 5, 7, 0}, 16, 0}, SPREAD, 11000, 19200, 20},
         {{3, {7, 5, 7, 0}, 16, 0}, REVERSED, 11000, 19200, 20},
         {{4, {7, 5, 7, 2}, 16, 0}, SPARE, 15000, 19200, 38},
+        {{4, {7, 5, 7, 2}, 16, 0}, REVERSED_SPARE, 4000, 10000, 0},
     };
     uint32_t i, turn;
-    for (i = 0; i < 6; i++) {
+    for (i = 0; i < 7; i++) {
         uint32_t whole = 0;
         for (turn = 1; turn <= 40; turn++) {
             Filled filled = store_rows(choices[i].choice, choices[i].shape, turn * 0x9e3779b97f4a7c15);

@@ -1,7 +1,7 @@
 //! What the crate says of sizes: `room` beside its formula and beside real fills, what is certain of numbers 6 and 7,
 //! the laws of `spread`, `rank` and `reversed`, and gateway rows in the memory that the documents name.
 use mdeh::{rank, reversed, spread, Refusal, Room, Shape, Store};
-use mdeh::{MOST_PAGES, MOST_WORDS, NO_VALUE, STATE_WORDS};
+use mdeh::{MOST_PAGES, MOST_RECORDS, MOST_WORDS, NO_VALUE, STATE_WORDS};
 use mdeh_tests::compare::Comparisons;
 use mdeh_tests::random::Random;
 use mdeh_tests::shapes::{marked, random_widths};
@@ -26,7 +26,7 @@ fn shape_of(random: &mut Random, bits: u32, capacity: u32) -> Shape {
 /// tell.
 fn divides(shape: Shape, records: u32, depth: u32) -> bool {
     let keys = 2f64.powi((bits(shape) - depth) as i32);
-    if keys <= shape.capacity.into() || records == 0 {
+    if keys <= shape.capacity.into() || records <= shape.capacity {
         return true;
     }
     let cells = f64::from(depth) * 2f64.ln();
@@ -78,6 +78,7 @@ fn rooms_by_hand() {
     let gateway = Shape::new(&[7, 5, 7], 16);
     // one page, one cell; two pages, once a cell can have 17 keys
     assert_eq!(gateway.room(0), Room { words: 1, bytes: 194, holds: true });
+    assert_eq!(gateway.room(16), Room { words: 1, bytes: 194, holds: true });
     assert_eq!(Shape::new(&[4], 16).room(16), Room { words: 1, bytes: 194, holds: true });
     assert_eq!(Shape::new(&[5], 16).room(32), Room { words: 2, bytes: 2 * 194, holds: true });
     // more records than keys: 5 pages half full and 8
@@ -89,6 +90,7 @@ fn rooms_by_hand() {
         Room { words: 4096, bytes: 4096 * 194, holds: false }
     );
     assert!(gateway.room(11_000).holds && !gateway.room(13_000).holds);
+    assert_eq!((MOST_WORDS, MOST_PAGES, MOST_RECORDS), (4096, 4096, 65_536));
 }
 
 #[test]

@@ -9,8 +9,9 @@ view [--svg] --file FILE [--attribute SPEC]... [--ask ASK]...
 
 Draws a store: its cells by address, its keys by pairs of attributes, its leaves
 by depth, its pages with their fill, and where an insert is refused with 6 next.
-The store is the one that lines of `stock` leave, or that of a saved file, in
-4,096 words and 4,096 pages. Text on standard output, or SVG with --svg.
+The store is the one that lines of `stock` leave, in memory as `stock` has it,
+or that of a saved file, in 4,096 words and 4,096 pages. Text on standard
+output, or SVG with --svg.
 
 --signed 0,2     marks attributes 0 and 2 of every shape as signed, as far as it
                  has them: with width 10, values run from -512 to 511. Values in

@@ -43,7 +43,7 @@ pub fn draw(picture: &Picture) -> String {
     if picture.asked.is_some() {
         y = told(&mut canvas, y, "Pages that are read", &figures::read(picture, READ));
     }
-    y = heading(&mut canvas, MARGIN, y, "Regions by depth, in split order");
+    y = heading(&mut canvas, MARGIN, y, "Regions by depth, in split order; bit 0 is the highest");
     y += regions::draw(&mut canvas, picture, inner(y));
     y = heading(&mut canvas, MARGIN, y, &format!("Pages by number: {}", figures::pages(picture)));
     y += pages::draw(&mut canvas, picture, inner(y));

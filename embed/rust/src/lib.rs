@@ -39,6 +39,9 @@
 //! - mapped: any type that shows its bytes by [`AsRef`], and by [`AsMut`] if they may be written. [`Words`] shows bytes
 //!   as words, for the state and the directory. One mapping may be divided, or each part have its own.
 //!
+//! Hand over all three parts or lend all three. An array that is handed over is a copy: beside a lent directory and
+//! lent pages, the host's own variable would be an older state. [`Store::into_parts`] gives the parts back.
+//!
 //! To keep a store, keep all three parts as they are. The layouts are in `embed/mdeh.h`. A crash in mid-change leaves
 //! some of its writes in a mapped store: it may be unsound, which [`Store::check`] tells, or sound and without a record,
 //! which nothing tells. So a mapping is not the only copy: save a file beside the last one, sync it and rename it; a
@@ -91,8 +94,8 @@
 //!    store the value with its bits [`reversed`].
 //! 5. Mark signed values ([`Shape::signed`]); they need no bias.
 //! 6. If fewer than four attributes are used and 6 still comes, add a spare one of two bits, the last: the sum of the
-//!    ranks modulo 4. No query gives it. It evens out the cells that the others leave uneven; with reversed bits it
-//!    does nothing.
+//!    ranks modulo 4. No query gives it. It evens out the cells that the others leave uneven. Not where all values are
+//!    reversed: their first split bits give it, and it takes the place of others.
 //!
 //! Of 20,000 random gateway rows (codes 0 to 99, slots 0 to 23, releases 398 to 479; some 19,000 distinct keys), b = 16
 //! and 4,096 words:
@@ -100,18 +103,18 @@
 //! | widths | values | 6 comes |
 //! |---|---|---|
 //! | 16, 16, 16 | plain | at the 17th record |
-//! | 7, 5, 9 | plain | after 2,900 on the average |
-//! | 7, 5, 7 | 398 taken off | after 10,500 on the average |
+//! | 7, 5, 9 | plain | after 2,952 records (the median) |
+//! | 7, 5, 7 | 398 taken off | after 10,490 records (the median) |
 //! | 7, 5, 7 | spread, or bits reversed | in 35 of 100 fills |
 //! | 7, 5, 7, 2 | spread, and the spare attribute | in 14 of 1,000 fills |
-//! | 7, 4, 7 | spread, even and odd slots in two stores | in none of 5,000 fills |
+//! | 7, 4, 7 | spread, even and odd slots in two stores (slot / 2: 12 values) | in none of 5,000 fills |
 //!
 //! On 6: the steps above, a capacity of 16, 4,096 words; then several stores, by an attribute or by a digest of the
 //! key. On 7: more pages, or a larger capacity. In both cases save and load into longer memory ([`Store::load`]; the
 //! shape stays), or insert the records again under another shape.
 //!
 //! ```
-//! use mdeh::{rank, spread, Range, Refusal, Room, Shape, Store, MOST_PAGES, MOST_WORDS, STATE_WORDS};
+//! use mdeh::{rank, spread, Range, Refusal, Room, Shape, Store, STATE_WORDS};
 //!
 //! /// Code, slot, release, and the spare attribute.
 //! const SHAPE: Shape = Shape::new(&[7, 5, 7, 2], 16);
@@ -131,10 +134,7 @@
 //!     spread(rank, COUNTS[attribute], SHAPE.widths[attribute]) as i32
 //! }
 //!
-//! let Room { mut words, mut bytes, holds } = SHAPE.room(20_000);
-//! if !holds {
-//!     (words, bytes) = (MOST_WORDS, MOST_PAGES * SHAPE.page_bytes()); // the most, and to be tried
-//! }
+//! let Room { words, bytes, .. } = SHAPE.room(20_000);
 //! let mut store = Store::fresh(SHAPE, [0; STATE_WORDS], vec![0; words], vec![0; bytes])?;
 //! store.insert(key(30, 2, 412), 7)?;
 //! store.insert(key(30, 9, 398), 8)?;
@@ -279,8 +279,8 @@
 //! A call reads a part of the store, and tests of it the words and each page's count, first and last record: damage is
 //! then [`Refusal::Unsound`]. On damaged memory a list may still lack records or show wrong ones. Before people act on a
 //! list, ask [`Store::check`], which reads the whole store: some 15 ns a record, a third of a millisecond for 20,000.
-//! Where it says no, or a call gives `Unsound`, the memory was damaged: do not act on it; make a fresh store and insert
-//! the event records again.
+//! Where it says no, or a call gives `Unsound`, the memory was damaged: do not act on it; load the last saved file, or
+//! make a fresh store, and insert the event records again.
 //!
 //! ```
 //! use mdeh::{Listing, Query, Refusal, SharedStore};
@@ -328,7 +328,7 @@
 //! but `memcpy`, `memmove` and `memset`. The build script looks for it in the folder that the environment variable
 //! `MDEH_LIB_DIR` names, which has to have it, then beside this crate's `Cargo.toml`, then in the repository's
 //! `target/staticlib`. Without the library `cargo check` and `cargo doc` work, and the build script warns; a build that
-//! links fails.
+//! links fails. After `make install` the folder is `PREFIX/lib`.
 #![no_std]
 #![deny(missing_docs, unsafe_code)]
 

@@ -27,8 +27,8 @@ impl Shape {
     /// full, and eight more: random keys use n / (0.68 b) on the average, keys of an even grid up to 2n / b. With as many
     /// pages as words [`Refusal::Pages`](crate::Refusal::Pages) never comes, whatever the keys.
     ///
-    /// Otherwise the words and bytes are the most that so many records have use for, and it is to be tried whether they
-    /// hold; where there are more records than keys, they do not. A shape outside its bounds has no room: zeros.
+    /// Otherwise the words are the most that the shape has use for, and it is to be tried whether the records find room;
+    /// where they are more than there are keys, they do not. A shape outside its bounds has no room: zeros.
     ///
     /// ```
     /// use mdeh::{Room, Shape};
@@ -89,12 +89,12 @@ impl Shape {
         self.key_bits() >= u32::BITS || records as u64 <= 1 << self.key_bits()
     }
 
-    /// Whether so many random keys stay within the page capacity in the cells of this depth, which is at most W: no
-    /// cell has more keys, or the choices of one key more than a page takes that share a cell are at most 1/1000 on
-    /// the average.
+    /// Whether so many random keys stay within the page capacity in the cells of this depth, which is at most W: there
+    /// are no more of them, no cell has more keys, or the choices of one key more than a page takes that share a cell
+    /// are at most 1/1000 on the average.
     const fn divides(&self, records: u32, depth: u32) -> bool {
         let rest = self.key_bits() - depth;
-        if rest < WIDEST && 1 << rest <= self.capacity {
+        if records <= self.capacity || rest < WIDEST && 1 << rest <= self.capacity {
             return true;
         }
         let cells = (1u32 << depth) as f64;

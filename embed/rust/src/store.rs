@@ -32,8 +32,8 @@ pub const MOST_RECORDS: usize = 65_536;
 /// [`Store::load`] make a sound store, and every call leaves it sound. A store over fewer than [`STATE_WORDS`] words of
 /// state refuses every call with [`Refusal::Shape`].
 ///
-/// A clone is a store of its own, in memory of its own. A store is never copied implicitly: the copy would miss what is
-/// done to the other.
+/// A clone of owned memory is a store of its own. A store is never copied implicitly: the copy would miss what is done to
+/// the other.
 #[derive(Clone)]
 pub struct Store<S, D, P> {
     state: S,
