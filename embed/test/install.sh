@@ -63,7 +63,11 @@ gcc -o "$folder/version" "$folder/version.c" "-I$folder/shared/include"
 version=$("$folder/version")
 same_version mdeh.pc "$(flags "$folder/shared" --modversion)"
 same_version embed/rust/Cargo.toml "$(sed -n 's/^version = "\(.*\)"$/\1/p' embed/rust/Cargo.toml)"
-same_version bin/mdeh "$(env -u MDEH_LIBRARY python3 -B "$folder/shared/bin/mdeh" --version | sed 's/^mdeh //')"
+same_version bin/mdeh "$(env -u MDEH_LIBRARY "$folder/shared/bin/mdeh" --version | sed 's/^mdeh //')"
+printf 'code,slot\n30,2\n31,3\n' >"$folder/events.csv"
+env -u MDEH_LIBRARY "$folder/shared/bin/mdeh" import "$folder/events.csv" -o "$folder/events.mdeh" >/dev/null
+env -u MDEH_LIBRARY "$folder/shared/bin/mdeh" ask "$folder/events.mdeh" code=30 | grep -qx '1 record, 1 page read' ||
+    stop "the command finds other than the row that is there"
 cmp "$folder/shared/lib/libmdeh.so" "$folder/shared/share/mdeh/python/mdeh/libmdeh.so"
 
 touch "$folder/shared/lib/another"

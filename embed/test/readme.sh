@@ -3,7 +3,7 @@
 # of its own below the given folder. The list has to be that of a scan of the rows.
 # Needs make, python3 and the archive, or what `make` needs to build it; no network, no root.
 #     readme.sh FOLDER
-set -eu
+set -euo pipefail
 unset CDPATH
 [ $# -eq 1 ] || { echo 'usage: readme.sh FOLDER' >&2; exit 2; }
 mkdir -p -- "$1"
@@ -35,8 +35,15 @@ PATH=$HOME/.local/bin:$PATH
 eval "$install" >"$folder/install.txt"
 cd -- "$folder"
 eval "$import" 2>refused.txt
-eval "$ask --csv" | sed 1d | cut -d, -f 1-3 | sort >listed.txt
-awk -F, '$2 == 30 && 400 <= $4 && $4 <= 479 { print $2 "," $3 "," $4 }' events.csv | sort -u >scanned.txt
+if grep -v ': 4 (the key is stored already)$' refused.txt; then
+    echo 'readme.sh: rows are refused that are not stored already' >&2
+    exit 1
+fi
+eval "$ask --csv" | sed 1d | sort >listed.txt
+# the first row of each key, with its line
+awk -F, '$2 == 30 && 400 <= $4 && $4 <= 479 && !seen[$2, $3, $4]++ { print $2 "," $3 "," $4 "," NR }' events.csv |
+    sort >scanned.txt
 [ -s scanned.txt ] || { echo 'readme.sh: the scan finds nothing' >&2; exit 1; }
 cmp listed.txt scanned.txt
-echo "listed as scanned: $(wc -l <listed.txt) records"
+eval "$ask" | tail -n 1 | grep "^$(wc -l <scanned.txt) records, "
+echo "listed as scanned"

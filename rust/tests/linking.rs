@@ -105,6 +105,9 @@ fn in_the_folder_that_the_variable_names() {
     fs::copy(archive(), folder.join("libmdeh.a")).expect("the archive can be copied");
     copied.runs(Some(&folder));
     copied.runs(Some(Path::new("lib")));
+    // an archive that changes is linked anew
+    fs::write(folder.join("libmdeh.a"), "no archive").expect("the file can be written");
+    copied.told(&["build", "--example", "gateway"], Some(&folder), false, "libmdeh.a");
     // another name is another folder
     copied.told(&["check"], Some(&copied.folder.join("other")), false, "is missing, in the folder");
 }

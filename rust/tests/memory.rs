@@ -6,6 +6,7 @@ use mdeh_tests::host::{self, Refused};
 use mdeh_tests::plain::image::{Image, DEPTH};
 use mdeh_tests::random::Random;
 use std::cell::Cell;
+use std::rc::Rc;
 use std::thread;
 
 const SEED: u64 = 0x6d64_6568_2d30_3233;
@@ -73,14 +74,14 @@ where
 struct Arena {
     bytes: Vec<u8>,
     start: usize,
-    shift: Cell<usize>,
+    shift: Rc<Cell<usize>>,
 }
 
 impl Arena {
     /// At least so many bytes, and 16 more.
     fn new(count: usize) -> Arena {
         let bytes = vec![0; count + 32];
-        Arena { start: bytes.as_ptr().align_offset(4), bytes, shift: Cell::new(0) }
+        Arena { start: bytes.as_ptr().align_offset(4), bytes, shift: Rc::default() }
     }
 }
 
@@ -252,4 +253,21 @@ fn words_of_bytes_that_move() {
     let lengths =
         (0..16).map(|length| Words::new(&bytes.as_ref()[..length]).expect("as before").as_ref().len());
     assert_eq!(lengths.collect::<Vec<_>>(), (0..16).map(|length| length / 4).collect::<Vec<_>>());
+}
+
+/// A change of words that begin elsewhere is refused, and changes nothing.
+#[test]
+fn changes_of_bytes_that_move() {
+    for (part, refusal) in [Refusal::Shape, Refusal::Memory].into_iter().enumerate() {
+        let arenas = [STATE_WORDS, WORDS].map(|length| Arena::new(4 * length));
+        let shift = Rc::clone(&arenas[part].shift);
+        let [state, directory] = arenas.map(|arena| Words::new(arena).expect("it begins at a multiple of 4"));
+        let mut store = Store::fresh(SHAPE, state, directory, Arena::new(BYTES)).expect("accepted");
+        for moved in 1..4 {
+            shift.set(moved);
+            assert_eq!(store.insert([1, 2, 3], 4), Err(refusal));
+        }
+        shift.set(0);
+        assert_eq!((store.insert([1, 2, 3], 4).is_ok(), store.check()), (true, Ok(true)));
+    }
 }

@@ -17,17 +17,17 @@ _VALUE = re.compile(rf"({_NUMBER})|({_NUMBER})?\.\.({_NUMBER})?")
 
 
 def run(args: argparse.Namespace) -> int:
-    """Asks and prints. 0 where records are found, 1 where none are."""
+    """Asks and prints. 0 where records are found, 1 where none are, 2 where none are and the file may lack some."""
     conditions = parse(args.conditions)
     table = Table.load(args.file)
-    warn(args.file, table)
+    doubtful = warn(args.file, table)
     for note in _cuts(table, conditions):
         print(f"mdeh: {note}", file=sys.stderr)
     answer = table.ask(conditions)
     names = [attribute.name for attribute in table.attributes] + [table.description.payload]
     shown_rows = answer.rows if args.limit is None else answer.rows[:args.limit]
     if args.json:
-        _print_json(names, shown_rows, answer)
+        _print_json(names, shown_rows, answer, doubtful)
     elif args.csv:
         writer = csv.writer(sys.stdout, lineterminator="\n")
         writer.writerow(names)
@@ -36,7 +36,7 @@ def run(args: argparse.Namespace) -> int:
     else:
         _print_columns(names, shown_rows)
         print(_counts(answer, len(shown_rows)))
-    return 0 if answer.rows else 1
+    return 0 if answer.rows else 2 if doubtful else 1
 
 
 def parse(texts: Sequence[str]) -> Dict[str, Condition]:
@@ -56,17 +56,19 @@ def parse(texts: Sequence[str]) -> Dict[str, Condition]:
     return conditions
 
 
-def warn(path: str, table: Table) -> None:
-    """Tells what a reader of an answer is to know of the file."""
+def warn(path: str, table: Table) -> bool:
+    """Tells what a reader of an answer is to know of the file, and gives whether an answer may lack records."""
     missing = sum(table.description.missing.values())
     if not table.described:
-        print(f"mdeh: {path_of(path)} is not there: attributes are a0, a1 and so on, with the store's values",
+        print(f"mdeh: {path_of(path)} is not there: attributes are a0, a1 and so on, with the store's values, "
+              "which may not be those of the rows",
               file=sys.stderr)
     elif not table.unchanged:
         print(f"mdeh: {path} or {path_of(path)} was changed since they were written: names and values may be others",
               file=sys.stderr)
-    elif missing:
+    if missing:
         print(f"mdeh: {path} lacks {missing} of the imported rows: an answer may lack them too", file=sys.stderr)
+    return missing > 0 or not table.unchanged
 
 
 def _cuts(table: Table, conditions: Mapping[str, Condition]) -> List[str]:
@@ -94,8 +96,8 @@ def _print_columns(names: Sequence[str], rows: Sequence[Tuple[int, ...]]) -> Non
     sys.stdout.writelines("  ".join(map(str.rjust, row, widths)) + "\n" for row in texts)
 
 
-def _print_json(names: Sequence[str], rows: Sequence[Tuple[int, ...]], answer: Answer) -> None:
-    """Prints one JSON value: records by name, the total and the pages read."""
+def _print_json(names: Sequence[str], rows: Sequence[Tuple[int, ...]], answer: Answer, doubtful: bool) -> None:
+    """Prints one JSON value: records by name, the total, the pages read, and whether records may be lacking."""
     records = [dict(zip(names, row)) for row in rows]
-    whole = {"records": records, "total": len(answer.rows), "reads": answer.reads}
+    whole = {"records": records, "total": len(answer.rows), "reads": answer.reads, "doubtful": doubtful}
     print(json.dumps(whole, ensure_ascii=False))

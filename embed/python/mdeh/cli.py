@@ -2,6 +2,7 @@
 from __future__ import annotations
 
 import argparse
+import contextlib
 import os
 import sys
 from typing import Callable, List, NoReturn, Optional, Sequence
@@ -28,7 +29,8 @@ Event records in a file, asked by any of their attributes.
 
 mdeh COMMAND --help tells more."""
 
-_STATUS = "Exit status: 0; 1 for nothing found (ask); 2 for a refusal, with its reason on standard error."
+_STATUS = ("Exit status: 0; 1 for nothing found (ask); 2 for a refusal, with its reason on standard error, and for\n"
+           "nothing found in a file that lacks imported rows or was changed.")
 
 _IMPORT = """\
 Reads a CSV file with a header line and writes a file of records, and its description beside it (FILE.json).
@@ -96,11 +98,14 @@ def main(arguments: Optional[Sequence[str]] = None) -> int:
         return _told(str(error))
     except MemoryError:
         return _told("there is too little memory")
+    except Exception as error:  # Python's own status for it, 1, would say that nothing was found
+        return _told(f"a fault of mdeh itself: {type(error).__name__}: {error}")
 
 
 def _told(text: str) -> int:
-    """Tells why nothing was done."""
-    print(f"mdeh: {text}", file=sys.stderr)
+    """Tells why nothing was done, as far as there is where to."""
+    with contextlib.suppress(OSError, ValueError):
+        print(f"mdeh: {text}", file=sys.stderr, flush=True)
     return _REFUSED
 
 
@@ -154,7 +159,7 @@ def _ask_parser() -> Parser:
                         help="NAME=VALUE, NAME=LOW..HIGH, NAME=LOW.. or NAME=..HIGH; all records without any")
     form = parser.add_mutually_exclusive_group()
     form.add_argument("--csv", action="store_true", help="as CSV with a header; the total on standard error")
-    form.add_argument("--json", action="store_true", help="as one JSON value with records, total and reads")
+    form.add_argument("--json", action="store_true", help="as one JSON value with records, total, reads, doubtful")
     parser.add_argument("--limit", type=_number(0), metavar="N", help="print the first N records alone")
     return parser
 
@@ -207,7 +212,7 @@ def _load_parser() -> Parser:
 def _add_attributes(parser: Parser) -> None:
     """What names the parts of a record."""
     parser.add_argument("--attribute", action="append", metavar="SPEC", help="NAME:WIDTH[:OPTION[,OPTION...]], 1 to 4")
-    parser.add_argument("--spare", type=_number(1, 16), metavar="WIDTH",
+    parser.add_argument("--spare", type=_number(1, 8), metavar="WIDTH",
                         help="a further attribute with the sum of the others: it evens out leaves")
     parser.add_argument("--payload", metavar="COLUMN",
                         help="the log pointers (the column payload or log, otherwise the line numbers)")

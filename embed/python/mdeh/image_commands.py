@@ -20,6 +20,8 @@ def run_check(args: argparse.Namespace) -> int:
     """Checks a file, or the three files of a memory image. 0 for a sound store."""
     if len(args.files) == 1:
         table = Table.load(args.files[0])
+        if not table.unchanged:
+            raise Unusable(f"{args.files[0]} or {describe.path_of(args.files[0])} was changed since they were written")
         if table.described:
             warn(args.files[0], table)
         count = table.store.count()
@@ -40,7 +42,7 @@ def run_save(args: argparse.Namespace) -> int:
     if description is None:
         files.write([(args.output, data)])
     else:
-        describe.write(args.output, data, Description(description.keys, description.payload))
+        describe.write(args.output, data, description)
     count = store.count()
     print(f"saved: {count} record{'s' * (count != 1)}")
     return 0
@@ -74,13 +76,15 @@ def sound_image(state: str, directory: str, pages: str) -> Store:
 
 def _description(args: argparse.Namespace, data: bytes) -> Optional[Description]:
     """The description of a saved file: that of the flags, or the one that stands beside the output already; None where
-    there is neither. Unusable where it does not fit the store."""
+    there is neither. Unusable where it does not fit the store, or was changed since it was written."""
     if args.attribute:
         keys = Keys(tuple(map(Attribute.parse, args.attribute)), args.spare or 0)
         description: Optional[Description] = Description(keys, args.payload or "payload")
         where = "--attribute"
     else:
         description, where = describe.read(args.output), describe.path_of(args.output)
+        if description is not None and not description.describes(files.read(args.output)):
+            raise Unusable(f"{where}: it or {args.output} was changed since they were written; --attribute gives names")
     if description is not None:
         expect_fit(description, data, where)
     return description

@@ -25,6 +25,7 @@ _LINE_NAMES = ("line", "csv line", "row", "csv row", "number")
 def run(args: argparse.Namespace) -> int:
     """Imports the file. 0 where every row's key is in the written file, otherwise 2."""
     files.apart([args.output, describe.path_of(args.output)], [args.csv])
+    describe.read(args.output)  # a file beside that is no description is not written over
     progress = Progress()
     progress.tell(f"reading {args.csv}")
     table = rows.read(args.csv, args.delimiter, args.encoding)

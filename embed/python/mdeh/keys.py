@@ -28,8 +28,8 @@ class Keys:
         twice = next((name for name in names if names.count(name) > 1), None)
         if twice is not None:
             raise Unusable(f"attribute {shown(twice)} comes twice")
-        if not 0 <= self.spare <= 16:
-            raise Unusable(f"the spare width {self.spare} is outside 1 to 16")
+        if not 0 <= self.spare <= 8:
+            raise Unusable(f"the spare width {self.spare} is outside 1 to 8")
         if self.spare and len(names) == 4:
             raise Unusable("four attributes leave no place for a spare one")
 

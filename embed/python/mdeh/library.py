@@ -131,7 +131,7 @@ def places() -> Iterator[str]:
 
 @functools.lru_cache(maxsize=None)
 def library() -> ctypes.PyDLL:
-    """The library, loaded once. A call holds the interpreter's lock: no two threads are in a store at once."""
+    """The library, loaded once. A call holds the interpreter's lock: no two threads are in a call at once."""
     place = next(places(), None)
     if place is None:
         raise LibraryMissing("there is no libmdeh.so: make builds it, and MDEH_LIBRARY may name it")

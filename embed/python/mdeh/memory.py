@@ -21,8 +21,12 @@ class Memory:
         self.state = _words(state)
         self.directory = _words(directory)
         self.pages = _lent(c_uint8, pages)
-        self.arguments = _arguments(self.state) + _arguments(self.directory) + _arguments(self.pages)
         _apart([self.state, self.directory, self.pages])
+
+    @property
+    def arguments(self) -> Tuple[int, ...]:
+        """The slices as a call takes them. They are not kept: those of a copy are its own."""
+        return _arguments(self.state) + _arguments(self.directory) + _arguments(self.pages)
 
     @classmethod
     def owned(cls, words: int, pages: int, capacity: int) -> Memory:

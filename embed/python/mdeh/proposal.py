@@ -1,7 +1,7 @@
 """Attributes proposed from data: which columns, which bounds and widths, and a form under which every row has room."""
 from __future__ import annotations
 
-from typing import Iterator, List, NamedTuple, Optional, Sequence
+from typing import Iterator, List, NamedTuple, Optional, Sequence, Tuple
 
 from .attributes import Attribute, bits_for
 from .fill import Events, Filled, fill
@@ -40,8 +40,8 @@ def payload_column(rows: Rows, attributes: Sequence[str], wanted: Optional[str])
 
 
 def columns_of(rows: Rows, payload: Optional[str]) -> Columns:
-    """The first four columns, the payload's left out, with whole numbers, within 16 bits of each other, in nine of ten
-    rows. Their other rows are refused one by one."""
+    """The first four columns, the payload's left out, with whole numbers in half of the rows or more, of which 99 in
+    100 are within 16 bits of each other. Their other rows are refused one by one."""
     taken: List[str] = []
     left: List[str] = []
     for name in rows.header:
@@ -53,7 +53,7 @@ def columns_of(rows: Rows, payload: Optional[str]) -> Columns:
         elif name != payload:
             left.append(f"{shown(name)} ({reason})")
     if not taken:
-        raise Unusable("no column has whole numbers in nine of ten rows; left: " + ", ".join(left))
+        raise Unusable("no column has whole numbers in half of the rows; left: " + ", ".join(left))
     return Columns(taken, left)
 
 
@@ -75,7 +75,7 @@ def propose(names: Sequence[str], spare: Optional[int], capacity: int, events: E
 
 def _candidates(names: Sequence[str], spare: Optional[int], events: Events) -> Iterator[Keys]:
     """Spread values; then with a spare attribute, where there is a place for it; then reversed bits."""
-    bounds = [(min(column), max(column)) for column in events.columns]
+    bounds = [_bounds(column) for column in events.columns]
     spread = tuple(Attribute(name, _width(name, low, high), low, high) for name, (low, high) in zip(names, bounds))
     yield Keys(spread, spare or 0)
     if spare is None and len(names) < _MOST_ATTRIBUTES:
@@ -101,12 +101,26 @@ def _reason_against(rows: Rows, name: str) -> Optional[str]:
     fields = rows.column(name)
     read = whole_numbers(fields)
     values = [value for value in read if value is not None]
-    if 10 * len(values) < 9 * len(read):
+    if 2 * len(values) < len(read):
         row = read.index(None)
         return (f"{len(read) - len(values)} of {len(read)} rows have no whole number, "
                 f"the first on line {rows.lines[row]}: {shown(fields[row])}")
-    low, high = min(values, default=0), max(values, default=0)
+    low, high = _bounds(values)
     return _too_wide(low, high) if bits_for(low, high) > _MOST_BITS else None
+
+
+def _bounds(values: Sequence[int]) -> Tuple[int, int]:
+    """The ends of the most values that lie within 16 bits of each other, if they are 99 in 100; otherwise of all."""
+    ordered = sorted(values) or [0]
+    first, begin, end = 0, 0, 0
+    for last, value in enumerate(ordered):
+        while value - ordered[first] >= 1 << _MOST_BITS:
+            first += 1
+        if last - first > end - begin:
+            begin, end = first, last
+    if 100 * (end - begin + 1) < 99 * len(ordered):
+        return ordered[0], ordered[-1]
+    return ordered[begin], ordered[end]
 
 
 def _too_wide(low: int, high: int) -> str:

@@ -65,43 +65,50 @@ def whole_numbers(fields: Sequence[str]) -> List[Optional[int]]:
 
 
 def _rows(path: str, file: IO[str], delimiter: str) -> Rows:
-    """The rows of an opened file."""
-    kept = _numbered(path, file, delimiter)
+    """The rows of an opened file. A row that runs over a line with as many fields as the header is refused: its quote
+    was not meant to hold that line."""
+    lines = list(file)
+    kept = _numbered(path, lines, delimiter)
     if not kept:
         raise Unusable(f"{path}: it is empty; a header line with the names of the columns is wanted")
-    header = _header(path, *kept[0])
-    whole_rows = [(line, fields) for line, fields in kept[1:] if len(fields) == len(header)]
-    faults = [Fault(line, f"{len(fields)} fields, not {len(header)}")
-              for line, fields in kept[1:] if len(fields) != len(header)]
+    header = _header(path, kept[0][0], kept[0][2])
+    whole_rows, faults = [], []
+    for line, end, fields in kept[1:]:
+        if any(text.count(delimiter) >= max(1, len(header) - 1) for text in lines[line:end]):
+            faults.append(Fault(line, f"it goes on to line {end}, over rows of their own: a quote is not closed"))
+        elif len(fields) != len(header):
+            faults.append(Fault(line, f"{len(fields)} fields, not {len(header)}"))
+        else:
+            whole_rows.append((line, fields))
     return Rows(header, [fields for _, fields in whole_rows], [line for line, _ in whole_rows], faults)
 
 
-def _numbered(path: str, file: IO[str], delimiter: str) -> List[Tuple[int, List[str]]]:
-    """The rows that are not blank, each with the line on which it begins. Unusable where a quote is not closed: the
-    line behind the last is then no row of its own."""
-    reader = csv.reader(itertools.chain(file, [_END]), delimiter=delimiter, skipinitialspace=True)
-    numbered: List[Tuple[int, List[str]]] = []
+def _numbered(path: str, lines: Sequence[str], delimiter: str) -> List[Tuple[int, int, List[str]]]:
+    """The rows that are not blank, each with the lines on which it begins and ends. Unusable where a quote is not
+    closed: the line behind the last is then no row of its own."""
+    reader = csv.reader(itertools.chain(lines, [_END]), delimiter=delimiter, skipinitialspace=True)
+    numbered: List[Tuple[int, int, List[str]]] = []
     begin = 1
     try:
         for fields in reader:
             if len(fields) > 1 or "".join(fields).strip():
-                numbered.append((begin, fields))
+                numbered.append((begin, reader.line_num, fields))
             begin = reader.line_num + 1
     except csv.Error as error:
         raise Unusable(f"{path}: line {begin}: {error}") from error
-    line, last = numbered.pop()
+    line, _, last = numbered.pop()
     if last != next(csv.reader([_END], delimiter=delimiter, skipinitialspace=True)):
         raise Unusable(f"{path}: line {line}: a quote is not closed up to the end of the file")
     return numbered
 
 
 def _header(path: str, line: int, fields: List[str]) -> List[str]:
-    """The names in the first row. Unusable where they are numbers, or one name with another delimiter in it."""
+    """The names in the first row. Unusable where one is a number, or there is one with another delimiter in it."""
     names = [field.strip() for field in fields]
     other = next((c for c in ";\t|," if len(names) == 1 and c in names[0]), None)
     if other is not None:
         raise Unusable(f"{path}: line {line} is one column, {shown(names[0])}; "
                        f"--delimiter {shown(other)} may be wanted")
-    if all(whole(name) is not None for name in names):
+    if any(whole(name) is not None for name in names):
         raise Unusable(f"{path}: line {line} has numbers; a header line with the names of the columns is wanted")
     return names

@@ -157,11 +157,14 @@ class Store:
     def _list(self, call: Any, asked: Any, limit: Optional[int]) -> Listing:
         """Learns the total with an empty output, then fetches the records, at most `limit`."""
         result = _accept(call(*self.memory.arguments, asked, None, 0))
-        wanted = result.total if limit is None else min(result.total, max(limit, 0))
-        if wanted == 0:
-            return Listing([], result.total, result.reads)
-        out = (c_uint8 * (wanted * RECORD_BYTES))()
-        result = _accept(call(*self.memory.arguments, asked, ctypes.addressof(out), len(out)))
+        while True:  # another thread may insert between two calls
+            wanted = result.total if limit is None else min(result.total, max(limit, 0))
+            if wanted == 0:
+                return Listing([], result.total, result.reads)
+            out = (c_uint8 * (wanted * RECORD_BYTES))()
+            result = _accept(call(*self.memory.arguments, asked, ctypes.addressof(out), len(out)))
+            if limit is not None or result.written == result.total:
+                break
         filled = memoryview(out).cast("B")[:result.written * RECORD_BYTES]
         fields = self.shape.record_format().iter_unpack(filled)
         return Listing([Record(field[:-1], field[-1]) for field in fields], result.total, result.reads)

@@ -59,8 +59,10 @@ class Scanned(FolderTest):
                  f"{NAMES[j]}={'' if low is None else low}..{'' if high is None else high}"
                  for j, (low, high) in conditions.items()]
         plain, by_json, by_csv = (run("ask", "gw.mdeh", *flags, *texts) for flags in ([], ["--json"], ["--csv"]))
-        self.assertEqual([plain.status, by_json.status, by_csv.status], [0 if wanted else 1] * 3, texts)
         whole = json.loads(by_json.out)
+        nothing = 2 if whole["doubtful"] else 1
+        self.assertEqual([plain.status, by_json.status, by_csv.status], [0 if wanted else nothing] * 3, texts)
+        self.assertEqual(whole["doubtful"], "lacks" in plain.err)
         self.assertEqual([tuple(record[name] for name in NAMES) for record in whole["records"]], wanted, texts)
         self.assertEqual(whole["total"], len(wanted))
         listed = list(csv.reader(io.StringIO(by_csv.out)))
@@ -163,7 +165,7 @@ class Asked(FolderTest):
         ran = run("ask", "a.mdeh", "a0=0")
         self.assertEqual((ran.status, ran.out), (0, "a0  a1  payload\n 0   0        7\n1 record, 1 page read\n"))
         self.assertEqual(ran.err, "mdeh: a.mdeh.json is not there: attributes are a0, a1 and so on, "
-                                  "with the store's values\n")
+                                  "with the store's values, which may not be those of the rows\n")
 
     def test_damaged_file(self) -> None:
         """A file that is cut off or damaged is refused with its number, by every command that reads it."""

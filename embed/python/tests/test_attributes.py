@@ -109,6 +109,6 @@ class Spare(unittest.TestCase):
         """No attributes, too many, names that come twice, a spare one without a place."""
         one = Attribute("a", 3)
         four = tuple(Attribute(name, 3) for name in "abcd")
-        for attributes, spare in (((), 0), (four + (Attribute("e", 3),), 0), ((one, one), 0), (four, 2), ((one,), 17)):
+        for attributes, spare in (((), 0), (four + (Attribute("e", 3),), 0), ((one, one), 0), (four, 2), ((one,), 9)):
             with self.assertRaises(Unusable):
                 Keys(attributes, spare)

@@ -3,6 +3,7 @@ from __future__ import annotations
 
 import os
 import pty
+import shlex
 import shutil
 import signal
 import subprocess
@@ -62,6 +63,17 @@ class Process(FolderTest):
             done = subprocess.run([sys.executable, str(COMMAND), "ask", "a.mdeh"], stdout=full, stderr=subprocess.PIPE,
                                   check=False)
         self.assertEqual((done.returncode, done.stderr), (2, b"mdeh: [Errno 28] No space left on device\n"))
+
+    def test_faults_are_not_nothing_found(self) -> None:
+        """Where nothing can be told, or the package is not there, the status is 2."""
+        self.write("a.csv", "a\n1\n")
+        self.assertEqual(run("import", "a.csv", "-o", "a.mdeh").status, 0)
+        shutil.copy(COMMAND, "alone")
+        for program, rest in ((str(COMMAND), "b=1 2>/dev/full"), (str(COMMAND), "b=1 2>&-"), (str(COMMAND), "a=1 >&-"),
+                              ("./alone", "a=1")):
+            line = f"{shlex.quote(sys.executable)} {shlex.quote(program)} ask a.mdeh {rest}"
+            done = subprocess.run(["sh", "-c", line], stdout=subprocess.PIPE, stderr=subprocess.PIPE, check=False)
+            self.assertEqual(done.returncode, 2, (line, done.stderr))
 
     def test_interrupt(self) -> None:
         """An interrupt is quiet, and leaves no file."""

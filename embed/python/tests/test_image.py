@@ -93,6 +93,23 @@ class Images(FolderTest):
         self.refused(run("save", *IMAGE, "-o", "a.mdeh"), "a.mdeh.json: it describes a store of another shape")
         self.assertEqual(run("ask", "a.mdeh", "code=31"), wanted)
 
+    def test_what_a_file_lacks(self) -> None:
+        """A save over a file keeps what its import lacked, and takes no description that was changed."""
+        self.write("a.csv", "a\n1\n2\nx\n")
+        self.assertEqual(run("import", "a.csv", "-o", "a.mdeh").status, 2)
+        self.assertEqual(run("load", "a.mdeh", *IMAGE).status, 0)
+        self.assertEqual(run("save", *IMAGE, "-o", "a.mdeh").status, 0)
+        ran = run("ask", "a.mdeh", "a=1")
+        self.assertEqual((ran.status, ran.err), (0, "mdeh: a.mdeh lacks 1 of the imported rows: an answer may lack "
+                                                    "them too\n"))
+        text = Path("a.mdeh.json").read_text()
+        Path("a.mdeh.json").write_text(text.replace('"from": 1', '"from": 0').replace('"to": 2', '"to": 1'))
+        self.assertIn("was changed", run("ask", "a.mdeh").err)
+        self.refused(run("check", "a.mdeh"), "was changed")
+        self.refused(run("save", *IMAGE, "-o", "a.mdeh"), "was changed")
+        self.assertEqual(run("save", *IMAGE, "-o", "a.mdeh", "--attribute", "a:1:from=1,to=2").status, 0)
+        self.assertEqual(run("check", "a.mdeh"), (0, "sound: 2 records\n", ""))
+
     def test_unusable(self) -> None:
         """Files that are not there, or are named twice."""
         self.keep(Shape([2, 2], 2), words=16, pages=16)

@@ -151,17 +151,48 @@ class Columns(FolderTest):
         self.refused(run("import", "c.csv", "--like", "a.mdeh", "--columns", "a", "-o", "c.mdeh"), "--columns")
 
     def test_few_unreadable(self) -> None:
-        """A column with whole numbers in nine of ten rows is taken, and its other rows are refused one by one."""
+        """A column with whole numbers in half of the rows is taken, and its other rows are refused one by one."""
         rows = [f"{i},{7 if i != 4 else 'seven'}" for i in range(10)]
         self.write("a.csv", "\n".join(["a,b", *rows]) + "\n")
         ran = run("import", "a.csv", "-o", "a.mdeh")
         self.assertEqual((ran.status, ran.err), (2, 'line 6: b "seven" is no whole number\n'))
         self.assertIn("--attribute a:4:from=0,to=9 --attribute b:1:from=7,to=7\n", ran.out)
         self.assertEqual(len(Table.load("a.mdeh").ask({}).rows), 9)
-        self.write("a.csv", "\n".join(["a,b", *rows[1:]]) + "\n")
+        self.write("a.csv", "a,b\n1,x\n2,y\n3,4\n")
         ran = run("import", "a.csv", "-o", "a.mdeh")
         self.assertEqual((ran.status, ran.err), (0, ""))
-        self.assertIn('"b" (1 of 9 rows have no whole number, the first on line 5: "seven")', ran.out)
+        self.assertIn('"b" (2 of 3 rows have no whole number, the first on line 2: "x")', ran.out)
+
+    def test_outlier(self) -> None:
+        """A value far from the others is refused with 3, and its column is an attribute."""
+        self.write("a.csv", "a,b\n" + "".join(f"{i},{400 + i}\n" for i in range(99)) + "99,4120000\n")
+        ran = run("import", "a.csv", "-o", "a.mdeh")
+        self.assertEqual(ran.status, 2)
+        self.assertIn("--attribute b:7:from=400,to=498\n", ran.out)
+        self.assertIn("line 101: 3 (", ran.err)
+        self.assertIn("b 4120000 is outside 400 to 498", ran.err)
+        self.assertEqual(run("ask", "a.mdeh", "a=99").status, 2)
+        self.write("a.csv", "a,b\n" + "".join(f"{i},{400 + i}\n" for i in range(97)) + "98,4120000\n99,4120001\n")
+        self.assertIn('"b" (its values from 400 to 4120001 need 22 bits', run("import", "a.csv", "-o", "a.mdeh").out)
+
+    def test_quotes_that_swallow_rows(self) -> None:
+        """Rows between two stray quotes are not lost without a word."""
+        lines = [f"{i},{i % 5},text" for i in range(20)]
+        lines[3], lines[9] = '3,3,"text', '9,4,text"'
+        self.write("a.csv", "\n".join(["a,b,text", *lines]) + "\n")
+        ran = run("import", "a.csv", "-o", "a.mdeh")
+        self.assertEqual((ran.status, ran.err), (2, "line 5: it goes on to line 11, over rows of their own: "
+                                                    "a quote is not closed\n"))
+        self.assertIn("14 rows: 13 stored, 1 refused (unreadable: 1)\n", ran.out)
+        self.write("a.csv", 'a,b,text\n1,2,"one\ntwo, or\nthree"\n2,2,x\n')
+        self.assertEqual(run("import", "a.csv", "-o", "a.mdeh")[::2], (0, ""))
+
+    def test_no_description(self) -> None:
+        """A file beside the output that is no description is left alone."""
+        self.write("a.csv", "a\n1\n")
+        self.write("keep.json", '{"mine": 1}')
+        self.refused(run("import", "a.csv", "-o", "keep"), "keep.json")
+        self.assertEqual(Path("keep.json").read_text(), '{"mine": 1}')
 
     def test_forms(self) -> None:
         """A byte order mark, quotes, spaces, ends of lines, delimiters and encodings."""

@@ -2,10 +2,13 @@
 from __future__ import annotations
 
 import array
+import copy
 import mmap
 import random
 import threading
 import unittest
+from typing import Any
+from unittest import mock
 
 from mdeh import Memory, Refusal, Shape, Store
 
@@ -176,3 +179,29 @@ class Threads(unittest.TestCase):
         for worker in workers:
             worker.join()
         self.assertEqual((store.count(), store.check()), (1024, True))
+
+    def test_lists_beside_inserts(self) -> None:
+        """A list has as many records as its total, whatever comes between the calls that make it."""
+        store = Store.fresh(Shape([6, 6], 4))
+        store.insert((1, 1), 1)
+        call, stored = store._library.mdeh_query, [1]
+
+        def query(*arguments: Any) -> Any:
+            """Answers, and inserts one record more as long as there are few."""
+            result = call(*arguments)
+            if stored[0] < 5:
+                stored[0] += 1
+                store.insert((1, 1 + stored[0]), 1)
+            return result
+
+        with mock.patch.object(store._library, "mdeh_query", query):
+            listing = store.query({0: 1})
+        self.assertEqual((len(listing.records), listing.total), (5, 5))
+
+    def test_copied_memory(self) -> None:
+        """A copy of a store's memory is a store of its own."""
+        store = Store.fresh(Shape([6, 6], 4))
+        store.insert((1, 1), 1)
+        copied = Store(copy.deepcopy(store.memory))
+        copied.insert((2, 2), 2)
+        self.assertEqual((store.count(), copied.count(), copied.check()), (1, 2, True))
