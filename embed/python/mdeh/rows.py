@@ -65,8 +65,8 @@ def whole_numbers(fields: Sequence[str]) -> List[Optional[int]]:
 
 
 def _rows(path: str, file: IO[str], delimiter: str) -> Rows:
-    """The rows of an opened file. A row that runs over a line with as many fields as the header is refused: its quote
-    was not meant to hold that line."""
+    """The rows of an opened file. A row whose quotes hold what has as many fields as the header is refused: they were
+    not meant to hold a row."""
     lines = list(file)
     kept = _numbered(path, lines, delimiter)
     if not kept:
@@ -74,7 +74,8 @@ def _rows(path: str, file: IO[str], delimiter: str) -> Rows:
     header = _header(path, kept[0][0], kept[0][2])
     whole_rows, faults = [], []
     for line, end, fields in kept[1:]:
-        if any(text.count(delimiter) >= max(1, len(header) - 1) for text in lines[line:end]):
+        held = lines[line:end - 1] + [text.split('"')[0] for text in lines[line:end][-1:]]
+        if any(text.count(delimiter) >= max(1, len(header) - 1) for text in held):
             faults.append(Fault(line, f"it goes on to line {end}, over rows of their own: a quote is not closed"))
         elif len(fields) != len(header):
             faults.append(Fault(line, f"{len(fields)} fields, not {len(header)}"))

@@ -184,8 +184,13 @@ class Columns(FolderTest):
         self.assertEqual((ran.status, ran.err), (2, "line 5: it goes on to line 11, over rows of their own: "
                                                     "a quote is not closed\n"))
         self.assertIn("14 rows: 13 stored, 1 refused (unreadable: 1)\n", ran.out)
-        self.write("a.csv", 'a,b,text\n1,2,"one\ntwo, or\nthree"\n2,2,x\n')
-        self.assertEqual(run("import", "a.csv", "-o", "a.mdeh")[::2], (0, ""))
+        self.write("a.csv", 'a,b,text\n1,2,"one\n2,2,two"\n3,3,x\n')
+        self.assertIn("line 2: it goes on to line 3", run("import", "a.csv", "-o", "a.mdeh").err)
+        for text in ('a,b,text\n1,2,"one\ntwo, or\nthree"\n2,2,x\n',
+                     'text,a,b\n"one\n""two"", or\nthree",1,2\nx,2,2\n'):
+            self.write("a.csv", text)
+            self.assertEqual(run("import", "a.csv", "-o", "a.mdeh")[::2], (0, ""))
+            self.assertEqual(len(Table.load("a.mdeh").ask({}).rows), 2)
 
     def test_no_description(self) -> None:
         """A file beside the output that is no description is left alone."""
