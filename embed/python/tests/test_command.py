@@ -78,8 +78,10 @@ class Process(FolderTest):
     def test_interrupt(self) -> None:
         """An interrupt is quiet, and leaves no file."""
         os.mkfifo("events.csv")
+        # whoever runs the tests in the background has interrupts ignored, and a process inherits that
         with subprocess.Popen([sys.executable, str(COMMAND), "import", "events.csv", "-o", "gw.mdeh"],
-                              stderr=subprocess.PIPE) as process:
+                              stderr=subprocess.PIPE,
+                              preexec_fn=lambda: signal.signal(signal.SIGINT, signal.SIG_DFL)) as process:
             with open("events.csv", "w", encoding="ascii") as events:
                 events.write("a,b\n1,2\n")
                 events.flush()
