@@ -190,7 +190,7 @@ fn random_keys_find_room() {
         }
     });
     println!("{fills} fills: {depths} refused with 6, {pages} with 7");
-    // at most one of a thousand with 6
+    // one of a thousand with 6 on the average: more than six of some 1,900 would hardly be chance
     assert!(fills > 1500 && depths <= 6 && pages == 0);
 }
 
