@@ -253,9 +253,9 @@ static int too_deep(Keys *keys, MdehShape shape, size_t words, uint32_t n, uint6
 
 void room_fills(void) {
     static Keys keys;
-    uint64_t seed = 0x517e;
+    uint64_t seed = 1;
     uint32_t turn, n, fills = 0, taken = 0, tried = 0, half = 0, quarter = 0;
-    for (turn = 0; turn < 256; turn++) {
+    for (turn = 0; turn < 1024; turn++) {
         MdehShape shape = random_shape(&seed, 1 + turn % 4, 1 + turn / 4 % 16);
         /* the counts that fill each directory as far as it holds */
         for (n = 1; mdeh_room(shape, n).holds; n++) {
@@ -271,8 +271,8 @@ void room_fills(void) {
         }
     }
     /* 6 in less than one fill of 1,000; with half of the words in more than one of 40, with a quarter in nearly all */
-    HOLDS(fills > 1500 && 1000 * (fills - taken) < fills);
-    HOLDS(tried > 100 && 40 * half > tried && 10 * quarter > 9 * tried);
+    HOLDS(fills > 6000 && 1000 * (fills - taken) < fills);
+    HOLDS(tried > 400 && 40 * half > tried && 10 * quarter > 9 * tried);
 }
 
 /* All keys of a shape, in any order, with as many pages as words. */
@@ -450,20 +450,21 @@ void gateway_rows(void) {
     static const struct {
         MdehShape shape;
         Choice choice;
-        uint32_t least, most, whole; /* stored before the first 6, and how many of 40 fills take all */
+        uint32_t least, most; /* stored before the first 6 */
+        uint32_t fills, whole; /* how many fills, and how many of them take all rows at least; 0: none does */
     } choices[7] = {
-        {{3, {16, 16, 16, 0}, 16, 0}, PLAIN, 16, 16, 0},
-        {{3, {7, 5, 9, 0}, 16, 0}, PLAIN, 1500, 4000, 0},
-        {{3, {7, 5, 7, 0}, 16, 0}, BIASED, 6000, 13500, 0},
-        {{3, {7, 5, 7, 0}, 16, 0}, SPREAD, 11000, 19200, 20},
-        {{3, {7, 5, 7, 0}, 16, 0}, REVERSED, 11000, 19200, 20},
-        {{4, {7, 5, 7, 2}, 16, 0}, SPARE, 15000, 19200, 38},
-        {{4, {7, 5, 7, 2}, 16, 0}, REVERSED_SPARE, 4000, 10000, 0},
+        {{3, {16, 16, 16, 0}, 16, 0}, PLAIN, 16, 16, 40, 0},
+        {{3, {7, 5, 9, 0}, 16, 0}, PLAIN, 1500, 4000, 40, 0},
+        {{3, {7, 5, 7, 0}, 16, 0}, BIASED, 6000, 13500, 40, 0},
+        {{3, {7, 5, 7, 0}, 16, 0}, SPREAD, 11000, 19200, 40, 20},
+        {{3, {7, 5, 7, 0}, 16, 0}, REVERSED, 11000, 19200, 40, 20},
+        {{4, {7, 5, 7, 2}, 16, 0}, SPARE, 15000, 19200, 400, 388},
+        {{4, {7, 5, 7, 2}, 16, 0}, REVERSED_SPARE, 4000, 10000, 40, 0},
     };
     uint32_t i, turn;
     for (i = 0; i < 7; i++) {
         uint32_t whole = 0;
-        for (turn = 1; turn <= 40; turn++) {
+        for (turn = 1; turn <= choices[i].fills; turn++) {
             Filled filled = store_rows(choices[i].choice, choices[i].shape, turn * 0x9e3779b97f4a7c15);
             HOLDS(filled.number == MDEH_ACCEPTED || filled.number == MDEH_REFUSED_DEPTH);
             HOLDS(choices[i].least <= filled.stored && filled.stored <= choices[i].most);

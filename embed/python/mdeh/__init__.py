@@ -16,8 +16,8 @@ What each call, number and layout is stands in embed/mdeh.h. A file that the com
 """
 from .attributes import Attribute
 from .keys import Keys
-from .library import VERSION as __version__
-from .library import LibraryMissing
+from .interface import VERSION as __version__
+from .interface import LibraryMissing
 from .memory import Memory
 from .refusal import Refusal, reason_of
 from .shape import Shape

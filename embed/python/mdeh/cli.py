@@ -8,7 +8,7 @@ import sys
 from typing import Callable, List, NoReturn, Optional, Sequence
 
 from . import ask_command, image_commands, import_command, info_command
-from .library import MOST_PAGES, MOST_WORDS, VERSION, LibraryMissing
+from .interface import MOST_PAGES, MOST_WORDS, VERSION, LibraryMissing
 from .refusal import Refusal
 from .unusable import Unusable, told
 

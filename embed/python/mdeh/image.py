@@ -4,7 +4,7 @@ from __future__ import annotations
 from typing import Sequence
 
 from . import files
-from .library import MOST_WORDS, STATE_WORDS
+from .interface import MOST_WORDS, STATE_WORDS
 from .memory import Memory
 from .store import Store
 from .unusable import Unusable

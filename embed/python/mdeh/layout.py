@@ -6,7 +6,7 @@ from collections import Counter
 from typing import Dict, List, NamedTuple, Sequence, Tuple
 
 from .keys import Keys
-from .library import page_bytes
+from .interface import page_bytes
 from .shape import Shape
 from .store import Store
 

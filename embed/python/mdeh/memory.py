@@ -5,7 +5,7 @@ import ctypes
 from ctypes import c_uint8, c_uint32
 from typing import Any, List, Tuple
 
-from .library import STATE_WORDS, page_bytes
+from .interface import STATE_WORDS, page_bytes
 
 
 class Memory:

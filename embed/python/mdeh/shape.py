@@ -5,7 +5,7 @@ import struct
 from dataclasses import dataclass
 from typing import List, Optional, Sequence, Tuple
 
-from .library import MOST_WORDS, RECORD_BYTES, STATE_WORDS, MdehShape, file_bytes
+from .interface import MOST_WORDS, RECORD_BYTES, STATE_WORDS, MdehShape, file_bytes
 
 _MOST_WORD = 0xFFFFFFFF
 

@@ -6,7 +6,7 @@ from ctypes import c_uint8
 from typing import Any, Iterable, List, Mapping, NamedTuple, Optional, Sequence, Tuple
 
 from . import refusal as numbers
-from .library import MOST_RECORDS, RECORD_BYTES, STATE_WORDS, MdehKey, MdehQuery, MdehRange, file_bytes, library
+from .interface import MOST_RECORDS, RECORD_BYTES, STATE_WORDS, MdehKey, MdehQuery, MdehRange, file_bytes, library
 from .memory import Memory
 from .refusal import Refusal
 from .shape import Shape

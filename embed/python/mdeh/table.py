@@ -8,7 +8,7 @@ from . import refusal as numbers
 from .attributes import Attribute
 from .describe import Description
 from .keys import Keys
-from .library import file_bytes
+from .interface import file_bytes
 from .refusal import Refusal
 from .shape import Shape
 from .store import Store

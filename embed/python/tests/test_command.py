@@ -11,7 +11,7 @@ import sys
 import time
 from pathlib import Path
 
-from mdeh import library
+from mdeh import interface
 
 from .helpers import COMMAND, PACKAGES, FolderTest, command, gateway_rows, run
 
@@ -21,7 +21,7 @@ class Process(FolderTest):
 
     def test_help_and_version(self) -> None:
         """Every command tells what it is for; the version is the package's."""
-        self.assertEqual(command("--version"), (0, f"mdeh {library.VERSION}\n", ""))
+        self.assertEqual(command("--version"), (0, f"mdeh {interface.VERSION}\n", ""))
         self.assertIn("mdeh ask gw.mdeh code=30", run("--help").out)
         for name in ("import", "ask", "info", "check", "save", "load"):
             ran = run(name, "--help")
@@ -36,7 +36,7 @@ class Process(FolderTest):
         shutil.copytree(PACKAGES / "mdeh", root / "share/mdeh/python/mdeh")
         (root / "bin").mkdir()
         shutil.copy(COMMAND, root / "bin/mdeh")
-        shutil.copy(next(library.places()), root / "share/mdeh/python/mdeh/libmdeh.so")
+        shutil.copy(next(interface.places()), root / "share/mdeh/python/mdeh/libmdeh.so")
         ways = [([str(COMMAND)], {}), (["-m", "mdeh"], {"PYTHONPATH": str(PACKAGES)}), ([str(root / "bin/mdeh")], {})]
         for program, environment in ways:
             ran = command("import", "events.csv", "-o", "gw.mdeh", program=program, **environment)

@@ -10,7 +10,7 @@ import unittest
 from pathlib import Path
 from unittest import mock
 
-from mdeh import library, refusal
+from mdeh import interface, refusal
 
 from .helpers import COMMAND, HEADER, PACKAGES, command
 
@@ -23,7 +23,7 @@ class Declared(unittest.TestCase):
 
     def test_structures(self) -> None:
         """Every structure that a call takes or returns has the header's fields, in their order and types."""
-        names = {kind.__name__ for result, arguments in library.CALLS.values() for kind in [result, *arguments]
+        names = {kind.__name__ for result, arguments in interface.CALLS.values() for kind in [result, *arguments]
                  if issubclass(kind, ctypes.Structure)}
         self.assertEqual(len(names), 10)
         for name in names:
@@ -31,22 +31,22 @@ class Declared(unittest.TestCase):
             body = re.sub(r"/\*.*?\*/", "", body, flags=re.DOTALL)
             declared = re.findall(r"(\w+) (\w+)(?:\[(\d+)\])?;", body)
             fields = [(field, TYPES[kind] * int(count) if count else TYPES[kind]) for kind, field, count in declared]
-            self.assertEqual(getattr(library, name)._fields_, fields, name)
+            self.assertEqual(getattr(interface, name)._fields_, fields, name)
 
     def test_calls(self) -> None:
         """Every call returns and takes what the header says."""
-        for name, (result, arguments) in library.CALLS.items():
+        for name, (result, arguments) in interface.CALLS.items():
             returned, taken = re.search(r"(\w+) " + name + r"\(([^)]*)\);", TEXT).groups()
             kinds = [ctypes.c_void_p if "*" in part else
-                     TYPES.get(part.split()[0]) or getattr(library, part.split()[0]) for part in taken.split(",")]
+                     TYPES.get(part.split()[0]) or getattr(interface, part.split()[0]) for part in taken.split(",")]
             self.assertEqual((returned, kinds), (result.__name__, arguments), name)
 
     def test_constants(self) -> None:
         """Counts and sizes are the header's."""
         for name in ("STATE_WORDS", "RECORD_BYTES", "MOST_WORDS", "MOST_PAGES", "MOST_RECORDS"):
-            self.assertEqual(getattr(library, name), int(re.search(rf"#define MDEH_{name} (\d+)\n", TEXT)[1]), name)
-        self.assertEqual((library.page_bytes(16), library.file_bytes(3)), (194, 60))
-        self.assertEqual(library.VERSION, re.search(r'#define MDEH_VERSION "(.*)"\n', TEXT)[1])
+            self.assertEqual(getattr(interface, name), int(re.search(rf"#define MDEH_{name} (\d+)\n", TEXT)[1]), name)
+        self.assertEqual((interface.page_bytes(16), interface.file_bytes(3)), (194, 60))
+        self.assertEqual(interface.VERSION, re.search(r'#define MDEH_VERSION "(.*)"\n', TEXT)[1])
 
     def test_reasons(self) -> None:
         """Every number has the header's name and text, also with an attribute."""
@@ -70,7 +70,7 @@ class Found(unittest.TestCase):
         self.assertEqual((gone.status, gone.out), (2, ""))
         self.assertIn("mdeh: /nowhere/libmdeh.so is no libmdeh.so", gone.err)
         with mock.patch.dict(os.environ, MDEH_LIBRARY="/a"):
-            self.assertEqual(list(library.places()), ["/a"])
+            self.assertEqual(list(interface.places()), ["/a"])
 
     def test_order(self) -> None:
         """Without it, the file beside the package comes before the repository's."""
@@ -81,8 +81,8 @@ class Found(unittest.TestCase):
             for path in (beside, built):
                 path.parent.mkdir(parents=True)
                 path.touch()
-            with mock.patch.object(library, "__file__", str(beside.parent / "library.py")):
-                self.assertEqual(list(library.places())[:2], [str(beside), str(built)])
+            with mock.patch.object(interface, "__file__", str(beside.parent / "interface.py")):
+                self.assertEqual(list(interface.places())[:2], [str(beside), str(built)])
 
 
 class Sources(unittest.TestCase):
