@@ -1,5 +1,7 @@
 // Index vectors with the bit of one pair set or cleared. The pair at place g is (bit g / 4, attribute
 // g mod 4).
+#![tactic(auto)]
+
 ghost use Rattle.std.specs.Prelude.{◌≡◌, ◌/◌, ◌%◌, ◌^◌, ◌<◌, ◌≤◌, get_or};
 ghost use Rattle.address_formula.specs.Index.{index_list};
 ghost use Rattle.address_bits.specs.Bits.{bit_set, bit_cleared};

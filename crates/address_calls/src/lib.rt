@@ -1,4 +1,6 @@
 // The calls of the address map and its inverse (document 01, "Address map"; document 02, request 7).
+#![tactic(auto)]
+
 ghost use Rattle.std.specs.Prelude.{◌≡◌, ◌^◌, ◌≤◌, ltb};
 ghost use Rattle.address_formula.specs.Index.{index_list};
 ghost use Rattle.address_calls.specs.Answers.{address_answer, address_answer_of, index_answer, index_answer_of};

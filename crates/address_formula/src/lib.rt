@@ -1,6 +1,8 @@
 // The address of an index vector by the formula (document 01, "Address map"), as a number of mixed
 // radix: index z of the latest step in front, then a digit below 2^h_j for each other attribute j,
 // where h_j is its depth just before that step.
+#![tactic(auto)]
+
 ghost use Rattle.std.specs.Prelude.{◌≡◌, ◌+◌, ◌-◌, ◌^◌, ◌<◌, ◌≤◌, get_or};
 ghost use Rattle.shape.specs.Shape.{Fit, width_list, index_fits};
 ghost use Rattle.address.specs.Address.{address};

@@ -1,5 +1,7 @@
 // The index vector at an address (document 01, "Address map"): the digits of the address taken off
 // from the last on.
+#![tactic(auto)]
+
 ghost use Rattle.std.specs.Prelude.{◌≡◌, ◌^◌, ◌<◌, ◌≤◌};
 ghost use Rattle.shape.specs.Shape.{Fit, width_list, total};
 ghost use Rattle.address.specs.Vectors.{IndexAt};

@@ -1,5 +1,7 @@
 // Before the first write of a change: whether every leaf whose words the steps set is whole, and
 // whether a lower T loses no word. Where a test fails the store is unsound, and the call gives 9.
+#![tactic(auto)]
+
 ghost use Rattle.std.specs.Prelude.{suc, ◌≤◌, ◌<◌, length};
 ghost use Rattle.shape.specs.Shape.{widths_of};
 ghost use Rattle.split.specs.Bits.{split_bit};

@@ -1,4 +1,6 @@
 // The call check: whether a lent store is sound (document 01, "Calls").
+#![tactic(auto)]
+
 ghost use Rattle.std.specs.Prelude.{◌≡◌, ◌&&◌, length};
 ghost use Rattle.store.specs.Store.{store};
 ghost use Rattle.store.specs.Answers.{checked_answer};

@@ -1,5 +1,7 @@
 // What the call check compares the sums of its walk with: the pages in use and the state's tally
 // (document 01, "Calls").
+#![tactic(auto)]
+
 ghost use Rattle.std.specs.Prelude.{◌≡◌, ◌*◌, ◌≤◌, length};
 ghost use Rattle.page.specs.Page.{page_size};
 ghost use Rattle.check_counts.specs.Counts.{used_pages, same_tally};

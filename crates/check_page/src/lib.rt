@@ -1,4 +1,6 @@
 // The test of one page of a lent store (document 01, "Lent memory"): its count and its records.
+#![tactic(auto)]
+
 pub mod bytes;
 pub mod codes;
 

@@ -1,5 +1,7 @@
 // What the walk of the call check tells of a word, of a page and of a region's two sides (document
 // 01, "Calls").
+#![tactic(auto)]
+
 ghost use Rattle.std.specs.Prelude.{◌≡◌, max, length};
 ghost use Rattle.shape.specs.Shape.{width_list};
 ghost use Rattle.directory_word.specs.Word.{depth_field};

@@ -1,5 +1,7 @@
 // The walk of the call check over all regions: what words and pages show of each (document 01,
 // "Calls").
+#![tactic(auto)]
+
 pub mod regions;
 
 ghost use Rattle.std.specs.Prelude.{◌≡◌, ◌-◌, length, get_or};

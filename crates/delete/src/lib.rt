@@ -1,5 +1,7 @@
 // The call Delete: a key's record leaves the store, and leaves are joined until the set's own stand
 // (document 01, "Calls").
+#![tactic(auto)]
+
 ghost use Rattle.store.specs.Answers.{changed_answer};
 ghost use Rattle.store.specs.Promises.{DeletePromise};
 ghost use Rattle.store.specs.Store.{store};

@@ -1,5 +1,7 @@
 // The pages of a delete: the key's record removed, and the records of its leaf and its sibling put
 // into one page. No step can fail.
+#![tactic(auto)]
+
 ghost use Rattle.std.specs.Prelude.{◌≡◌};
 ghost use Rattle.delete_pages.specs.PageBytes.{RecordLent, PairLent, removed_bytes, RecordsJoined};
 ghost use Rattle.delete_pages.specs.Private.{BothLent, PagesJoined};

@@ -1,5 +1,7 @@
 // The plan of a delete, made before anything is written (document 01, "Calls"): the key's record,
 // and whether its leaf stays or is joined.
+#![tactic(auto)]
+
 ghost use Rattle.std.specs.Prelude.{◌≡◌, ◌≤◌, length};
 ghost use Rattle.record.specs.Packed.{unpacked_key};
 ghost use Rattle.page.specs.Page.{page_at};

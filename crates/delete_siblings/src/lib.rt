@@ -1,6 +1,8 @@
 // The siblings of a key's regions (document 01, "Calls", Delete): the word of the one beside the key's
 // leaf and a key that falls there, whether a sound store can have the word, and how far up siblings
 // are empty leaves.
+#![tactic(auto)]
+
 ghost use Rattle.std.specs.Prelude.{◌≡◌, [], ◌/◌, ◌%◌, ◌<◌, ◌≤◌, get_or, length};
 ghost use Rattle.shape.specs.Shape.{Fit, shape_number, width_list, widths_of, total};
 ghost use Rattle.split.specs.Bits.{split_bit};

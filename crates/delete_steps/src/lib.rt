@@ -1,4 +1,6 @@
 // The steps of a planned delete. None of them can fail.
+#![tactic(auto)]
+
 ghost use Rattle.std.specs.Prelude.{◌≡◌, suc, ◌-◌, ◌≤◌, length};
 ghost use Rattle.change.specs.Delete.{joined_tally};
 ghost use Rattle.delete_steps.specs.Steps.{LeavesLent, LeafLent, LeafKept, JoinLent, LeavesJoined};

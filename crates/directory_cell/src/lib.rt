@@ -1,6 +1,8 @@
 // The cell of a key: the index vector of its first t split bits, and its address. Lookup, insert and
 // delete begin with a packed key, which goes from function to function in a register: an array of
 // values goes through memory, written value by value and read as a whole, for which processors wait.
+#![tactic(auto)]
+
 ghost use Rattle.std.specs.Prelude.{◌≡◌, ◌≤◌, ◌<◌, length};
 ghost use Rattle.shape.specs.Shape.{Fit, width_list, total};
 ghost use Rattle.split.specs.Steps.{steps_below};

@@ -1,5 +1,7 @@
 // The directory's words of a leaf that is divided: doubled until the new leaves fit, then the words
 // of the leaf's region set to its new leaves.
+#![tactic(auto)]
+
 ghost use Rattle.std.specs.Prelude.{◌≡◌, cond, ◌<◌, ◌≤◌, length};
 ghost use Rattle.shape.specs.Shape.{width_list};
 ghost use Rattle.split.specs.Bits.{split_bit};

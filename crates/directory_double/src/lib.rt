@@ -1,4 +1,6 @@
 // Doubling the directory: each cell's word goes to both of its halves.
+#![tactic(auto)]
+
 ghost use Rattle.std.specs.Prelude.{suc, length};
 ghost use Rattle.shape.specs.Shape.{width_list};
 ghost use Rattle.address_inverse.specs.Appended.{AppendedBy};

@@ -1,6 +1,8 @@
 // Setting every cell of a region to a word. The cells of a region of x bits in a directory of depth t
 // are its own, at the region's address, and for each step y from x to t - 1 those whose last bit 1 is
 // bit y. These have the addresses first + v for every v whose bits are among those of a mask.
+#![tactic(auto)]
+
 ghost use Rattle.std.specs.Prelude.{◌+◌, ◌<◌, ◌≤◌, length};
 ghost use Rattle.shape.specs.Shape.{width_list};
 ghost use Rattle.split.specs.Bits.{split_bit};

@@ -1,4 +1,6 @@
 // The sibling of a key's region in the directory: the region whose last split bit is the other one.
+#![tactic(auto)]
+
 ghost use Rattle.std.specs.Prelude.{◌≡◌, ◌/◌, ◌%◌, ◌^◌, ◌<◌, ◌≤◌, get_or, length};
 ghost use Rattle.shape.specs.Shape.{Fit, width_list};
 ghost use Rattle.split.specs.Steps.{steps_below};

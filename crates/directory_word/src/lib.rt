@@ -3,6 +3,8 @@
 //     bits 0-15    page number plus one, or 0 for a leaf without a page
 //     bits 16-19   depth of the leaf
 //     bits 20-31   0
+#![tactic(auto)]
+
 ghost use Rattle.std.specs.Prelude.{◌≡◌, ◌<◌};
 ghost use Rattle.directory_word.specs.Word.{word_of, depth_field, page_field, leaf_of};
 ghost use Rattle.directory_word.specs.declared.Leaf.TheVariants.{Empty, Page};

@@ -1,5 +1,7 @@
 // The file of a saved store (document 02, request 5): what save answers, and the encodings of a
 // file's records. Crate `file_parts` has its shape and its trailer.
+#![tactic(auto)]
+
 ghost use Rattle.std.specs.Prelude.{◌≡◌, ◌+◌, ◌*◌, ◌≤◌, length};
 ghost use Rattle.record.specs.Bytes.{record_size};
 ghost use Rattle.file.specs.File.{encodings_at};

@@ -1,4 +1,6 @@
 // The parts of a file (document 02, request 5), read and written: its shape and its trailer.
+#![tactic(auto)]
+
 ghost use Rattle.std.specs.Prelude.{◌≡◌, true, ◌+◌, ◌-◌, ◌*◌, ◌^◌, ◌≤◌, ◌<◌, eqb, length, get_or};
 ghost use Rattle.std.proofs.Math.Seq.{paste};
 ghost use Rattle.shape.specs.Shape.{all_below, shape_number};

@@ -1,5 +1,7 @@
 // Whether the records of a file are a set in split order (document 02, request 5): every value
 // within its bounds, and each record behind the one before it.
+#![tactic(auto)]
+
 ghost use Rattle.std.specs.Prelude.{◌≡◌, ◌||◌, ◌*◌, ◌≤◌, eqb, length};
 ghost use Rattle.shape.specs.Shape.{shape_number, Fit, width_list, total};
 ghost use Rattle.split.specs.Bits.{split_bit};

@@ -1,6 +1,8 @@
 // 6 and 7 of a file's records, found without a write (document 02, request 5): "6 and 7 at the first
 // record that meets them". The records are in split order, so that the leaves of the first i are
 // told by the first split steps in which neighbours differ, none further apart than b places.
+#![tactic(auto)]
+
 ghost use Rattle.std.specs.Prelude.{◌≡◌, cond, [], suc, ◌+◌, ◌-◌, ◌*◌, ◌≤◌, ltb, length};
 ghost use Rattle.shape.specs.Refusal.{first_number};
 ghost use Rattle.shape.specs.Shape.{Fit, width_list};

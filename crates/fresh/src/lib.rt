@@ -1,5 +1,7 @@
 // The call Fresh: a store without records in lent memory (document 01, "Lent memory", "Calls";
 // document 02, request 7).
+#![tactic(auto)]
+
 ghost use Rattle.std.specs.Prelude.{◌≡◌, ◌∷◌, ◌*◌, ◌%◌, ◌^◌, ◌<◌, ◌≤◌, length, set, replicate};
 ghost use Rattle.shape.specs.Shape.{shape_number};
 ghost use Rattle.page.specs.Page.{page_size};

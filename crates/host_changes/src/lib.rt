@@ -2,6 +2,8 @@
 // `host_state`), and the answer is a number, 0 for an accepted call, with the attribute beside 14, of
 // insert and delete with a depth beside it. Fewer words than a state has show no shape, so that insert
 // and delete are refused with 1; Fresh and load, which are given no state, are refused with 2.
+#![tactic(auto)]
+
 ghost use Rattle.store.specs.Store.{memory, store};
 ghost use Rattle.store.specs.Promises.{InsertPromise, DeletePromise};
 ghost use Rattle.host_changes.specs.Changes.{LentChangePromise};

@@ -1,6 +1,8 @@
 // The address map for hosts: an answer as a struct of numbers. A number of 0 stands for an accepted
 // call; any other is the refusal's (document 01, "Refused calls"), and the values beside it are 0, but
 // for the attribute beside 14 (document 02, request 7).
+#![tactic(auto)]
+
 ghost use Rattle.std.specs.Prelude.{◌≡◌, [], ◌∷◌};
 ghost use Rattle.address_formula.specs.Index.{index_list};
 ghost use Rattle.address_calls.specs.Answers.{address_answer, index_answer};

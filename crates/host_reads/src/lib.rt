@@ -2,6 +2,8 @@
 // answer is a struct of numbers. A number of 0 stands for an accepted call; any other is the refusal's
 // (document 01, "Refused calls"), and the values beside it are 0, but for the attribute beside 14 and
 // the depth beside 5. Fewer words than a state has show no shape, so that a call is refused with 1.
+#![tactic(auto)]
+
 ghost use Rattle.std.specs.Prelude.{◌≤◌};
 ghost use Rattle.model.specs.Model.{found, listed};
 ghost use Rattle.store.specs.Store.{store};

@@ -2,6 +2,8 @@
 // attribute, depth and its state in words, a query and a range as they come. A number of 0 stands for
 // an accepted call; any other is the refusal's (document 01, "Refused calls"), and the values beside
 // it are 0, but for the attribute beside 14 and the depth beside 5 (document 02, requests 6 and 7).
+#![tactic(auto)]
+
 ghost use Rattle.std.specs.Prelude.{◌≡◌, false, ◌<◌, ◌≤◌, get_or, length};
 ghost use Rattle.shape.specs.Key.{wanted_value, wanted_values};
 ghost use Rattle.shape.specs.Range.{span_interval, range_intervals, interval_if, intervals_of};

@@ -6,6 +6,8 @@
 //     words 6-8     P, L, T
 //     words 9-21    the tally of depths 0 to 12
 //     word 22       the marks of signed attributes
+#![tactic(auto)]
+
 ghost use Rattle.std.specs.Prelude.{◌≡◌, ◌≤◌, ◌++◌, length, drop};
 ghost use Rattle.store.specs.Fresh.{no_state};
 ghost use Rattle.host_state.specs.Image.{state_size, shown_state, state_in, state_put};

@@ -1,6 +1,8 @@
 // The call Insert: a record joins the store (document 01, "Calls"), unless its payload is 0
 // (document 02, request 2). Its steps are those of Otoo's INSERT (source document 001) in their
 // order: find, allocate, double, set the words; docs/INSERT.md sets them side by side.
+#![tactic(auto)]
+
 ghost use Rattle.std.specs.Prelude.{◌≡◌};
 ghost use Rattle.store.specs.Answers.{changed_answer};
 ghost use Rattle.store.specs.Promises.{key_number, AddPromise, InsertPromise};

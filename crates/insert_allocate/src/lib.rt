@@ -1,5 +1,7 @@
 // The step Allocate of an insert (I2 of Otoo's INSERT): a page for the leaf that newly gets one. It
 // writes nothing; the steps after it cannot fail.
+#![tactic(auto)]
+
 ghost use Rattle.store.specs.Store.{store};
 ghost use Rattle.insert_planned.specs.Planned.{InsertFound, NullFound, FullFound};
 ghost use Rattle.insert_allocate.specs.Planned.{InsertPlanned};

@@ -1,4 +1,6 @@
 // Halves of a full page and one key more: the pair at which they part, and the page's cut there.
+#![tactic(auto)]
+
 ghost use Rattle.std.specs.Prelude.{◌≡◌, ◌/◌, ◌%◌, ◌≤◌, ◌<◌, get_or, length};
 ghost use Rattle.shape.specs.Shape.{Fit, width_list};
 ghost use Rattle.record.specs.Packed.{unpacked_key};

@@ -1,5 +1,7 @@
 // The step Find of an insert (Otoo's FIND, and I1 of his INSERT): the leaf of a key, and what an
 // insert meets there. It writes nothing (document 01, "Calls"). Damage that it meets is 9.
+#![tactic(auto)]
+
 ghost use Rattle.std.specs.Prelude.{◌≡◌, true, ◌≤◌};
 ghost use Rattle.pages.specs.Pages.{PageLent};
 ghost use Rattle.store.specs.Store.{store};

@@ -1,6 +1,8 @@
 // The step Find of an insert in a full leaf: where it is divided, without a write. One cut stands
 // for all divisions that Otoo's INSERT would make one after the other (I8). Damage that it meets is
 // 9.
+#![tactic(auto)]
+
 ghost use Rattle.std.specs.Prelude.{◌/◌, ◌%◌, ◌<◌, get_or};
 ghost use Rattle.shape.specs.Shape.{widths_of};
 ghost use Rattle.pages.specs.Pages.{PageLent};

@@ -1,5 +1,7 @@
 // The pages of an accepted insert (I2, I6, I8 of Otoo's INSERT): one takes the record, a full one is
 // divided. None of the steps can fail.
+#![tactic(auto)]
+
 ghost use Rattle.std.specs.Prelude.{◌≡◌, cond, ◌<◌, ◌≤◌};
 ghost use Rattle.record.specs.Packed.{packed_bytes};
 ghost use Rattle.pages.specs.Pages.{PageLent};

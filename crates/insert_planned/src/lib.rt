@@ -1,4 +1,6 @@
 // What an insert finds and what its plan tells, as definitions, and their laws on a sound store.
+#![tactic(auto)]
+
 use insert_cut::Cut;
 
 // What is found of a key's leaf: nothing to be done, with the number of a refusal; a page with room,

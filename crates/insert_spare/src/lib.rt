@@ -1,4 +1,6 @@
 // A free page for a leaf that newly gets one. Which of those free it is, document 01 leaves open.
+#![tactic(auto)]
+
 ghost use Rattle.std.specs.Prelude.{◌≡◌, ◌-◌, ◌^◌, ◌<◌};
 ghost use Rattle.pages.specs.Pages.{free_page};
 ghost use Rattle.insert_spare.specs.Spare.{PagesLent, leaves_above};

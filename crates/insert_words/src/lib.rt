@@ -1,5 +1,7 @@
 // The steps of an insert that change words and tally (I2 to I5, I7 of Otoo's INSERT). None of them
 // can fail.
+#![tactic(auto)]
+
 ghost use Rattle.std.specs.Prelude.{◌≡◌, max, ◌≤◌, ◌<◌, length};
 ghost use Rattle.shape.specs.Shape.{widths_of};
 ghost use Rattle.split.specs.Bits.{split_bit};

@@ -1,5 +1,7 @@
 // Packed keys between two others, value by value. The four values are compared two at a time: those
 // of attributes 0 and 2 have 16 free bits above them where the other two are cleared.
+#![tactic(auto)]
+
 ghost use Rattle.std.specs.Prelude.{◌≡◌};
 ghost use Rattle.key_between.specs.Between.{lies_between};
 ghost use Rattle.key_between.specs.Private.{even_values, even_flags, not_below, within_at};

@@ -1,6 +1,8 @@
 // The encodings of a call's values and of the fields of a page (document 01, "Shape and split
 // steps"; document 02, request 4): split order, directory and regions go by them. A call encodes its
 // values here before it looks for a key.
+#![tactic(auto)]
+
 ghost use Rattle.std.specs.Prelude.{◌≡◌, ◌<◌, slice_index_or};
 ghost use Rattle.std.proofs.Math.Option.{none};
 ghost use Rattle.shape.specs.Shape.{shape_number};

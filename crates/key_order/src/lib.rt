@@ -3,6 +3,8 @@
 // value past its width are never looked at.
 //
 // A pair (bit k, attribute j) is handed on as its place 4k + j among all pairs; 64 stands for none.
+#![tactic(auto)]
+
 ghost use Rattle.std.specs.Prelude.{◌≡◌, ◌/◌, ◌%◌, ◌<◌, ◌≤◌, get_or};
 ghost use Rattle.shape.specs.Shape.{Fit, width_list};
 ghost use Rattle.split.specs.Bits.{bit_of};

@@ -1,5 +1,7 @@
 // The values of packed encodings (document 02, request 4): a call that is given a record's bytes has
 // its key's values from them.
+#![tactic(auto)]
+
 ghost use Rattle.std.specs.Prelude.{◌≡◌, ◌+◌, ◌-◌, ◌%◌, ◌^◌, ◌<◌};
 ghost use Rattle.shape.specs.Shape.{shape_number};
 ghost use Rattle.shape.specs.Key.{per_attribute, decode};

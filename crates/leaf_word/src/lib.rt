@@ -1,5 +1,7 @@
 // The word at a key's cell and the page of its leaf, and whether a sound store can have them: how
 // lookup, insert and delete begin (document 01, "Lent memory").
+#![tactic(auto)]
+
 ghost use Rattle.std.specs.Prelude.{◌≡◌, ◌≤◌, get_or, length};
 ghost use Rattle.shape.specs.Shape.{width_list};
 ghost use Rattle.split.specs.Bits.{split_bit};

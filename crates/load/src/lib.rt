@@ -1,5 +1,7 @@
 // The call load: a store made from the bytes of a file (document 02, requests 5 and 7). Every refusal
 // is found before the first write; then Fresh, and the records one after the other.
+#![tactic(auto)]
+
 ghost use Rattle.std.specs.Prelude.{◌≡◌, true, ◌&&◌};
 ghost use Rattle.shape.specs.Shape.{shape_number};
 ghost use Rattle.model.specs.Sets.{is_set};

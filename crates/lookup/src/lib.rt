@@ -1,5 +1,7 @@
 // The call Lookup: a key's record, by the word of its cell and the page of its leaf (document 01,
 // "Calls").
+#![tactic(auto)]
+
 ghost use Rattle.std.specs.Prelude.{◌≡◌, ◌≤◌, length};
 ghost use Rattle.directory_word.specs.Word.{depth_field};
 ghost use Rattle.page.specs.Fields.{record_offset};

@@ -1,5 +1,7 @@
 // The C interface: what Rust or C links. Each call is that of `host_map`, `host_reads` or
 // `host_changes`, with its contract, exported.
+#![tactic(auto)]
+
 ghost use Rattle.std.specs.Prelude.{[], ◌∷◌, ◌≤◌};
 ghost use Rattle.address_formula.specs.Index.{index_list};
 ghost use Rattle.address_calls.specs.Answers.{address_answer, index_answer};

@@ -1,4 +1,6 @@
 // Numbers: the smaller of two, one of four, below a power of two.
+#![tactic(auto)]
+
 ghost use Rattle.std.specs.Prelude.{◌≡◌, [], ◌∷◌, ◌^◌, ◌<◌, ◌≤◌, min, ltb, get_or};
 
 // The smaller of two numbers.

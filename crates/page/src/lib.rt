@@ -1,5 +1,7 @@
 // One page of the lent bytes: its count and its records (document 01, "Lent memory"). Each function
 // is handed the page's bytes only. Bytes past the records that the count says are free.
+#![tactic(auto)]
+
 ghost use Rattle.std.specs.Prelude.{◌≡◌, ◌+◌, ◌*◌, ◌^◌, ◌<◌, ◌≤◌, length};
 ghost use Rattle.record.specs.Packed.{packed_bytes};
 ghost use Rattle.record.specs.Bytes.{record_size};

@@ -1,5 +1,7 @@
 // Whether a page is its leaf's, by the first and the last of its records (document 01, "Regions of
 // a set"): under a mask of the bits that the leaf fixes both agree with a key of the leaf.
+#![tactic(auto)]
+
 ghost use Rattle.std.specs.Prelude.{◌≡◌, ◌+◌, ◌-◌, ◌/◌, ◌^◌, ◌<◌, ◌≤◌, min, length};
 ghost use Rattle.shape.specs.Shape.{Fit, width_list, total};
 ghost use Rattle.split.specs.Steps.{steps_below};

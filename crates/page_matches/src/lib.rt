@@ -1,6 +1,8 @@
 // The records of a page that match a query, written into the output (document 01, "Calls"), those
 // whose key lies between two others, and the record with a key. The four values of a record are
 // compared at once, as its packed key.
+#![tactic(auto)]
+
 ghost use Rattle.std.specs.Prelude.{◌≡◌, ◌+◌, ◌*◌, ◌%◌, ◌^◌, ◌<◌, ◌≤◌, get_or, length};
 ghost use Rattle.std.proofs.Math.Option.{none};
 ghost use Rattle.shape.specs.Key.{wanted_values};

@@ -1,5 +1,7 @@
 // Places in a page whose records are in split order: that of a key, by halving, and that of the
 // first record with bit 1 at a split step, where the page is divided.
+#![tactic(auto)]
+
 ghost use Rattle.std.specs.Prelude.{◌≡◌, ◌/◌, ◌%◌, ◌≤◌, ◌<◌, get_or, length};
 ghost use Rattle.shape.specs.Shape.{Fit, width_list};
 ghost use Rattle.record.specs.Packed.{unpacked_key};

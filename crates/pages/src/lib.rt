@@ -1,5 +1,7 @@
 // The lent pages, side by side: a part of them for each page, handed to the steps on one page
 // (document 01, "Lent memory"). Page g has the 2 + 12b bytes from g times that on.
+#![tactic(auto)]
+
 ghost use Rattle.std.specs.Prelude.{◌≡◌, ◌+◌, ◌-◌, ◌*◌, ◌<◌, ◌≤◌, length};
 ghost use Rattle.page.specs.Page.{count_of, page_size, page_at};
 ghost use Rattle.pages.specs.Pages.{PageLent, carried_pages, first_free, free_page};

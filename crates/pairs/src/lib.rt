@@ -1,5 +1,7 @@
 // Pairs (bit k, attribute j) by their place 4k + j among all pairs, in the order of the split steps:
 // the depths at a place, how many steps are before it, and the place of a step.
+#![tactic(auto)]
+
 ghost use Rattle.std.specs.Prelude.{◌≡◌, ◌<◌, ◌≤◌, min, get_or, length};
 ghost use Rattle.shape.specs.Shape.{Fit, width_list, total};
 ghost use Rattle.split.specs.Steps.{steps_below};

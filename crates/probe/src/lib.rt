@@ -4,6 +4,8 @@
 //
 // Here are the steps on the directory; the modules have those on words, keys, pages and queries,
 // and whole lists of calls.
+#![tactic(auto)]
+
 pub mod calls;
 pub mod keys;
 pub mod matching;

@@ -1,5 +1,7 @@
 // The first refusal of a query that needs no look into words and pages (document 01, "Refused
 // calls").
+#![tactic(auto)]
+
 ghost use Rattle.std.specs.Prelude.{◌≡◌, ◌<◌, ◌||◌, not, ltb, get_or};
 ghost use Rattle.std.proofs.Math.Option.{none};
 ghost use Rattle.shape.specs.Shape.{shape_number};

@@ -1,5 +1,7 @@
 // The records of the pages that a walk noted, counted, or written into the output (document 01,
 // "Calls"): all of them, or those that match.
+#![tactic(auto)]
+
 ghost use Rattle.std.specs.Prelude.{◌≡◌, ◌+◌, ◌^◌, ◌<◌, ◌≤◌, length, take};
 ghost use mathlib.Core.List.{flat_map};
 ghost use Rattle.page.specs.Page.{page_at};

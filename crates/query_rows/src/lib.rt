@@ -15,6 +15,8 @@
 //     80  DEEPEST   T
 //     81  TALLIED   the depths that have a leaf in the tally
 //     82  BIAS      what is added to packed fields
+#![tactic(auto)]
+
 ghost use Rattle.std.specs.Prelude.{◌≡◌, ◌+◌, ◌*◌, ◌^◌, ◌<◌, ◌≤◌, cond, [], ◌∷◌, eqb, get_or, length};
 ghost use Rattle.std.proofs.Math.Option.{none};
 ghost use Rattle.std.proofs.lemmas.List.Edits.{sets};

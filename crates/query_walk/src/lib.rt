@@ -1,5 +1,7 @@
 // The query's walk over the regions: the pages of the agreeing leaves, noted in order before any of
 // their records is read (document 01, "Calls").
+#![tactic(auto)]
+
 ghost use Rattle.std.specs.Prelude.{◌≡◌, ◌-◌, eqb, length};
 ghost use Rattle.directory_word.specs.Word.{depth_field};
 ghost use Rattle.query_rows.specs.Rows.{deepest_in};

@@ -1,4 +1,6 @@
 // The call range: the records inside a box of values (document 02, request 1).
+#![tactic(auto)]
+
 ghost use Rattle.std.specs.Prelude.{length};
 ghost use Rattle.shape.specs.Range.{range_intervals};
 ghost use Rattle.store.specs.Store.{store};

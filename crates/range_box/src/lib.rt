@@ -1,1 +1,2 @@
 // Boxes: intervals of encodings and the regions that they meet; no code.
+#![tactic(auto)]

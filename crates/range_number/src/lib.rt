@@ -1,5 +1,7 @@
 // The ends of a range, and its first refusal that needs no look into words and pages (document 02,
 // request 1). A range is two queries, of its low and of its high ends.
+#![tactic(auto)]
+
 ghost use Rattle.std.specs.Prelude.{◌≡◌, ◌<◌, get_or};
 ghost use Rattle.std.proofs.Math.Option.{none};
 ghost use Rattle.shape.specs.Shape.{shape_number};

@@ -1,5 +1,7 @@
 // The records of the pages that a range call's walk noted, written into the output: those whose key
 // lies between two packed keys, value by value.
+#![tactic(auto)]
+
 ghost use Rattle.std.specs.Prelude.{◌≡◌, ◌+◌, ◌≤◌, length, take};
 ghost use Rattle.page.specs.Page.{page_at};
 ghost use Rattle.page_matches.specs.Within.{lies_in};

@@ -1,6 +1,8 @@
 // The range call's walk over the regions: the pages of the leaves whose region meets a box, noted
 // in order before any of their records is read (document 02, request 1). A box is two packed keys,
 // its low and its high end in each attribute.
+#![tactic(auto)]
+
 ghost use Rattle.std.specs.Prelude.{◌≡◌, ◌+◌, ◌-◌, ◌^◌, ◌≤◌, length};
 ghost use Rattle.directory_word.specs.Word.{depth_field};
 ghost use Rattle.query_rows.specs.Rows.{deepest_in};

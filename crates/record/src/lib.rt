@@ -1,6 +1,8 @@
 // Records: their key, what they hold besides it, and their bytes (document 01, "Lent memory"). The
 // code hands a key on as one number, whose 16-bit parts are its encodings, or a record's fields: a
 // packed key.
+#![tactic(auto)]
+
 pub mod numbers;
 
 ghost use Rattle.std.specs.Prelude.{◌≡◌, ◌+◌, ◌<◌, ◌≤◌, length};

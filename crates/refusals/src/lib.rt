@@ -1,5 +1,7 @@
 // What a call on a store finds without a look into words and pages (document 01, "Refused calls"): 1,
 // 14, 15, then 2; 3 by a key's encodings; and limits that no sound store has, which is 9.
+#![tactic(auto)]
+
 ghost use Rattle.std.specs.Prelude.{◌≡◌};
 ghost use Rattle.shape.specs.Shape.{shape_number, widths_of, index_fits};
 ghost use Rattle.refusals.specs.Limits.{limits_hold};

@@ -1,6 +1,8 @@
 // Demand 3 on the running code: a list of calls, encoded in a lent slice, is run on a fresh store or
 // on a loaded one in lent memory, and the answers and outputs are those of the plain model (document
 // 01, "The plain model of demand 3").
+#![tactic(auto)]
+
 ghost use Rattle.store.specs.Store.{memory, store};
 ghost use Rattle.store.specs.Answers.{made_answer};
 ghost use Rattle.replay_encoding.specs.Encoding.{call_count};

@@ -1,5 +1,7 @@
 // One encoded call, run on a store (document 01, "The plain model of demand 3"; document 02,
 // request 1).
+#![tactic(auto)]
+
 ghost use Rattle.std.specs.Prelude.{◌≡◌, length};
 ghost use Rattle.store.specs.Store.{store};
 ghost use Rattle.store.specs.Answers.{changed_answer};

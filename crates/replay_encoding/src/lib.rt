@@ -1,5 +1,7 @@
 // Calls and answers as numbers, as a replay takes and gives them (document 01, "The plain model of
 // demand 3"; document 02, requests 1, 6 and 7).
+#![tactic(auto)]
+
 ghost use Rattle.std.specs.Prelude.{◌≡◌, ◌++◌, ◌+◌, ◌*◌, ◌≤◌, length, take, drop};
 ghost use Rattle.shape.specs.Key.{wanted_values, wanted_value};
 ghost use Rattle.shape.specs.Range.{range_intervals, span_interval, interval_if};

@@ -1,4 +1,6 @@
 // The call save: the records of a store as the bytes of a file (document 02, request 5).
+#![tactic(auto)]
+
 ghost use Rattle.std.specs.Prelude.{◌≡◌, ◌≤◌, length, take};
 ghost use mathlib.Core.List.{flat_map};
 ghost use Rattle.shape.specs.Amiss.{refused_for};

@@ -1,5 +1,7 @@
 // Shapes of a store, keys, queries and ranges (document 01, "Shape and split steps", "Calls"; document
 // 02, request 7).
+#![tactic(auto)]
+
 ghost use Rattle.std.specs.Prelude.{◌≡◌, ◌<◌, ◌≤◌};
 ghost use Rattle.shape.specs.Shape.{within, widths_fit, bad_width, lowest_bad, shape_number, width_of, widths_of};
 ghost use Rattle.shape.specs.Shape.{width_list, Fit, total};

@@ -1,5 +1,7 @@
 // The program `stock` (document 01, "Proof table and the printed run"): reads lines from standard
 // input, and prints the reply to each.
+#![tactic(auto)]
+
 ghost use Rattle.std.specs.Prelude.{◌≤◌, length};
 ghost use Rattle.stock_replies.specs.Replies.{reply_size};
 ghost use Rattle.stock.specs.Lends.{Lends};

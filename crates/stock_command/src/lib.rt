@@ -1,4 +1,6 @@
 // What a command line asks in a session (document 01, "Proof table and the printed run").
+#![tactic(auto)]
+
 pub mod fields;
 pub mod session;
 

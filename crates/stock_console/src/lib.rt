@@ -1,5 +1,7 @@
 // A command line on the store that a program holds (document 01, "Proof table and the printed
 // run"): what it asks, the call, and the reply.
+#![tactic(auto)]
+
 ghost use Rattle.std.specs.Prelude.{List, ℕ, ◌+◌, ◌≤◌, length};
 ghost use Rattle.stock_command.specs.Asked.{asked, nothing, no_shape, new_shape};
 ghost use Rattle.stock_command.specs.Commands.{asked_as};

@@ -1,5 +1,7 @@
 // Input, in pieces of any size: each line that ends is replied to (document 01, "Proof table and the
 // printed run").
+#![tactic(auto)]
+
 ghost use Rattle.std.specs.Prelude.{◌≡◌, false, ◌+◌, ◌≤◌, length};
 ghost use Rattle.stock_line.specs.LineBytes.{start};
 ghost use Rattle.stock_replies.specs.Replies.{output_size, reply_size};

@@ -1,5 +1,7 @@
 // Lines of commands, read byte by byte (document 01, "Proof table and the printed run"): a word, then
 // decimal numbers or `*`, one space apart. A line may have any length.
+#![tactic(auto)]
+
 ghost use Rattle.std.specs.Prelude.{◌≡◌, ◌≤◌};
 ghost use Rattle.stock_line.specs.Line.{is_digit};
 ghost use Rattle.stock_line.specs.LineBytes.{start, fed, ended, opened, closed};

@@ -1,4 +1,6 @@
 // The replies to the store's answers (document 01, "Proof table and the printed run").
+#![tactic(auto)]
+
 ghost use Rattle.std.specs.Prelude.{◌++◌, ◌+◌, ◌*◌, ◌≤◌, length};
 ghost use Rattle.record.specs.Bytes.{record_size};
 ghost use Rattle.store.specs.Answers.{made_answer, changed_answer, listed_answer};

@@ -1,6 +1,8 @@
 // The replies of the program `stock` as bytes (document 01, "Proof table and the printed run"). Each
 // function writes into a lent text from an offset on, and returns the offset behind what it wrote.
 // Bytes before the first offset stay, those past the second are free.
+#![tactic(auto)]
+
 ghost use Rattle.std.specs.Prelude.{[], ◌∷◌, ◌+◌, ◌*◌, ◌≤◌, length};
 ghost use Rattle.record.specs.Bytes.{record_size, field};
 ghost use Rattle.stock_text.specs.Text.{Grown, line_size, decimal, field_text, ok_text, bad_text, refused_text};

@@ -1,4 +1,6 @@
 // The tally of a store, when leaves are divided and joined (document 01, "Lent memory").
+#![tactic(auto)]
+
 ghost use Rattle.std.specs.Prelude.{◌≡◌, true, ◌+◌, ◌-◌, ◌^◌, ◌≤◌, ◌<◌, get_or};
 ghost use Rattle.change.specs.Divided.{divided_once, divided_tally};
 ghost use Rattle.change.specs.Delete.{joined_once, joined_tally, tally_depth};

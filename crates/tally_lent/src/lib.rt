@@ -1,5 +1,7 @@
 // The tally, lent to the steps that divide and join regions, which update it (document 01, "Lent
 // memory").
+#![tactic(auto)]
+
 ghost use Rattle.std.specs.Prelude.{◌≡◌, true, ◌+◌, ◌≤◌};
 ghost use Rattle.change.specs.Divided.{divided_tally};
 ghost use Rattle.change.specs.Delete.{joined_tally};

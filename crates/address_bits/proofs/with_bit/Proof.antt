@@ -29,42 +29,42 @@ less s j d e l =
     let bound = add-only_at-lt (index_list s.args.index) (bit s) (s.args.g % 4) (2 ^ 64) low j l in
     omega (arith, bound)
 
-shl-bit : tie.Need-overflow-shl-bit
+shl-bit : tie.Need-overflow_shl-bit
 shl-bit c = search rules
 
-only-at-requires : tie.Need-only-at-requires
+only-at-requires : tie.Need-only_at-d0-requires
 only-at-requires c κs = search rules
 
-only-at-requires-2 : tie.Need-only-at-requires-2
+only-at-requires-2 : tie.Need-only_at-d1-requires
 only-at-requires-2 c κs = search rules
 
-only-at-requires-3 : tie.Need-only-at-requires-3
+only-at-requires-3 : tie.Need-only_at-d2-requires
 only-at-requires-3 c κs = search rules
 
-only-at-requires-4 : tie.Need-only-at-requires-4
+only-at-requires-4 : tie.Need-only_at-d3-requires
 only-at-requires-4 c κs = search rules
 
-add-t9 : tie.Need-overflow-add-t9
+add-t9 : tie.Need-overflow_add-result
 add-t9 c =
     let d = c.before.before.before.before in
-    record { fits = less d.before 0 _ d.only_at.ensures c.struct_known.given.0.fits }
+    record { fits = less d.before 0 _ d.only_at-d0.ensures c.struct_known-1.given.0.fits }
 
-add-t10 : tie.Need-overflow-add-t10
+add-t10 : tie.Need-overflow_add-result-2
 add-t10 c =
     let d = c.before.before.before.before in
-    record { fits = less d.before.before 1 _ d.only-at2.ensures c.struct-known2.given.1.0.fits }
+    record { fits = less d.before.before 1 _ d.only_at-d1.ensures c.struct_known-2-1.given.1.0.fits }
 
-add-t11 : tie.Need-overflow-add-t11
+add-t11 : tie.Need-overflow_add-result-3
 add-t11 c =
     let d = c.before.before.before.before in
-    let i = c.struct-known3.given.1.1.0.fits in
-    record { fits = less d.before.before.before 2 _ d.only-at3.ensures i }
+    let i = c.struct_known-3-1.given.1.1.0.fits in
+    record { fits = less d.before.before.before 2 _ d.only_at-d2.ensures i }
 
-add-t12 : tie.Need-overflow-add-t12
+add-t12 : tie.Need-overflow_add-result-4
 add-t12 c =
     let d = c.before.before.before.before in
-    let i = c.struct-known4.given.1.1.1.0.fits in
-    record { fits = less d.before.before.before.before 3 _ d.only-at4.ensures i }
+    let i = c.struct_known-4-1.given.1.1.1.0.fits in
+    record { fits = less d.before.before.before.before 3 _ d.only_at-d3.ensures i }
 
 returns : tie.Need-returns
 returns c =
@@ -73,11 +73,11 @@ returns c =
     let d1 = d2.before in
     let d0 = d1.before in
     let s = d0.before in
-    bit_set-each _ s.args.g _ _ _ _ _ _ _ _ (bit_is s) d0.only_at.ensures d1.only-at2.ensures
-    d2.only-at3.ensures d3.only-at4.ensures
+    bit_set-each _ s.args.g _ _ _ _ _ _ _ _ (bit_is s) d0.only_at-d0.ensures d1.only_at-d1.ensures
+    d2.only_at-d2.ensures d3.only_at-d3.ensures
 
-pub with-bit-spec : {M : Type 1} → statement M
-with-bit-spec =
+pub with_bit_spec : {M : Type 1} → statement M
+with_bit_spec =
     tie.close
     (tie.spec
     shl-bit

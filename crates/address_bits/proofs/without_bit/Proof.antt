@@ -26,40 +26,40 @@ less s j d e =
     let bound = only_at-le (index_list s.args.index) (bit s) (s.args.g % 4) low j in
     omega (arith, bound)
 
-shl-bit : tie.Need-overflow-shl-bit
+shl-bit : tie.Need-overflow_shl-bit
 shl-bit c = search rules
 
-only-at-requires : tie.Need-only-at-requires
+only-at-requires : tie.Need-only_at-d0-requires
 only-at-requires c κs = search rules
 
-only-at-requires-2 : tie.Need-only-at-requires-2
+only-at-requires-2 : tie.Need-only_at-d1-requires
 only-at-requires-2 c κs = search rules
 
-only-at-requires-3 : tie.Need-only-at-requires-3
+only-at-requires-3 : tie.Need-only_at-d2-requires
 only-at-requires-3 c κs = search rules
 
-only-at-requires-4 : tie.Need-only-at-requires-4
+only-at-requires-4 : tie.Need-only_at-d3-requires
 only-at-requires-4 c κs = search rules
 
-sub-t9 : tie.Need-overflow-sub-t9
+sub-t9 : tie.Need-overflow_sub-result
 sub-t9 c =
     let d = c.before.before.before.before in
-    less d.before 0 _ d.only_at.ensures
+    less d.before 0 _ d.only_at-d0.ensures
 
-sub-t10 : tie.Need-overflow-sub-t10
+sub-t10 : tie.Need-overflow_sub-result-2
 sub-t10 c =
     let d = c.before.before.before.before in
-    less d.before.before 1 _ d.only-at2.ensures
+    less d.before.before 1 _ d.only_at-d1.ensures
 
-sub-t11 : tie.Need-overflow-sub-t11
+sub-t11 : tie.Need-overflow_sub-result-3
 sub-t11 c =
     let d = c.before.before.before.before in
-    less d.before.before.before 2 _ d.only-at3.ensures
+    less d.before.before.before 2 _ d.only_at-d2.ensures
 
-sub-t12 : tie.Need-overflow-sub-t12
+sub-t12 : tie.Need-overflow_sub-result-4
 sub-t12 c =
     let d = c.before.before.before.before in
-    less d.before.before.before.before 3 _ d.only-at4.ensures
+    less d.before.before.before.before 3 _ d.only_at-d3.ensures
 
 returns : tie.Need-returns
 returns c =
@@ -68,11 +68,11 @@ returns c =
     let d1 = d2.before in
     let d0 = d1.before in
     let s = d0.before in
-    bit_cleared-each _ s.args.g _ _ _ _ _ _ _ _ (bit_is s) d0.only_at.ensures d1.only-at2.ensures
-    d2.only-at3.ensures d3.only-at4.ensures
+    bit_cleared-each _ s.args.g _ _ _ _ _ _ _ _ (bit_is s) d0.only_at-d0.ensures d1.only_at-d1.ensures
+    d2.only_at-d2.ensures d3.only_at-d3.ensures
 
-pub without-bit-spec : {M : Type 1} → statement M
-without-bit-spec =
+pub without_bit_spec : {M : Type 1} → statement M
+without_bit_spec =
     tie.close
     (tie.spec
     shl-bit

@@ -6,16 +6,16 @@ use Rattle.lists.proofs.Shifts.{one_shifted}
 use Rattle.address_calls.proofs.address_fits.Statement.{statement}
 use Rattle.address_calls.proofs.address_fits.Tie as tie
 
-returns : tie.Need-returns
+returns : tie.Need-returns-then-t-ge64
 returns c =
-    let e : c.before.args.t ≡ 64 = omega (arith, c.before.requires, c.if1.true) in
+    let e : c.before.args.t ≡ 64 = omega (arith, c.before.requires, c.if-t-ge64.true) in
     rw e (sym (lt-ltb _ _ c.before.ranges.a.fits))
 
-shl-result : tie.Need-overflow-shl-result
-shl-result c = omega (arith, c.if1.false)
+shl-result : tie.Need-overflow_shl-result
+shl-result c = omega (arith, c.if-t-ge64.false)
 
-returns-2 : tie.Need-returns-2
-returns-2 c = rw (one_shifted c.before.args.t c.if1.false)
+returns-2 : tie.Need-returns
+returns-2 c = rw (one_shifted c.before.args.t c.if-t-ge64.false)
 
-pub address-fits-spec : {M : Type 1} → statement M
-address-fits-spec = tie.close (tie.spec returns shl-result returns-2)
+pub address_fits_spec : {M : Type 1} → statement M
+address_fits_spec = tie.close (tie.spec returns shl-result returns-2)

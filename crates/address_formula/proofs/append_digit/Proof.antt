@@ -8,25 +8,25 @@ use borrow.Author.Rules.{rules}
 use Rattle.address_formula.proofs.append_digit.Statement.{statement}
 use Rattle.address_formula.proofs.append_digit.Tie as tie
 
-other : (c : tie.Else1) → let s = c.before.args in
+other : (c : tie.Else-j-z) → let s = c.before.args in
     (s.a * 2 ^ s.h) % 2 ^ 64 + s.i ≡ append_digit s.a (2 ^ s.h) s.i s.j s.z
 other c =
     let s = c.before.args in
-    append_digit-other s.a (2 ^ s.h) s.i s.j s.z c.if1.false c.before.requires.1
+    append_digit-other s.a (2 ^ s.h) s.i s.j s.z c.if-j-z.false c.before.requires.1
 
-returns : tie.Need-returns
+returns : tie.Need-returns-then-j-z
 returns c =
     let s = c.before.args in
-    append_digit-same s.a (2 ^ s.h) s.i s.j s.z c.if1.true
+    append_digit-same s.a (2 ^ s.h) s.i s.j s.z c.if-j-z.true
 
-shl-result : tie.Need-overflow-shl-result
+shl-result : tie.Need-overflow_shl-result
 shl-result c = search rules
 
-add-result : tie.Need-overflow-add-result
+add-result : tie.Need-overflow_add-result
 add-result c = record { fits = omega (arith, other c, c.before.requires.1) }
 
-returns-2 : tie.Need-returns-2
+returns-2 : tie.Need-returns
 returns-2 c = other c
 
-pub append-digit-spec : {M : Type 1} → statement M
-append-digit-spec = tie.close (tie.spec returns shl-result add-result returns-2)
+pub append_digit_spec : {M : Type 1} → statement M
+append_digit_spec = tie.close (tie.spec returns shl-result add-result returns-2)

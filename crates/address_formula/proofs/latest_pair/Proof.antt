@@ -9,27 +9,27 @@ use borrow.Author.Rules.{rules}
 use Rattle.address_formula.proofs.latest_pair.Statement.{statement}
 use Rattle.address_formula.proofs.latest_pair.Tie as tie
 
-least : (c : tie.After-smaller3) → let index = c.before.before.before.before.before.before.before.args.index in
-    latest_pair (index_list index) ≡ 256 - c.smaller3.result
+least : (c : tie.After-smaller-n) → let index = c.before.before.before.before.before.before.before.args.index in
+    latest_pair (index_list index) ≡ 256 - c.smaller-n.result
 least c =
     let p4 = c.before.before.before in
     let p3 = p4.before in
     let p2 = p3.before in
     let p1 = p2.before in
-    rw (c.smaller3.ensures, c.before.smaller2.ensures, c.before.before.smaller.ensures)
-    (latest_pair-after (index_list p1.before.args.index) _ _ _ _ p1.pairs-after.ensures
-    p2.pairs-after2.ensures p3.pairs-after3.ensures p4.pairs-after4.ensures)
+    rw (c.smaller-n.ensures, c.before.smaller-2.ensures, c.before.before.smaller.ensures)
+    (latest_pair-after (index_list p1.before.args.index) _ _ _ _ p1.pairs_after-n0.ensures
+    p2.pairs_after-n1.ensures p3.pairs_after-n2.ensures p4.pairs_after-n3.ensures)
 
-pairs-after-requires : tie.Need-pairs-after-requires
+pairs-after-requires : tie.Need-pairs_after-n0-requires
 pairs-after-requires c κs = search rules
 
-pairs-after-requires-2 : tie.Need-pairs-after-requires-2
+pairs-after-requires-2 : tie.Need-pairs_after-n1-requires
 pairs-after-requires-2 c κs = search rules
 
-pairs-after-requires-3 : tie.Need-pairs-after-requires-3
+pairs-after-requires-3 : tie.Need-pairs_after-n2-requires
 pairs-after-requires-3 c κs = search rules
 
-pairs-after-requires-4 : tie.Need-pairs-after-requires-4
+pairs-after-requires-4 : tie.Need-pairs_after-n3-requires
 pairs-after-requires-4 c κs = search rules
 
 smaller-requires : tie.Need-smaller-requires
@@ -38,20 +38,20 @@ smaller-requires c κs = search rules
 smaller-requires-2 : tie.Need-smaller-requires-2
 smaller-requires-2 c κs = search rules
 
-smaller-requires-3 : tie.Need-smaller-requires-3
+smaller-requires-3 : tie.Need-smaller-n-requires
 smaller-requires-3 c κs = search rules
 
-sub-result : tie.Need-overflow-sub-result
+sub-result : tie.Need-overflow_sub-result
 sub-result c = search rules
 
-returns : tie.Need-returns
+returns : tie.Need-returns-then-n-lt256
 returns c = (sym (least c.before), omega arith)
 
-returns-2 : tie.Need-returns-2
-returns-2 c = (omega (arith, least c.before, c.if1.false), omega arith)
+returns-2 : tie.Need-returns-else-n-lt256
+returns-2 c = (omega (arith, least c.before, c.if-n-lt256.false), omega arith)
 
-pub latest-pair-spec : {M : Type 1} → statement M
-latest-pair-spec =
+pub latest_pair_spec : {M : Type 1} → statement M
+latest_pair_spec =
     tie.close
     (tie.spec
     pairs-after-requires

@@ -7,26 +7,26 @@ use borrow.Author.Rules.{rules}
 use Rattle.address_formula.proofs.locate.Statement.{statement}
 use Rattle.address_formula.proofs.locate.Tie as tie
 
-latest-pair-requires : tie.Need-latest-pair-requires
+latest-pair-requires : tie.Need-latest_pair-latest-requires
 latest-pair-requires c κs = search rules
 
-returns : tie.Need-returns
+returns : tie.Need-returns-then-latest-eq0
 returns c =
     let s = c.before.before.args in
     sym
     (address-latest_pair-zero (width_list s.widths) (index_list s.index)
-    (sym c.before.latest-pair.ensures.0 ∙ c.if1.true))
+    (sym c.before.latest_pair-latest.ensures.0 ∙ c.if-latest-eq0.true))
 
-sub-address-before : tie.Need-overflow-sub-address-before
+sub-address-before : tie.Need-overflow_sub-latest
 sub-address-before c = search rules
 
-address-before-requires : tie.Need-address-before-requires
+address-before-requires : tie.Need-address_before-requires
 address-before-requires c κs = search rules
 
-returns-2 : tie.Need-returns-2
+returns-2 : tie.Need-returns
 returns-2 c = search rules
 
-pub locate-spec : {M : Type 1} → statement M
-locate-spec =
+pub locate_spec : {M : Type 1} → statement M
+locate_spec =
     tie.close
     (tie.spec latest-pair-requires returns sub-address-before address-before-requires returns-2)

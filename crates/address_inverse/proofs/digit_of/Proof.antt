@@ -8,21 +8,21 @@ use borrow.Author.Rules.{rules}
 use Rattle.address_inverse.proofs.digit_of.Statement.{statement}
 use Rattle.address_inverse.proofs.digit_of.Tie as tie
 
-returns : tie.Need-returns
+returns : tie.Need-returns-then-j-z
 returns c =
     let s = c.before.args in
-    digit_of-same s.x s.a (2 ^ s.h) s.j s.z c.if1.true
+    digit_of-same s.x s.a (2 ^ s.h) s.j s.z c.if-j-z.true
 
-shl-result : tie.Need-overflow-shl-result
+shl-result : tie.Need-overflow_shl-result
 shl-result c = search rules
 
-sub-result : tie.Need-overflow-sub-result
+sub-result : tie.Need-overflow_sub-result
 sub-result c = rw (one_shifted c.before.args.h (omega (arith, c.before.requires))) (pow_pos c.before.args.h)
 
-returns-2 : tie.Need-returns-2
+returns-2 : tie.Need-returns
 returns-2 c =
     let s = c.before.args in
-    digit_of-other s.x s.a s.h s.j s.z c.if1.false c.before.requires
+    digit_of-other s.x s.a s.h s.j s.z c.if-j-z.false c.before.requires
 
-pub digit-of-spec : {M : Type 1} → statement M
-digit-of-spec = tie.close (tie.spec returns shl-result sub-result returns-2)
+pub digit_of_spec : {M : Type 1} → statement M
+digit_of_spec = tie.close (tie.spec returns shl-result sub-result returns-2)

@@ -9,51 +9,51 @@ use Rattle.address_inverse.proofs.index_before.Statement.{statement}
 use Rattle.address_inverse.proofs.index_before.Tie as tie
 
 -- no depth is above its width
-deep : (c : tie.After-depth-before4) → (c.before.before.before.depth-before.result ≤ 16)
-    × (c.before.before.depth-before2.result ≤ 16) × (c.before.depth-before3.result ≤ 16)
-    × (c.depth-before4.result ≤ 16)
+deep : (c : tie.After-depth_before-h3) → (c.before.before.before.depth_before-h0.result ≤ 16)
+    × (c.before.before.depth_before-h1.result ≤ 16) × (c.before.depth_before-h2.result ≤ 16)
+    × (c.depth_before-h3.result ≤ 16)
 deep c =
     let fit = c.before.before.before.before.requires.fit in (
-      omega (arith, c.before.before.before.depth-before.ensures, fit 0),
-      omega (arith, c.before.before.depth-before2.ensures, fit 1),
-      omega (arith, c.before.depth-before3.ensures, fit 2),
-      omega (arith, c.depth-before4.ensures, fit 3),
+      omega (arith, c.before.before.before.depth_before-h0.ensures, fit 0),
+      omega (arith, c.before.before.depth_before-h1.ensures, fit 1),
+      omega (arith, c.before.depth_before-h2.ensures, fit 2),
+      omega (arith, c.depth_before-h3.ensures, fit 3),
     )
 
-depth-before-requires : tie.Need-depth-before-requires
+depth-before-requires : tie.Need-depth_before-h0-requires
 depth-before-requires c κs = search rules
 
-depth-before-requires-2 : tie.Need-depth-before-requires-2
+depth-before-requires-2 : tie.Need-depth_before-h1-requires
 depth-before-requires-2 c κs = search rules
 
-depth-before-requires-3 : tie.Need-depth-before-requires-3
+depth-before-requires-3 : tie.Need-depth_before-h2-requires
 depth-before-requires-3 c κs = search rules
 
-depth-before-requires-4 : tie.Need-depth-before-requires-4
+depth-before-requires-4 : tie.Need-depth_before-h3-requires
 depth-before-requires-4 c κs = search rules
 
-drop-digit-requires : tie.Need-drop-digit-requires
+drop-digit-requires : tie.Need-drop_digit-a3-requires
 drop-digit-requires c κs = (deep c).3
 
-drop-digit-requires-2 : tie.Need-drop-digit-requires-2
+drop-digit-requires-2 : tie.Need-drop_digit-a2-requires
 drop-digit-requires-2 c κs = (deep c.before).2
 
-drop-digit-requires-3 : tie.Need-drop-digit-requires-3
+drop-digit-requires-3 : tie.Need-drop_digit-a1-requires
 drop-digit-requires-3 c κs = (deep c.before.before).1
 
-drop-digit-requires-4 : tie.Need-drop-digit-requires-4
+drop-digit-requires-4 : tie.Need-drop_digit-a0-requires
 drop-digit-requires-4 c κs = (deep c.before.before.before).0
 
-digit-of-requires : tie.Need-digit-of-requires
+digit-of-requires : tie.Need-digit_of-i0-requires
 digit-of-requires c κs = (deep c.before.before.before.before).0
 
-digit-of-requires-2 : tie.Need-digit-of-requires-2
+digit-of-requires-2 : tie.Need-digit_of-i1-requires
 digit-of-requires-2 c κs = (deep c.before.before.before.before.before).1
 
-digit-of-requires-3 : tie.Need-digit-of-requires-3
+digit-of-requires-3 : tie.Need-digit_of-i2-requires
 digit-of-requires-3 c κs = (deep c.before.before.before.before.before.before).2
 
-digit-of-requires-4 : tie.Need-digit-of-requires-4
+digit-of-requires-4 : tie.Need-digit_of-i3-requires
 digit-of-requires-4 c κs = (deep c.before.before.before.before.before.before.before).3
 
 returns : tie.Need-returns
@@ -69,17 +69,17 @@ returns c =
     let h0 = h1.before in
     let s = h0.before in
     index_at-digits (width_list s.args.widths) s.args.a s.args.t s.args.g
-    h0.depth-before.result h1.depth-before2.result h2.depth-before3.result h3.depth-before4.result
+    h0.depth_before-h0.result h1.depth_before-h1.result h2.depth_before-h2.result h3.depth_before-h3.result
     s.requires
-    h0.depth-before.ensures h1.depth-before2.ensures h2.depth-before3.ensures h3.depth-before4.ensures
-    a3.drop-digit.result a2.drop-digit2.result a1.drop-digit3.result a0.drop-digit4.result
-    a3.drop-digit.ensures a2.drop-digit2.ensures a1.drop-digit3.ensures a0.drop-digit4.ensures
-    c.before.before.before.digit-of.result c.before.before.digit-of2.result c.before.digit-of3.result
-    c.digit-of4.result c.before.before.before.digit-of.ensures c.before.before.digit-of2.ensures
-    c.before.digit-of3.ensures c.digit-of4.ensures
+    h0.depth_before-h0.ensures h1.depth_before-h1.ensures h2.depth_before-h2.ensures h3.depth_before-h3.ensures
+    a3.drop_digit-a3.result a2.drop_digit-a2.result a1.drop_digit-a1.result a0.drop_digit-a0.result
+    a3.drop_digit-a3.ensures a2.drop_digit-a2.ensures a1.drop_digit-a1.ensures a0.drop_digit-a0.ensures
+    c.before.before.before.digit_of-i0.result c.before.before.digit_of-i1.result c.before.digit_of-i2.result
+    c.digit_of-i3.result c.before.before.before.digit_of-i0.ensures c.before.before.digit_of-i1.ensures
+    c.before.digit_of-i2.ensures c.digit_of-i3.ensures
 
-pub index-before-spec : {M : Type 1} → statement M
-index-before-spec =
+pub index_before_spec : {M : Type 1} → statement M
+index_before_spec =
     tie.close
     (tie.spec
     depth-before-requires

@@ -14,34 +14,34 @@ use borrow.Author.Rules.{rules}
 use Rattle.address_inverse.proofs.vector_at.Statement.{statement}
 use Rattle.address_inverse.proofs.vector_at.Tie as tie
 
-bounds : (c : tie.Else1) → let a = c.before.args.a in
+bounds : (c : tie.Else-a-eq0) → let a = c.before.args.a in
     (count_leading_zeros 64 a ≤ 63) × (2 ^ (63 - count_leading_zeros 64 a) ≤ a) × (a < 2 ^ (63 - count_leading_zeros 64 a + 1))
-bounds c = leading-bounds c.before.args.a c.if1.false c.before.ranges.a.fits
+bounds c = leading-bounds c.before.args.a c.if-a-eq0.false c.before.ranges.a.fits
 
-returns : tie.Need-returns
+returns : tie.Need-returns-then-a-eq0
 returns c =
     let ws = width_list c.before.args.widths in
-    subst (λ a. IndexAt ws a (0 ∷ 0 ∷ 0 ∷ 0 ∷ [])) (sym c.if1.true) (index_at-zero ws)
+    subst (λ a. IndexAt ws a (0 ∷ 0 ∷ 0 ∷ 0 ∷ [])) (sym c.if-a-eq0.true) (index_at-zero ws)
 
-cast_t : tie.Need-overflow-cast-t
+cast_t : tie.Need-overflow_cast-t
 cast_t c = record { fits = omega (arith, (bounds c).0) }
 
-sub-t : tie.Need-overflow-sub-t
+sub-t : tie.Need-overflow_sub-t
 sub-t c = (bounds c).0
 
-step-place-requires : tie.Need-step-place-requires
+step-place-requires : tie.Need-step_place-g-requires
 step-place-requires c κs =
     let p = c.before.requires in
     (p.0, pow_below _ _ c.before.args.a (bounds c).1 p.1)
 
-index-before-requires : tie.Need-index-before-requires
+index-before-requires : tie.Need-index_before-requires
 index-before-requires c κs =
     let b = bounds c.before in
-    record { fit = c.before.before.requires.0; from = b.1; past = b.2; pair = c.step-place.ensures }
+    record { fit = c.before.before.requires.0; from = b.1; past = b.2; pair = c.step_place-g.ensures }
 
-returns-2 : tie.Need-returns-2
+returns-2 : tie.Need-returns
 returns-2 c = search rules
 
-pub vector-at-spec : {M : Type 1} → statement M
-vector-at-spec =
+pub vector_at_spec : {M : Type 1} → statement M
+vector_at_spec =
     tie.close (tie.spec returns cast_t sub-t step-place-requires index-before-requires returns-2)

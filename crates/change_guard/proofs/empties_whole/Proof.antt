@@ -7,56 +7,56 @@ use Rattle.change_guard.proofs.JoinLaws.{EmptyTo, empty_to-start, empty_to-suc, 
 use Rattle.change_guard.proofs.empties_whole.Statement.{statement}
 use Rattle.change_guard.proofs.empties_whole.Tie as tie
 
-abbrev invariant-loop : tie.invariant-loop
+abbrev invariant-loop : tie.invariant-loop-z
 invariant-loop state dir encoded m y z₀ z = EmptyTo state dir encoded m y z
 
-abbrev decreases-loop : tie.decreases-loop
+abbrev decreases-loop : tie.decreases-loop-z
 decreases-loop state dir encoded m y z₀ z = m - z
 
-loop-holds : tie.Need-loop-init invariant-loop decreases-loop
+loop-holds : tie.Need-loop-z-init invariant-loop decreases-loop
 loop-holds c = empty_to-start _ _ _ _ _ c.before.requires.above
 
-add-pack-empty : tie.Need-overflow-add-pack-empty invariant-loop decreases-loop
+add-pack-empty : tie.Need-overflow_add-z invariant-loop decreases-loop
 add-pack-empty c =
     let s = c.before.before.before in
-    record { fits = omega (arith, c.loop-test.true, s.requires.below, s.requires.lent.short) }
+    record { fits = omega (arith, c.loop-z-test.true, s.requires.below, s.requires.lent.short) }
 
-pack-empty-requires : tie.Need-pack-empty-requires invariant-loop decreases-loop
+pack-empty-requires : tie.Need-pack_empty-word-requires invariant-loop decreases-loop
 pack-empty-requires c κs =
     let s = c.before.before.before in
-    omega (arith, c.loop-test.true, s.requires.below, s.requires.lent.short)
+    omega (arith, c.loop-z-test.true, s.requires.below, s.requires.lent.short)
 
-sibling-whole-requires : tie.Need-sibling-whole-requires invariant-loop decreases-loop
+sibling-whole-requires : tie.Need-sibling_whole-requires invariant-loop decreases-loop
 sibling-whole-requires c κs =
     let s = c.before.before.before.before in
-    (s.requires.lent, omega (arith, c.before.loop-test.true, s.requires.below))
+    (s.requires.lent, omega (arith, c.before.loop-z-test.true, s.requires.below))
 
-returns : tie.Need-returns invariant-loop decreases-loop
+returns : tie.Need-returns-then-not-sibling_whole invariant-loop decreases-loop
 returns c =
     let turn = c.before.before.before in
-    empties_told-no _ _ _ _ _ _ turn.before.loop.invariant turn.loop-test.true _
-    c.before.before.pack-empty.ensures _ c.before.sibling-whole.ensures (not-true _ c.if1.true)
+    empties_told-no _ _ _ _ _ _ turn.before.loop-z.invariant turn.loop-z-test.true _
+    c.before.before.pack_empty-word.ensures _ c.before.sibling_whole.ensures (not-true _ c.if-not-sibling_whole.true-raw)
 
-add-z : tie.Need-overflow-add-z invariant-loop decreases-loop
+add-z : tie.Need-overflow_add-z-in-loop-z invariant-loop decreases-loop
 add-z c =
     let turn = c.before.before.before in
     let s = turn.before.before.before in
-    record { fits = omega (arith, turn.loop-test.true, s.requires.below, s.requires.lent.short) }
+    record { fits = omega (arith, turn.loop-z-test.true, s.requires.below, s.requires.lent.short) }
 
-loop-less : tie.Need-loop-smaller invariant-loop decreases-loop
-loop-less c = omega (arith, c.before.before.before.loop-test.true)
+loop-less : tie.Need-loop-z-smaller invariant-loop decreases-loop
+loop-less c = omega (arith, c.before.before.before.loop-z-test.true)
 
-loop-again : tie.Need-loop-preserved invariant-loop decreases-loop
+loop-again : tie.Need-loop-z-preserved invariant-loop decreases-loop
 loop-again c =
     let turn = c.before.before.before in
-    empty_to-suc _ _ _ _ _ _ turn.before.loop.invariant turn.loop-test.true _
-    c.before.before.pack-empty.ensures _ c.before.sibling-whole.ensures (not-false _ c.if1.false)
+    empty_to-suc _ _ _ _ _ _ turn.before.loop-z.invariant turn.loop-z-test.true _
+    c.before.before.pack_empty-word.ensures _ c.before.sibling_whole.ensures (not-false _ c.if-not-sibling_whole.false-raw)
 
-returns-2 : tie.Need-returns-2 invariant-loop decreases-loop
-returns-2 c = empties_told-yes _ _ _ _ _ _ c.before.loop.invariant c.loop-test.false
+returns-2 : tie.Need-returns invariant-loop decreases-loop
+returns-2 c = empties_told-yes _ _ _ _ _ _ c.before.loop-z.invariant c.loop-z-test.false
 
-pub empties-whole-spec : {M : Type 1} → statement M
-empties-whole-spec =
+pub empties_whole_spec : {M : Type 1} → statement M
+empties_whole_spec =
     tie.close
     (tie.spec
     invariant-loop

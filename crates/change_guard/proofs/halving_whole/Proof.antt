@@ -9,16 +9,16 @@ use native.Mathlib.Omega.{arith}
 use Rattle.change_guard.proofs.halving_whole.Statement.{statement}
 use Rattle.change_guard.proofs.halving_whole.Tie as tie
 
-widths-of-requires : tie.Need-widths-of-requires
+widths-of-requires : tie.Need-widths_of-widths-requires
 widths-of-requires c κs = search rules
 
-cast-folds : tie.Need-overflow-cast-folds
+cast-folds : tie.Need-overflow_cast-state
 cast-folds c = search rules
 
 folds-requires : tie.Need-folds-requires
 folds-requires c κs =
     let s = c.before.before.before in
-    let w = c.before.widths-of in
+    let w = c.before.widths_of-widths in
     (directory_fits s.args.state (width_list w.result) w.ensures _ _ s.requires.0 (omega arith), s.requires.1)
 
 returns : tie.Need-returns
@@ -26,8 +26,8 @@ returns c =
     let a = c.before.before.before.before.args in
     subst
     (λ ws. FoldTold ws a.u a.state.deepest (split_bit ws a.encoded) a.dir.now
-    c.folds.result) c.before.before.widths-of.ensures c.folds.ensures
+    c.folds.result) c.before.before.widths_of-widths.ensures c.folds.ensures
 
-pub halving-whole-spec : {M : Type 1} → statement M
-halving-whole-spec =
+pub halving_whole_spec : {M : Type 1} → statement M
+halving_whole_spec =
     tie.close (tie.spec widths-of-requires cast-folds folds-requires returns)

@@ -6,28 +6,28 @@ use Rattle.change_guard.proofs.JoinLaws.{join_told-own, join_told-other, join_to
 use Rattle.change_guard.proofs.join_keeps.Statement.{statement}
 use Rattle.change_guard.proofs.join_keeps.Tie as tie
 
-pack-page-requires : tie.Need-pack-page-requires
+pack-page-requires : tie.Need-pack_page-own-requires
 pack-page-requires c κs = search rules
 
-leaf-whole-requires : tie.Need-leaf-whole-requires
+leaf-whole-requires : tie.Need-leaf_whole-requires
 leaf-whole-requires c κs = search rules
 
-returns : tie.Need-returns
+returns : tie.Need-returns-then-not-leaf_whole
 returns c =
     let own = c.before in
     let s = own.before.before.before in
     delete_told-join _ _ _ _ _ _
     (join_told-own _ _ _ s.args.found s.args.join s.requires.leaves.depth-step _
-    own.before.pack-page.ensures _ own.leaf-whole.ensures
-    (not-true _ c.if1.true))
+    own.before.pack_page-own.ensures _ own.leaf_whole.ensures
+    (not-true _ c.if-not-leaf_whole.true-raw))
 
-pack-page-requires-2 : tie.Need-pack-page-requires-2
+pack-page-requires-2 : tie.Need-pack_page-other-requires
 pack-page-requires-2 c κs = search rules
 
-sibling-whole-requires : tie.Need-sibling-whole-requires
+sibling-whole-requires : tie.Need-sibling_whole-requires
 sibling-whole-requires c κs = search rules
 
-returns-2 : tie.Need-returns-2
+returns-2 : tie.Need-returns-then-not-sibling_whole
 returns-2 c =
     let other = c.before in
     let whole = other.before.before in
@@ -35,14 +35,14 @@ returns-2 c =
     let s = own.before.before.before in
     delete_told-join _ _ _ _ _ _
     (join_told-other _ _ _ s.args.found s.args.join s.requires.leaves.depth-step _
-    own.before.pack-page.ensures _ own.leaf-whole.ensures
-    (not-false _ whole.if1.false) _ other.before.pack-page2.ensures _ other.sibling-whole.ensures
-    (not-true _ c.if2.true))
+    own.before.pack_page-own.ensures _ own.leaf_whole.ensures
+    (not-false _ whole.if-not-leaf_whole.false-raw) _ other.before.pack_page-other.ensures _ other.sibling_whole.ensures
+    (not-true _ c.if-not-sibling_whole.true-raw))
 
-empties-whole-requires : tie.Need-empties-whole-requires
+empties-whole-requires : tie.Need-empties_whole-requires
 empties-whole-requires c κs = search rules
 
-returns-3 : tie.Need-returns-3
+returns-3 : tie.Need-returns-then-not-empties_whole
 returns-3 c =
     let empties = c.before in
     let both = empties.before in
@@ -52,17 +52,17 @@ returns-3 c =
     let s = own.before.before.before in
     delete_told-join _ _ _ _ _ _
     (join_told-empties _ _ _ s.args.found s.args.join s.requires.leaves.depth-step _
-    own.before.pack-page.ensures _ own.leaf-whole.ensures (not-false _ whole.if1.false) _
-    other.before.pack-page2.ensures _ other.sibling-whole.ensures (not-false _ both.if2.false) _
-    empties.empties-whole.ensures (not-true _ c.if3.true))
+    own.before.pack_page-own.ensures _ own.leaf_whole.ensures (not-false _ whole.if-not-leaf_whole.false-raw) _
+    other.before.pack_page-other.ensures _ other.sibling_whole.ensures (not-false _ both.if-not-sibling_whole.false-raw) _
+    empties.empties_whole.ensures (not-true _ c.if-not-empties_whole.true-raw))
 
-joined-depth-requires : tie.Need-joined-depth-requires
+joined-depth-requires : tie.Need-joined_depth-requires
 joined-depth-requires c κs = search rules
 
-halving-whole-requires : tie.Need-halving-whole-requires
+halving-whole-requires : tie.Need-halving_whole-requires
 halving-whole-requires c κs = search rules
 
-returns-4 : tie.Need-returns-4
+returns-4 : tie.Need-returns
 returns-4 c =
     let all = c.before.before in
     let empties = all.before in
@@ -73,13 +73,13 @@ returns-4 c =
     let s = own.before.before.before in
     delete_told-join _ _ _ _ _ _
     (join_told-folds _ _ _ s.args.found s.args.join s.requires.leaves.depth-step _
-    own.before.pack-page.ensures _ own.leaf-whole.ensures (not-false _ whole.if1.false) _
-    other.before.pack-page2.ensures _ other.sibling-whole.ensures (not-false _ both.if2.false) _
-    empties.empties-whole.ensures (not-false _ all.if3.false) _
-    c.before.joined-depth.ensures.is _ c.halving-whole.ensures)
+    own.before.pack_page-own.ensures _ own.leaf_whole.ensures (not-false _ whole.if-not-leaf_whole.false-raw) _
+    other.before.pack_page-other.ensures _ other.sibling_whole.ensures (not-false _ both.if-not-sibling_whole.false-raw) _
+    empties.empties_whole.ensures (not-false _ all.if-not-empties_whole.false-raw) _
+    c.before.joined_depth.ensures.is _ c.halving_whole.ensures)
 
-pub join-keeps-spec : {M : Type 1} → statement M
-join-keeps-spec =
+pub join_keeps_spec : {M : Type 1} → statement M
+join_keeps_spec =
     tie.close
     (tie.spec
     pack-page-requires

@@ -10,52 +10,52 @@ use Rattle.change_kept.specs.Tested.{joined_depth}
 use Rattle.change_guard.proofs.joined_depth.Statement.{statement}
 use Rattle.change_guard.proofs.joined_depth.Tie as tie
 
-depth_is : (c : tie.After-greatest-depth) → let a = c.before.before.before.before.before.before.args in
-    c.greatest-depth.result ≡ joined_depth a.state a.join
+depth_is : (c : tie.After-greatest_depth) → let a = c.before.before.before.before.before.before.args in
+    c.greatest_depth.result ≡ joined_depth a.state a.join
 depth_is c =
     let s = c.before.before.before.before.before.before in
     let a = s.args in
-    c.greatest-depth.ensures
+    c.greatest_depth.ensures
     ∙ ap (tally_depth a.state.deepest)
-    (c.before.before.join.ensures
+    (c.before.before.join-tally.ensures
     ∙ ap (λ x. joined_tally a.join.top (x - a.join.top) a.state.tally.leaves) s.requires.1.depth-step)
 
-depth_le : (c : tie.After-greatest-depth)
-    → c.greatest-depth.result ≤ c.before.before.before.before.before.before.args.state.deepest
+depth_le : (c : tie.After-greatest_depth)
+    → c.greatest_depth.result ≤ c.before.before.before.before.before.before.args.state.deepest
 depth_le c =
     let a = c.before.before.before.before.before.before.args in
     omega (
       arith,
-      c.greatest-depth.ensures,
-      tally_depth-le c.before.before.join.result.leaves a.state.deepest,
+      c.greatest_depth.ensures,
+      tally_depth-le c.before.before.join-tally.result.leaves a.state.deepest,
     )
 
-sub-levels : tie.Need-overflow-sub-levels
+sub-levels : tie.Need-overflow_sub-levels
 sub-levels c = search rules
 
-cast-join : tie.Need-overflow-cast-join
+cast-join : tie.Need-overflow_cast-join
 cast-join c = search rules
 
-cast-join-2 : tie.Need-overflow-cast-join-2
+cast-join-2 : tie.Need-overflow_cast-levels
 cast-join-2 c = search rules
 
-join-requires : tie.Need-join-requires
+join-requires : tie.Need-join-tally-requires
 join-requires c κs = search rules
 
-cast-greatest-depth : tie.Need-overflow-cast-greatest-depth
+cast-greatest-depth : tie.Need-overflow_cast-state
 cast-greatest-depth c = search rules
 
-greatest-depth-requires : tie.Need-greatest-depth-requires
+greatest-depth-requires : tie.Need-greatest_depth-requires
 greatest-depth-requires c κs = search rules
 
-cast-result : tie.Need-overflow-cast-result
+cast-result : tie.Need-overflow_cast-result
 cast-result c = omega (arith, depth_le c, c.before.before.before.before.before.before.requires.0)
 
 returns : tie.Need-returns
 returns c = record { is = depth_is c; at_most = depth_le c }
 
-pub joined-depth-spec : {M : Type 1} → statement M
-joined-depth-spec =
+pub joined_depth_spec : {M : Type 1} → statement M
+joined_depth_spec =
     tie.close
     (tie.spec
     sub-levels

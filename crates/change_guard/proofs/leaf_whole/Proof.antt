@@ -9,16 +9,16 @@ use native.Mathlib.Omega.{arith}
 use Rattle.change_guard.proofs.leaf_whole.Statement.{statement}
 use Rattle.change_guard.proofs.leaf_whole.Tie as tie
 
-widths-of-requires : tie.Need-widths-of-requires
+widths-of-requires : tie.Need-widths_of-widths-requires
 widths-of-requires c κs = search rules
 
-cast-region-holds : tie.Need-overflow-cast-region-holds
+cast-region-holds : tie.Need-overflow_cast-state
 cast-region-holds c = search rules
 
-region-holds-requires : tie.Need-region-holds-requires
+region-holds-requires : tie.Need-region_holds-requires
 region-holds-requires c κs =
     let s = c.before.before.before in
-    let w = c.before.widths-of in
+    let w = c.before.widths_of-widths in
     (directory_fits s.args.state (width_list w.result) w.ensures _ _ s.requires.0 (omega arith), s.requires.1)
 
 returns : tie.Need-returns
@@ -26,8 +26,8 @@ returns c =
     let a = c.before.before.before.before.args in
     subst
     (λ ws. RegionTold ws a.state.deepest a.x (split_bit ws a.encoded) a.word a.dir.now
-    c.region-holds.result) c.before.before.widths-of.ensures c.region-holds.ensures
+    c.region_holds.result) c.before.before.widths_of-widths.ensures c.region_holds.ensures
 
-pub leaf-whole-spec : {M : Type 1} → statement M
-leaf-whole-spec =
+pub leaf_whole_spec : {M : Type 1} → statement M
+leaf_whole_spec =
     tie.close (tie.spec widths-of-requires cast-region-holds region-holds-requires returns)

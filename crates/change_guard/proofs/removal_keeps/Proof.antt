@@ -11,40 +11,40 @@ use Rattle.change_guard.proofs.DeleteLaws.{delete_told-many, delete_told-one}
 use Rattle.change_guard.proofs.removal_keeps.Statement.{statement}
 use Rattle.change_guard.proofs.removal_keeps.Tie as tie
 
-returns : tie.Need-returns
-returns c = delete_told-many _ _ _ _ c.if1.true
+returns : tie.Need-returns-then-found-ne1
+returns c = delete_told-many _ _ _ _ c.if-found-ne1.true
 
-pack-page-requires : tie.Need-pack-page-requires
+pack-page-requires : tie.Need-pack_page-word-requires
 pack-page-requires c κs = search rules
 
-widths-of-requires : tie.Need-widths-of-requires
+widths-of-requires : tie.Need-widths_of-widths-requires
 widths-of-requires c κs = search rules
 
-cast-region-holds : tie.Need-overflow-cast-region-holds
+cast-region-holds : tie.Need-overflow_cast-found
 cast-region-holds c = search rules
 
-cast-region-holds-2 : tie.Need-overflow-cast-region-holds-2
+cast-region-holds-2 : tie.Need-overflow_cast-state
 cast-region-holds-2 c = search rules
 
-region-holds-requires : tie.Need-region-holds-requires
+region-holds-requires : tie.Need-region_holds-requires
 region-holds-requires c κs =
     let s = c.before.before.before.before.before.before.before in
-    let w = c.before.before.widths-of in (
+    let w = c.before.before.widths_of-widths in (
       directory_fits s.args.state (width_list w.result) w.ensures _ _ s.requires.lent (omega arith),
       s.requires.deep,
     )
 
-returns-2 : tie.Need-returns-2
+returns-2 : tie.Need-returns
 returns-2 c =
     let a = c.before.before.before.before.before.before.before.before.args in
     let told = subst
     (λ ws. RegionTold ws a.state.deepest a.found.depth (split_bit ws a.encoded)
-    c.before.before.before.before.pack-page.result a.dir.now c.region-holds.result)
-    c.before.before.before.widths-of.ensures c.region-holds.ensures in
-    delete_told-one _ _ _ a.found _ _ c.before.before.before.before.pack-page.ensures told
+    c.before.before.before.before.pack_page-word.result a.dir.now c.region_holds.result)
+    c.before.before.before.widths_of-widths.ensures c.region_holds.ensures in
+    delete_told-one _ _ _ a.found _ _ c.before.before.before.before.pack_page-word.ensures told
 
-pub removal-keeps-spec : {M : Type 1} → statement M
-removal-keeps-spec =
+pub removal_keeps_spec : {M : Type 1} → statement M
+removal_keeps_spec =
     tie.close
     (tie.spec
     returns

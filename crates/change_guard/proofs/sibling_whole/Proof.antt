@@ -11,16 +11,16 @@ use native.Mathlib.Omega.{arith}
 use Rattle.change_guard.proofs.sibling_whole.Statement.{statement}
 use Rattle.change_guard.proofs.sibling_whole.Tie as tie
 
-widths-of-requires : tie.Need-widths-of-requires
+widths-of-requires : tie.Need-widths_of-widths-requires
 widths-of-requires c κs = search rules
 
-cast-sibling-holds : tie.Need-overflow-cast-sibling-holds
+cast-sibling-holds : tie.Need-overflow_cast-state
 cast-sibling-holds c = search rules
 
-sibling-holds-requires : tie.Need-sibling-holds-requires
+sibling-holds-requires : tie.Need-sibling_holds-requires
 sibling-holds-requires c κs =
     let s = c.before.before.before in
-    let w = c.before.widths-of in
+    let w = c.before.widths_of-widths in
     (directory_fits s.args.state (width_list w.result) w.ensures _ _ s.requires.0 (omega arith), s.requires.1)
 
 returns : tie.Need-returns
@@ -28,8 +28,8 @@ returns c =
     let a = c.before.before.before.before.args in
     subst
     (λ ws. RegionTold ws a.state.deepest (suc a.z) (sibling (split_bit ws a.encoded) a.z) a.word
-    a.dir.now c.sibling-holds.result) c.before.before.widths-of.ensures c.sibling-holds.ensures
+    a.dir.now c.sibling_holds.result) c.before.before.widths_of-widths.ensures c.sibling_holds.ensures
 
-pub sibling-whole-spec : {M : Type 1} → statement M
-sibling-whole-spec =
+pub sibling_whole_spec : {M : Type 1} → statement M
+sibling_whole_spec =
     tie.close (tie.spec widths-of-requires cast-sibling-holds sibling-holds-requires returns)

@@ -13,64 +13,64 @@ use Rattle.check_call.proofs.check.Statement.{statement}
 use Rattle.check_call.proofs.check.Tie as tie
 
 -- what the tests have told
-none : (c : tie.Else1) → let a = c.before.before.before.before.args in
+none : (c : tie.Else-number-ne0) → let a = c.before.before.before.before.args in
     lent_number_by a.state (length a.dir.now) (length a.pages.now) ≡ 0
-none c = sym c.before.lent-number.ensures ∙ c.if1.false
+none c = sym c.before.lent_number-number.ensures ∙ c.if-number-ne0.false
 
-limits : (c : tie.Else2) → let a = c.before.before.before.before.before.before.args in
+limits : (c : tie.Else-not-limits_hold) → let a = c.before.before.before.before.before.before.args in
     limits_hold a.state ≡ true
-limits c = sym c.before.limits-hold.ensures ∙ not-false _ c.if2.false
+limits c = sym c.before.limits_hold.ensures ∙ not-false _ c.if-not-limits_hold.false-raw
 
-lent-number-requires : tie.Need-lent-number-requires
+lent-number-requires : tie.Need-lent_number-number-requires
 lent-number-requires c κs = search rules
 
-refuse-check-requires : tie.Need-refuse-check-requires
+refuse-check-requires : tie.Need-refuse_check-requires
 refuse-check-requires c κs = search rules
 
-returns : tie.Need-returns
+returns : tie.Need-returns-then-number-ne0
 returns c =
     let n = c.before.before in
     let a = n.before.before.before.args in
-    rw c.refuse-check.ensures
-    (check-refused a.state a.dir.now a.pages.now _ c.before.if1.true n.lent-number.ensures)
+    rw c.refuse_check.ensures
+    (check-refused a.state a.dir.now a.pages.now _ c.before.if-number-ne0.true n.lent_number-number.ensures)
 
-limits-hold-requires : tie.Need-limits-hold-requires
+limits-hold-requires : tie.Need-limits_hold-requires
 limits-hold-requires c κs = (memory_lent _ _ _ (none c)).shape
 
-returns-2 : tie.Need-returns-2
+returns-2 : tie.Need-returns-then-not-limits_hold
 unfolding checked_answer
 returns-2 c =
     let lent = c.before.before in
     let a = lent.before.before.before.before.args in
     check-limits-fail a.state a.dir.now a.pages.now (none lent)
-    (sym c.before.limits-hold.ensures ∙ not-true _ c.if2.true)
+    (sym c.before.limits_hold.ensures ∙ not-true _ c.if-not-limits_hold.true-raw)
 
-shows-leaves-requires : tie.Need-shows-leaves-requires
+shows-leaves-requires : tie.Need-shows_leaves-requires
 shows-leaves-requires c κs =
     let lent = c.before.before in
     let a = lent.before.before.before.before.args in
     store_lent a.state a.dir.now a.pages.now (none lent) (limits c)
 
-returns-3 : tie.Need-returns-3
+returns-3 : tie.Need-returns-then-shows_leaves
 unfolding checked_answer
 returns-3 c =
     let limited = c.before.before in
     let lent = limited.before.before in
     let a = lent.before.before.before.before.args in
     check-shows a.state a.dir.now a.pages.now (none lent) (limits limited) true
-    (sym c.if3.true ∙ c.before.shows-leaves.ensures)
+    (sym c.if-shows_leaves.true ∙ c.before.shows_leaves.ensures)
 
-returns-4 : tie.Need-returns-4
+returns-4 : tie.Need-returns
 unfolding checked_answer
 returns-4 c =
     let limited = c.before.before in
     let lent = limited.before.before in
     let a = lent.before.before.before.before.args in
     check-shows a.state a.dir.now a.pages.now (none lent) (limits limited) false
-    (sym c.if3.false ∙ c.before.shows-leaves.ensures)
+    (sym c.if-shows_leaves.false ∙ c.before.shows_leaves.ensures)
 
-pub check-spec : {M : Type 1} → statement M
-check-spec =
+pub check_spec : {M : Type 1} → statement M
+check_spec =
     tie.close
     (tie.spec
     lent-number-requires

@@ -16,75 +16,75 @@ use Rattle.check_counts.proofs.CountLaws.{count_of-page_at, used_pages-free, use
 use Rattle.check_counts.proofs.pages_in_use.Statement.{statement}
 use Rattle.check_counts.proofs.pages_in_use.Tie as tie
 
-abbrev invariant-loop : tie.invariant-loop
+abbrev invariant-loop : tie.invariant-loop-page
 invariant-loop capacity n pages size used₀ page₀ start₀ used page start =
     (page ≤ n) × (start ≡ page * page_size capacity) × (used ≡ used_pages capacity pages page)
 
-abbrev decreases-loop : tie.decreases-loop
+abbrev decreases-loop : tie.decreases-loop-page
 decreases-loop capacity n pages size used₀ page₀ start₀ used page start = n - page
 
 -- the page lies in the lent bytes
-within : (c : tie.In-loop invariant-loop decreases-loop) → let s = c.before.before.before.before.args in
-    c.before.loop.start + page_size s.capacity ≤ length s.pages.now
+within : (c : tie.In-loop-page invariant-loop decreases-loop) → let s = c.before.before.before.before.args in
+    c.before.loop-page.start + page_size s.capacity ≤ length s.pages.now
 within c =
     let s = c.before.before.before.before in
-    let l = c.before.loop in
-    let end = page-end-le s.args.capacity l.page s.args.n c.loop-test.true in
+    let l = c.before.loop-page in
+    let end = page-end-le s.args.capacity l.page s.args.n c.loop-page-test.true in
     omega (arith, s.requires, l.invariant.1, end)
 
-page-size-requires : tie.Need-page-size-requires invariant-loop decreases-loop
+page-size-requires : tie.Need-page_size-size-requires invariant-loop decreases-loop
 page-size-requires c κs = search rules
 
-loop-holds : tie.Need-loop-init invariant-loop decreases-loop
+loop-holds : tie.Need-loop-page-init invariant-loop decreases-loop
 loop-holds c = (omega arith, omega arith, refl)
 
-number-at-requires : tie.Need-number-at-requires invariant-loop decreases-loop
+number-at-requires : tie.Need-number_at-requires invariant-loop decreases-loop
 number-at-requires c κs = omega (arith, within c)
 
-add-used : tie.Need-overflow-add-used invariant-loop decreases-loop
+add-used : tie.Need-overflow_add-used invariant-loop decreases-loop
 add-used c =
     let s = c.before.before.before.before.before.before.args in
-    let l = c.before.before.before.loop in
+    let l = c.before.before.before.loop-page in
     let le = used_pages-le s.capacity s.pages.now l.page in
-    record { fits = omega (arith, c.before.before.loop-test.true, le, l.invariant) }
+    record { fits = omega (arith, c.before.before.loop-page-test.true, le, l.invariant) }
 
-add_start : tie.Need-overflow-add-start invariant-loop decreases-loop
+add_start : tie.Need-overflow_add-start invariant-loop decreases-loop
 add_start c =
-    rw c.before.before.before.before.page-size.ensures
+    rw c.before.before.before.before.page_size-size.ensures
     (record { fits = omega (arith, within c.before.before) })
 
-add-page : tie.Need-overflow-add-page invariant-loop decreases-loop
-add-page c = omega (arith, c.before.before.loop-test.true)
+add-page : tie.Need-overflow_add-page invariant-loop decreases-loop
+add-page c = omega (arith, c.before.before.loop-page-test.true)
 
-loop-less : tie.Need-loop-smaller invariant-loop decreases-loop
-loop-less c = omega (arith, c.before.before.loop-test.true)
+loop-less : tie.Need-loop-page-smaller invariant-loop decreases-loop
+loop-less c = omega (arith, c.before.before.loop-page-test.true)
 
-loop-again : tie.Need-loop-preserved invariant-loop decreases-loop
+loop-again : tie.Need-loop-page-preserved invariant-loop decreases-loop
 loop-again c =
     let s = c.before.before.before.before.before.before.args in
-    let l = c.before.before.before.loop in
+    let l = c.before.before.before.loop-page in
     let b = s.capacity in
-    let size = c.before.before.before.before.page-size.ensures in
+    let size = c.before.before.before.before.page_size-size.ensures in
     let read = c.before.number_at.ensures.0
     ∙ ap (λ o. number_of (field s.pages.now o 2)) l.invariant.1
     ∙ count_of-page_at b l.page s.pages.now in (
-      omega (arith, c.before.before.loop-test.true),
+      omega (arith, c.before.before.loop-page-test.true),
       rw (l.invariant.1, size, add-one l.page, suc-mul l.page (page_size b)) refl,
       ⊎_elim
           (λ w. rw w.1 (used_pages-used b s.pages.now l.page l.used l.invariant.2 _ read w.0.taken))
           (λ w. rw w.1 (used_pages-free b s.pages.now l.page l.used l.invariant.2 _ read w.0.left))
-          c.if1.branch,
+          c.if-number_at-ne0.branch,
     )
 
 returns : tie.Need-returns invariant-loop decreases-loop
 returns c =
-    let l = c.before.loop in
+    let l = c.before.loop-page in
     let s = c.before.before.before.before.args in
-    let end : l.page ≡ s.n = omega (arith, c.loop-test.false, l.invariant.0) in
+    let end : l.page ≡ s.n = omega (arith, c.loop-page-test.false, l.invariant.0) in
     l.invariant.2 ∙ ap (used_pages s.capacity s.pages.now) end
 
-pub pages-in-use-spec : {M : Type 1} → statement M
-pages-in-use-spec =
+pub pages_in_use_spec : {M : Type 1} → statement M
+pages_in_use_spec =
     tie.close
     (tie.spec
     invariant-loop

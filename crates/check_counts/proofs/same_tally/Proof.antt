@@ -13,59 +13,59 @@ use Rattle.shape.proofs.BoundsLaws.{all_below-suc, all_below-fails}
 use Rattle.check_counts.proofs.same_tally.Statement.{statement}
 use Rattle.check_counts.proofs.same_tally.Tie as tie
 
-abbrev invariant-loop : tie.invariant-loop
+abbrev invariant-loop : tie.invariant-loop-x
 invariant-loop counts leaves x₀ x = (x ≤ 13) × (all_below x (λ y. eqb (get_or leaves y 0) (get_or counts y 0)) ≡ true)
 
-abbrev decreases-loop : tie.decreases-loop
+abbrev decreases-loop : tie.decreases-loop-x
 decreases-loop counts leaves x₀ x = 13 - x
 
-loop-holds : tie.Need-loop-init invariant-loop decreases-loop
+loop-holds : tie.Need-loop-x-init invariant-loop decreases-loop
 loop-holds c = (omega arith, refl)
 
-mul-if1 : tie.Need-overflow-mul-if1 invariant-loop decreases-loop
-mul-if1 c = omega (arith, c.loop-test.true)
+mul-if1 : tie.Need-offset_bounds-leaves-x invariant-loop decreases-loop
+mul-if1 c = omega (arith, c.loop-x-test.true)
 
-array-read-if1 : tie.Need-array-read-if1 invariant-loop decreases-loop
-array-read-if1 c = omega (arith, c.loop-test.true)
+array-read-if1 : tie.Need-bounds-leaves-x invariant-loop decreases-loop
+array-read-if1 c = omega (arith, c.loop-x-test.true)
 
-mul-if1-2 : tie.Need-overflow-mul-if1-2 invariant-loop decreases-loop
-mul-if1-2 c = omega (arith, c.loop-test.true)
+mul-if1-2 : tie.Need-offset_bounds-counts-x invariant-loop decreases-loop
+mul-if1-2 c = omega (arith, c.loop-x-test.true)
 
-shared-slice-read-if1 : tie.Need-shared-slice-read-if1 invariant-loop decreases-loop
-shared-slice-read-if1 c = omega (arith, c.before.loop-test.true, c.before.before.before.before.requires)
+shared-slice-read-if1 : tie.Need-bounds-counts-x invariant-loop decreases-loop
+shared-slice-read-if1 c = omega (arith, c.before.loop-x-test.true, c.before.before.before.before.requires)
 
-returns : tie.Need-returns invariant-loop decreases-loop
+returns : tie.Need-returns-then-leaves-x invariant-loop decreases-loop
 returns c =
     let s = c.before.before.before.before.before.args in
-    let x = c.before.before.before.loop.x in
+    let x = c.before.before.before.loop-x.x in
     let test : ℕ → Bool = λ y. eqb (get_or s.tally.leaves y 0) (get_or s.counts.now y 0) in
-    let fails = ne_eqb (get_or s.tally.leaves x 0) (get_or s.counts.now x 0) c.if1.true in
-    (sym (all_below-fails test 13 x (omega (arith, c.before.before.loop-test.true)) fails), search rules)
+    let fails = ne_eqb (get_or s.tally.leaves x 0) (get_or s.counts.now x 0) c.if-leaves-x.true in
+    (sym (all_below-fails test 13 x (omega (arith, c.before.before.loop-x-test.true)) fails), search rules)
 
-add-x : tie.Need-overflow-add-x invariant-loop decreases-loop
-add-x c = omega (arith, c.before.before.loop-test.true)
+add-x : tie.Need-overflow_add-x invariant-loop decreases-loop
+add-x c = omega (arith, c.before.before.loop-x-test.true)
 
-loop-less : tie.Need-loop-smaller invariant-loop decreases-loop
-loop-less c = omega (arith, c.before.before.loop-test.true)
+loop-less : tie.Need-loop-x-smaller invariant-loop decreases-loop
+loop-less c = omega (arith, c.before.before.loop-x-test.true)
 
-loop-again : tie.Need-loop-preserved invariant-loop decreases-loop
+loop-again : tie.Need-loop-x-preserved invariant-loop decreases-loop
 loop-again c =
     let s = c.before.before.before.before.before.args in
-    let l = c.before.before.before.loop in
+    let l = c.before.before.before.loop-x in
     let test : ℕ → Bool = λ y. eqb (get_or s.tally.leaves y 0) (get_or s.counts.now y 0) in
-    let same = eq-eqb (get_or s.tally.leaves l.x 0) (get_or s.counts.now l.x 0) c.if1.false in (
-      omega (arith, c.before.before.loop-test.true),
+    let same = eq-eqb (get_or s.tally.leaves l.x 0) (get_or s.counts.now l.x 0) c.if-leaves-x.false in (
+      omega (arith, c.before.before.loop-x-test.true),
       ap (λ n. all_below n test) (add-one l.x) ∙ all_below-suc test l.x l.invariant.1 same,
     )
 
-returns-2 : tie.Need-returns-2 invariant-loop decreases-loop
+returns-2 : tie.Need-returns invariant-loop decreases-loop
 returns-2 c =
-    let l = c.before.loop in
-    let end : l.x ≡ 13 = omega (arith, c.loop-test.false, l.invariant.0) in
+    let l = c.before.loop-x in
+    let end : l.x ≡ 13 = omega (arith, c.loop-x-test.false, l.invariant.0) in
     (sym (rw end at l.invariant.1), search rules)
 
-pub same-tally-spec : {M : Type 1} → statement M
-same-tally-spec =
+pub same_tally_spec : {M : Type 1} → statement M
+same_tally_spec =
     tie.close
     (tie.spec
     invariant-loop

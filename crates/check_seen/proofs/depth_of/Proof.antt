@@ -4,11 +4,11 @@ use borrow.Author.Rules.{rules}
 use Rattle.check_seen.proofs.depth_of.Statement.{statement}
 use Rattle.check_seen.proofs.depth_of.Tie as tie
 
-cast-result : tie.Need-overflow-cast-result
+cast-result : tie.Need-overflow_cast-result
 cast-result c = search rules
 
 returns : tie.Need-returns
 returns c = refl
 
-pub depth-of-spec : {M : Type 1} → statement M
-depth-of-spec = tie.close (tie.spec cast-result returns)
+pub depth_of_spec : {M : Type 1} → statement M
+depth_of_spec = tie.close (tie.spec cast-result returns)

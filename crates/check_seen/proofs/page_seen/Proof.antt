@@ -6,27 +6,27 @@ use borrow.Author.Rules.{rules}
 use Rattle.check_seen.proofs.page_seen.Statement.{statement}
 use Rattle.check_seen.proofs.page_seen.Tie as tie
 
-page-passes-requires : tie.Need-page-passes-requires
+page-passes-requires : tie.Need-page_passes-requires
 page-passes-requires c κs = search rules
 
 fails-requires : tie.Need-fails-requires
 fails-requires c κs = search rules
 
-returns : tie.Need-returns
+returns : tie.Need-returns-then-not-page_passes
 unfolding page_seen
 returns c =
-    let failed = sym c.before.before.page-passes.ensures ∙ not-true _ c.before.if1.true in
+    let failed = sym c.before.before.page_passes.ensures ∙ not-true _ c.before.if-not-page_passes.true-raw in
     rw failed c.fails.ensures
 
-number-at-requires : tie.Need-number-at-requires
+number-at-requires : tie.Need-number_at-requires
 number-at-requires c κs = search rules
 
-returns-2 : tie.Need-returns-2
+returns-2 : tie.Need-returns
 unfolding page_seen
 returns-2 c =
-    let passed = sym c.before.before.page-passes.ensures ∙ not-false _ c.before.if1.false in
+    let passed = sym c.before.before.page_passes.ensures ∙ not-false _ c.before.if-not-page_passes.false-raw in
     rw (passed, c.number_at.ensures.0)
 
-pub page-seen-spec : {M : Type 1} → statement M
-page-seen-spec =
+pub page_seen_spec : {M : Type 1} → statement M
+page_seen_spec =
     tie.close (tie.spec page-passes-requires fails-requires returns number-at-requires returns-2)

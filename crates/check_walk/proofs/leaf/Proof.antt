@@ -46,17 +46,17 @@ here s p n =
 abbrev Told : tie.Start → (ℕ → Bool) → Seen → ℕ → Type 0
 Told s p seen f = Sees (page_test (view s) p s.args.region.depth f) (leaf (field_records (view s) f)) seen
 
-page : (c : tie.After-leaf-page) (p : ℕ → Bool) → let s = c.before.before.before.before.before.before.before in
-    IsNamed s p → Told s p c.leaf-page.result (page_field s.args.word)
+page : (c : tie.After-leaf_page-seen) (p : ℕ → Bool) → let s = c.before.before.before.before.before.before.before in
+    IsNamed s p → Told s p c.leaf_page-seen.result (page_field s.args.word)
 page c p n =
     let s = c.before.before.before.before.before.before.before in
-    subst (Told s p c.leaf-page.result) (and_mask s.args.word 16)
-    (c.leaf-page.ensures s.args.dir.now p n)
+    subst (Told s p c.leaf_page-seen.result) (and_mask s.args.word 16)
+    (c.leaf_page-seen.ensures s.args.dir.now p n)
 
 -- the word's depth is the region's
-depth : (c : tie.Else1) → let a = c.before.before.before.before.before.before.args in
+depth : (c : tie.Else-depth_of-region) → let a = c.before.before.before.before.before.before.args in
     depth_field a.word ≡ a.region.depth
-depth c = sym c.before.before.depth-of.ensures ∙ c.if1.false
+depth c = sym c.before.before.depth_of.ensures ∙ c.if-depth_of-region.false
 
 short : (s : tie.Start) → s.args.region.depth < length s.args.tally.now
 short s =
@@ -69,27 +69,27 @@ low s =
     let x = s.args.region.depth in
     omega (arith, s.requires.1.room x (omega (arith, k.within, k.directory.short)), pow_pos (steps s))
 
-depth-of-requires : tie.Need-depth-of-requires
+depth-of-requires : tie.Need-depth_of-requires
 depth-of-requires c κs = search rules
 
 fails-requires : tie.Need-fails-requires
 fails-requires c κs = search rules
 
-returns : tie.Need-returns
+returns : tie.Need-returns-then-depth_of-region
 returns c =
     let s = c.before.before.before.before.before.before.before in
     let a = s.args in
     λ p n.
     rw c.fails.ensures
     (leaf-depth-fails (view s) (steps s) p a.region.depth a.word (here s p n) a.tally.now a.tally.now
-    (λ e. c.before.if1.true (c.before.before.before.depth-of.ensures ∙ e)))
+    (λ e. c.before.if-depth_of-region.true (c.before.before.before.depth_of.ensures ∙ e)))
 
-leaf-page-requires : tie.Need-leaf-page-requires
+leaf-page-requires : tie.Need-leaf_page-seen-requires
 leaf-page-requires c κs =
     let s = c.before.before.before.before.before.before in
     page_asked-walks s.args.state _ s.args.region _ _ s.requires.0
 
-returns-2 : tie.Need-returns-2
+returns-2 : tie.Need-returns-then-not-seen
 returns-2 c =
     let test = c.before.before.before in
     let s = test.before.before.before.before.before.before in
@@ -97,53 +97,53 @@ returns-2 c =
     λ p n.
     leaf-page-fails (view s) (steps s) p a.region.depth a.word (here s p n) a.tally.now a.tally.now
     (depth test) _
-    (page c.before.before p n) (not-true _ c.if2.true)
+    (page c.before.before p n) (not-true _ c.if-not-seen.true)
 
-cast-same-words : tie.Need-overflow-cast-same-words
+cast-same-words : tie.Need-overflow_cast-state
 cast-same-words c = search rules
 
-same-words-requires : tie.Need-same-words-requires
+same-words-requires : tie.Need-same_words-requires
 same-words-requires c κs = search rules
 
-fails-requires-2 : tie.Need-fails-requires-2
+fails-requires-2 : tie.Need-fails-requires-then-not-same_words
 fails-requires-2 c κs = search rules
 
-returns-3 : tie.Need-returns-3
+returns-3 : tie.Need-returns-then-not-same_words
 returns-3 c =
     let test = c.before.before.before.before.before.before.before in
     let s = test.before.before.before.before.before.before in
     let a = s.args in
     λ p n.
-    rw c.fails2.ensures
+    rw c.fails-then-not-same_words.ensures
     (leaf-words-fail (view s) (steps s) p a.region.depth a.word (here s p n) a.tally.now a.tally.now
     (depth test) _
     (page c.before.before.before.before.before.before p n)
-    (not-false _ c.before.before.before.before.if2.false)
-    (sym (c.before.before.same-words.ensures p n) ∙ not-true _ c.before.if3.true))
+    (not-false _ c.before.before.before.before.if-not-seen.false)
+    (sym (c.before.before.same_words.ensures p n) ∙ not-true _ c.before.if-not-same_words.true-raw))
 
-mul-tally : tie.Need-overflow-mul-tally
+mul-tally : tie.Need-offset_bounds-tally-x
 mul-tally c = search rules
 
-slice-read-tally : tie.Need-slice-read-tally
+slice-read-tally : tie.Need-bounds-tally-x
 slice-read-tally c =
     short c.before.before.before.before.before.before.before.before.before.before.before.before.before
 
-add-tally : tie.Need-overflow-add-tally
+add-tally : tie.Need-overflow_add-tally
 add-tally c =
     let test = c.before.before.before.before.before.before.before in
     record { fits = omega (arith, low test.before.before.before.before.before.before) }
 
-mul-tally-2 : tie.Need-overflow-mul-tally-2
+mul-tally-2 : tie.Need-offset_bounds-tally-x-2
 mul-tally-2 c = search rules
 
-slice-write-tally : tie.Need-slice-write-tally
+slice-write-tally : tie.Need-bounds-tally-x-2
 slice-write-tally c =
     short c.before.before.before.before.before.before.before.before.before.before.before.before.before
 
-same_length : tie.Need-same-length
+same_length : tie.Need-shape_of-tally
 same_length c = search rules
 
-returns-4 : tie.Need-returns-4
+returns-4 : tie.Need-returns
 returns-4 c =
     let test = c.before.before.before.before.before.before.before in
     let s = test.before.before.before.before.before.before in
@@ -151,11 +151,11 @@ returns-4 c =
     λ p n.
     leaf-passes (view s) (steps s) p a.region.depth a.word (here s p n) a.tally.now _ (depth test) _
     (page c.before.before.before.before.before.before p n)
-    (not-false _ c.before.before.before.before.if2.false)
-    (sym (c.before.before.same-words.ensures p n) ∙ not-false _ c.before.if3.false) s.requires.1.depths refl
+    (not-false _ c.before.before.before.before.if-not-seen.false)
+    (sym (c.before.before.same_words.ensures p n) ∙ not-false _ c.before.if-not-same_words.false-raw) s.requires.1.depths refl
 
-pub leaf-spec : {M : Type 1} → statement M
-leaf-spec =
+pub leaf_spec : {M : Type 1} → statement M
+leaf_spec =
     tie.close
     (tie.spec
     depth-of-requires

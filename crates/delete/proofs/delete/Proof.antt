@@ -30,77 +30,77 @@ abbrev given : tie.Start → Store
 given s = store s.args.state s.args.dir.now s.args.pages.now
 
 -- where the key was encoded, and its encodings
-abbrev encoding : tie.After-plan-delete → tie.After-encode-key
+abbrev encoding : tie.After-plan_delete-plan → tie.After-encode_key-encoded
 encoding p = p.before.before.before.before.before.before
 
-abbrev encoded : tie.After-plan-delete → List ℕ
+abbrev encoded : tie.After-plan_delete-plan → List ℕ
 encoded p = (encoding p).encode-key.result.values
 
 -- where the call began, from the plan
-abbrev start : tie.After-plan-delete → tie.Start
+abbrev start : tie.After-plan_delete-plan → tie.Start
 start p = (encoding p).before.before.before.before.before
 
 -- the early refusals let the key pass
-early : (c : tie.Else2)
+early : (c : tie.Else-not-encodings_fit)
     → let s = c.before.before.before.before.before.before.before in key_number (given s) s.args.key.values ≡ 0
 early c =
     let e = c.before.before in
     let n = e.before.before in
     let a = n.before.before.before.args in
-    number-none a.state a.dir.now a.pages.now _ n.lent-number.ensures a.key.values
-    e.before.if1.false _ e.encode-key.ensures _ c.before.encodings-fit.ensures (not-false _ c.if2.false)
+    number-none a.state a.dir.now a.pages.now _ n.lent_number-number.ensures a.key.values
+    e.before.if-number-ne0.false _ e.encode_key-encoded.ensures _ c.before.encodings_fit.ensures (not-false _ c.if-not-encodings_fit.false-raw)
 
 -- what holds of all values with these encodings holds of the call's
-called : (p : tie.After-plan-delete) (X : List ℕ → Type 0) → OfValues (given (start p)) (encoded p) X
+called : (p : tie.After-plan_delete-plan) (X : List ℕ → Type 0) → OfValues (given (start p)) (encoded p) X
     → X (start p).args.key.values
 called p X told =
     told (start p).args.key.values (early p.before.before.before.before) (sym (encoding p).encode-key.ensures)
 
 -- the plan of a leaf that stays
-kept : (c : tie.After-plan3)
+kept : (c : tie.In-Keep-2)
     → let p = c.before.before in
-    KeepPlanned (given (start p)) (encoded p) c.plan3.given.0.0
+    KeepPlanned (given (start p)) (encoded p) c.plan-in-Keep-1.given.0.0
 kept c =
     let p = c.before.before in
-    subst (DeletePlanned (given (start p)) (encoded p)) c.plan3.given.1 p.plan-delete.ensures
+    subst (DeletePlanned (given (start p)) (encoded p)) c.plan-in-Keep-1.given.1 p.plan_delete-plan.ensures
 
 -- and of one that is joined
-joined : (c : tie.After-plan4)
+joined : (c : tie.In-Join-2)
     → let p = c.before.before in
-    JoinPlanned (given (start p)) (encoded p) c.plan4.given.0.0 c.plan4.given.0.1.0
+    JoinPlanned (given (start p)) (encoded p) c.plan-in-Join-1.given.0.0 c.plan-in-Join-1.given.0.1.0
 joined c =
     let p = c.before.before in
-    subst (DeletePlanned (given (start p)) (encoded p)) c.plan4.given.1 p.plan-delete.ensures
+    subst (DeletePlanned (given (start p)) (encoded p)) c.plan-in-Join-1.given.1 p.plan_delete-plan.ensures
 
-lent-number-requires : tie.Need-lent-number-requires
+lent-number-requires : tie.Need-lent_number-number-requires
 lent-number-requires c κs = search rules
 
-refuse-change-requires : tie.Need-refuse-change-requires
+refuse-change-requires : tie.Need-refuse_change-requires
 refuse-change-requires c κs = search rules
 
-returns : tie.Need-returns
+returns : tie.Need-returns-then-number-ne0
 returns c =
-    let some = c.before.if1.true in
+    let some = c.before.if-number-ne0.true in
     let n = c.before.before in
     let s = n.before.before.before in
     let a = s.args in
-    rw c.refuse-change.ensures
-    (promise-early (given s) a.key.values n.lent-number.result
-    (number-lent a.state a.dir.now a.pages.now _ n.lent-number.ensures a.key.values some) some)
+    rw c.refuse_change.ensures
+    (promise-early (given s) a.key.values n.lent_number-number.result
+    (number-lent a.state a.dir.now a.pages.now _ n.lent_number-number.ensures a.key.values some) some)
 
-encode-key-requires : tie.Need-encode-key-requires
+encode-key-requires : tie.Need-encode_key-encoded-requires
 encode-key-requires c κs =
     let n = c.before in
     let a = n.before.before.before.args in
-    shape-lent a.state a.dir.now a.pages.now _ n.lent-number.ensures c.if1.false
+    shape-lent a.state a.dir.now a.pages.now _ n.lent_number-number.ensures c.if-number-ne0.false
 
-encodings-fit-requires : tie.Need-encodings-fit-requires
+encodings-fit-requires : tie.Need-encodings_fit-requires
 encodings-fit-requires c κs =
     let n = c.before.before in
     let a = n.before.before.before.args in
-    shape-lent a.state a.dir.now a.pages.now _ n.lent-number.ensures c.before.if1.false
+    shape-lent a.state a.dir.now a.pages.now _ n.lent_number-number.ensures c.before.if-number-ne0.false
 
-returns-2 : tie.Need-returns-2
+returns-2 : tie.Need-returns-then-not-encodings_fit
 unfolding changed_answer
 returns-2 c =
     let e = c.before.before in
@@ -108,25 +108,25 @@ returns-2 c =
     let s = n.before.before.before in
     let a = s.args in
     promise-early (given s) a.key.values 3
-    (number-out a.state a.dir.now a.pages.now _ n.lent-number.ensures a.key.values
-    e.before.if1.false _ e.encode-key.ensures _ c.before.encodings-fit.ensures (not-true _ c.if2.true))
+    (number-out a.state a.dir.now a.pages.now _ n.lent_number-number.ensures a.key.values
+    e.before.if-number-ne0.false _ e.encode_key-encoded.ensures _ c.before.encodings_fit.ensures (not-true _ c.if-not-encodings_fit.true-raw))
     (λ z. omega (arith, z))
 
-plan-delete-requires : tie.Need-plan-delete-requires
+plan-delete-requires : tie.Need-plan_delete-plan-requires
 plan-delete-requires c κs =
     let fitting = c.before.before.before in
-    subst (Passed _) (sym fitting.before.before.encode-key.ensures) (passed _ _ (early fitting))
+    subst (Passed _) (sym fitting.before.before.encode_key-encoded.ensures) (passed _ _ (early fitting))
 
-enum-known-plan : tie.Need-enum-known-plan
+enum-known-plan : tie.Need-enum_known-plan
 enum-known-plan c = search rules
 
-enum-known-plan-2 : tie.Need-enum-known-plan-2
+enum-known-plan-2 : tie.Need-enum_known-plan-in-Absent-1
 enum-known-plan-2 c = search rules
 
-enum-known-plan-3 : tie.Need-enum-known-plan-3
+enum-known-plan-3 : tie.Need-enum_known-plan-in-Keep-1
 enum-known-plan-3 c = search rules
 
-removal-keeps-requires : tie.Need-removal-keeps-requires
+removal-keeps-requires : tie.Need-removal_keeps-requires
 removal-keeps-requires c κs =
     let p = c.before.before.before.before in
     let s = start p in
@@ -138,21 +138,21 @@ removal-keeps-requires c κs =
       page-lt = omega (arith, leaf.own-within, few);
     }
 
-same_length : tie.Need-same-length
+same_length : tie.Need-shape_of-dir-then-not-removal_keeps
 same_length c = search rules
 
-same-length-2 : tie.Need-same-length-2
+same-length-2 : tie.Need-shape_of-pages-then-not-removal_keeps
 same-length-2 c = search rules
 
-returns-3 : tie.Need-returns-3
+returns-3 : tie.Need-returns-then-not-removal_keeps
 unfolding changed_answer
 returns-3 c =
     let p = c.before.before.before.before.before.before in
     called p _
     (promise-not-whole (given (start p)) (encoded p) _ (kept c.before.before.before.before) _
-    c.before.removal-keeps.ensures (not-true _ c.if3.true))
+    c.before.removal_keeps.ensures (not-true _ c.if-not-removal_keeps.true-raw))
 
-keep-leaf-requires : tie.Need-keep-leaf-requires
+keep-leaf-requires : tie.Need-keep_leaf-requires
 keep-leaf-requires c κs =
     let p = c.before.before.before.before.before.before.before.before in
     let s = start p in
@@ -163,10 +163,10 @@ keep-leaf-requires c κs =
       own = record_lent (given s) (encoded p) _ f;
     }
 
-enum-known-plan-4 : tie.Need-enum-known-plan-4
+enum-known-plan-4 : tie.Need-enum_known-plan-in-Join-1
 enum-known-plan-4 c = search rules
 
-join-keeps-requires : tie.Need-join-keeps-requires
+join-keeps-requires : tie.Need-join_keeps-requires
 join-keeps-requires c κs =
     let p = c.before.before.before.before in
     let s = start p in
@@ -181,21 +181,21 @@ join-keeps-requires c κs =
       other-lt = omega (arith, k.met.other-within, few);
     }
 
-same-length-3 : tie.Need-same-length-3
+same-length-3 : tie.Need-shape_of-dir-then-not-join_keeps
 same-length-3 c = search rules
 
-same-length-4 : tie.Need-same-length-4
+same-length-4 : tie.Need-shape_of-pages-then-not-join_keeps
 same-length-4 c = search rules
 
-returns-4 : tie.Need-returns-4
+returns-4 : tie.Need-returns-then-not-join_keeps
 unfolding changed_answer
 returns-4 c =
     let p = c.before.before.before.before.before.before in
     called p _
     (promise-not-whole (given (start p)) (encoded p) _ (joined c.before.before.before.before) _
-    c.before.join-keeps.ensures (not-true _ c.if4.true))
+    c.before.join_keeps.ensures (not-true _ c.if-not-join_keeps.true-raw))
 
-join-leaves-requires : tie.Need-join-leaves-requires
+join-leaves-requires : tie.Need-join_leaves-joined-requires
 join-leaves-requires c κs =
     let p = c.before.before.before.before.before.before.before.before in
     let s = start p in
@@ -207,70 +207,70 @@ join-leaves-requires c κs =
       pair = pair_lent (given s) v _ k.found _ k;
     }
 
-same-length-5 : tie.Need-same-length-5
+same-length-5 : tie.Need-shape_of-dir-in-Refused
 same-length-5 c = search rules
 
-same-length-6 : tie.Need-same-length-6
+same-length-6 : tie.Need-shape_of-pages-in-Refused
 same-length-6 c = search rules
 
-returns-5 : tie.Need-returns-5
+returns-5 : tie.Need-returns-in-Refused
 unfolding changed_answer
 returns-5 c =
     let p = c.before.before.before in
     called p _
-    (subst (DeletePlanned (given (start p)) (encoded p)) c.before.plan.given.1 p.plan-delete.ensures)
+    (subst (DeletePlanned (given (start p)) (encoded p)) c.before.plan-1.given.1 p.plan_delete-plan.ensures)
 
-same-length-7 : tie.Need-same-length-7
+same-length-7 : tie.Need-shape_of-dir-in-Absent
 same-length-7 c = search rules
 
-same-length-8 : tie.Need-same-length-8
+same-length-8 : tie.Need-shape_of-pages-in-Absent
 same-length-8 c = search rules
 
-returns-6 : tie.Need-returns-6
+returns-6 : tie.Need-returns-in-Absent
 unfolding changed_answer
 returns-6 c =
     let p = c.before.before.before in
     called p _
-    (subst (DeletePlanned (given (start p)) (encoded p)) c.before.plan2.given.1 p.plan-delete.ensures)
+    (subst (DeletePlanned (given (start p)) (encoded p)) c.before.plan-in-Absent-1.given.1 p.plan_delete-plan.ensures)
 
-same-length-9 : tie.Need-same-length-9
+same-length-9 : tie.Need-shape_of-dir-else-not-removal_keeps
 same-length-9 c = search rules
 
-same-length-10 : tie.Need-same-length-10
+same-length-10 : tie.Need-shape_of-pages-else-not-removal_keeps
 same-length-10 c = search rules
 
-returns-7 : tie.Need-returns-7
+returns-7 : tie.Need-returns-else-not-removal_keeps
 unfolding changed_answer
 returns-7 c =
     let p = c.before.before.before.before.before.before.before.before.before.before.before.before.before in
     let k = kept c.before.before.before.before.before.before.before.before.before.before.before in
     let test = c.before.before.before.before.before.before.before in
-    let done = c.before.before.before.before.keep-leaf in
+    let done = c.before.before.before.before.keep_leaf in
     called p _
     (promise-kept (given (start p)) (encoded p) _ k.found _ _ done.ensures.words_are
     done.ensures.bytes-are k.alone
-    (test.before.removal-keeps.ensures.yes (not-false _ test.if3.false)))
+    (test.before.removal_keeps.ensures.yes (not-false _ test.if-not-removal_keeps.false-raw)))
 
-same-length-11 : tie.Need-same-length-11
+same-length-11 : tie.Need-shape_of-dir-else-not-join_keeps
 same-length-11 c = search rules
 
-same-length-12 : tie.Need-same-length-12
+same-length-12 : tie.Need-shape_of-pages-else-not-join_keeps
 same-length-12 c = search rules
 
-returns-8 : tie.Need-returns-8
+returns-8 : tie.Need-returns-else-not-join_keeps
 unfolding changed_answer
 returns-8 c =
     let p = c.before.before.before.before.before.before.before.before.before.before.before.before.before in
     let k = joined c.before.before.before.before.before.before.before.before.before.before.before in
     let test = c.before.before.before.before.before.before.before in
-    let done = c.before.before.before.before.join-leaves in
+    let done = c.before.before.before.before.join_leaves-joined in
     called p _
     (promise-joined (given (start p)) (encoded p) _ k.found _ k done.result _ _
     done.ensures.words_are done.ensures.bytes-are (thirteen (start p))
-    (test.before.join-keeps.ensures.yes (not-false _ test.if4.false)))
+    (test.before.join_keeps.ensures.yes (not-false _ test.if-not-join_keeps.false-raw)))
 
-pub delete-spec : {M : Type 1} → statement M
-delete-spec =
+pub delete_spec : {M : Type 1} → statement M
+delete_spec =
     tie.close
     (tie.spec
     lent-number-requires

@@ -10,19 +10,19 @@ use borrow.Author.Rules.{rules}
 use Rattle.delete_pages.proofs.join_records.Statement.{statement}
 use Rattle.delete_pages.proofs.join_records.Tie as tie
 
-remove-record-requires : tie.Need-remove-record-requires
+remove-record-requires : tie.Need-remove_record-requires
 remove-record-requires c κs = c.before.before.requires.own
 
-sub-join-pages : tie.Need-overflow-sub-join-pages
+sub-join-pages : tie.Need-overflow_sub-found
 sub-join-pages c = omega (arith, c.before.before.before.before.before.before.before.requires.own.place-lt)
 
-join-pages-requires : tie.Need-join-pages-requires
+join-pages-requires : tie.Need-join_pages-requires
 join-pages-requires c κs =
     let s = c.before.before.before.before.before.before.before in
     let a = s.args in
     let r = a.found in
     let own = s.requires.own in
-    let e = sym c.before.before.before.before.remove-record.ensures in
+    let e = sym c.before.before.before.before.remove_record.ensures in
     let lent = lent-removed_bytes a.capacity r.page r.place r.count a.pages.now own.page
     own.place-lt own.few in
     record {
@@ -31,7 +31,7 @@ join-pages-requires c κs =
       fit = s.requires.fit;
     }
 
-same_length : tie.Need-same-length
+same_length : tie.Need-shape_of-pages
 same_length c = search rules
 
 returns : tie.Need-returns
@@ -39,16 +39,16 @@ unfolding joined_bytes joined_pages
 returns c =
     let a = c.before.before.before.before.before.before.before.before.before.before.args in
     let j = a.join in
-    let joined = c.before.before.join-pages.ensures in
+    let joined = c.before.before.join_pages.ensures in
     record {
       kept = joined.kept;
       bytes-are =
           joined.bytes-are
           ∙ ap (joined_pages a.capacity a.found.page (a.found.count - 1) j.other j.count j.bit)
-          c.before.before.before.before.before.before.before.remove-record.ensures;
+          c.before.before.before.before.before.before.before.remove_record.ensures;
     }
 
-pub join-records-spec : {M : Type 1} → statement M
-join-records-spec =
+pub join_records_spec : {M : Type 1} → statement M
+join_records_spec =
     tie.close
     (tie.spec remove-record-requires sub-join-pages join-pages-requires same_length returns)

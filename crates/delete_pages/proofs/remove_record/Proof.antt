@@ -11,31 +11,31 @@ use borrow.Author.Rules.{rules}
 use Rattle.delete_pages.proofs.remove_record.Statement.{statement}
 use Rattle.delete_pages.proofs.remove_record.Tie as tie
 
-cast-page-start : tie.Need-overflow-cast-page-start
+cast-page-start : tie.Need-overflow_cast-found
 cast-page-start c = search rules
 
-page-start-requires : tie.Need-page-start-requires
+page-start-requires : tie.Need-page_start-start-requires
 page-start-requires c κs = search rules
 
-page-size-requires : tie.Need-page-size-requires
+page-size-requires : tie.Need-page_size-requires
 page-size-requires c κs = search rules
 
-add-end : tie.Need-overflow-add-end
+add-end : tie.Need-overflow_add-end
 add-end c = search rules
 
-sub-remove-at : tie.Need-overflow-sub-remove-at
+sub-remove-at : tie.Need-slice_bounds-remove_at-count
 sub-remove-at c = search rules
 
-part-remove-at-start : tie.Need-slice-bounds-remove-at-start
+part-remove-at-start : tie.Need-slice_bounds-remove_at-start
 part-remove-at-start c = search rules
 
-part-remove-at-end : tie.Need-slice-bounds-remove-at-end
+part-remove-at-end : tie.Need-slice_bounds-remove_at-end
 part-remove-at-end c = search rules
 
-remove-at-requires : tie.Need-remove-at-requires
+remove-at-requires : tie.Need-remove_at-requires
 remove-at-requires c κs = search rules
 
-same_length : tie.Need-same-length
+same_length : tie.Need-shape_of-pages
 same_length c = search rules
 
 returns : tie.Need-returns
@@ -47,14 +47,14 @@ returns c =
     let r = a.found in
     let page = page_at a.capacity a.pages.now r.page in
     let whole = length-page_at a.capacity r.page a.pages.now start.requires.page.whole in
-    put_mid-change a.capacity r.page _ _ a.pages.now size.before.page-start.ensures
-    size.page-size.ensures (removed_page r.place r.count) _
-    c.before.before.remove-at.ensures
+    put_mid-change a.capacity r.page _ _ a.pages.now size.before.page_start-start.ensures
+    size.page_size.ensures (removed_page r.place r.count) _
+    c.before.before.remove_at.ensures
     (length-removed_page r.place r.count page start.requires.place-lt (omega (arith, whole, start.requires.few))
     ∙ whole)
 
-pub remove-record-spec : {M : Type 1} → statement M
-remove-record-spec =
+pub remove_record_spec : {M : Type 1} → statement M
+remove_record_spec =
     tie.close
     (tie.spec
     cast-page-start

@@ -9,39 +9,39 @@ use borrow.Author.Rules.{rules}
 use Rattle.delete_plan.proofs.count_on.Statement.{statement}
 use Rattle.delete_plan.proofs.count_on.Tie as tie
 
-page-start-requires : tie.Need-page-start-requires
+page-start-requires : tie.Need-page_start-start-requires
 page-start-requires c κs = search rules
 
-page-size-requires : tie.Need-page-size-requires
+page-size-requires : tie.Need-page_size-requires
 page-size-requires c κs = search rules
 
-add-end : tie.Need-overflow-add-end
+add-end : tie.Need-overflow_add-end
 add-end c = search rules
 
-sub-fair-count : tie.Need-overflow-sub-fair-count
+sub-fair-count : tie.Need-slice_bounds-fair_count-count
 sub-fair-count c = search rules
 
-part-fair-count-start : tie.Need-slice-bounds-fair-count-start
+part-fair-count-start : tie.Need-slice_bounds-fair_count-start
 part-fair-count-start c = search rules
 
-part-fair-count-end : tie.Need-slice-bounds-fair-count-end
+part-fair-count-end : tie.Need-slice_bounds-fair_count-end
 part-fair-count-end c = search rules
 
-fair-count-requires : tie.Need-fair-count-requires
+fair-count-requires : tie.Need-fair_count-requires
 fair-count-requires c κs = search rules
 
 returns : tie.Need-returns
 returns c =
     let size = c.before.before in
     let a = size.before.before.before.args in
-    leaf_count a.capacity a.bias a.mask a.key (page_at a.capacity a.pages.now a.g) c.fair-count.result
-    (c.fair-count.ensures
+    leaf_count a.capacity a.bias a.mask a.key (page_at a.capacity a.pages.now a.g) c.fair_count.result
+    (c.fair_count.ensures
     ∙ ap (λ page. fair_count a.capacity (ends_agree a.bias a.mask a.key page (count_of page)) page)
-    (mid_of-page a.capacity a.g _ _ a.pages.now size.before.page-start.ensures
-    size.page-size.ensures))
+    (mid_of-page a.capacity a.g _ _ a.pages.now size.before.page_start-start.ensures
+    size.page_size.ensures))
 
-pub count-on-spec : {M : Type 1} → statement M
-count-on-spec =
+pub count_on_spec : {M : Type 1} → statement M
+count_on_spec =
     tie.close
     (tie.spec
     page-start-requires

@@ -22,115 +22,115 @@ use Rattle.delete_plan.proofs.plan_delete.Statement.{statement}
 use Rattle.delete_plan.proofs.plan_delete.Tie as tie
 
 -- the limits hold
-limited : (c : tie.Else1) → limits_hold c.before.before.before.before.args.state ≡ true
-limited c = sym c.before.limits-hold.ensures ∙ not-false c.before.limits-hold.result c.if1.false
+limited : (c : tie.Else-not-limits_hold) → limits_hold c.before.before.before.before.args.state ≡ true
+limited c = sym c.before.limits_hold.ensures ∙ not-false c.before.limits_hold.result c.if-not-limits_hold.false-raw
 
-pack-key-requires : tie.Need-pack-key-requires
+pack-key-requires : tie.Need-pack_key-requires
 pack-key-requires c κs = SixteenBits-passed _ _ c.before.before.before.before.before.before.requires
 
 -- the key, back from its packed form
-back : (c : tie.After-pack-key)
-    → unpacked_key c.pack-key.result
+back : (c : tie.After-pack_key)
+    → unpacked_key c.pack_key.result
     ≡ c.before.before.before.before.before.before.before.args.encoded.values
 back c =
-    ap unpacked_key c.pack-key.ensures
+    ap unpacked_key c.pack_key.ensures
     ∙ unpacked_key-passed _ _ c.before.before.before.before.before.before.before.requires
 
 -- the word that was found, of the state's own shape
-found : (c : tie.After-key-word)
+found : (c : tie.After-key_word-at)
     → let a = c.before.before.before.before.before.before.before.before.args in
     let before = store a.state a.dir.now a.pages.now in
-    c.key-word.result.word ≡ word_on before (key_string before a.encoded.values)
+    c.key_word-at.result.word ≡ word_on before (key_string before a.encoded.values)
 found c =
     let a = c.before.before.before.before.before.before.before.before.args in
-    key-word-is a.state.shape _ c.before.before.before.widths-of.ensures a.state.deepest a.dir.now
-    a.encoded.values _ _ (back c.before) c.key-word.ensures.0
+    key-word-is a.state.shape _ c.before.before.before.widths_of-widths.ensures a.state.deepest a.dir.now
+    a.encoded.values _ _ (back c.before) c.key_word-at.ensures.0
 
 -- it holds
-held : (c : tie.Else2)
+held : (c : tie.Else-not-word_holds)
     → let a = c.before.before.before.before.before.before.before.before.before.before.args in
     let before = store a.state a.dir.now a.pages.now in
     word_holds a.state (word_on before (key_string before a.encoded.values)) ≡ true
 held c =
     let a = c.before.before.before.before.before.before.before.before.before.before.args in
     ap (word_holds a.state) (sym (found c.before.before))
-    ∙ sym c.before.Word-Holds.ensures
-    ∙ not-false c.before.Word-Holds.result c.if2.false
+    ∙ sym c.before.word_holds.ensures
+    ∙ not-false c.before.word_holds.result c.if-not-word_holds.false-raw
 
 -- the leaf with a page that it names
-named : (c : tie.After-found)
+named : (c : tie.In-Page-2)
     → let words = c.before.before.before.before.before.before in
     let a = words.before.before.before.before.before.before.before.args in
     let before = store a.state a.dir.now a.pages.now in
     leaf_of (word_on before (key_string before a.encoded.values))
-    ≡ Page c.found.given.0.0 c.found.given.0.1.0
+    ≡ Page c.found-1.given.0.0 c.found-1.given.0.1.0
 named c =
     ap leaf_of (sym (found c.before.before.before.before.before))
-    ∙ sym c.before.before.unpack.ensures
-    ∙ c.found.given.1
+    ∙ sym c.before.before.unpack-found.ensures
+    ∙ c.found-1.given.1
 
-limits-hold-requires : tie.Need-limits-hold-requires
+limits-hold-requires : tie.Need-limits_hold-requires
 limits-hold-requires c κs = c.before.before.requires.shape
 
-returns : tie.Need-returns
+returns : tie.Need-returns-then-not-limits_hold
 returns c =
     let a = c.before.before.before.before.args in
     let before = store a.state a.dir.now a.pages.now in
-    let holds = c.before.limits-hold in
+    let holds = c.before.limits_hold in
     refused-limits before a.encoded.values
-    (sym holds.ensures ∙ not-true holds.result c.if1.true)
+    (sym holds.ensures ∙ not-true holds.result c.if-not-limits_hold.true-raw)
 
-widths-of-requires : tie.Need-widths-of-requires
+widths-of-requires : tie.Need-widths_of-widths-requires
 widths-of-requires c κs = search rules
 
-cast-key-word : tie.Need-overflow-cast-key-word
+cast-key-word : tie.Need-overflow_cast-state
 cast-key-word c = search rules
 
-key-word-requires : tie.Need-key-word-requires
+key-word-requires : tie.Need-key_word-at-requires
 key-word-requires c κs =
     let s = c.before.before.before.before.before.before.before in
     let a = s.args in
     let p = s.requires in
     let l = limits-parts a.state (limited c.before.before.before) in
-    key-word-asks a.state.shape _ c.before.before.widths-of.ensures a.state.deepest p.shape
+    key-word-asks a.state.shape _ c.before.before.widths_of-widths.ensures a.state.deepest p.shape
     (le_trans l.4 l.3) _ (le_trans (pow_mono l.4) p.words-lent)
 
-word-holds-requires : tie.Need-word-holds-requires
+word-holds-requires : tie.Need-word_holds-requires
 word-holds-requires c κs =
     let s = c.before.before.before.before.before.before.before.before in
     let l = limits-parts s.args.state (limited c.before.before.before.before) in
     le_trans l.4 l.2
 
-returns-2 : tie.Need-returns-2
+returns-2 : tie.Need-returns-then-not-word_holds
 returns-2 c =
     let a = c.before.before.before.before.before.before.before.before.before.before.args in
     let before = store a.state a.dir.now a.pages.now in
-    let holds = c.before.Word-Holds in
+    let holds = c.before.word_holds in
     refused-word before a.encoded.values (key_string before a.encoded.values)
     (ap (word_holds a.state) (sym (found c.before.before))
     ∙ sym holds.ensures
-    ∙ not-true holds.result c.if2.true)
+    ∙ not-true holds.result c.if-not-word_holds.true-raw)
 
-unpack-requires : tie.Need-unpack-requires
+unpack-requires : tie.Need-unpack-found-requires
 unpack-requires c κs = search rules
 
-enum-known-found : tie.Need-enum-known-found
+enum-known-found : tie.Need-enum_known-found
 enum-known-found c = search rules
 
-enum_told : tie.Need-enum-told
+enum_told : tie.Need-enum_told-1
 enum_told c = search rules
 
-returns-3 : tie.Need-returns-3
+returns-3 : tie.Need-returns-in_default
 returns-3 c =
     let s = c.before.before.before.before.before.before.before.before.before.before.before.before.before in
     let a = s.args in
     let before = store a.state a.dir.now a.pages.now in
     let at = c.before.before.before.before.before in
-    refused-empty before a.encoded.values _ at.key-word.result.depth
-    (ap leaf_of (sym (found at)) ∙ sym c.before.before.unpack.ensures ∙ c.enum_told.given.1)
-    (held c.before.before.before) (at.key-word.ensures.1 ∙ ap depth_field (found at))
+    refused-empty before a.encoded.values _ at.key_word-at.result.depth
+    (ap leaf_of (sym (found at)) ∙ sym c.before.before.unpack-found.ensures ∙ c.enum_told-1.given.1)
+    (held c.before.before.before) (at.key_word-at.ensures.1 ∙ ap depth_field (found at))
 
-plan-leaf-requires : tie.Need-plan-leaf-requires
+plan-leaf-requires : tie.Need-plan_leaf-requires
 plan-leaf-requires c κs =
     let limits = c.before.before.before.before.before.before.before.before.before.before in
     let s = limits.before.before.before.before in
@@ -139,11 +139,11 @@ plan-leaf-requires c κs =
     leaf_met before a.encoded.values s.requires (limited limits) _ _ (named c.before)
     (held c.before.before.before.before)
 
-returns-4 : tie.Need-returns-4
-returns-4 c = c.plan-leaf.ensures
+returns-4 : tie.Need-returns
+returns-4 c = c.plan_leaf.ensures
 
-pub plan-delete-spec : {M : Type 1} → statement M
-plan-delete-spec =
+pub plan_delete_spec : {M : Type 1} → statement M
+plan_delete_spec =
     tie.close
     (tie.spec
     limits-hold-requires

@@ -5,15 +5,15 @@ use native.Mathlib.Omega.{arith}
 use Rattle.delete_plan.proofs.plan_join.Statement.{statement}
 use Rattle.delete_plan.proofs.plan_join.Tie as tie
 
-sub-step : tie.Need-overflow-sub-step
+sub-step : tie.Need-overflow_sub-step
 sub-step c = omega (arith, c.before.requires.divided)
 
-step-bit-requires : tie.Need-step-bit-requires
+step-bit-requires : tie.Need-step_bit-bit-requires
 step-bit-requires c κs =
     let pre = c.before.requires in
     (pre.lent.shape, omega (arith, pre.lent.deep, pre.divided, pre.deep))
 
-climb-requires : tie.Need-climb-requires
+climb-requires : tie.Need-climb-top-requires
 climb-requires c κs = let pre = c.before.before.requires in (pre.lent, omega (arith, pre.divided, pre.deep))
 
 returns : tie.Need-returns
@@ -23,11 +23,11 @@ returns c =
       other = refl;
       count = refl;
       depth-step = omega (arith, pre.divided);
-      bit = c.before.step-bit.ensures;
-      climbed = c.climb.ensures;
+      bit = c.before.step_bit-bit.ensures;
+      climbed = c.climb-top.ensures;
     }
 
-pub plan-join-spec : {M : Type 1} → statement M
-plan-join-spec =
+pub plan_join_spec : {M : Type 1} → statement M
+plan_join_spec =
     tie.close
     (tie.spec sub-step step-bit-requires climb-requires returns)

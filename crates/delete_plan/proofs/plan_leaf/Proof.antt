@@ -23,112 +23,112 @@ abbrev given : tie.Start → Store
 given s = store s.args.state s.args.dir.now s.args.pages.now
 
 -- where the call began, from the search
-abbrev start : tie.After-seek → tie.Start
+abbrev start : tie.After-seek-found → tie.Start
 start k = k.before.before.before.before.before.before.before.before.before
 
 -- the mask is that of the leaf's depth
-mask_is : (c : tie.After-fixed-bits)
+mask_is : (c : tie.After-fixed_bits-mask)
     → let a = c.before.before.before.before.before.args in
-    c.fixed-bits.result ≡ fixed_bits (widths_of a.state.shape) a.depth
+    c.fixed_bits-mask.result ≡ fixed_bits (widths_of a.state.shape) a.depth
 mask_is c =
     let a = c.before.before.before.before.before.args in
-    c.fixed-bits.ensures ∙ ap (λ ws. fixed_bits ws a.depth) c.before.widths-of.ensures
+    c.fixed_bits-mask.ensures ∙ ap (λ ws. fixed_bits ws a.depth) c.before.widths_of.ensures
 
 -- what was sought is the key, packed
-sought : (k : tie.After-seek)
+sought : (k : tie.After-seek-found)
     → let a = (start k).args in
-    Sought a.state.shape.capacity (bias_key a.state.shape) (packed_key a.encoded.values) k.before.before.before.before.fixed-bits.result
-    (page_at a.state.shape.capacity a.pages.now a.page) a.page a.depth k.seek.result
+    Sought a.state.shape.capacity (bias_key a.state.shape) (packed_key a.encoded.values) k.before.before.before.before.fixed_bits-mask.result
+    (page_at a.state.shape.capacity a.pages.now a.page) a.page a.depth k.seek-found.result
 sought k =
     let a = (start k).args in
     let there : ℕ → ℕ → Type 0 =
-    λ bias key. Sought a.state.shape.capacity bias key k.before.before.before.before.fixed-bits.result
-    (page_at a.state.shape.capacity a.pages.now a.page) a.page a.depth k.seek.result in
-    subst (λ bias. there bias (packed_key a.encoded.values)) k.before.before.before.bias-key.ensures
-    (subst (there k.before.before.before.bias-key.result) k.before.before.pack-key.ensures
-    k.seek.ensures)
+    λ bias key. Sought a.state.shape.capacity bias key k.before.before.before.before.fixed_bits-mask.result
+    (page_at a.state.shape.capacity a.pages.now a.page) a.page a.depth k.seek-found.result in
+    subst (λ bias. there bias (packed_key a.encoded.values)) k.before.before.before.bias_key-bias.ensures
+    (subst (there k.before.before.before.bias_key-bias.result) k.before.before.pack_key-packed.ensures
+    k.seek-found.ensures)
 
 -- the record that was found
-found : (k : tie.After-seek) → (k.seek.result.count ≡ 0 → ⊥)
-    → (k.seek.result.place ≡ k.seek.result.count → ⊥)
-    → RecordFound (given (start k)) (start k).args.encoded.values k.seek.result
+found : (k : tie.After-seek-found) → (k.seek-found.result.count ≡ 0 → ⊥)
+    → (k.seek-found.result.place ≡ k.seek-found.result.count → ⊥)
+    → RecordFound (given (start k)) (start k).args.encoded.values k.seek-found.result
 found k some other =
     let s = start k in
     record_found (given s) s.args.encoded.values s.args.page s.args.depth s.pre _
-    (mask_is k.before.before.before.before) k.seek.result (sought k) some other
+    (mask_is k.before.before.before.before) k.seek-found.result (sought k) some other
 
-widths-of-requires : tie.Need-widths-of-requires
+widths-of-requires : tie.Need-widths_of-requires
 widths-of-requires c κs = search rules
 
-fixed-bits-requires : tie.Need-fixed-bits-requires
+fixed-bits-requires : tie.Need-fixed_bits-mask-requires
 fixed-bits-requires c κs =
     let s = c.before.before.before.before in
     let a = s.args in
     let lent = directory_lent (given s) a.encoded.values a.page a.depth s.requires in
     fixed-bits-asks a.state.shape lent.shape a.depth (omega (arith, s.requires.deep, lent.deep))
-    (width_list c.widths-of.result) c.widths-of.ensures
+    (width_list c.widths_of.result) c.widths_of.ensures
 
-bias-key-requires : tie.Need-bias-key-requires
+bias-key-requires : tie.Need-bias_key-bias-requires
 bias-key-requires c κs = c.before.before.before.before.before.requires.passed.shape
 
-pack-key-requires : tie.Need-pack-key-requires
+pack-key-requires : tie.Need-pack_key-packed-requires
 pack-key-requires c κs = SixteenBits-passed _ _ c.before.before.before.before.before.before.requires.passed
 
-cast-seek : tie.Need-overflow-cast-seek
+cast-seek : tie.Need-overflow_cast-shape
 cast-seek c = search rules
 
-seek-requires : tie.Need-seek-requires
+seek-requires : tie.Need-seek-found-requires
 seek-requires c κs =
     let s = c.before.before.before.before.before.before.before.before in
     let a = s.args in
     page_lent (given s) a.encoded.values a.page a.depth s.requires a.page s.requires.own-within
 
-returns : tie.Need-returns
+returns : tie.Need-returns-then-found-eq0
 returns c =
     let k = c.before.before in
     let s = start k in
     let a = s.args in
-    refused-page (given s) a.encoded.values a.page a.depth s.pre _ k.seek.result.count
-    (mask_is k.before.before.before.before) (sought k).counted c.if1.true
+    refused-page (given s) a.encoded.values a.page a.depth s.pre _ k.seek-found.result.count
+    (mask_is k.before.before.before.before) (sought k).counted c.if-found-eq0.true
 
-returns-2 : tie.Need-returns-2
+returns-2 : tie.Need-returns-then-found
 returns-2 c =
     let k = c.before.before.before.before in
     let s = start k in
     let a = s.args in
-    let r = k.seek.result in
+    let r = k.seek-found.result in
     let fair = fair-of-count a.state.shape.capacity _ _ r.count (sought k).counted
-    c.before.before.if1.false in
+    c.before.before.if-found-eq0.false in
     refused-absent (given s) a.encoded.values a.page a.depth s.pre
-    (λ i. (k.before.before.before.before.before.before.before.shared-slice-known2.given i).fits)
-    r.count fair.counted r.place (sought k).placed c.if2.true
+    (λ i. (k.before.before.before.before.before.before.before.shared_slice_known-2-1.given i).fits)
+    r.count fair.counted r.place (sought k).placed c.if-found.true
 
-returns-3 : tie.Need-returns-3
+returns-3 : tie.Need-returns-then-depth-eq0
 returns-3 c =
     let k = c.before.before.before.before.before in
     let s = start k in
-    let f = found k c.before.before.before.if1.false c.before.if2.false in
+    let f = found k c.before.before.before.if-found-eq0.false c.before.if-found.false in
     record {
       found = f;
-      alone = stays-root (given s) s.args.encoded.values _ f ((sought k).depth_is ∙ c.if3.true);
+      alone = stays-root (given s) s.args.encoded.values _ f ((sought k).depth_is ∙ c.if-depth-eq0.true);
     }
 
-plan-sibling-requires : tie.Need-plan-sibling-requires
+plan-sibling-requires : tie.Need-plan_sibling-requires
 plan-sibling-requires c κs =
     let k = c.before.before.before.before.before in
     let s = start k in
     record {
-      found = found k c.before.before.before.if1.false c.before.if2.false;
-      divided = omega (arith, (sought k).depth_is, c.if3.false);
+      found = found k c.before.before.before.if-found-eq0.false c.before.if-found.false;
+      divided = omega (arith, (sought k).depth_is, c.if-depth-eq0.false);
       fixed = mask_is k.before.before.before.before
           ∙ ap (fixed_bits (widths_of s.args.state.shape)) (sym (sought k).depth_is);
     }
 
-returns-4 : tie.Need-returns-4
-returns-4 c = c.plan-sibling.ensures
+returns-4 : tie.Need-returns
+returns-4 c = c.plan_sibling.ensures
 
-pub plan-leaf-spec : {M : Type 1} → statement M
-plan-leaf-spec =
+pub plan_leaf_spec : {M : Type 1} → statement M
+plan_leaf_spec =
     tie.close
     (tie.spec
     widths-of-requires

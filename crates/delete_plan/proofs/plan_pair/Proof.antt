@@ -21,62 +21,62 @@ abbrev given : tie.Start → Store
 given s = store s.args.state s.args.dir.now s.args.pages.now
 
 -- where the call began, from the count
-abbrev start : tie.After-count-on → tie.Start
+abbrev start : tie.After-count_on-count → tie.Start
 start k = k.before.before.before.before.before.before
 
 -- its count, by the shape's bias
-counted : (k : tie.After-count-on)
+counted : (k : tie.After-count_on-count)
     → let a = (start k).args in
     let page = page_at a.state.shape.capacity a.pages.now a.other in
-    k.count-on.result
+    k.count_on-count.result
     ≡ fair_count a.state.shape.capacity
     (ends_agree (bias_key a.state.shape) a.mask a.beside page (count_of page)) page
 counted k =
     let a = (start k).args in
     let page = page_at a.state.shape.capacity a.pages.now a.other in
-    k.count-on.ensures.is
+    k.count_on-count.ensures.is
     ∙ ap (λ h. fair_count a.state.shape.capacity (ends_agree h a.mask a.beside page (count_of page)) page)
-    k.before.bias-key.ensures
+    k.before.bias_key-bias.ensures
 
 -- the sibling's page
-fair : (c : tie.Else1)
+fair : (c : tie.Else-count-eq0)
     → let k = c.before in
     let a = (start k).args in
     let page = page_at a.state.shape.capacity a.pages.now a.other in
     Fair a.state.shape.capacity (ends_agree (bias_key a.state.shape) a.mask a.beside page (count_of page))
-    page k.count-on.result
+    page k.count_on-count.result
 fair c =
     let a = (start c.before).args in
-    fair-of-count a.state.shape.capacity _ _ _ (counted c.before) c.if1.false
+    fair-of-count a.state.shape.capacity _ _ _ (counted c.before) c.if-count-eq0.false
 
-cast-capacity : tie.Need-overflow-cast-capacity
+cast-capacity : tie.Need-overflow_cast-capacity
 cast-capacity c = search rules
 
-bias-key-requires : tie.Need-bias-key-requires
+bias-key-requires : tie.Need-bias_key-bias-requires
 bias-key-requires c κs = c.before.before.before.before.requires.leaf.found.leaf.passed.shape
 
-count-on-requires : tie.Need-count-on-requires
+count-on-requires : tie.Need-count_on-count-requires
 count-on-requires c κs =
     let s = c.before.before.before.before.before in
     let a = s.args in
     page_lent (given s) a.encoded.values a.found.page a.found.depth s.requires.leaf.found.leaf a.other
     s.requires.other-within
 
-returns : tie.Need-returns
+returns : tie.Need-returns-then-count-eq0
 returns c =
     let k = c.before in
     let s = start k in
     let a = s.args in
     refused-other (given s) a.encoded.values a.found a.mask a.other a.beside s.pre
-    k.count-on.result (counted k) c.if1.true
+    k.count_on-count.result (counted k) c.if-count-eq0.true
 
-add-if2 : tie.Need-overflow-add-if2
+add-if2 : tie.Need-overflow_add-capacity
 add-if2 c = search rules
 
-add-if2-2 : tie.Need-overflow-add-if2-2
+add-if2-2 : tie.Need-overflow_add-found
 add-if2-2 c = search rules
 
-returns-2 : tie.Need-returns-2
+returns-2 : tie.Need-returns-then-capacity-found
 returns-2 c =
     let e = c.before.before in
     let s = start e.before in
@@ -85,26 +85,26 @@ returns-2 c =
       found = s.pre.leaf.found;
       alone =
           stays-full (given s) a.encoded.values a.found a.mask a.other a.beside s.pre _ (fair e)
-          c.if2.true;
+          c.if-capacity-found.true;
     }
 
-tally-holds-requires : tie.Need-tally-holds-requires
+tally-holds-requires : tie.Need-tally_holds-requires
 tally-holds-requires c κs = search rules
 
-returns-3 : tie.Need-returns-3
+returns-3 : tie.Need-returns-then-not-tally_holds
 returns-3 c =
     let s = start c.before.before.before.before.before in
     let a = s.args in
-    let holds = c.before.tally-holds in
+    let holds = c.before.tally_holds in
     refused-tally (given s) a.encoded.values a.found a.mask a.other a.beside s.pre
-    (sym holds.ensures ∙ not-true holds.result c.if3.true)
+    (sym holds.ensures ∙ not-true holds.result c.if-not-tally_holds.true-raw)
 
-pack-key-requires : tie.Need-pack-key-requires
+pack-key-requires : tie.Need-pack_key-requires
 pack-key-requires c κs =
     let s = start c.before.before.before.before.before in
     SixteenBits-passed _ _ s.pre.leaf.found.leaf.passed
 
-plan-join-requires : tie.Need-plan-join-requires
+plan-join-requires : tie.Need-plan_join-join-requires
 plan-join-requires c κs =
     let s = start c.before.before.before.before.before.before in
     let a = s.args in
@@ -115,23 +115,23 @@ plan-join-requires c κs =
       deep = leaf.deep;
     }
 
-returns-4 : tie.Need-returns-4
+returns-4 : tie.Need-returns
 returns-4 c =
     let e = c.before.before.before.before.before.before in
     let s = start e.before in
     let a = s.args in
-    let holds = c.before.before.before.tally-holds in
-    let back = ap unpacked_key c.before.pack-key.ensures
+    let holds = c.before.before.before.tally_holds in
+    let back = ap unpacked_key c.before.pack_key.ensures
     ∙ unpacked_key-passed _ _ s.pre.leaf.found.leaf.passed in
     join_planned (given s) a.encoded.values a.found a.mask a.other a.beside s.pre _ (fair e)
-    c.before.before.before.before.if2.false
-    (sym holds.ensures ∙ not-false holds.result c.before.before.if3.false) _
+    c.before.before.before.before.if-capacity-found.false
+    (sym holds.ensures ∙ not-false holds.result c.before.before.if-not-tally_holds.false-raw) _
     (subst
-    (λ v. JoinMade a.state a.dir.now v a.found.depth a.other e.before.count-on.result
-    c.plan-join.result) back c.plan-join.ensures)
+    (λ v. JoinMade a.state a.dir.now v a.found.depth a.other e.before.count_on-count.result
+    c.plan_join-join.result) back c.plan_join-join.ensures)
 
-pub plan-pair-spec : {M : Type 1} → statement M
-plan-pair-spec =
+pub plan_pair_spec : {M : Type 1} → statement M
+plan_pair_spec =
     tie.close
     (tie.spec
     cast-capacity

@@ -25,58 +25,58 @@ abbrev given : tie.Start → Store
 given s = store s.args.state s.args.dir.now s.args.pages.now
 
 -- where the call began, from the sibling that was found
-abbrev start : tie.After-find-sibling → tie.Start
+abbrev start : tie.After-find_sibling-beside → tie.Start
 start k = k.before.before.before.before.before
 
 -- the key that falls into the sibling, from the key's own packed form
-there : (k : tie.After-find-sibling)
+there : (k : tie.After-find_sibling-beside)
     → let a = (start k).args in
-    SiblingKey a.state.shape (packed_key a.encoded.values) (a.found.depth - 1) k.find-sibling.result.key
+    SiblingKey a.state.shape (packed_key a.encoded.values) (a.found.depth - 1) k.find_sibling-beside.result.key
 there k =
     let a = (start k).args in
-    subst (λ key. SiblingKey a.state.shape key (a.found.depth - 1) k.find-sibling.result.key)
-    k.before.before.pack-key.ensures k.find-sibling.ensures.beside
+    subst (λ key. SiblingKey a.state.shape key (a.found.depth - 1) k.find_sibling-beside.result.key)
+    k.before.before.pack_key-packed.ensures k.find_sibling-beside.ensures.beside
 
 -- the key, back from its packed form
-back : (k : tie.After-find-sibling) → unpacked_key k.before.before.pack-key.result ≡ (start k).args.encoded.values
+back : (k : tie.After-find_sibling-beside) → unpacked_key k.before.before.pack_key-packed.result ≡ (start k).args.encoded.values
 back k =
-    ap unpacked_key k.before.before.pack-key.ensures
+    ap unpacked_key k.before.before.pack_key-packed.ensures
     ∙ unpacked_key-passed _ _ (start k).requires.found.leaf.passed
 
 -- the word of the sibling's cell
-beside : (k : tie.After-find-sibling)
+beside : (k : tie.After-find_sibling-beside)
     → let s = start k in
-    AtSibling (given s) s.args.encoded.values (s.args.found.depth - 1) (λ w. k.find-sibling.result.word ≡ w)
+    AtSibling (given s) s.args.encoded.values (s.args.found.depth - 1) (λ w. k.find_sibling-beside.result.word ≡ w)
 beside k =
     let s = start k in
     subst
-    (λ v. AtSibling (given s) v (s.args.found.depth - 1) (λ w. k.find-sibling.result.word ≡ w)) (back k)
-    k.find-sibling.ensures.word
+    (λ v. AtSibling (given s) v (s.args.found.depth - 1) (λ w. k.find_sibling-beside.result.word ≡ w)) (back k)
+    k.find_sibling-beside.ensures.word
 
 -- the word holds
-held : (c : tie.Else1)
+held : (c : tie.Else-not-sibling_word_holds)
     → let k = c.before.before in
-    word_holds (start k).args.state k.find-sibling.result.word ≡ true
+    word_holds (start k).args.state k.find_sibling-beside.result.word ≡ true
 held c =
     let k = c.before.before in
     let s = start k in
-    let holds = c.before.sibling-word-holds in
+    let holds = c.before.sibling_word_holds in
     held-sibling (given s) s.args.encoded.values s.args.found s.pre.found s.pre.divided _
-    (beside k) (sym holds.ensures ∙ not-false holds.result c.if1.false)
+    (beside k) (sym holds.ensures ∙ not-false holds.result c.if-not-sibling_word_holds.false-raw)
 
 -- the leaf with a page that it names
-named : (c : tie.After-sibling)
-    → leaf_of c.before.before.before.before.before.find-sibling.result.word
-    ≡ Page c.sibling.given.0.0 c.sibling.given.0.1.0
-named c = sym c.before.before.unpack.ensures ∙ c.sibling.given.1
+named : (c : tie.In-Page-2)
+    → leaf_of c.before.before.before.before.before.find_sibling-beside.result.word
+    ≡ Page c.sibling-1.given.0.0 c.sibling-1.given.0.1.0
+named c = sym c.before.before.unpack-sibling.ensures ∙ c.sibling-1.given.1
 
-pack-key-requires : tie.Need-pack-key-requires
+pack-key-requires : tie.Need-pack_key-packed-requires
 pack-key-requires c κs = SixteenBits-passed _ _ c.before.before.requires.found.leaf.passed
 
-sub-find-sibling : tie.Need-overflow-sub-find-sibling
+sub-find-sibling : tie.Need-overflow_sub-found
 sub-find-sibling c = search rules
 
-find-sibling-requires : tie.Need-find-sibling-requires
+find-sibling-requires : tie.Need-find_sibling-beside-requires
 find-sibling-requires c κs =
     let s = c.before.before.before.before in
     let a = s.args in
@@ -85,11 +85,11 @@ find-sibling-requires c κs =
       lent = directory_lent (given s) a.encoded.values a.found.page a.found.depth leaf;
       below = omega (arith, s.requires.divided, leaf.deep);
       fits =
-          ap (λ n. index_fits (widths_of a.state.shape) (unpacked_key n)) c.before.pack-key.ensures
+          ap (λ n. index_fits (widths_of a.state.shape) (unpacked_key n)) c.before.pack_key-packed.ensures
           ∙ index_fits-passed _ _ leaf.passed;
     }
 
-sibling-word-holds-requires : tie.Need-sibling-word-holds-requires
+sibling-word-holds-requires : tie.Need-sibling_word_holds-requires
 sibling-word-holds-requires c κs =
     let s = start c in
     let a = s.args in
@@ -97,24 +97,24 @@ sibling-word-holds-requires c κs =
     let lent = directory_lent (given s) a.encoded.values a.found.page a.found.depth leaf in
     (lent.short, omega (arith, leaf.deep, lent.short))
 
-returns : tie.Need-returns
+returns : tie.Need-returns-then-not-sibling_word_holds
 returns c =
     let k = c.before.before in
     let s = start k in
-    let holds = c.before.sibling-word-holds in
+    let holds = c.before.sibling_word_holds in
     refused-sibling (given s) s.args.encoded.values s.args.found s.pre.found s.pre.divided _
-    (beside k) (sym holds.ensures ∙ not-true holds.result c.if1.true)
+    (beside k) (sym holds.ensures ∙ not-true holds.result c.if-not-sibling_word_holds.true-raw)
 
-unpack-requires : tie.Need-unpack-requires
+unpack-requires : tie.Need-unpack-sibling-requires
 unpack-requires c κs = search rules
 
-enum-known-sibling : tie.Need-enum-known-sibling
+enum-known-sibling : tie.Need-enum_known-sibling
 enum-known-sibling c = search rules
 
-enum_told : tie.Need-enum-told
+enum_told : tie.Need-enum_told-1
 enum_told c = search rules
 
-returns-2 : tie.Need-returns-2
+returns-2 : tie.Need-returns-in_default
 returns-2 c =
     let k = c.before.before.before.before.before in
     let s = start k in
@@ -123,10 +123,10 @@ returns-2 c =
       alone =
           stays-empty (given s) s.args.encoded.values s.args.found s.pre.found s.pre.divided _
           (beside k) (held c.before.before.before) _
-          (sym c.before.before.unpack.ensures ∙ c.enum_told.given.1);
+          (sym c.before.before.unpack-sibling.ensures ∙ c.enum_told-1.given.1);
     }
 
-returns-3 : tie.Need-returns-3
+returns-3 : tie.Need-returns-then-depth-found
 returns-3 c =
     let k = c.before.before.before.before.before.before.before.before in
     let s = start k in
@@ -135,22 +135,22 @@ returns-3 c =
       alone =
           stays-deep (given s) s.args.encoded.values s.args.found s.pre.found s.pre.divided _
           (beside k) (held c.before.before.before.before.before.before) _ _
-          (named c.before.before.before) c.if2.true;
+          (named c.before.before.before) c.if-depth-found.true;
     }
 
-plan-pair-requires : tie.Need-plan-pair-requires
+plan-pair-requires : tie.Need-plan_pair-requires
 plan-pair-requires c κs =
     let k = c.before.before.before.before.before.before.before.before in
     let s = start k in
     sibling_met (given s) s.args.encoded.values s.args.found s.pre.found s.pre.divided _
     (beside k) (held c.before.before.before.before.before.before) _ _
-    (named c.before.before.before) c.if2.false s.args.mask s.pre.fixed _ (there k)
+    (named c.before.before.before) c.if-depth-found.false s.args.mask s.pre.fixed _ (there k)
 
-returns-4 : tie.Need-returns-4
-returns-4 c = c.plan-pair.ensures
+returns-4 : tie.Need-returns
+returns-4 c = c.plan_pair.ensures
 
-pub plan-sibling-spec : {M : Type 1} → statement M
-plan-sibling-spec =
+pub plan_sibling_spec : {M : Type 1} → statement M
+plan_sibling_spec =
     tie.close
     (tie.spec
     pack-key-requires

@@ -6,13 +6,13 @@ use borrow.Author.Rules.{rules}
 use Rattle.delete_plan.proofs.seek.Statement.{statement}
 use Rattle.delete_plan.proofs.seek.Tie as tie
 
-count-on-requires : tie.Need-count-on-requires
+count-on-requires : tie.Need-count_on-count-requires
 count-on-requires c κs = search rules
 
-to-fields-requires : tie.Need-to-fields-requires
+to-fields-requires : tie.Need-to_fields-fields-requires
 to-fields-requires c κs = search rules
 
-place-on-requires : tie.Need-place-on-requires
+place-on-requires : tie.Need-place_on-place-requires
 place-on-requires c κs = search rules
 
 returns : tie.Need-returns
@@ -22,10 +22,10 @@ returns c =
     record {
       page-is = refl;
       depth_is = refl;
-      counted = c.before.before.count-on.ensures.is;
-      placed = c.place-on.ensures
-          ∙ ap (λ k. key_place k page c.before.before.count-on.result 0) c.before.to_Fields.ensures;
+      counted = c.before.before.count_on-count.ensures.is;
+      placed = c.place_on-place.ensures
+          ∙ ap (λ k. key_place k page c.before.before.count_on-count.result 0) c.before.to_fields-fields.ensures;
     }
 
-pub seek-spec : {M : Type 1} → statement M
-seek-spec = tie.close (tie.spec count-on-requires to-fields-requires place-on-requires returns)
+pub seek_spec : {M : Type 1} → statement M
+seek_spec = tie.close (tie.spec count-on-requires to-fields-requires place-on-requires returns)

@@ -8,63 +8,63 @@ use Rattle.delete_siblings.proofs.ClimbLaws.{Rising, rising-start, rising-next, 
 use Rattle.delete_siblings.proofs.climb.Statement.{statement}
 use Rattle.delete_siblings.proofs.climb.Tie as tie
 
-abbrev invariant-loop : tie.invariant-loop
+abbrev invariant-loop : tie.invariant-loop-y
 invariant-loop state dir key m y₀ y = Rising state dir (unpacked_key key) m y
 
-abbrev decreases-loop : tie.decreases-loop
+abbrev decreases-loop : tie.decreases-loop-y
 decreases-loop state dir key m y₀ y = y
 
-loop-holds : tie.Need-loop-init invariant-loop decreases-loop
+loop-holds : tie.Need-loop-y-init invariant-loop decreases-loop
 loop-holds c = let a = c.before.args in rising-start a.state a.dir.now (unpacked_key a.key) a.m
 
-sub-word-beside : tie.Need-overflow-sub-word-beside invariant-loop decreases-loop
-sub-word-beside c = omega (arith, c.loop-test.true)
+sub-word-beside : tie.Need-overflow_sub-y invariant-loop decreases-loop
+sub-word-beside c = omega (arith, c.loop-y-test.true)
 
-word-beside-requires : tie.Need-word-beside-requires invariant-loop decreases-loop
+word-beside-requires : tie.Need-word_beside-word-requires invariant-loop decreases-loop
 word-beside-requires c κs =
     let pre = c.before.before.before.requires in
-    (pre.0, omega (arith, pre.1, c.before.loop.invariant.0, c.loop-test.true))
+    (pre.0, omega (arith, pre.1, c.before.loop-y.invariant.0, c.loop-y-test.true))
 
-pack-empty-requires : tie.Need-pack-empty-requires invariant-loop decreases-loop
+pack-empty-requires : tie.Need-pack_empty-requires invariant-loop decreases-loop
 pack-empty-requires c κs =
     let pre = c.before.before.before.before.requires in
-    omega (arith, pre.0.short, pre.1, c.before.before.loop.invariant.0)
+    omega (arith, pre.0.short, pre.1, c.before.before.loop-y.invariant.0)
 
-returns : tie.Need-returns invariant-loop decreases-loop
+returns : tie.Need-returns-then-word-pack_empty invariant-loop decreases-loop
 returns c =
     let called = c.before.before in
-    let loop = called.before.before.loop in
+    let loop = called.before.before.loop-y in
     let a = called.before.before.before.before.args in
     climbed-stop a.state a.dir.now (unpacked_key a.key) a.m loop.y (loop.y - 1)
-    called.word-beside.result loop.invariant (omega (arith, called.before.loop-test.true))
-    called.word-beside.ensures
-    (λ h. c.if1.true (h ∙ sym c.before.pack-empty.ensures))
+    called.word_beside-word.result loop.invariant (omega (arith, called.before.loop-y-test.true))
+    called.word_beside-word.ensures
+    (λ h. c.if-word-pack_empty.true (h ∙ sym c.before.pack_empty.ensures))
 
-sub-y : tie.Need-overflow-sub-y invariant-loop decreases-loop
-sub-y c = omega (arith, c.before.before.before.loop-test.true)
+sub-y : tie.Need-overflow_sub-y-in-loop-y invariant-loop decreases-loop
+sub-y c = omega (arith, c.before.before.before.loop-y-test.true)
 
-loop-less : tie.Need-loop-smaller invariant-loop decreases-loop
-loop-less c = omega (arith, c.before.before.before.loop-test.true)
+loop-less : tie.Need-loop-y-smaller invariant-loop decreases-loop
+loop-less c = omega (arith, c.before.before.before.loop-y-test.true)
 
-loop-again : tie.Need-loop-preserved invariant-loop decreases-loop
+loop-again : tie.Need-loop-y-preserved invariant-loop decreases-loop
 loop-again c =
     let called = c.before.before in
-    let loop = called.before.before.loop in
+    let loop = called.before.before.loop-y in
     let a = called.before.before.before.before.args in
     rising-next a.state a.dir.now (unpacked_key a.key) a.m loop.y (loop.y - 1)
-    called.word-beside.result loop.invariant (omega (arith, called.before.loop-test.true))
-    called.word-beside.ensures
-    (c.if1.false ∙ c.before.pack-empty.ensures)
+    called.word_beside-word.result loop.invariant (omega (arith, called.before.loop-y-test.true))
+    called.word_beside-word.ensures
+    (c.if-word-pack_empty.false ∙ c.before.pack_empty.ensures)
 
-returns-2 : tie.Need-returns-2 invariant-loop decreases-loop
+returns-2 : tie.Need-returns invariant-loop decreases-loop
 returns-2 c =
-    let loop = c.before.loop in
+    let loop = c.before.loop-y in
     let a = c.before.before.before.args in
     climbed-end a.state a.dir.now (unpacked_key a.key) a.m loop.y loop.invariant
-    (omega (arith, c.loop-test.false))
+    (omega (arith, c.loop-y-test.false))
 
-pub climb-spec : {M : Type 1} → statement M
-climb-spec =
+pub climb_spec : {M : Type 1} → statement M
+climb_spec =
     tie.close
     (tie.spec
     invariant-loop

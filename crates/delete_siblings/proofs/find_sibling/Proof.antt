@@ -9,22 +9,22 @@ use Rattle.delete_siblings.proofs.WordLaws.{step-asked, step_within, at_sibling}
 use Rattle.delete_siblings.proofs.find_sibling.Statement.{statement}
 use Rattle.delete_siblings.proofs.find_sibling.Tie as tie
 
-widths-of-requires : tie.Need-widths-of-requires
+widths-of-requires : tie.Need-widths_of-widths-requires
 widths-of-requires c κs = search rules
 
-step-place-requires : tie.Need-step-place-requires
+step-place-requires : tie.Need-step_place-g-requires
 step-place-requires c κs =
     let s = c.before.before in
-    let w = c.widths-of in
+    let w = c.widths_of-widths in
     step-asked s.args.state (width_list w.result) w.ensures s.args.z s.requires.below _ s.requires.lent
 
-cast-sibling-word : tie.Need-overflow-cast-sibling-word
+cast-sibling-word : tie.Need-overflow_cast-state
 cast-sibling-word c = search rules
 
-sibling-word-requires : tie.Need-sibling-word-requires
+sibling-word-requires : tie.Need-sibling_word-word-requires
 sibling-word-requires c κs =
-    let place = c.before.step-place in
-    let w = c.before.before.widths-of in
+    let place = c.before.step_place-g in
+    let w = c.before.before.widths_of-widths in
     let s = c.before.before.before.before in (
       step_within s.args.state (width_list w.result) w.ensures s.args.z s.requires.below _ s.requires.lent
           place.result place.ensures,
@@ -33,8 +33,8 @@ sibling-word-requires c κs =
 
 flipped-requires : tie.Need-flipped-requires
 flipped-requires c κs =
-    let place = c.before.before.step-place in
-    let w = c.before.before.before.widths-of in
+    let place = c.before.before.step_place-g in
+    let w = c.before.before.before.widths_of-widths in
     let s = c.before.before.before.before.before in (
       (step-asked s.args.state (width_list w.result) w.ensures s.args.z s.requires.below _
           s.requires.lent).0,
@@ -43,22 +43,22 @@ flipped-requires c κs =
 
 returns : tie.Need-returns
 returns c =
-    let place = c.before.before.before.step-place in
-    let w = c.before.before.before.before.widths-of in
+    let place = c.before.before.before.step_place-g in
+    let w = c.before.before.before.before.widths_of-widths in
     let s = c.before.before.before.before.before.before in
     let a = s.args in
     record {
       word =
           at_sibling a.state (width_list w.result) w.ensures a.z s.requires.below (unpacked_key a.key)
-          a.dir.now place.result _ place.ensures c.before.sibling-word.ensures;
+          a.dir.now place.result _ place.ensures c.before.sibling_word-word.ensures;
       beside =
           subst (SiblingKey a.state.shape a.key a.z) (sym c.flipped.ensures)
           (sibling_key a.state.shape s.requires.lent.shape a.key s.requires.fits (width_list w.result)
           w.ensures a.z place.result place.ensures);
     }
 
-pub find-sibling-spec : {M : Type 1} → statement M
-find-sibling-spec =
+pub find_sibling_spec : {M : Type 1} → statement M
+find_sibling_spec =
     tie.close
     (tie.spec
     widths-of-requires

@@ -8,37 +8,37 @@ use borrow.Author.Rules.{rules}
 use Rattle.delete_siblings.proofs.flipped.Statement.{statement}
 use Rattle.delete_siblings.proofs.flipped.Tie as tie
 
-width-le : (c : tie.After-width-at) → c.width-at.result ≤ 16
+width-le : (c : tie.After-width_at-w) → c.width_at-w.result ≤ 16
 width-le c =
     let s = c.before in
-    subst (λ n. n ≤ 16) (sym c.width-at.ensures) (s.requires.0 (s.args.g % 4))
+    subst (λ n. n ≤ 16) (sym c.width_at-w.ensures) (s.requires.0 (s.args.g % 4))
 
-width-at-requires : tie.Need-width-at-requires
+width-at-requires : tie.Need-width_at-w-requires
 width-at-requires c κs = search rules
 
-mul-result : tie.Need-overflow-mul-result
+mul-result : tie.Need-overflow_mul-result
 mul-result c = search rules
 
-add-result : tie.Need-overflow-add-result
+add-result : tie.Need-overflow_add-result
 add-result c = search rules
 
-sub-result : tie.Need-overflow-sub-result
+sub-result : tie.Need-overflow_sub-result
 sub-result c = search rules
 
-add-result-2 : tie.Need-overflow-add-result-2
+add-result-2 : tie.Need-overflow_add-result-2
 add-result-2 c = record { fits = omega (arith, width-le c) }
 
-shl-result : tie.Need-overflow-shl-result
+shl-result : tie.Need-overflow_shl-result
 shl-result c = omega (arith, width-le c)
 
 returns : tie.Need-returns
 returns c =
     let s = c.before in
-    flipped_key-shift (width_list s.args.widths) s.requires.0 s.args.g s.args.key c.width-at.result
-    s.requires.1 c.width-at.ensures
+    flipped_key-shift (width_list s.args.widths) s.requires.0 s.args.g s.args.key c.width_at-w.result
+    s.requires.1 c.width_at-w.ensures
 
-pub flipped-spec : {M : Type 1} → statement M
-flipped-spec =
+pub flipped_spec : {M : Type 1} → statement M
+flipped_spec =
     tie.close
     (tie.spec
     width-at-requires

@@ -6,25 +6,25 @@ use Rattle.delete_siblings.proofs.SiblingLaws.{sibling_holds-damaged, sibling_ho
 use Rattle.delete_siblings.proofs.sibling_word_holds.Statement.{statement}
 use Rattle.delete_siblings.proofs.sibling_word_holds.Tie as tie
 
-word-holds-requires : tie.Need-word-holds-requires
+word-holds-requires : tie.Need-word_holds-requires
 word-holds-requires c κs = search rules
 
-returns : tie.Need-returns
+returns : tie.Need-returns-then-not-word_holds
 returns c =
     let a = c.before.before.args in
-    let holds = c.before.Word-Holds in
+    let holds = c.before.word_holds in
     sibling_holds-damaged a.state a.depth a.word
-    (sym holds.ensures ∙ not-true holds.result c.if1.true)
+    (sym holds.ensures ∙ not-true holds.result c.if-not-word_holds.true-raw)
 
-pack-empty-requires : tie.Need-pack-empty-requires
+pack-empty-requires : tie.Need-pack_empty-requires
 pack-empty-requires c κs = search rules
 
-returns-2 : tie.Need-returns-2
+returns-2 : tie.Need-returns
 returns-2 c =
     let a = c.before.before.before.args in
-    let holds = c.before.before.Word-Holds in
+    let holds = c.before.before.word_holds in
     sibling_holds-above a.state a.depth a.word
-    (sym holds.ensures ∙ not-false holds.result c.before.if1.false) _ c.pack-empty.ensures
+    (sym holds.ensures ∙ not-false holds.result c.before.if-not-word_holds.false-raw) _ c.pack_empty.ensures
 
-pub sibling-word-holds-spec : {M : Type 1} → statement M
-sibling-word-holds-spec = tie.close (tie.spec word-holds-requires returns pack-empty-requires returns-2)
+pub sibling_word_holds_spec : {M : Type 1} → statement M
+sibling_word_holds_spec = tie.close (tie.spec word-holds-requires returns pack-empty-requires returns-2)

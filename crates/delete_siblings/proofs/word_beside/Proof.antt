@@ -7,22 +7,22 @@ use Rattle.delete_siblings.proofs.WordLaws.{step-asked, step_within, at_sibling}
 use Rattle.delete_siblings.proofs.word_beside.Statement.{statement}
 use Rattle.delete_siblings.proofs.word_beside.Tie as tie
 
-widths-of-requires : tie.Need-widths-of-requires
+widths-of-requires : tie.Need-widths_of-widths-requires
 widths-of-requires c κs = search rules
 
-step-place-requires : tie.Need-step-place-requires
+step-place-requires : tie.Need-step_place-g-requires
 step-place-requires c κs =
     let s = c.before.before in
-    let w = c.widths-of in
+    let w = c.widths_of-widths in
     step-asked s.args.state (width_list w.result) w.ensures s.args.z s.requires.1 _ s.requires.0
 
-cast-sibling-word : tie.Need-overflow-cast-sibling-word
+cast-sibling-word : tie.Need-overflow_cast-state
 cast-sibling-word c = search rules
 
-sibling-word-requires : tie.Need-sibling-word-requires
+sibling-word-requires : tie.Need-sibling_word-requires
 sibling-word-requires c κs =
-    let place = c.before.step-place in
-    let w = c.before.before.widths-of in
+    let place = c.before.step_place-g in
+    let w = c.before.before.widths_of-widths in
     let s = c.before.before.before.before in (
       step_within s.args.state (width_list w.result) w.ensures s.args.z s.requires.1 _ s.requires.0
           place.result place.ensures,
@@ -31,13 +31,13 @@ sibling-word-requires c κs =
 
 returns : tie.Need-returns
 returns c =
-    let place = c.before.before.step-place in
-    let w = c.before.before.before.widths-of in
+    let place = c.before.before.step_place-g in
+    let w = c.before.before.before.widths_of-widths in
     let s = c.before.before.before.before.before in
     at_sibling s.args.state (width_list w.result) w.ensures s.args.z s.requires.1
-    (unpacked_key s.args.key) s.args.dir.now place.result _ place.ensures c.sibling-word.ensures
+    (unpacked_key s.args.key) s.args.dir.now place.result _ place.ensures c.sibling_word.ensures
 
-pub word-beside-spec : {M : Type 1} → statement M
-word-beside-spec =
+pub word_beside_spec : {M : Type 1} → statement M
+word_beside_spec =
     tie.close
     (tie.spec widths-of-requires step-place-requires cast-sibling-word sibling-word-requires returns)

@@ -12,22 +12,22 @@ use borrow.Author.Rules.{rules}
 use Rattle.delete_steps.proofs.join_leaves.Statement.{statement}
 use Rattle.delete_steps.proofs.join_leaves.Tie as tie
 
-cast-join-records : tie.Need-overflow-cast-join-records
+cast-join-records : tie.Need-overflow_cast-shape
 cast-join-records c = search rules
 
-join-records-requires : tie.Need-join-records-requires
+join-records-requires : tie.Need-join_records-kept-requires
 join-records-requires c κs = search rules
 
-join-tally-requires : tie.Need-join-tally-requires
+join-tally-requires : tie.Need-join_tally-tally-requires
 join-tally-requires c κs = search rules
 
-cast-greatest-depth : tie.Need-overflow-cast-greatest-depth
+cast-greatest-depth : tie.Need-overflow_cast-state
 cast-greatest-depth c = search rules
 
-greatest-depth-requires : tie.Need-greatest-depth-requires
+greatest-depth-requires : tie.Need-greatest_depth-depth-requires
 greatest-depth-requires c κs = search rules
 
-pack-page-requires : tie.Need-pack-page-requires
+pack-page-requires : tie.Need-pack_page-word-requires
 pack-page-requires c κs =
     let s = c.before.before.before.before.before.before.before.before.before.before.before.before in
     let a = s.args in
@@ -35,14 +35,14 @@ pack-page-requires c κs =
     let pair = s.requires.pair in
     let lt = kept_page-lt a.join.bit a.found.page a.join.other 4096 pair.own.page.number_lt
     pair.page.number_lt in (
-      omega (arith, lt, c.before.before.before.before.before.join-records.ensures.kept),
+      omega (arith, lt, c.before.before.before.before.before.join_records-kept.ensures.kept),
       omega (arith, s.requires.lent.short, l.above, l.deep, l.depth-step),
     )
 
-widths-of-requires : tie.Need-widths-of-requires
+widths-of-requires : tie.Need-widths_of-requires
 widths-of-requires c κs = search rules
 
-cast-fill : tie.Need-overflow-cast-fill
+cast-fill : tie.Need-overflow_cast-join
 cast-fill c = search rules
 
 fill-requires : tie.Need-fill-requires
@@ -50,9 +50,9 @@ fill-requires c κs =
     let earlier = c.before.before.before.before.before.before.before.before.before in
     let s = earlier.before.before.before.before.before.before.before in
     let a = s.args in
-    let w = c.before.before.widths-of in
-    let depth = c.before.before.before.before.greatest-depth in
-    let tally = c.before.before.before.before.before.before.join-tally in (
+    let w = c.before.before.widths_of in
+    let depth = c.before.before.before.before.greatest_depth-depth in
+    let tally = c.before.before.before.before.before.before.join_tally-tally in (
       directory_fits a.state (width_list w.result) w.ensures _ _ s.requires.lent
           (omega (arith, depth.ensures, tally_depth-le tally.result.leaves a.state.deepest)),
       omega (
@@ -63,48 +63,48 @@ fill-requires c κs =
       ),
     )
 
-cast-t22 : tie.Need-overflow-cast-t22
+cast-t22 : tie.Need-overflow_cast-result
 cast-t22 c =
     let earlier = c.before.before.before.before.before.before.before.before.before in
     let a = earlier.before.before.before.before.before.before.before.before.before.before.args in
     omega (
       arith,
-      c.before.before.before.before.before.before.before.greatest-depth.ensures,
-      tally_depth-le earlier.join-tally.result.leaves a.state.deepest,
+      c.before.before.before.before.before.before.before.greatest_depth-depth.ensures,
+      tally_depth-le earlier.join_tally-tally.result.leaves a.state.deepest,
       earlier.before.before.before.before.before.before.before.before.before.before.requires.lent.short,
     )
 
-same_length : tie.Need-same-length
+same_length : tie.Need-shape_of-dir
 same_length c = search rules
 
-same-length-2 : tie.Need-same-length-2
+same-length-2 : tie.Need-shape_of-pages
 same-length-2 c = search rules
 
 returns : tie.Need-returns
 returns c =
     let earlier = c.before.before.before.before.before.before.before.before.before in
     let a = earlier.before.before.before.before.before.before.before.before.before.before.args in
-    let w = c.before.before.before.before.before.widths-of in
-    let depth = c.before.before.before.before.before.before.before.greatest-depth in
-    let records = earlier.before.before.before.join-records.ensures in
+    let w = c.before.before.before.before.before.widths_of in
+    let depth = c.before.before.before.before.before.before.before.greatest_depth-depth in
+    let records = earlier.before.before.before.join_records-kept.ensures in
     record {
       words_are =
           record {
             state = refl;
-            tally = earlier.join-tally.ensures;
+            tally = earlier.join_tally-tally.ensures;
             depth = depth.ensures;
             new-leaf =
                 filled-shape a.state (width_list w.result) w.ensures depth.result a.join.top
                 a.encoded _ _ a.dir.now _
-                (c.before.before.before.before.before.before.pack-page.ensures
+                (c.before.before.before.before.before.before.pack_page-word.ensures
                 ∙ ap (λ k. word_of (Page k a.join.top)) records.kept)
                 c.before.before.fill.ensures;
           };
       bytes-are = records.bytes-are;
     }
 
-pub join-leaves-spec : {M : Type 1} → statement M
-join-leaves-spec =
+pub join_leaves_spec : {M : Type 1} → statement M
+join_leaves_spec =
     tie.close
     (tie.spec
     cast-join-records

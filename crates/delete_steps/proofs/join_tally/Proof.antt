@@ -7,15 +7,15 @@ use borrow.Author.Rules.{rules}
 use Rattle.delete_steps.proofs.join_tally.Statement.{statement}
 use Rattle.delete_steps.proofs.join_tally.Tie as tie
 
-cast-joined : tie.Need-overflow-cast-joined
+cast-joined : tie.Need-overflow_cast-join
 cast-joined c = search rules
 
-sub-joined : tie.Need-overflow-sub-joined
+sub-joined : tie.Need-overflow_sub-found
 sub-joined c =
     let l = c.before.before.before.requires.1 in
     omega (arith, l.depth-step, l.above)
 
-cast-joined-2 : tie.Need-overflow-cast-joined-2
+cast-joined-2 : tie.Need-overflow_cast-found
 cast-joined-2 c = search rules
 
 joined-requires : tie.Need-joined-requires
@@ -31,7 +31,7 @@ returns c =
     c.joined.ensures
     ∙ ap (λ x. joined_tally a.join.top (x - a.join.top) a.state.tally.leaves) s.requires.1.depth-step
 
-pub join-tally-spec : {M : Type 1} → statement M
-join-tally-spec =
+pub join_tally_spec : {M : Type 1} → statement M
+join_tally_spec =
     tie.close
     (tie.spec cast-joined sub-joined cast-joined-2 joined-requires returns)

@@ -8,71 +8,71 @@ use borrow.Author.Rules.{rules}
 use Rattle.delete_steps.proofs.keep_leaf.Statement.{statement}
 use Rattle.delete_steps.proofs.keep_leaf.Tie as tie
 
-cast-remove-record : tie.Need-overflow-cast-remove-record
+cast-remove-record : tie.Need-overflow_cast-shape
 cast-remove-record c = search rules
 
-remove-record-requires : tie.Need-remove-record-requires
+remove-record-requires : tie.Need-remove_record-requires
 remove-record-requires c κs = c.before.before.before.before.before.requires.own
 
-same_length : tie.Need-same-length
+same_length : tie.Need-shape_of-pages-then-found-ne1
 same_length c = search rules
 
-returns : tie.Need-returns
+returns : tie.Need-returns-then-found-ne1
 returns c =
-    let removed = c.before.before.before.before.remove-record in
+    let removed = c.before.before.before.before.remove_record in
     record {
-      words_are = record { emptied = λ e. absurd (c.if1.true e); same = λ n. refl };
+      words_are = record { emptied = λ e. absurd (c.if-found-ne1.true e); same = λ n. refl };
       bytes-are = removed.ensures;
     }
 
-pack-empty-requires : tie.Need-pack-empty-requires
+pack-empty-requires : tie.Need-pack_empty-word-requires
 pack-empty-requires c κs =
     let pre = c.before.before.before.before.before.before.before.before.before.before.requires in
     omega (arith, pre.lent.short, pre.deep)
 
-widths-of-requires : tie.Need-widths-of-requires
+widths-of-requires : tie.Need-widths_of-requires
 widths-of-requires c κs = search rules
 
-cast-fill : tie.Need-overflow-cast-fill
+cast-fill : tie.Need-overflow_cast-found
 cast-fill c = search rules
 
-cast-fill-2 : tie.Need-overflow-cast-fill-2
+cast-fill-2 : tie.Need-overflow_cast-state
 cast-fill-2 c = search rules
 
 fill-requires : tie.Need-fill-requires
 fill-requires c κs =
     let earlier = c.before.before.before.before.before.before.before.before.before in
     let s = earlier.before.before.before.before.before.before in
-    let w = c.before.before.before.widths-of in
+    let w = c.before.before.before.widths_of in
     (directory_fits s.args.state (width_list w.result) w.ensures _ _ s.requires.lent (omega arith), s.requires.deep)
 
-same-length-2 : tie.Need-same-length-2
+same-length-2 : tie.Need-shape_of-dir
 same-length-2 c = search rules
 
-same-length-3 : tie.Need-same-length-3
+same-length-3 : tie.Need-shape_of-pages
 same-length-3 c = search rules
 
-returns-2 : tie.Need-returns-2
+returns-2 : tie.Need-returns
 returns-2 c =
     let earlier = c.before.before.before.before.before.before.before.before.before in
     let s = earlier.before.before.before.before.before.before.before.before.before in
     let a = s.args in
     let filled = c.before.before.fill.ensures in
-    let word = c.before.before.before.before.before.before.before.pack-empty.ensures in
-    let w = c.before.before.before.before.before.before.widths-of in
+    let word = c.before.before.before.before.before.before.before.pack_empty-word.ensures in
+    let w = c.before.before.before.before.before.before.widths_of in
     record {
       words_are =
           record {
             emptied = λ e.
                 filled-shape a.state (width_list w.result) w.ensures a.state.deepest a.found.depth
                 a.encoded _ _ a.dir.now _ word filled;
-            same = λ n. absurd (n c.before.before.before.before.before.before.before.before.if1.false);
+            same = λ n. absurd (n c.before.before.before.before.before.before.before.before.if-found-ne1.false);
           };
-      bytes-are = earlier.before.before.before.remove-record.ensures;
+      bytes-are = earlier.before.before.before.remove_record.ensures;
     }
 
-pub keep-leaf-spec : {M : Type 1} → statement M
-keep-leaf-spec =
+pub keep_leaf_spec : {M : Type 1} → statement M
+keep_leaf_spec =
     tie.close
     (tie.spec
     cast-remove-record

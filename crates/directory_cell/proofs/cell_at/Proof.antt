@@ -9,26 +9,26 @@ use borrow.Author.Rules.{rules}
 use Rattle.directory_cell.proofs.cell_at.Statement.{statement}
 use Rattle.directory_cell.proofs.cell_at.Tie as tie
 
-near-cell-requires : tie.Need-near-cell-requires
+near-cell-requires : tie.Need-near_cell-requires
 near-cell-requires c κs = search rules
 
-returns : tie.Need-returns
-returns c = c.near-cell.ensures
+returns : tie.Need-returns-then-g-le16
+returns c = c.near_cell.ensures
 
-unpack-key-requires : tie.Need-unpack-key-requires
+unpack-key-requires : tie.Need-unpack_key-requires
 unpack-key-requires c κs = search rules
 
-cell-before-requires : tie.Need-cell-before-requires
+cell-before-requires : tie.Need-cell_before-requires
 cell-before-requires c κs = search rules
 
-returns-2 : tie.Need-returns-2
+returns-2 : tie.Need-returns
 returns-2 c =
     let a = c.before.before.before.args in
     let ws = width_list a.widths in
-    c.cell-before.ensures
-    ∙ ap (λ key. cell ws (length (steps_below ws a.g)) (split_bit ws key)) c.before.unpack-key.ensures
+    c.cell_before.ensures
+    ∙ ap (λ key. cell ws (length (steps_below ws a.g)) (split_bit ws key)) c.before.unpack_key.ensures
 
-pub cell-at-spec : {M : Type 1} → statement M
-cell-at-spec =
+pub cell_at_spec : {M : Type 1} → statement M
+cell_at_spec =
     tie.close
     (tie.spec near-cell-requires returns unpack-key-requires cell-before-requires returns-2)

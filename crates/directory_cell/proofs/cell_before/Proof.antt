@@ -8,61 +8,61 @@ use borrow.Author.Rules.{rules}
 use Rattle.directory_cell.proofs.cell_before.Statement.{statement}
 use Rattle.directory_cell.proofs.cell_before.Tie as tie
 
-depth-before-requires : tie.Need-depth-before-requires
+depth-before-requires : tie.Need-depth_before-h0-requires
 depth-before-requires c κs = search rules
 
-depth-before-requires-2 : tie.Need-depth-before-requires-2
+depth-before-requires-2 : tie.Need-depth_before-h1-requires
 depth-before-requires-2 c κs = search rules
 
-depth-before-requires-3 : tie.Need-depth-before-requires-3
+depth-before-requires-3 : tie.Need-depth_before-h2-requires
 depth-before-requires-3 c κs = search rules
 
-depth-before-requires-4 : tie.Need-depth-before-requires-4
+depth-before-requires-4 : tie.Need-depth_before-h3-requires
 depth-before-requires-4 c κs = search rules
 
-array-read-index-of-bits : tie.Need-array-read-index-of-bits
+array-read-index-of-bits : tie.Need-bounds-key-0
 array-read-index-of-bits c = search rules
 
-cast-index-of-bits : tie.Need-overflow-cast-index-of-bits
+cast-index-of-bits : tie.Need-overflow_cast-key
 cast-index-of-bits c = search rules
 
-index-of-bits-requires : tie.Need-index-of-bits-requires
+index-of-bits-requires : tie.Need-index_of_bits-i0-requires
 index-of-bits-requires c κs =
     let s = c.before.before.before.before in
-    (omega (arith, c.before.before.before.depth-before.ensures), s.requires.0 0)
+    (omega (arith, c.before.before.before.depth_before-h0.ensures), s.requires.0 0)
 
-array-read-index-of-bits-2 : tie.Need-array-read-index-of-bits-2
+array-read-index-of-bits-2 : tie.Need-bounds-key-1
 array-read-index-of-bits-2 c = search rules
 
-cast-index-of-bits-2 : tie.Need-overflow-cast-index-of-bits-2
+cast-index-of-bits-2 : tie.Need-overflow_cast-key-2
 cast-index-of-bits-2 c = search rules
 
-index-of-bits-requires-2 : tie.Need-index-of-bits-requires-2
+index-of-bits-requires-2 : tie.Need-index_of_bits-i1-requires
 index-of-bits-requires-2 c κs =
     let s = c.before.before.before.before.before in
-    (omega (arith, c.before.before.before.depth-before2.ensures), s.requires.0 1)
+    (omega (arith, c.before.before.before.depth_before-h1.ensures), s.requires.0 1)
 
-array-read-index-of-bits-3 : tie.Need-array-read-index-of-bits-3
+array-read-index-of-bits-3 : tie.Need-bounds-key-2
 array-read-index-of-bits-3 c = search rules
 
-cast-index-of-bits-3 : tie.Need-overflow-cast-index-of-bits-3
+cast-index-of-bits-3 : tie.Need-overflow_cast-key-3
 cast-index-of-bits-3 c = search rules
 
-index-of-bits-requires-3 : tie.Need-index-of-bits-requires-3
+index-of-bits-requires-3 : tie.Need-index_of_bits-i2-requires
 index-of-bits-requires-3 c κs =
     let s = c.before.before.before.before.before.before in
-    (omega (arith, c.before.before.before.depth-before3.ensures), s.requires.0 2)
+    (omega (arith, c.before.before.before.depth_before-h2.ensures), s.requires.0 2)
 
-array-read-index-of-bits-4 : tie.Need-array-read-index-of-bits-4
+array-read-index-of-bits-4 : tie.Need-bounds-key-3
 array-read-index-of-bits-4 c = search rules
 
-cast-index-of-bits-4 : tie.Need-overflow-cast-index-of-bits-4
+cast-index-of-bits-4 : tie.Need-overflow_cast-key-4
 cast-index-of-bits-4 c = search rules
 
-index-of-bits-requires-4 : tie.Need-index-of-bits-requires-4
+index-of-bits-requires-4 : tie.Need-index_of_bits-i3-requires
 index-of-bits-requires-4 c κs =
     let s = c.before.before.before.before.before.before.before in
-    (omega (arith, c.before.before.before.depth-before4.ensures), s.requires.0 3)
+    (omega (arith, c.before.before.before.depth_before-h3.ensures), s.requires.0 3)
 
 returns : tie.Need-returns
 unfolding depth_before
@@ -73,12 +73,12 @@ returns c =
     let h0 = h1.before in
     let s = h0.before in
     cell-split_bit (width_list s.args.widths) s.requires.0 s.args.g s.args.t2 _ _ _ _ _ _ _ _ s.requires.1
-    h0.depth-before.ensures h1.depth-before2.ensures h2.depth-before3.ensures h3.depth-before4.ensures
-    c.before.before.before.index-of-bits.ensures c.before.before.index-of-bits2.ensures
-    c.before.index-of-bits3.ensures c.index-of-bits4.ensures
+    h0.depth_before-h0.ensures h1.depth_before-h1.ensures h2.depth_before-h2.ensures h3.depth_before-h3.ensures
+    c.before.before.before.index_of_bits-i0.ensures c.before.before.index_of_bits-i1.ensures
+    c.before.index_of_bits-i2.ensures c.index_of_bits-i3.ensures
 
-pub cell-before-spec : {M : Type 1} → statement M
-cell-before-spec =
+pub cell_before_spec : {M : Type 1} → statement M
+cell_before_spec =
     tie.close
     (tie.spec
     depth-before-requires

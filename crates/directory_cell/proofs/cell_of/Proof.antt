@@ -8,42 +8,42 @@ use borrow.Author.Rules.{rules}
 use Rattle.directory_cell.proofs.cell_of.Statement.{statement}
 use Rattle.directory_cell.proofs.cell_of.Tie as tie
 
-early-place-requires : tie.Need-early-place-requires
+early-place-requires : tie.Need-early_place-near-requires
 early-place-requires c κs = search rules
 
-steps-before-requires : tie.Need-steps-before-requires
+steps-before-requires : tie.Need-steps_before-requires
 steps-before-requires c κs = search rules
 
-near-cell-requires : tie.Need-near-cell-requires
+near-cell-requires : tie.Need-near_cell-requires
 near-cell-requires c κs = search rules
 
-returns : tie.Need-returns
+returns : tie.Need-returns-then-near-le16
 returns c =
     let s = c.before.before.before.before.before.args in
     let ws = width_list s.widths in
-    c.near-cell.ensures
+    c.near_cell.ensures
     ∙ ap (λ n. cell ws n (split_bit ws (unpacked_key s.key)))
-    (c.before.before.before.steps-before.ensures.before ∙ c.before.before.if1.true)
+    (c.before.before.before.steps_before.ensures.before ∙ c.before.before.if-steps_before-t.true)
 
-unpack-key-requires : tie.Need-unpack-key-requires
+unpack-key-requires : tie.Need-unpack_key-requires
 unpack-key-requires c κs = search rules
 
-place-of-requires : tie.Need-place-of-requires
+place-of-requires : tie.Need-place_of-requires
 place-of-requires c κs = search rules
 
-cell-before-requires : tie.Need-cell-before-requires
+cell-before-requires : tie.Need-cell_before-requires
 cell-before-requires c κs = search rules
 
-returns-2 : tie.Need-returns-2
+returns-2 : tie.Need-returns
 returns-2 c =
     let s = c.before.before.before.before.before.before.args in
     let ws = width_list s.widths in
-    c.cell-before.ensures
-    ∙ ap (λ n. cell ws n (split_bit ws c.before.before.unpack-key.result)) c.before.place_of.ensures.before
-    ∙ ap (λ key. cell ws s.t (split_bit ws key)) c.before.before.unpack-key.ensures
+    c.cell_before.ensures
+    ∙ ap (λ n. cell ws n (split_bit ws c.before.before.unpack_key.result)) c.before.place_of.ensures.before
+    ∙ ap (λ key. cell ws s.t (split_bit ws key)) c.before.before.unpack_key.ensures
 
-pub cell-of-spec : {M : Type 1} → statement M
-cell-of-spec =
+pub cell_of_spec : {M : Type 1} → statement M
+cell_of_spec =
     tie.close
     (tie.spec
     early-place-requires

@@ -9,19 +9,19 @@ use borrow.Author.Rules.{rules}
 use Rattle.directory_cell.proofs.find_cell.Statement.{statement}
 use Rattle.directory_cell.proofs.find_cell.Tie as tie
 
-cell-of-requires : tie.Need-cell-of-requires
+cell-of-requires : tie.Need-cell_of-index-requires
 cell-of-requires c κs = search rules
 
 locate-requires : tie.Need-locate-requires
 locate-requires c κs =
     let s = c.before in
-    subst (InBox (width_list s.args.widths)) (sym c.cell-of.ensures) (in_box-cell _ s.requires.0 _ _)
+    subst (InBox (width_list s.args.widths)) (sym c.cell_of-index.ensures) (in_box-cell _ s.requires.0 _ _)
 
 returns : tie.Need-returns
 unfolding cell_address
 returns c =
     let s = c.before.before.args in
-    c.locate.ensures ∙ ap (address (width_list s.widths)) c.before.cell-of.ensures
+    c.locate.ensures ∙ ap (address (width_list s.widths)) c.before.cell_of-index.ensures
 
-pub find-cell-spec : {M : Type 1} → statement M
-find-cell-spec = tie.close (tie.spec cell-of-requires locate-requires returns)
+pub find_cell_spec : {M : Type 1} → statement M
+find_cell_spec = tie.close (tie.spec cell-of-requires locate-requires returns)

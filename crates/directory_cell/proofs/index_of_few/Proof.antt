@@ -6,27 +6,27 @@ use Rattle.directory_cell.proofs.ReverseLaws.{four-lt}
 use Rattle.directory_cell.proofs.index_of_few.Statement.{statement}
 use Rattle.directory_cell.proofs.index_of_few.Tie as tie
 
-sub-rest : tie.Need-overflow-sub-rest
+sub-rest : tie.Need-overflow_sub-rest
 sub-rest c = search rules
 
-shr-rest : tie.Need-overflow-shr-rest
+shr-rest : tie.Need-overflow_shr-rest
 shr-rest c = search rules
 
-reversed-requires : tie.Need-reversed-requires
+reversed-requires : tie.Need-reversed-four-requires
 reversed-requires c κs = let a = c.args in four-lt (a.encoding / 2 ^ (a.w - a.h))
 
-sub-result : tie.Need-overflow-sub-result
+sub-result : tie.Need-overflow_sub-result
 sub-result c = search rules
 
-shr-result : tie.Need-overflow-shr-result
+shr-result : tie.Need-overflow_shr-result
 shr-result c = search rules
 
 returns : tie.Need-returns
 returns c =
     let s = c.before in
     sum_bits-few s.args.w s.args.encoding s.args.h s.requires.0 s.requires.1 s.requires.2 _
-    c.reversed.ensures.0
+    c.reversed-four.ensures.0
 
-pub index-of-few-spec : {M : Type 1} → statement M
-index-of-few-spec =
+pub index_of_few_spec : {M : Type 1} → statement M
+index_of_few_spec =
     tie.close (tie.spec sub-rest shr-rest reversed-requires sub-result shr-result returns)

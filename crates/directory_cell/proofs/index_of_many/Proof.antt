@@ -7,64 +7,64 @@ use Rattle.directory_cell.proofs.ReverseLaws.{four-lt}
 use Rattle.directory_cell.proofs.index_of_many.Statement.{statement}
 use Rattle.directory_cell.proofs.index_of_many.Tie as tie
 
-abbrev invariant-loop : tie.invariant-loop
+abbrev invariant-loop : tie.invariant-loop-k
 invariant-loop w encoding h rest₀ index₀ k₀ rest index k = Taken w encoding h rest index k
 
-abbrev decreases-loop : tie.decreases-loop
+abbrev decreases-loop : tie.decreases-loop-k
 decreases-loop w encoding h rest₀ index₀ k₀ rest index k = h - k
 
-sub-rest : tie.Need-overflow-sub-rest invariant-loop decreases-loop
+sub-rest : tie.Need-overflow_sub-rest invariant-loop decreases-loop
 sub-rest c = omega arith
 
-shr-rest : tie.Need-overflow-shr-rest invariant-loop decreases-loop
+shr-rest : tie.Need-overflow_shr-rest invariant-loop decreases-loop
 shr-rest c = omega arith
 
-loop-holds : tie.Need-loop-init invariant-loop decreases-loop
+loop-holds : tie.Need-loop-k-init invariant-loop decreases-loop
 loop-holds c = taken-zero c.args.w c.args.encoding c.args.h
 
-add-if1 : tie.Need-overflow-add-if1 invariant-loop decreases-loop
+add-if1 : tie.Need-overflow_add-k invariant-loop decreases-loop
 add-if1 c = omega arith
 
 reversed-requires : tie.Need-reversed-requires invariant-loop decreases-loop
-reversed-requires c κs = four-lt c.before.before.loop.rest
+reversed-requires c κs = four-lt c.before.before.loop-k.rest
 
-add-k : tie.Need-overflow-add-k invariant-loop decreases-loop
+add-k : tie.Need-overflow_add-k-then-k-h invariant-loop decreases-loop
 add-k c = omega arith
 
-loop-less : tie.Need-loop-smaller invariant-loop decreases-loop
+loop-less : tie.Need-loop-k-smaller-then-k-h invariant-loop decreases-loop
 loop-less c = omega arith
 
-loop-again : tie.Need-loop-preserved invariant-loop decreases-loop
+loop-again : tie.Need-loop-k-preserved-then-k-h invariant-loop decreases-loop
 loop-again c =
-    let l = c.before.before.before.loop in
+    let l = c.before.before.before.loop-k in
     let s = c.before.before.before.before in
     let r = c.reversed in
     taken-four s.args.w s.args.encoding s.args.h l.rest l.index l.k l.invariant s.requires.0
     s.requires.1
-    c.before.if1.true r.result r.ensures.0 r.ensures.1
+    c.before.if-k-h.true r.result r.ensures.0 r.ensures.1
 
-add-k-2 : tie.Need-overflow-add-k-2 invariant-loop decreases-loop
+add-k-2 : tie.Need-overflow_add-k-else-k-h invariant-loop decreases-loop
 add-k-2 c = omega arith
 
-loop-less-2 : tie.Need-loop-smaller-2 invariant-loop decreases-loop
+loop-less-2 : tie.Need-loop-k-smaller invariant-loop decreases-loop
 loop-less-2 c = omega arith
 
-loop-again-2 : tie.Need-loop-preserved-2 invariant-loop decreases-loop
+loop-again-2 : tie.Need-loop-k-preserved invariant-loop decreases-loop
 loop-again-2 c =
-    let l = c.before.before.loop in
+    let l = c.before.before.loop-k in
     let s = c.before.before.before in
     taken-suc s.args.w s.args.encoding s.args.h l.rest l.index l.k l.invariant s.requires.0
     s.requires.1
-    c.before.loop-test.true
+    c.before.loop-k-test.true
 
 returns : tie.Need-returns invariant-loop decreases-loop
 returns c =
     let s = c.before.before in
-    let l = c.before.loop in
-    taken-end s.args.w s.args.encoding s.args.h l.rest l.index l.k l.invariant c.loop-test.false
+    let l = c.before.loop-k in
+    taken-end s.args.w s.args.encoding s.args.h l.rest l.index l.k l.invariant c.loop-k-test.false
 
-pub index-of-many-spec : {M : Type 1} → statement M
-index-of-many-spec =
+pub index_of_many_spec : {M : Type 1} → statement M
+index_of_many_spec =
     tie.close
     (tie.spec
     invariant-loop

@@ -13,18 +13,18 @@ use Rattle.directory_cell.proofs.locate_cell.Statement.{statement}
 use Rattle.directory_cell.proofs.locate_cell.Tie as tie
 
 -- t steps are before the place
-indexed : (c : tie.After-cell-before)
+indexed : (c : tie.After-cell_before-index)
     → let s = c.before.before.args in
-    index_list c.cell-before.result ≡ cell (width_list s.widths) s.t (split_bit (width_list s.widths) s.key)
+    index_list c.cell_before-index.result ≡ cell (width_list s.widths) s.t (split_bit (width_list s.widths) s.key)
 indexed c =
     let s = c.before.before.args in
     let ws = width_list s.widths in
-    c.cell-before.ensures ∙ ap (λ n. cell ws n (split_bit ws s.key)) c.before.place_of.ensures.before
+    c.cell_before-index.ensures ∙ ap (λ n. cell ws n (split_bit ws s.key)) c.before.place_of.ensures.before
 
-place-of-requires : tie.Need-place-of-requires
+place-of-requires : tie.Need-place_of-requires
 place-of-requires c κs = search rules
 
-cell-before-requires : tie.Need-cell-before-requires
+cell-before-requires : tie.Need-cell_before-index-requires
 cell-before-requires c κs = search rules
 
 locate-requires : tie.Need-locate-requires
@@ -38,6 +38,6 @@ returns c =
     let s = c.before.before.before.args in
     c.locate.ensures ∙ ap (address (width_list s.widths)) (indexed c.before)
 
-pub locate-cell-spec : {M : Type 1} → statement M
-locate-cell-spec =
+pub locate_cell_spec : {M : Type 1} → statement M
+locate_cell_spec =
     tie.close (tie.spec place-of-requires cell-before-requires locate-requires returns)

@@ -14,64 +14,64 @@ use borrow.Author.Rules.{rules}
 use Rattle.directory_cell.proofs.near_cell.Statement.{statement}
 use Rattle.directory_cell.proofs.near_cell.Tie as tie
 
-depth-before-requires : tie.Need-depth-before-requires
+depth-before-requires : tie.Need-depth_before-d0-requires
 depth-before-requires c κs = search rules
 
-depth-before-requires-2 : tie.Need-depth-before-requires-2
+depth-before-requires-2 : tie.Need-depth_before-d1-requires
 depth-before-requires-2 c κs = search rules
 
-depth-before-requires-3 : tie.Need-depth-before-requires-3
+depth-before-requires-3 : tie.Need-depth_before-d2-requires
 depth-before-requires-3 c κs = search rules
 
-depth-before-requires-4 : tie.Need-depth-before-requires-4
+depth-before-requires-4 : tie.Need-depth_before-d3-requires
 depth-before-requires-4 c κs = search rules
 
-value-at-requires : tie.Need-value-at-requires
+value-at-requires : tie.Need-value_at-requires
 value-at-requires c κs = search rules
 
-index-of-few-requires : tie.Need-index-of-few-requires
+index-of-few-requires : tie.Need-index_of_few-i0-requires
 index-of-few-requires c κs =
     let h0 = c.before.before.before.before in
     let s = h0.before in (
-      omega (arith, h0.depth-before.ensures),
+      omega (arith, h0.depth_before-d0.ensures),
       s.requires.0 0,
-      depth-few _ _ 0 _ s.requires.1 h0.depth-before.ensures,
+      depth-few _ _ 0 _ s.requires.1 h0.depth_before-d0.ensures,
     )
 
-value-at-requires-2 : tie.Need-value-at-requires-2
+value-at-requires-2 : tie.Need-value_at-requires-2
 value-at-requires-2 c κs = search rules
 
-index-of-few-requires-2 : tie.Need-index-of-few-requires-2
+index-of-few-requires-2 : tie.Need-index_of_few-i1-requires
 index-of-few-requires-2 c κs =
     let h1 = c.before.before.before.before.before in
     let s = h1.before.before in (
-      omega (arith, h1.depth-before2.ensures),
+      omega (arith, h1.depth_before-d1.ensures),
       s.requires.0 1,
-      depth-few _ _ 1 _ s.requires.1 h1.depth-before2.ensures,
+      depth-few _ _ 1 _ s.requires.1 h1.depth_before-d1.ensures,
     )
 
-value-at-requires-3 : tie.Need-value-at-requires-3
+value-at-requires-3 : tie.Need-value_at-requires-3
 value-at-requires-3 c κs = search rules
 
-index-of-few-requires-3 : tie.Need-index-of-few-requires-3
+index-of-few-requires-3 : tie.Need-index_of_few-i2-requires
 index-of-few-requires-3 c κs =
     let h2 = c.before.before.before.before.before.before in
     let s = h2.before.before.before in (
-      omega (arith, h2.depth-before3.ensures),
+      omega (arith, h2.depth_before-d2.ensures),
       s.requires.0 2,
-      depth-few _ _ 2 _ s.requires.1 h2.depth-before3.ensures,
+      depth-few _ _ 2 _ s.requires.1 h2.depth_before-d2.ensures,
     )
 
-value-at-requires-4 : tie.Need-value-at-requires-4
+value-at-requires-4 : tie.Need-value_at-requires-4
 value-at-requires-4 c κs = search rules
 
-index-of-few-requires-4 : tie.Need-index-of-few-requires-4
+index-of-few-requires-4 : tie.Need-index_of_few-i3-requires
 index-of-few-requires-4 c κs =
     let h3 = c.before.before.before.before.before.before.before in
     let s = h3.before.before.before.before in (
-      omega (arith, h3.depth-before4.ensures),
+      omega (arith, h3.depth_before-d3.ensures),
       s.requires.0 3,
-      depth-few _ _ 3 _ s.requires.1 h3.depth-before4.ensures,
+      depth-few _ _ 3 _ s.requires.1 h3.depth_before-d3.ensures,
     )
 
 -- an index from a value that was taken out of the key
@@ -94,14 +94,14 @@ returns c =
     let h0 = h1.before in
     let s = h0.before in
     cell-split_bit (width_list s.args.widths) s.requires.0 s.args.g (unpacked_key s.args.key) _ _ _ _ _ _ _ _
-    (omega arith) h0.depth-before.ensures h1.depth-before2.ensures h2.depth-before3.ensures
-    h3.depth-before4.ensures (taken _ _ _ _ _ i0.index-of-few.ensures v0.value-at.ensures)
-    (taken _ _ _ _ _ i1.index-of-few2.ensures v1.value-at2.ensures)
-    (taken _ _ _ _ _ i2.index-of-few3.ensures v2.value-at3.ensures)
-    (taken _ _ _ _ _ c.index-of-few4.ensures v3.value-at4.ensures)
+    (omega arith) h0.depth_before-d0.ensures h1.depth_before-d1.ensures h2.depth_before-d2.ensures
+    h3.depth_before-d3.ensures (taken _ _ _ _ _ i0.index_of_few-i0.ensures v0.value_at.ensures)
+    (taken _ _ _ _ _ i1.index_of_few-i1.ensures v1.value_at-2.ensures)
+    (taken _ _ _ _ _ i2.index_of_few-i2.ensures v2.value_at-3.ensures)
+    (taken _ _ _ _ _ c.index_of_few-i3.ensures v3.value_at-4.ensures)
 
-pub near-cell-spec : {M : Type 1} → statement M
-near-cell-spec =
+pub near_cell_spec : {M : Type 1} → statement M
+near_cell_spec =
     tie.close
     (tie.spec
     depth-before-requires

@@ -4,14 +4,14 @@ use Rattle.directory_cell.proofs.ReverseLaws.{entry-reversed}
 use Rattle.directory_cell.proofs.reversed.Statement.{statement}
 use Rattle.directory_cell.proofs.reversed.Tie as tie
 
-mul-result : tie.Need-overflow-mul-result
+mul-result : tie.Need-overflow_mul-result
 mul-result c = search rules
 
-shr-result : tie.Need-overflow-shr-result
+shr-result : tie.Need-overflow_shr-result
 shr-result c = search rules
 
 returns : tie.Need-returns
 returns c = entry-reversed c.args.four c.requires
 
-pub reversed-spec : {M : Type 1} → statement M
-reversed-spec = tie.close (tie.spec mul-result shr-result returns)
+pub reversed_spec : {M : Type 1} → statement M
+reversed_spec = tie.close (tie.spec mul-result shr-result returns)

@@ -11,40 +11,40 @@ use Rattle.directory_divide.proofs.set_leaves.Statement.{statement}
 use Rattle.directory_divide.proofs.set_leaves.Tie as tie
 
 -- back to the siblings, and to the start
-abbrev start : tie.After-set-siblings → tie.Start
+abbrev start : tie.After-set_siblings → tie.Start
 start c = c.before.before.before
 
-abbrev siblings : tie.After-page-of-bit → tie.After-set-siblings
+abbrev siblings : tie.After-page_of_bit → tie.After-set_siblings
 siblings c = c.before.before.before
 
 -- back to the first fill, and to the page that it takes
-abbrev other-set : tie.After-page-of-bit2 → tie.After-fill
+abbrev other-set : tie.After-page_of_bit-2 → tie.After-fill
 other-set c = c.before.before.before
 
-abbrev other : tie.After-fill → tie.After-page-of-bit
+abbrev other : tie.After-fill → tie.After-page_of_bit
 other c = c.before.before.before
 
 -- m < 12
 small : (s : tie.Start) → s.args.m < 12
 small s = omega (arith, s.requires.0.0.short, s.requires.0.2)
 
-set-siblings-requires : tie.Need-set-siblings-requires
+set-siblings-requires : tie.Need-set_siblings-requires
 set-siblings-requires c κs = search rules
 
-add-depth : tie.Need-overflow-add-depth
+add-depth : tie.Need-overflow_add-depth
 add-depth c = search rules
 
-cast-depth : tie.Need-overflow-cast-depth
+cast-depth : tie.Need-overflow_cast-depth
 cast-depth c = search rules
 
-page-of-bit-requires : tie.Need-page-of-bit-requires
+page-of-bit-requires : tie.Need-page_of_bit-requires
 page-of-bit-requires c κs = search rules
 
-pack-page-requires : tie.Need-pack-page-requires
+pack-page-requires : tie.Need-pack_page-other-requires
 pack-page-requires c κs =
     let s = start (siblings c) in
     let pages = s.pre.1.0 in (
-      cond-lt s.args.bit _ _ _ _ c.page-of-bit.ensures (omega (arith, pages)) (omega (arith, pages)),
+      cond-lt s.args.bit _ _ _ _ c.page_of_bit.ensures (omega (arith, pages)) (omega (arith, pages)),
       omega (arith, small s),
     )
 
@@ -54,18 +54,18 @@ fill-requires c κs =
     let pre = (start set).pre.0 in
     (fits-shallower _ _ _ _ _ pre.0 (omega arith) set.set-siblings.ensures.size, omega (arith, pre.2))
 
-page-of-bit-requires-2 : tie.Need-page-of-bit-requires-2
+page-of-bit-requires-2 : tie.Need-page_of_bit-requires-2
 page-of-bit-requires-2 c κs = search rules
 
-pack-page-requires-2 : tie.Need-pack-page-requires-2
+pack-page-requires-2 : tie.Need-pack_page-own-requires
 pack-page-requires-2 c κs =
     let s = start (siblings (other (other-set c))) in
     let pages = s.pre.1.0 in (
-      cond-lt s.args.bit _ _ _ _ c.page-of-bit2.ensures (omega (arith, pages)) (omega (arith, pages)),
+      cond-lt s.args.bit _ _ _ _ c.page_of_bit-2.ensures (omega (arith, pages)) (omega (arith, pages)),
       omega (arith, small s),
     )
 
-add-fill : tie.Need-overflow-add-fill
+add-fill : tie.Need-overflow_add-m
 add-fill c = search rules
 
 fill-requires-2 : tie.Need-fill-requires-2
@@ -78,7 +78,7 @@ fill-requires-2 c κs =
       omega (arith, pre.2),
     )
 
-same_length : tie.Need-same-length
+same_length : tie.Need-shape_of-dir
 same_length c = search rules
 
 returns : tie.Need-returns
@@ -92,11 +92,11 @@ returns c =
     leaves-of-whole _ _ _ _ _ _ pre.0.1 _ _ _ _ _ set.set-siblings.ensures
     (filled-page _ _ _ _ _ _ _ _ _ refl filled.fill.ensures _ a.zero a.one a.bit
     filled.before.before.pack-page.ensures page.page-of-bit.ensures pre.1.1)
-    (filled-page _ _ _ _ _ _ _ _ _ (add-one a.m) c.before.before.fill2.ensures _ a.one a.zero a.bit
-    c.before.before.before.before.pack-page2.ensures own.page-of-bit2.ensures pre.1.1)
+    (filled-page _ _ _ _ _ _ _ _ _ (add-one a.m) c.before.before.fill-2.ensures _ a.one a.zero a.bit
+    c.before.before.before.before.pack_page-own.ensures own.page_of_bit-2.ensures pre.1.1)
 
-pub set-leaves-spec : {M : Type 1} → statement M
-set-leaves-spec =
+pub set_leaves_spec : {M : Type 1} → statement M
+set_leaves_spec =
     tie.close
     (tie.spec
     set-siblings-requires

@@ -16,14 +16,14 @@ use Rattle.directory.proofs.DoublingLaws.{DoubledTo, doubled_to-none, doubled_to
 use Rattle.directory_double.proofs.double.Statement.{statement}
 use Rattle.directory_double.proofs.double.Tie as tie
 
-abbrev invariant-loop : tie.invariant-loop
+abbrev invariant-loop : tie.invariant-loop-r
 invariant-loop widths t dir₀ g size r₀ dir r = DoubledTo (width_list widths) t dir₀ dir (size + r)
 
-abbrev decreases-loop : tie.decreases-loop
+abbrev decreases-loop : tie.decreases-loop-r
 decreases-loop widths t dir₀ g size r₀ dir r = size - r
 
 abbrev Found : Type 0
-Found = tie.After-step-place invariant-loop decreases-loop
+Found = tie.After-step_place-g invariant-loop decreases-loop
 
 abbrev ws : Found → List ℕ
 ws c = width_list c.before.before.args.widths
@@ -39,50 +39,50 @@ small : (c : Found) → 2 ^ suc (t c) ≤ 4096
 small c = le_trans (pow_mono c.before.before.requires.short) (omega arith)
 
 deep : (c : Found) → t c < length (steps (ws c))
-deep c = step_pair-lt (ws c) (t c) _ c.step-place.ensures c.before.before.requires.fit
+deep c = step_pair-lt (ws c) (t c) _ c.step_place-g.ensures c.before.before.requires.fit
 
-below : (c : tie.In-loop invariant-loop decreases-loop) → let s = c.before.before in
-    (1 * 2 ^ t s) % 2 ^ 64 + c.before.loop.r < 2 ^ suc (t s)
-below c = omega (arith, size_is c.before.before, c.loop-test.true)
+below : (c : tie.In-loop-r invariant-loop decreases-loop) → let s = c.before.before in
+    (1 * 2 ^ t s) % 2 ^ 64 + c.before.loop-r.r < 2 ^ suc (t s)
+below c = omega (arith, size_is c.before.before, c.loop-r-test.true)
 
 -- the whole cell's address
-low : (c : tie.After-whole-of invariant-loop decreases-loop) → c.whole_of.result < 2 ^ t c.before.before.before
+low : (c : tie.After-whole_of-whole invariant-loop decreases-loop) → c.whole_of-whole.result < 2 ^ t c.before.before.before
 low c =
     let s = c.before.before.before in
-    upper_half-lt (ws s) s.before.before.requires.fit (t s) (deep s) _ _ c.whole_of.ensures
+    upper_half-lt (ws s) s.before.before.requires.fit (t s) (deep s) _ _ c.whole_of-whole.ensures
 
-step-place-requires : tie.Need-step-place-requires invariant-loop decreases-loop
+step-place-requires : tie.Need-step_place-g-requires invariant-loop decreases-loop
 step-place-requires c κs = (c.before.requires.fit, c.before.requires.deep)
 
-shl-size : tie.Need-overflow-shl-size invariant-loop decreases-loop
+shl-size : tie.Need-overflow_shl-size invariant-loop decreases-loop
 shl-size c = omega (arith, c.before.before.requires.short)
 
-loop-holds : tie.Need-loop-init invariant-loop decreases-loop
+loop-holds : tie.Need-loop-r-init invariant-loop decreases-loop
 loop-holds c =
     let words = c.before.before.args.dir.now in
     let start : 2 ^ t c ≡ (1 * 2 ^ t c) % 2 ^ 64 + 0 = omega (arith, size_is c) in
     subst (DoubledTo (ws c) (t c) words words) start
     (doubled_to-none (ws c) c.before.before.requires.fit (t c) (deep c) words)
 
-add_a : tie.Need-overflow-add-a invariant-loop decreases-loop
+add_a : tie.Need-overflow_add-a invariant-loop decreases-loop
 add_a c = record { fits = omega (arith, below c, small c.before.before) }
 
-whole-of-requires : tie.Need-whole-of-requires invariant-loop decreases-loop
+whole-of-requires : tie.Need-whole_of-whole-requires invariant-loop decreases-loop
 whole-of-requires c κs =
     let s = c.before.before in
     record {
       fit = s.before.before.requires.fit;
-      from = c.before.loop.invariant.low;
-      past = subst (λ n. (1 * 2 ^ t s) % 2 ^ 64 + c.before.loop.r < 2 ^ n) (sym (add-one (t s))) (below c);
-      pair = s.step-place.ensures;
+      from = c.before.loop-r.invariant.low;
+      past = subst (λ n. (1 * 2 ^ t s) % 2 ^ 64 + c.before.loop-r.r < 2 ^ n) (sym (add-one (t s))) (below c);
+      pair = s.step_place-g.ensures;
     }
 
-mul-word : tie.Need-overflow-mul-word invariant-loop decreases-loop
+mul-word : tie.Need-offset_bounds-dir-whole invariant-loop decreases-loop
 mul-word c =
     let s = c.before.before.before in
     record { fits = omega (arith, low c, below c.before, small s) }
 
-slice-read-word : tie.Need-slice-read-word invariant-loop decreases-loop
+slice-read-word : tie.Need-bounds-dir-whole invariant-loop decreases-loop
 slice-read-word c =
     let s = c.before.before.before.before in
     omega (
@@ -90,45 +90,45 @@ slice-read-word c =
       low c.before,
       below c.before.before,
       s.before.before.requires.room,
-      c.before.before.before.loop.invariant.size,
+      c.before.before.before.loop-r.invariant.size,
     )
 
-mul-dir : tie.Need-overflow-mul-dir invariant-loop decreases-loop
+mul-dir : tie.Need-offset_bounds-dir-a invariant-loop decreases-loop
 mul-dir c = record { fits = omega (arith, below c.before.before, small c.before.before.before.before) }
 
-slice-write-dir : tie.Need-slice-write-dir invariant-loop decreases-loop
+slice-write-dir : tie.Need-bounds-dir-a invariant-loop decreases-loop
 slice-write-dir c =
     let s = c.before.before.before.before in
-    omega (arith, below c.before.before, s.before.before.requires.room, c.before.before.before.loop.invariant.size)
+    omega (arith, below c.before.before, s.before.before.requires.room, c.before.before.before.loop-r.invariant.size)
 
-add_r : tie.Need-overflow-add-r invariant-loop decreases-loop
+add_r : tie.Need-overflow_add-r invariant-loop decreases-loop
 add_r c = record { fits = omega (arith, below c.before.before, small c.before.before.before.before) }
 
-loop-less : tie.Need-loop-smaller invariant-loop decreases-loop
-loop-less c = omega (arith, c.before.before.loop-test.true)
+loop-less : tie.Need-loop-r-smaller invariant-loop decreases-loop
+loop-less c = omega (arith, c.before.before.loop-r-test.true)
 
-loop-again : tie.Need-loop-preserved invariant-loop decreases-loop
+loop-again : tie.Need-loop-r-preserved invariant-loop decreases-loop
 loop-again c =
-    let l = c.before.before.before.loop in
+    let l = c.before.before.before.loop-r in
     let s = c.before.before.before.before in
     let a = (1 * 2 ^ t s) % 2 ^ 64 + l.r in
     let next : a + 1 ≡ (1 * 2 ^ t s) % 2 ^ 64 + (l.r + 1) = omega arith in
     subst (DoubledTo (ws s) (t s) _ _) next
     (doubled_to-suc (ws s) s.before.before.requires.fit (t s) (deep s) _ l.dir a l.invariant _
-    s.before.before.requires.room (below c.before.before) c.before.whole_of.ensures)
+    s.before.before.requires.room (below c.before.before) c.before.whole_of-whole.ensures)
 
-same_length : tie.Need-same-length invariant-loop decreases-loop
-same_length c = c.before.loop.invariant.size
+same_length : tie.Need-shape_of-dir invariant-loop decreases-loop
+same_length c = c.before.loop-r.invariant.size
 
 returns : tie.Need-returns invariant-loop decreases-loop
 returns c =
-    let l = c.before.loop in
+    let l = c.before.loop-r in
     let s = c.before.before in
     doubled_to-end (ws s) s.before.before.requires.fit (t s) (deep s) _ l.dir _ l.invariant
-    (omega (arith, size_is s, c.loop-test.false))
+    (omega (arith, size_is s, c.loop-r-test.false))
 
-pub double-spec : {M : Type 1} → statement M
-double-spec =
+pub double_spec : {M : Type 1} → statement M
+double_spec =
     tie.close
     (tie.spec
     invariant-loop

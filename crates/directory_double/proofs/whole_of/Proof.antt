@@ -12,20 +12,20 @@ use borrow.Author.Rules.{rules}
 use Rattle.directory_double.proofs.whole_of.Statement.{statement}
 use Rattle.directory_double.proofs.whole_of.Tie as tie
 
-found : (c : tie.After-index-before) → let s = c.before.args in
-    Whole (width_list s.widths) s.t s.g s.a (index_list c.index-before.result)
-found c = whole _ _ _ _ (index_list c.index-before.result) c.before.requires refl c.index-before.ensures
+found : (c : tie.After-index_before-index) → let s = c.before.args in
+    Whole (width_list s.widths) s.t s.g s.a (index_list c.index_before-index.result)
+found c = whole _ _ _ _ (index_list c.index_before-index.result) c.before.requires refl c.index_before-index.ensures
 
-index-before-requires : tie.Need-index-before-requires
+index-before-requires : tie.Need-index_before-index-requires
 index-before-requires c κs = search rules
 
-without-bit-requires : tie.Need-without-bit-requires
+without-bit-requires : tie.Need-without_bit-whole-requires
 without-bit-requires c κs = (c.before.requires.pair.low, (found c).high)
 
 locate-requires : tie.Need-locate-requires
 locate-requires c κs =
     let s = c.before.before in
-    subst (InBox (width_list s.args.widths)) (sym (c.without-bit.ensures ∙ (found c.before).cleared))
+    subst (InBox (width_list s.args.widths)) (sym (c.without_bit-whole.ensures ∙ (found c.before).cleared))
     (in_box-cell _ s.requires.fit _ _)
 
 returns : tie.Need-returns
@@ -33,8 +33,8 @@ unfolding cell_address
 returns c =
     let f = found c.before.before in
     let ws = width_list c.before.before.before.args.widths in
-    (f.string, f.at, sym (c.locate.ensures ∙ ap (address ws) (c.before.without-bit.ensures ∙ f.cleared)))
+    (f.string, f.at, sym (c.locate.ensures ∙ ap (address ws) (c.before.without_bit-whole.ensures ∙ f.cleared)))
 
-pub whole-of-spec : {M : Type 1} → statement M
-whole-of-spec =
+pub whole_of_spec : {M : Type 1} → statement M
+whole_of_spec =
     tie.close (tie.spec index-before-requires without-bit-requires locate-requires returns)

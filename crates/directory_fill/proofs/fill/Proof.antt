@@ -31,67 +31,67 @@ deep : (s : tie.Start) → s.args.t ≤ length (steps (ws s))
 deep s = let w = s.args.widths in fits-steps w.w0 w.w1 w.w2 w.w3 _ _ s.requires.0
 
 -- the vector is the cell of the key's first x bits
-named : (c : tie.After-cell-before) → let s = c.before.before.before in
-    cell (ws s) s.args.x (string s) ≡ index_list c.cell-before.result
+named : (c : tie.After-cell_before-index) → let s = c.before.before.before in
+    cell (ws s) s.args.x (string s) ≡ index_list c.cell_before-index.result
 named c =
     let s = c.before.before.before in
-    ap (λ n. cell (ws s) n (string s)) (sym c.before.place_of.ensures.before) ∙ sym c.cell-before.ensures
+    ap (λ n. cell (ws s) n (string s)) (sym c.before.place_of-start.ensures.before) ∙ sym c.cell_before-index.ensures
 
 -- and its address that cell's
-own_is : (c : tie.After-locate) → let s = c.before.before.before.before in
-    c.locate.result ≡ cell_address (ws s) s.args.x (string s)
+own_is : (c : tie.After-locate-own) → let s = c.before.before.before.before in
+    c.locate-own.result ≡ cell_address (ws s) s.args.x (string s)
 unfolding cell_address
-own_is c = c.locate.ensures ∙ ap (address (ws c.before.before.before.before)) (sym (named c.before))
+own_is c = c.locate-own.ensures ∙ ap (address (ws c.before.before.before.before)) (sym (named c.before))
 
-low : (c : tie.After-locate) → c.locate.result < 2 ^ c.before.before.before.before.args.t
+low : (c : tie.After-locate-own) → c.locate-own.result < 2 ^ c.before.before.before.before.args.t
 low c =
     let s = c.before.before.before.before in
     subst (λ a. a < 2 ^ s.args.t) (sym (own_is c))
     (own-lt (ws s) s.requires.0.fit s.args.x s.args.t s.requires.1 (deep s) (string s))
 
-place-of-requires : tie.Need-place-of-requires
+place-of-requires : tie.Need-place_of-start-requires
 place-of-requires c κs = search rules
 
-cell-before-requires : tie.Need-cell-before-requires
+cell-before-requires : tie.Need-cell_before-index-requires
 cell-before-requires c κs = search rules
 
-locate-requires : tie.Need-locate-requires
+locate-requires : tie.Need-locate-own-requires
 locate-requires c κs =
     let s = c.before.before.before in
     subst (InBox (ws s)) (named c) (in_box-cell (ws s) s.requires.0.fit s.args.x (string s))
 
-mul-dir : tie.Need-overflow-mul-dir
+mul-dir : tie.Need-offset_bounds-dir-own
 mul-dir c =
     let s = c.before.before.before.before in
     let top : 2 ^ s.args.t ≤ 2 ^ 12 = pow_mono s.requires.0.short in
     record { fits = omega (arith, low c) }
 
-slice-write-dir : tie.Need-slice-write-dir
+slice-write-dir : tie.Need-bounds-dir-own
 slice-write-dir c = omega (arith, low c, c.before.before.before.before.requires.0.room)
 
-fill-blocks-requires : tie.Need-fill-blocks-requires
+fill-blocks-requires : tie.Need-fill_blocks-requires
 fill-blocks-requires c κs =
     let s = c.before.before.before.before.before in
-    let stored = length-set s.args.dir.now c.before.locate.result s.args.word in
+    let stored = length-set s.args.dir.now c.before.locate-own.result s.args.word in
     record {
       string = (string s, named c.before.before);
-      place = c.before.before.before.place_of.ensures;
+      place = c.before.before.before.place_of-start.ensures;
       within = s.requires.1;
       fits = subst (DirectoryFits (ws s) s.args.t) (sym stored) s.requires.0;
     }
 
-same_length : tie.Need-same-length
+same_length : tie.Need-shape_of-dir
 same_length c =
     let s = c.before.before.before.before.before.before.before.before in
-    c.before.before.fill-blocks.auto.1.1.1.1.1.1.0
-    ∙ length-set s.args.dir.now c.before.before.before.before.locate.result s.args.word
+    c.before.before.fill_blocks.auto.1.1.1.1.1.1.0
+    ∙ length-set s.args.dir.now c.before.before.before.before.locate-own.result s.args.word
 
 returns : tie.Need-returns
 returns c =
     let l = c.before.before.before.before in
     let s = l.before.before.before.before in
     filled-region (ws s) s.requires.0.fit _ _ s.requires.1 (deep s) (string s) _ _ _ _ (own_is l) s.requires.0.room
-    (c.before.before.fill-blocks.ensures (string s) (named l.before))
+    (c.before.before.fill_blocks.ensures (string s) (named l.before))
 
 pub fill_spec : {M : Type 1} → statement M
 fill_spec =

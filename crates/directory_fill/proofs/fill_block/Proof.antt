@@ -5,30 +5,30 @@ use borrow.Author.Rules.{rules}
 use Rattle.directory_fill.proofs.fill_block.Statement.{statement}
 use Rattle.directory_fill.proofs.fill_block.Tie as tie
 
-address-before-requires : tie.Need-address-before-requires
+address-before-requires : tie.Need-address_before-base-requires
 address-before-requires c κs = search rules
 
-address-before-requires-2 : tie.Need-address-before-requires-2
+address-before-requires-2 : tie.Need-address_before-end-requires
 address-before-requires-2 c κs = search rules
 
-sub-fill-mask : tie.Need-overflow-sub-fill-mask
+sub-fill-mask : tie.Need-overflow_sub-end
 sub-fill-mask c = search rules
 
-fill-mask-requires : tie.Need-fill-mask-requires
+fill-mask-requires : tie.Need-fill_mask-requires
 fill-mask-requires c κs = search rules
 
-same_length : tie.Need-same-length
+same_length : tie.Need-shape_of-dir
 same_length c = search rules
 
 returns : tie.Need-returns
 returns c =
-    let m = c.before.before.fill-mask.ensures in
-    let first = c.before.before.before.before.before.address-before.ensures in
-    let last = c.before.before.before.before.address-before2.ensures in
+    let m = c.before.before.fill_mask.ensures in
+    let first = c.before.before.before.before.before.address_before-base.ensures in
+    let last = c.before.before.before.before.address_before-end.ensures in
     rw (sym first, sym last) m
 
-pub fill-block-spec : {M : Type 1} → statement M
-fill-block-spec =
+pub fill_block_spec : {M : Type 1} → statement M
+fill_block_spec =
     tie.close
     (tie.spec
     address-before-requires

@@ -9,10 +9,10 @@ use Rattle.directory.proofs.MaskLaws.{MaskFilledFrom, mask_filled_from-mask, mas
 use Rattle.directory_fill.proofs.fill_mask.Statement.{statement}
 use Rattle.directory_fill.proofs.fill_mask.Tie as tie
 
-abbrev invariant-loop : tie.invariant-loop
+abbrev invariant-loop : tie.invariant-loop-v
 invariant-loop base mask word dir₀ v₀ dir v = MaskFilledFrom base mask word v dir₀ dir
 
-abbrev decreases-loop : tie.decreases-loop
+abbrev decreases-loop : tie.decreases-loop-v
 decreases-loop base mask word dir₀ v₀ dir v = v
 
 -- the first store keeps the length
@@ -20,58 +20,58 @@ stored : (s : tie.Start invariant-loop decreases-loop) → let a = s.args in
     length (set a.dir.now (a.base + a.mask) a.word) ≡ length a.dir.now
 stored s = length-set s.args.dir.now (s.args.base + s.args.mask) s.args.word
 
-add-dir : tie.Need-overflow-add-dir invariant-loop decreases-loop
+add-dir : tie.Need-overflow_add-dir invariant-loop decreases-loop
 add-dir c = record { fits = omega (arith, c.requires.1) }
 
-mul-dir : tie.Need-overflow-mul-dir invariant-loop decreases-loop
+mul-dir : tie.Need-offset_bounds-dir-base invariant-loop decreases-loop
 mul-dir c = record { fits = omega (arith, c.requires.1) }
 
-slice-write-dir : tie.Need-slice-write-dir invariant-loop decreases-loop
+slice-write-dir : tie.Need-bounds-dir-base invariant-loop decreases-loop
 slice-write-dir c = c.requires.0
 
-loop-holds : tie.Need-loop-init invariant-loop decreases-loop
+loop-holds : tie.Need-loop-v-init invariant-loop decreases-loop
 loop-holds c = mask_filled_from-mask c.args.base c.args.mask c.args.word c.args.dir.now c.requires.0
 
-sub-v : tie.Need-overflow-sub-v invariant-loop decreases-loop
-sub-v c = omega (arith, c.loop-test.true)
+sub-v : tie.Need-overflow_sub-v invariant-loop decreases-loop
+sub-v c = omega (arith, c.loop-v-test.true)
 
-add-dir-2 : tie.Need-overflow-add-dir-2 invariant-loop decreases-loop
+add-dir-2 : tie.Need-overflow_add-dir-in-loop-v invariant-loop decreases-loop
 add-dir-2 c =
     let s = c.before.before in
-    record { fits = omega (arith, s.requires.1, and_le_r (c.before.loop.v - 1) s.args.mask) }
+    record { fits = omega (arith, s.requires.1, and_le_r (c.before.loop-v.v - 1) s.args.mask) }
 
-mul-dir-2 : tie.Need-overflow-mul-dir-2 invariant-loop decreases-loop
+mul-dir-2 : tie.Need-offset_bounds-dir-base-in-loop-v invariant-loop decreases-loop
 mul-dir-2 c =
     let s = c.before.before in
-    record { fits = omega (arith, s.requires.1, and_le_r (c.before.loop.v - 1) s.args.mask) }
+    record { fits = omega (arith, s.requires.1, and_le_r (c.before.loop-v.v - 1) s.args.mask) }
 
-slice-write-dir-2 : tie.Need-slice-write-dir-2 invariant-loop decreases-loop
+slice-write-dir-2 : tie.Need-bounds-dir-base-in-loop-v invariant-loop decreases-loop
 slice-write-dir-2 c =
     let s = c.before.before in
-    let l = c.before.loop in
+    let l = c.before.loop-v in
     omega (arith, s.requires.0, and_le_r (l.v - 1) s.args.mask, l.invariant.size, stored s)
 
-loop-less : tie.Need-loop-smaller invariant-loop decreases-loop
-loop-less c = omega (arith, c.loop-test.true, and_le_l (c.before.loop.v - 1) c.before.before.args.mask)
+loop-less : tie.Need-loop-v-smaller invariant-loop decreases-loop
+loop-less c = omega (arith, c.loop-v-test.true, and_le_l (c.before.loop-v.v - 1) c.before.before.args.mask)
 
-loop-again : tie.Need-loop-preserved invariant-loop decreases-loop
+loop-again : tie.Need-loop-v-preserved invariant-loop decreases-loop
 loop-again c =
     let s = c.before.before in
-    let l = c.before.loop in
+    let l = c.before.loop-v in
     mask_filled_from-next s.args.base s.args.mask s.args.word l.v _ l.dir l.invariant
-    (subst (λ n. s.args.base + s.args.mask < n) (sym (stored s)) s.requires.0) (omega (arith, c.loop-test.true))
+    (subst (λ n. s.args.base + s.args.mask < n) (sym (stored s)) s.requires.0) (omega (arith, c.loop-v-test.true))
 
-same_length : tie.Need-same-length invariant-loop decreases-loop
-same_length c = c.before.loop.invariant.size ∙ stored c.before.before
+same_length : tie.Need-shape_of-dir invariant-loop decreases-loop
+same_length c = c.before.loop-v.invariant.size ∙ stored c.before.before
 
 returns : tie.Need-returns invariant-loop decreases-loop
 returns c =
     let s = c.before.before.args in
-    let l = c.before.loop in
-    mask_filled_from-zero s.base s.mask s.word l.v s.dir.now l.dir c.loop-test.false l.invariant
+    let l = c.before.loop-v in
+    mask_filled_from-zero s.base s.mask s.word l.v s.dir.now l.dir c.loop-v-test.false l.invariant
 
-pub fill-mask-spec : {M : Type 1} → statement M
-fill-mask-spec =
+pub fill_mask_spec : {M : Type 1} → statement M
+fill_mask_spec =
     tie.close
     (tie.spec
     invariant-loop

@@ -9,38 +9,38 @@ use borrow.Author.Rules.{rules}
 use Rattle.directory_sibling.proofs.bit_at.Statement.{statement}
 use Rattle.directory_sibling.proofs.bit_at.Tie as tie
 
-width-at-requires : tie.Need-width-at-requires
+width-at-requires : tie.Need-width_at-w-requires
 width-at-requires c κs = search rules
 
-mul-encoding : tie.Need-overflow-mul-encoding
+mul-encoding : tie.Need-offset_bounds-key-g
 mul-encoding c = search rules
 
-array-read-encoding : tie.Need-array-read-encoding
+array-read-encoding : tie.Need-bounds-key-g
 array-read-encoding c = search rules
 
-add-result : tie.Need-overflow-add-result
+add-result : tie.Need-overflow_add-result
 add-result c = search rules
 
-sub-result : tie.Need-overflow-sub-result
+sub-result : tie.Need-overflow_sub-result
 sub-result c = search rules
 
-width-le : (c : tie.After-width-at) → c.width-at.result ≤ 16
-width-le c = subst (λ w. w ≤ 16) (sym c.width-at.ensures) (c.before.requires.0 (c.before.args.g % 4))
+width-le : (c : tie.After-width_at-w) → c.width_at-w.result ≤ 16
+width-le c = subst (λ w. w ≤ 16) (sym c.width_at-w.ensures) (c.before.requires.0 (c.before.args.g % 4))
 
-cast-result : tie.Need-overflow-cast-result
+cast-result : tie.Need-overflow_cast-result
 cast-result c = record { fits = omega (arith, width-le c) }
 
-shr-result : tie.Need-overflow-shr-result
+shr-result : tie.Need-overflow_shr-result
 shr-result c = omega (arith, width-le c)
 
 returns : tie.Need-returns
 returns c =
     let s = c.before.args in
     let h = c.before.requires in
-    split_bit-shifted (width_list s.widths) s.t2 s.g c.width-at.result h.0 h.1 c.width-at.ensures
+    split_bit-shifted (width_list s.widths) s.t2 s.g c.width_at-w.result h.0 h.1 c.width_at-w.ensures
 
-pub bit-at-spec : {M : Type 1} → statement M
-bit-at-spec =
+pub bit_at_spec : {M : Type 1} → statement M
+bit_at_spec =
     tie.close
     (tie.spec
     width-at-requires

@@ -32,7 +32,7 @@ ws s = width_list s.args.widths
 abbrev string : tie.Start → ℕ → Bool
 string s = split_bit (ws s) (unpacked_key s.args.key)
 
-abbrev start : tie.After-cell-at → tie.Start
+abbrev start : tie.After-cell_at-index → tie.Start
 start c = c.before
 
 -- the number of the step
@@ -43,44 +43,44 @@ step : (s : tie.Start) → StepPair (ws s) (number s) s.args.g
 step s = record { low = s.requires.1; live = s.requires.2; before = refl }
 
 -- the vector is the cell of the key's bits before the step
-named : (c : tie.After-cell-at) → let s = start c in
-    cell (ws s) (number s) (string s) ≡ index_list c.Cell-at.result
-named c = sym c.Cell-at.ensures
+named : (c : tie.After-cell_at-index) → let s = start c in
+    cell (ws s) (number s) (string s) ≡ index_list c.cell_at-index.result
+named c = sym c.cell_at-index.ensures
 
 -- the bit is that of the step
-bit_is : (c : tie.After-pair-bit) → let s = start c.before in string s (number s) ≡ c.pair-bit.result
+bit_is : (c : tie.After-pair_bit) → let s = start c.before in string s (number s) ≡ c.pair_bit.result
 bit_is c =
     let s = start c.before in
     let g = s.args.g in
     split_bit-place (ws s) (unpacked_key s.args.key) g s.pre.0 s.pre.2
     ∙ ap (λ v. bit_of (get_or (ws s) (g % 4) 0) v (g / 4)) (get_d-unpacked_key s.args.key (g % 4) (omega arith))
-    ∙ sym c.pair-bit.ensures
+    ∙ sym c.pair_bit.ensures
 
 -- with bit 1 the sibling's vector is that one
-zero-half : (c : tie.Then1) → let at = c.before.before in let s = start at in
-    cell (ws s) (suc (number s)) (sibling (string s) (number s)) ≡ index_list at.Cell-at.result
+zero-half : (c : tie.Then-pair_bit) → let at = c.before.before in let s = start at in
+    cell (ws s) (suc (number s)) (sibling (string s) (number s)) ≡ index_list at.cell_at-index.result
 zero-half c =
     let s = start c.before.before in
     cell-sibling-zero (ws s) s.pre.0 _ _ (step s) (string s)
-    (bit_is c.before ∙ c.if1.true)
+    (bit_is c.before ∙ c.if-pair_bit.true)
     ∙ named c.before.before
 
 -- with bit 0 it has the step's bit set
-one-half : (c : tie.After-with-bit) → let s = start c.before.before.before in
-    cell (ws s) (suc (number s)) (sibling (string s) (number s)) ≡ index_list c.with-bit.result
+one-half : (c : tie.After-with_bit) → let s = start c.before.before.before in
+    cell (ws s) (suc (number s)) (sibling (string s) (number s)) ≡ index_list c.with_bit.result
 one-half c =
     let at = c.before.before.before in
     let s = start at in
     let g = s.args.g in
     cell-sibling-one (ws s) s.pre.0 _ g (step s) (string s)
-    (bit_is c.before.before ∙ c.before.if1.false)
+    (bit_is c.before.before ∙ c.before.if-pair_bit.false)
     ∙ ap (bit_set g) (named at)
-    ∙ sym c.with-bit.ensures
+    ∙ sym c.with_bit.ensures
 
-cell-at-requires : tie.Need-cell-at-requires
+cell-at-requires : tie.Need-cell_at-index-requires
 cell-at-requires c κs = search rules
 
-pair-bit-requires : tie.Need-pair-bit-requires
+pair-bit-requires : tie.Need-pair_bit-requires
 pair-bit-requires c κs = search rules
 
 locate-requires : tie.Need-locate-requires
@@ -88,12 +88,12 @@ locate-requires c κs =
     let s = start c.before.before in
     subst (InBox (ws s)) (named c.before.before) (in_box-cell (ws s) s.pre.0 (number s) (string s))
 
-returns : tie.Need-returns
+returns : tie.Need-returns-then-pair_bit
 unfolding cell_address
 returns c =
     c.locate.ensures ∙ ap (address (ws (start c.before.before.before))) (sym (zero-half c.before))
 
-with-bit-requires : tie.Need-with-bit-requires
+with-bit-requires : tie.Need-with_bit-requires
 with-bit-requires c κs =
     let at = c.before.before in
     let s = start at in
@@ -108,13 +108,13 @@ locate-requires-2 c κs =
     subst (InBox (ws s)) (one-half c)
     (in_box-cell (ws s) s.pre.0 (suc (number s)) (sibling (string s) (number s)))
 
-returns-2 : tie.Need-returns-2
+returns-2 : tie.Need-returns
 unfolding cell_address
 returns-2 c =
-    c.locate2.ensures ∙ ap (address (ws (start c.before.before.before.before))) (sym (one-half c.before))
+    c.locate-2.ensures ∙ ap (address (ws (start c.before.before.before.before))) (sym (one-half c.before))
 
-pub sibling-cell-spec : {M : Type 1} → statement M
-sibling-cell-spec =
+pub sibling_cell_spec : {M : Type 1} → statement M
+sibling_cell_spec =
     tie.close
     (tie.spec
     cell-at-requires

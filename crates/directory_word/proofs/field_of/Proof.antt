@@ -12,5 +12,5 @@ returns c =
     let below : word % 2 ^ 16 < 65536 = omega arith in
     (and_mask word 16, subst (λ r. r < 65536) (sym (and_mask word 16)) below)
 
-pub field-of-spec : {M : Type 1} → statement M
-field-of-spec = tie.close (tie.spec returns)
+pub field_of_spec : {M : Type 1} → statement M
+field_of_spec = tie.close (tie.spec returns)

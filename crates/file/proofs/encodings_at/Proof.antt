@@ -8,21 +8,21 @@ use borrow.Author.Rules.{rules}
 use Rattle.file.proofs.encodings_at.Statement.{statement}
 use Rattle.file.proofs.encodings_at.Tie as tie
 
-mul-read-key : tie.Need-overflow-mul-read-key
+mul-read-key : tie.Need-overflow_mul-i
 mul-read-key c = search rules
 
-read-key-requires : tie.Need-read-key-requires
+read-key-requires : tie.Need-read_key-requires
 read-key-requires c κs = search rules
 
-to-encodings-requires : tie.Need-to-encodings-requires
+to-encodings-requires : tie.Need-to_encodings-requires
 to-encodings-requires c κs = search rules
 
 returns : tie.Need-returns
 returns c =
     let a = c.before.before.before.args in
-    c.to-encodings.ensures
+    c.to_encodings.ensures
     ∙ ap (λ k. lane_sum k a.bias)
-    (c.before.read-key.ensures ∙ sym (key_in-field a.file.now (record_size * a.i)))
+    (c.before.read_key.ensures ∙ sym (key_in-field a.file.now (record_size * a.i)))
 
-pub encodings-at-spec : {M : Type 1} → statement M
-encodings-at-spec = tie.close (tie.spec mul-read-key read-key-requires to-encodings-requires returns)
+pub encodings_at_spec : {M : Type 1} → statement M
+encodings_at_spec = tie.close (tie.spec mul-read-key read-key-requires to-encodings-requires returns)

@@ -6,19 +6,19 @@ use borrow.Author.Rules.{rules}
 use Rattle.file_parts.proofs.byte_before.Statement.{statement}
 use Rattle.file_parts.proofs.byte_before.Tie as tie
 
-sub-result : tie.Need-overflow-sub-result
+sub-result : tie.Need-overflow_sub-result
 sub-result c = search rules
 
-shared-slice-read-result : tie.Need-shared-slice-read-result
+shared-slice-read-result : tie.Need-bounds-file-file
 shared-slice-read-result c = search rules
 
-cast-result : tie.Need-overflow-cast-result
+cast-result : tie.Need-overflow_cast-result
 cast-result c =
     let a = c.before.args in
-    record { fits = omega (arith, c.shared-slice-known.given (length a.file.now - a.n)) }
+    record { fits = omega (arith, c.shared_slice_known-1.given (length a.file.now - a.n)) }
 
 returns : tie.Need-returns
 returns c = search rules
 
-pub byte-before-spec : {M : Type 1} → statement M
-byte-before-spec = tie.close (tie.spec sub-result shared-slice-read-result cast-result returns)
+pub byte_before_spec : {M : Type 1} → statement M
+byte_before_spec = tie.close (tie.spec sub-result shared-slice-read-result cast-result returns)

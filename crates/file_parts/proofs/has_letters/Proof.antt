@@ -12,52 +12,52 @@ use Rattle.file_parts.proofs.WholeLaws.{letter_stands}
 use Rattle.file_parts.proofs.has_letters.Statement.{statement}
 use Rattle.file_parts.proofs.has_letters.Tie as tie
 
-abbrev invariant-loop : tie.invariant-loop
+abbrev invariant-loop : tie.invariant-loop-i
 invariant-loop file size wanted i₀ i = (i ≤ 4) × (all_below i (letter_stands file) ≡ true)
 
-abbrev decreases-loop : tie.decreases-loop
+abbrev decreases-loop : tie.decreases-loop-i
 decreases-loop file size wanted i₀ i = 4 - i
 
-loop-holds : tie.Need-loop-init invariant-loop decreases-loop
+loop-holds : tie.Need-loop-i-init invariant-loop decreases-loop
 loop-holds c = (omega arith, refl)
 
-sub-if1 : tie.Need-overflow-sub-if1 invariant-loop decreases-loop
+sub-if1 : tie.Need-overflow_sub-i invariant-loop decreases-loop
 sub-if1 c = search rules
 
-sub-if1-2 : tie.Need-overflow-sub-if1-2 invariant-loop decreases-loop
+sub-if1-2 : tie.Need-overflow_sub-size invariant-loop decreases-loop
 sub-if1-2 c = search rules
 
-shared-slice-read-if1 : tie.Need-shared-slice-read-if1 invariant-loop decreases-loop
+shared-slice-read-if1 : tie.Need-bounds-file-size invariant-loop decreases-loop
 shared-slice-read-if1 c = search rules
 
-array-read-if1 : tie.Need-array-read-if1 invariant-loop decreases-loop
+array-read-if1 : tie.Need-bounds-wanted-i invariant-loop decreases-loop
 array-read-if1 c = search rules
 
-returns : tie.Need-returns invariant-loop decreases-loop
+returns : tie.Need-returns-then-file-size invariant-loop decreases-loop
 returns c =
     let file = c.before.before.before.before.args.file.now in
-    let i = c.before.before.before.loop.i in
-    sym (all_below-fails (letter_stands file) 4 i (omega arith) (ne_eqb _ _ c.if1.true))
+    let i = c.before.before.before.loop-i.i in
+    sym (all_below-fails (letter_stands file) 4 i (omega arith) (ne_eqb _ _ c.if-file-size.true))
 
-add-i : tie.Need-overflow-add-i invariant-loop decreases-loop
+add-i : tie.Need-overflow_add-i invariant-loop decreases-loop
 add-i c = search rules
 
-loop-less : tie.Need-loop-smaller invariant-loop decreases-loop
+loop-less : tie.Need-loop-i-smaller invariant-loop decreases-loop
 loop-less c = search rules
 
-loop-again : tie.Need-loop-preserved invariant-loop decreases-loop
+loop-again : tie.Need-loop-i-preserved invariant-loop decreases-loop
 loop-again c =
-    let loop = c.before.before.before.loop in
-    (omega arith, rw (add-one loop.i) (all_below-suc _ loop.i loop.invariant.1 (eq-eqb _ _ c.if1.false)))
+    let loop = c.before.before.before.loop-i in
+    (omega arith, rw (add-one loop.i) (all_below-suc _ loop.i loop.invariant.1 (eq-eqb _ _ c.if-file-size.false)))
 
-returns-2 : tie.Need-returns-2 invariant-loop decreases-loop
+returns-2 : tie.Need-returns invariant-loop decreases-loop
 returns-2 c =
-    let loop = c.before.loop in
+    let loop = c.before.loop-i in
     let end : loop.i ≡ 4 = omega arith in
     sym (rw end at loop.invariant.1)
 
-pub has-letters-spec : {M : Type 1} → statement M
-has-letters-spec =
+pub has_letters_spec : {M : Type 1} → statement M
+has_letters_spec =
     tie.close
     (tie.spec
     invariant-loop

@@ -6,19 +6,19 @@ use borrow.Author.Rules.{rules}
 use Rattle.file_parts.proofs.put_end.Statement.{statement}
 use Rattle.file_parts.proofs.put_end.Tie as tie
 
-mul_at : tie.Need-overflow-mul-at
+mul_at : tie.Need-overflow_mul-at
 mul_at c = search rules
 
-put-shape-requires : tie.Need-put-shape-requires
+put-shape-requires : tie.Need-put_shape-requires
 put-shape-requires c κs = search rules
 
-add-put-trailer : tie.Need-overflow-add-put-trailer
+add-put-trailer : tie.Need-overflow_add-at
 add-put-trailer c = search rules
 
-put-trailer-requires : tie.Need-put-trailer-requires
+put-trailer-requires : tie.Need-put_trailer-requires
 put-trailer-requires c κs = search rules
 
-same_length : tie.Need-same-length
+same_length : tie.Need-shape_of-out
 same_length c = search rules
 
 returns : tie.Need-returns
@@ -27,10 +27,10 @@ returns c =
     let first = second.before.before.before.before in
     let start = first.before.before.before in
     let a = start.args in
-    paste-end_bytes a.out.now _ _ (record_size * a.n) a.shape a.n start.requires.2 first.put-shape.ensures
-    second.put-trailer.ensures
+    paste-end_bytes a.out.now _ _ (record_size * a.n) a.shape a.n start.requires.2 first.put_shape.ensures
+    second.put_trailer.ensures
 
-pub put-end-spec : {M : Type 1} → statement M
-put-end-spec =
+pub put_end_spec : {M : Type 1} → statement M
+put_end_spec =
     tie.close
     (tie.spec mul_at put-shape-requires add-put-trailer put-trailer-requires same_length returns)

@@ -5,43 +5,43 @@ use borrow.Author.Rules.{rules}
 use Rattle.file_parts.proofs.put_trailer.Statement.{statement}
 use Rattle.file_parts.proofs.put_trailer.Tie as tie
 
-slice-aggregate-copy : tie.Need-slice-aggregate-copy
+slice-aggregate-copy : tie.Need-slice_bounds-copy-end
 slice-aggregate-copy c = search rules
 
 copy-requires : tie.Need-copy-requires
 copy-requires c κs = search rules
 
-sub-write32 : tie.Need-overflow-sub-write32
+sub-write32 : tie.Need-overflow_sub-write32
 sub-write32 c = search rules
 
-add-write32 : tie.Need-overflow-add-write32
+add-write32 : tie.Need-overflow_add-at
 add-write32 c = search rules
 
 write32-requires : tie.Need-write32-requires
 write32-requires c κs = search rules
 
-sub-write32-2 : tie.Need-overflow-sub-write32-2
+sub-write32-2 : tie.Need-overflow_sub-write32-2
 sub-write32-2 c = search rules
 
-add-write32-2 : tie.Need-overflow-add-write32-2
+add-write32-2 : tie.Need-overflow_add-at-2
 add-write32-2 c = search rules
 
-size-with-requires : tie.Need-size-with-requires
+size-with-requires : tie.Need-size_with-requires
 size-with-requires c κs = search rules
 
 write32-requires-2 : tie.Need-write32-requires-2
 write32-requires-2 c κs = search rules
 
-sub-write32-3 : tie.Need-overflow-sub-write32-3
+sub-write32-3 : tie.Need-overflow_sub-write32-3
 sub-write32-3 c = search rules
 
-add-write32-3 : tie.Need-overflow-add-write32-3
+add-write32-3 : tie.Need-overflow_add-at-3
 add-write32-3 c = search rules
 
 write32-requires-3 : tie.Need-write32-requires-3
 write32-requires-3 c κs = search rules
 
-same_length : tie.Need-same-length
+same_length : tie.Need-shape_of-out
 same_length c = search rules
 
 returns : tie.Need-returns
@@ -52,11 +52,11 @@ returns c =
     let call = first.before.before.before.before in
     let start = call.before.before.before.before in
     let a = start.args in
-    paste-trailer_bytes a.out.now _ _ _ _ a.at a.count _ start.requires.1 second.before.size-with.ensures
-    call.copy.ensures first.write32.ensures second.write322.ensures third.write323.ensures
+    paste-trailer_bytes a.out.now _ _ _ _ a.at a.count _ start.requires.1 second.before.size_with.ensures
+    call.copy.ensures first.write32.ensures second.write32-2.ensures third.write32-3.ensures
 
-pub put-trailer-spec : {M : Type 1} → statement M
-put-trailer-spec =
+pub put_trailer_spec : {M : Type 1} → statement M
+put_trailer_spec =
     tie.close
     (tie.spec
     slice-aggregate-copy

@@ -6,7 +6,7 @@ use Rattle.file_parts.proofs.WholeLaws.{long-of-is_whole, length-of-is_whole}
 use Rattle.file_parts.proofs.record_count.Statement.{statement}
 use Rattle.file_parts.proofs.record_count.Tie as tie
 
-number-before-requires : tie.Need-number-before-requires
+number-before-requires : tie.Need-number_before-requires
 number-before-requires c κs =
     let bound = long-of-is_whole c.before.args.file.now c.before.requires in
     (omega arith, omega arith)
@@ -14,8 +14,8 @@ number-before-requires c κs =
 returns : tie.Need-returns
 returns c =
     let file = c.before.before.args.file.now in
-    let count = c.number-before.ensures.0 in
+    let count = c.number_before.ensures.0 in
     (count, ap file_size count ∙ length-of-is_whole file c.before.before.requires)
 
-pub record-count-spec : {M : Type 1} → statement M
-record-count-spec = tie.close (tie.spec number-before-requires returns)
+pub record_count_spec : {M : Type 1} → statement M
+record_count_spec = tie.close (tie.spec number-before-requires returns)

@@ -12,54 +12,54 @@ use Rattle.file_parts.proofs.EndLaws.{marks-lt}
 use Rattle.file_parts.proofs.shape_bytes.Statement.{statement}
 use Rattle.file_parts.proofs.shape_bytes.Tie as tie
 
-fit : (c : tie.After-widths-of) → Fit (width_list c.widths-of.result)
-fit c = widths-fit c.before.args.shape (width_list c.widths-of.result) c.before.requires c.widths-of.ensures
+fit : (c : tie.After-widths_of-widths) → Fit (width_list c.widths_of-widths.result)
+fit c = widths-fit c.before.args.shape (width_list c.widths_of-widths.result) c.before.requires c.widths_of-widths.ensures
 
 attributes-bound : (c : tie.Start) → c.args.shape.attributes ≤ 4
 attributes-bound c = attributes-le c.args.shape (in_bounds-of c.args.shape c.requires)
 
-widths-of-requires : tie.Need-widths-of-requires
+widths-of-requires : tie.Need-widths_of-widths-requires
 widths-of-requires c κs = search rules
 
-marks-below-requires : tie.Need-marks-below-requires
+marks-below-requires : tie.Need-marks_below-marks-requires
 marks-below-requires c κs = omega (arith, attributes-bound c.before)
 
-cast-t4 : tie.Need-overflow-cast-t4
+cast-t4 : tie.Need-overflow_cast-result
 cast-t4 c = record { fits = omega (arith, attributes-bound c.before.before.before) }
 
-cast-t5 : tie.Need-overflow-cast-t5
+cast-t5 : tie.Need-overflow_cast-result-2
 cast-t5 c = record { fits = omega (arith, fit c.before.before.before 0) }
 
-cast-t6 : tie.Need-overflow-cast-t6
+cast-t6 : tie.Need-overflow_cast-result-3
 cast-t6 c = record { fits = omega (arith, fit c.before.before.before.before 1) }
 
-cast-t7 : tie.Need-overflow-cast-t7
+cast-t7 : tie.Need-overflow_cast-result-4
 cast-t7 c = record { fits = omega (arith, fit c.before.before.before.before.before 2) }
 
-cast-t8 : tie.Need-overflow-cast-t8
+cast-t8 : tie.Need-overflow_cast-result-5
 cast-t8 c = record { fits = omega (arith, fit c.before.before.before.before.before.before 3) }
 
-cast-t9 : tie.Need-overflow-cast-t9
+cast-t9 : tie.Need-overflow_cast-result-6
 cast-t9 c =
     let start = c.before.before.before.before.before.before.before.before in
     record { fits = omega (arith, (capacity-bounds start.args.shape start.requires).1) }
 
-cast-t10 : tie.Need-overflow-cast-t10
+cast-t10 : tie.Need-overflow_cast-result-7
 cast-t10 c =
     let call = c.before.before.before.before.before.before in
     let positive = pow_pos call.before.before.args.shape.attributes in
     let bound = pow_mono {j = 4} (attributes-bound call.before.before) in
-    record { fits = marks-lt _ _ _ call.marks-below.ensures (omega arith) (omega arith) }
+    record { fits = marks-lt _ _ _ call.marks_below-marks.ensures (omega arith) (omega arith) }
 
 returns : tie.Need-returns
 returns c =
     let call = c.before.before.before.before.before.before in
     let shape = call.before.before.args.shape in
     λ i. shape.attributes
-    ∷ (call.before.widths-of.ensures i ++ shape.capacity ∷ call.marks-below.ensures i ∷ 0 ∷ [])
+    ∷ (call.before.widths_of-widths.ensures i ++ shape.capacity ∷ call.marks_below-marks.ensures i ∷ 0 ∷ [])
 
-pub shape-bytes-spec : {M : Type 1} → statement M
-shape-bytes-spec =
+pub shape_bytes_spec : {M : Type 1} → statement M
+shape_bytes_spec =
     tie.close
     (tie.spec
     widths-of-requires

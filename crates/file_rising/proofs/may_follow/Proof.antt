@@ -9,46 +9,46 @@ use Rattle.file_rising.proofs.RisingLaws.{may_follow-first, may_follow-compared}
 use Rattle.file_rising.proofs.may_follow.Statement.{statement}
 use Rattle.file_rising.proofs.may_follow.Tie as tie
 
-returns : tie.Need-returns
+returns : tie.Need-returns-then-i-eq0
 returns c =
     let a = c.before.args in
-    may_follow-first (width_list a.widths) (unpacked_key a.last) (unpacked_key a.key) a.i c.if1.true
+    may_follow-first (width_list a.widths) (unpacked_key a.last) (unpacked_key a.key) a.i c.if-i-eq0.true
 
-compare-requires : tie.Need-compare-requires
+compare-requires : tie.Need-compare-order-requires
 compare-requires c κs = search rules
 
-enum_told : tie.Need-enum-told
+enum_told : tie.Need-enum_told-1
 enum_told c = search rules
 
-enum-told-2 : tie.Need-enum-told-2
+enum-told-2 : tie.Need-enum_told-in-Before
 enum-told-2 c = search rules
 
-enum-told-3 : tie.Need-enum-told-3
+enum-told-3 : tie.Need-enum_told-in-After
 enum-told-3 c = search rules
 
-returns-2 : tie.Need-returns-2
+returns-2 : tie.Need-returns-in-Same
 returns-2 c =
     let call = c.before.before in
     let a = call.before.before.args in
     may_follow-compared (width_list a.widths) (unpacked_key a.last) (unpacked_key a.key) a.i
-    call.before.if1.false Same (sym call.compare.ensures ∙ c.enum_told.given.1)
+    call.before.if-i-eq0.false Same (sym call.compare-order.ensures ∙ c.enum_told-1.given.1)
 
-returns-3 : tie.Need-returns-3
+returns-3 : tie.Need-returns-in-Before
 returns-3 c =
     let call = c.before.before in
     let a = call.before.before.args in
     may_follow-compared (width_list a.widths) (unpacked_key a.last) (unpacked_key a.key) a.i
-    call.before.if1.false Before (sym call.compare.ensures ∙ c.enum-told2.given.1)
+    call.before.if-i-eq0.false Before (sym call.compare-order.ensures ∙ c.enum_told-in-Before-1.given.1)
 
-returns-4 : tie.Need-returns-4
+returns-4 : tie.Need-returns-in-After
 returns-4 c =
     let call = c.before.before in
     let a = call.before.before.args in
     may_follow-compared (width_list a.widths) (unpacked_key a.last) (unpacked_key a.key) a.i
-    call.before.if1.false After (sym call.compare.ensures ∙ c.enum-told3.given.1)
+    call.before.if-i-eq0.false After (sym call.compare-order.ensures ∙ c.enum_told-in-After-1.given.1)
 
-pub may-follow-spec : {M : Type 1} → statement M
-may-follow-spec =
+pub may_follow_spec : {M : Type 1} → statement M
+may_follow_spec =
     tie.close
     (tie.spec
     returns

@@ -10,13 +10,13 @@ use Rattle.file_scan.proofs.StepLaws.{first_step-le}
 use Rattle.file_scan.proofs.depth_at.Statement.{statement}
 use Rattle.file_scan.proofs.depth_at.Tie as tie
 
-returns : tie.Need-returns
-returns c = rw (lt-ltb c.before.args.i c.before.args.capacity c.if1.true)
+returns : tie.Need-returns-then-i-capacity
+returns c = rw (lt-ltb c.before.args.i c.before.args.capacity c.if-i-capacity.true)
 
-first-step-requires : tie.Need-first-step-requires
+first-step-requires : tie.Need-first_step-requires
 first-step-requires c κs = search rules
 
-add-result : tie.Need-overflow-add-result
+add-result : tie.Need-overflow_add-result
 add-result c =
     let a = c.before.before.args in
     omega (
@@ -25,10 +25,10 @@ add-result c =
       first_step-le (width_list a.widths) (unpacked_key a.back) (unpacked_key a.key) refl c.before.before.requires,
     )
 
-returns-2 : tie.Need-returns-2
+returns-2 : tie.Need-returns
 returns-2 c =
     let a = c.before.before.args in
-    rw (le-ltb a.i a.capacity c.before.if1.false) (omega (arith, c.first_step.ensures))
+    rw (le-ltb a.i a.capacity c.before.if-i-capacity.false) (omega (arith, c.first_step.ensures))
 
-pub depth-at-spec : {M : Type 1} → statement M
-depth-at-spec = tie.close (tie.spec returns first-step-requires add-result returns-2)
+pub depth_at_spec : {M : Type 1} → statement M
+depth_at_spec = tie.close (tie.spec returns first-step-requires add-result returns-2)

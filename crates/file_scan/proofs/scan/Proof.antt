@@ -8,82 +8,82 @@ use Rattle.file_scan.proofs.TurnLaws.{scanned-next}
 use Rattle.file_scan.proofs.scan.Statement.{statement}
 use Rattle.file_scan.proofs.scan.Tie as tie
 
-abbrev invariant-loop : tie.invariant-loop
+abbrev invariant-loop : tie.invariant-loop-i
 invariant-loop widths bias capacity file n deepest pages leaves₀ depth₀ last₀ i₀ leaves depth last i =
     Scanned (width_list widths) bias file capacity deepest pages n leaves depth last i
 
-abbrev decreases-loop : tie.decreases-loop
+abbrev decreases-loop : tie.decreases-loop-i
 decreases-loop widths bias capacity file n deepest pages leaves₀ depth₀ last₀ i₀ leaves depth last i = n - i
 
-cast-deepest : tie.Need-overflow-cast-deepest invariant-loop decreases-loop
-cast-deepest c = omega (arith, c.struct_known.given)
+cast-deepest : tie.Need-overflow_cast-deepest invariant-loop decreases-loop
+cast-deepest c = omega (arith, c.struct_known-1.given)
 
-cast-pages : tie.Need-overflow-cast-pages invariant-loop decreases-loop
-cast-pages c = omega (arith, c.struct-known2.given)
+cast-pages : tie.Need-overflow_cast-pages invariant-loop decreases-loop
+cast-pages c = omega (arith, c.struct_known-2-1.given)
 
-loop-holds : tie.Need-loop-init invariant-loop decreases-loop
+loop-holds : tie.Need-loop-i-init invariant-loop decreases-loop
 loop-holds c = scanned-start _ _ _ _ _ _ _ 0 c.before.before.before.requires.1
 
-encodings-at-requires : tie.Need-encodings-at-requires invariant-loop decreases-loop
-encodings-at-requires c κs = omega (arith, c.loop-test.true, c.before.before.before.before.before.requires.2)
+encodings-at-requires : tie.Need-encodings_at-key-requires invariant-loop decreases-loop
+encodings-at-requires c κs = omega (arith, c.loop-i-test.true, c.before.before.before.before.before.requires.2)
 
-encodings-back-requires : tie.Need-encodings-back-requires invariant-loop decreases-loop
+encodings-back-requires : tie.Need-encodings_back-back-requires invariant-loop decreases-loop
 encodings-back-requires c κs =
-    omega (arith, c.before.loop-test.true, c.before.before.before.before.before.before.requires.2)
+    omega (arith, c.before.loop-i-test.true, c.before.before.before.before.before.before.requires.2)
 
-depth-at-requires : tie.Need-depth-at-requires invariant-loop decreases-loop
+depth-at-requires : tie.Need-depth_at-next-requires invariant-loop decreases-loop
 depth-at-requires c κs = c.before.before.before.before.before.before.before.requires.0
 
-returns : tie.Need-returns invariant-loop decreases-loop
+returns : tie.Need-returns-then-deepest-next invariant-loop decreases-loop
 returns c =
     let turn = c.before.before.before in
-    let loop = turn.before.before.loop in
-    scanned-deep _ _ _ _ _ _ _ _ _ _ _ loop.invariant turn.before.loop-test.true _ _ _ turn.encodings-at.ensures
-    c.before.before.encodings-back.ensures c.before.depth-at.ensures c.if1.true
+    let loop = turn.before.before.loop-i in
+    scanned-deep _ _ _ _ _ _ _ _ _ _ _ loop.invariant turn.before.loop-i-test.true _ _ _ turn.encodings_at-key.ensures
+    c.before.before.encodings_back-back.ensures c.before.depth_at-next.ensures c.if-deepest-next.true
 
-new-leaves-requires : tie.Need-new-leaves-requires invariant-loop decreases-loop
+new-leaves-requires : tie.Need-new_leaves-leaves-requires invariant-loop decreases-loop
 new-leaves-requires c κs = c.before.before.before.before.before.before.before.before.before.requires.0
 
-add-leaves : tie.Need-overflow-add-leaves invariant-loop decreases-loop
+add-leaves : tie.Need-overflow_add-leaves invariant-loop decreases-loop
 add-leaves c =
     let met = c.before.before in
     let turn = met.before.before in
-    let loop = turn.before.before.loop in
+    let loop = turn.before.before.loop-i in
     let few =
-    more-le _ _ _ _ _ _ _ _ _ _ _ loop.invariant turn.before.loop-test.true _ _ _ turn.encodings-at.ensures
-    met.before.encodings-back.ensures met.depth-at.ensures _ c.new-leaves.ensures in
+    more-le _ _ _ _ _ _ _ _ _ _ _ loop.invariant turn.before.loop-i-test.true _ _ _ turn.encodings_at-key.ensures
+    met.before.encodings_back-back.ensures met.depth_at-next.ensures _ c.new_leaves-leaves.ensures in
     let start = turn.before.before.before.before.before.before in
-    omega (arith, few, loop.invariant.few, turn.before.loop-test.true, start.ranges.n.fits)
+    omega (arith, few, loop.invariant.few, turn.before.loop-i-test.true, start.ranges.n.fits)
 
-returns-2 : tie.Need-returns-2 invariant-loop decreases-loop
+returns-2 : tie.Need-returns-then-pages-leaves invariant-loop decreases-loop
 returns-2 c =
     let met = c.before.before.before in
     let turn = met.before.before in
-    let loop = turn.before.before.loop in
-    scanned-wide _ _ _ _ _ _ _ _ _ _ _ loop.invariant turn.before.loop-test.true _ _ _ turn.encodings-at.ensures
-    met.before.encodings-back.ensures met.depth-at.ensures _ c.before.new-leaves.ensures
-    c.before.before.if1.false c.if2.true
+    let loop = turn.before.before.loop-i in
+    scanned-wide _ _ _ _ _ _ _ _ _ _ _ loop.invariant turn.before.loop-i-test.true _ _ _ turn.encodings_at-key.ensures
+    met.before.encodings_back-back.ensures met.depth_at-next.ensures _ c.before.new_leaves-leaves.ensures
+    c.before.before.if-deepest-next.false c.if-pages-leaves.true
 
-add-i : tie.Need-overflow-add-i invariant-loop decreases-loop
-add-i c = omega (arith, c.before.before.before.before.before.before.loop-test.true)
+add-i : tie.Need-overflow_add-i invariant-loop decreases-loop
+add-i c = omega (arith, c.before.before.before.before.before.before.loop-i-test.true)
 
-loop-less : tie.Need-loop-smaller invariant-loop decreases-loop
-loop-less c = omega (arith, c.before.before.before.before.before.before.loop-test.true)
+loop-less : tie.Need-loop-i-smaller invariant-loop decreases-loop
+loop-less c = omega (arith, c.before.before.before.before.before.before.loop-i-test.true)
 
-loop-again : tie.Need-loop-preserved invariant-loop decreases-loop
+loop-again : tie.Need-loop-i-preserved invariant-loop decreases-loop
 loop-again c =
     let met = c.before.before.before in
     let turn = met.before.before in
-    let loop = turn.before.before.loop in
-    scanned-next _ _ _ _ _ _ _ _ _ _ _ loop.invariant turn.before.loop-test.true _ _ _ turn.encodings-at.ensures
-    met.before.encodings-back.ensures met.depth-at.ensures _ c.before.new-leaves.ensures
-    c.before.before.if1.false c.if2.false
+    let loop = turn.before.before.loop-i in
+    scanned-next _ _ _ _ _ _ _ _ _ _ _ loop.invariant turn.before.loop-i-test.true _ _ _ turn.encodings_at-key.ensures
+    met.before.encodings_back-back.ensures met.depth_at-next.ensures _ c.before.new_leaves-leaves.ensures
+    c.before.before.if-deepest-next.false c.if-pages-leaves.false
 
-returns-3 : tie.Need-returns-3 invariant-loop decreases-loop
-returns-3 c = scanned-end _ _ _ _ _ _ _ _ _ _ _ c.before.loop.invariant c.loop-test.false
+returns-3 : tie.Need-returns invariant-loop decreases-loop
+returns-3 c = scanned-end _ _ _ _ _ _ _ _ _ _ _ c.before.loop-i.invariant c.loop-i-test.false
 
-pub scan-spec : {M : Type 1} → statement M
-scan-spec =
+pub scan_spec : {M : Type 1} → statement M
+scan_spec =
     tie.close
     (tie.spec
     invariant-loop

@@ -13,78 +13,78 @@ use Rattle.fresh.proofs.CountLaws.{cleared_counts-suc}
 use Rattle.fresh.proofs.clear_counts.Statement.{statement}
 use Rattle.fresh.proofs.clear_counts.Tie as tie
 
-abbrev invariant-loop : tie.invariant-loop
+abbrev invariant-loop : tie.invariant-loop-page
 invariant-loop pages₀ b n size page₀ start₀ pages page start =
     (page ≤ n) × (start ≡ page * page_size b) × (pages ≡ cleared_counts b page pages₀)
 
-abbrev decreases-loop : tie.decreases-loop
+abbrev decreases-loop : tie.decreases-loop-page
 decreases-loop pages₀ b n size page₀ start₀ pages page start = n - page
 
-kept : (c : tie.At-loop invariant-loop decreases-loop)
-    → length c.loop.pages ≡ length c.before.before.before.args.pages.now
-kept c = ap length c.loop.invariant.2 ∙ length-cleared_counts _ c.loop.page _
+kept : (c : tie.At-loop-page invariant-loop decreases-loop)
+    → length c.loop-page.pages-1 ≡ length c.before.before.before.args.pages.now
+kept c = ap length c.loop-page.invariant.2 ∙ length-cleared_counts _ c.loop-page.page _
 
 -- the page lies in the lent bytes
-within : (c : tie.In-loop invariant-loop decreases-loop)
-    → c.before.loop.start + c.before.before.page-size.result ≤ length c.before.loop.pages
+within : (c : tie.In-loop-page invariant-loop decreases-loop)
+    → c.before.loop-page.start + c.before.before.page_size-size.result ≤ length c.before.loop-page.pages-1
 within c =
     let args = c.before.before.before.before.args in
-    let end = page-end-le args.b c.before.loop.page args.n c.loop-test.true in
+    let end = page-end-le args.b c.before.loop-page.page args.n c.loop-page-test.true in
     omega (arith, kept c.before)
 
-page-size-requires : tie.Need-page-size-requires invariant-loop decreases-loop
+page-size-requires : tie.Need-page_size-size-requires invariant-loop decreases-loop
 page-size-requires c κs = search rules
 
-loop-holds : tie.Need-loop-init invariant-loop decreases-loop
+loop-holds : tie.Need-loop-page-init invariant-loop decreases-loop
 unfolding cleared_counts
 loop-holds c = (omega arith, omega arith, refl)
 
-add-end : tie.Need-overflow-add-end invariant-loop decreases-loop
+add-end : tie.Need-overflow_add-end invariant-loop decreases-loop
 add-end c = record { fits = omega (arith, kept c.before, within c) }
 
-sub-clear-count : tie.Need-overflow-sub-clear-count invariant-loop decreases-loop
+sub-clear-count : tie.Need-slice_bounds-clear_count-count invariant-loop decreases-loop
 sub-clear-count c = omega arith
 
-part-clear-count-start : tie.Need-slice-bounds-clear-count-start invariant-loop decreases-loop
+part-clear-count-start : tie.Need-slice_bounds-clear_count-start invariant-loop decreases-loop
 part-clear-count-start c = omega arith
 
-part-clear-count-end : tie.Need-slice-bounds-clear-count-end invariant-loop decreases-loop
+part-clear-count-end : tie.Need-slice_bounds-clear_count-end invariant-loop decreases-loop
 part-clear-count-end c = within c
 
-clear-count-requires : tie.Need-clear-count-requires invariant-loop decreases-loop
+clear-count-requires : tie.Need-clear_count-requires invariant-loop decreases-loop
 clear-count-requires c κs =
-    let loop = c.before.before.loop in
-    let end = loop.start + c.before.before.before.page-size.result in
-    omega (arith, mid_len loop.start end loop.pages (within c.before))
+    let loop = c.before.before.loop-page in
+    let end = loop.start + c.before.before.before.page_size-size.result in
+    omega (arith, mid_len loop.start end loop.pages-1 (within c.before))
 
-add-page : tie.Need-overflow-add-page invariant-loop decreases-loop
+add-page : tie.Need-overflow_add-page invariant-loop decreases-loop
 add-page c = search rules
 
-loop-less : tie.Need-loop-smaller invariant-loop decreases-loop
+loop-less : tie.Need-loop-page-smaller invariant-loop decreases-loop
 loop-less c = omega arith
 
-loop-again : tie.Need-loop-preserved invariant-loop decreases-loop
+loop-again : tie.Need-loop-page-preserved invariant-loop decreases-loop
 loop-again c =
     let turn = c.before.before.before.before in
-    let loop = turn.before.loop in
+    let loop = turn.before.loop-page in
     let args = turn.before.before.before.before.args in
-    let end = loop.start + turn.before.before.page-size.result in (
+    let end = loop.start + turn.before.before.page_size-size.result in (
       omega arith,
       omega arith,
-      cleared_counts-suc args.b loop.page loop.start end args.pages.now loop.pages _
-          loop.invariant.1 loop.invariant.2 (omega arith) (within turn) c.before.before.clear-count.ensures,
+      cleared_counts-suc args.b loop.page loop.start end args.pages.now loop.pages-1 _
+          loop.invariant.1 loop.invariant.2 (omega arith) (within turn) c.before.before.clear_count.ensures,
     )
 
-same_length : tie.Need-same-length invariant-loop decreases-loop
+same_length : tie.Need-shape_of-pages invariant-loop decreases-loop
 same_length c = kept c.before
 
 returns : tie.Need-returns invariant-loop decreases-loop
 returns c =
-    let end : c.before.loop.page ≡ c.before.before.before.before.args.n = omega arith in
-    rw end at c.before.loop.invariant.2
+    let end : c.before.loop-page.page ≡ c.before.before.before.before.args.n = omega arith in
+    rw end at c.before.loop-page.invariant.2
 
-pub clear-counts-spec : {M : Type 1} → statement M
-clear-counts-spec =
+pub clear_counts_spec : {M : Type 1} → statement M
+clear_counts_spec =
     tie.close
     (tie.spec
     invariant-loop

@@ -7,12 +7,12 @@ use Rattle.model.specs.Limits.{depth_limit_of}
 use Rattle.fresh.proofs.depth_limit.Statement.{statement}
 use Rattle.fresh.proofs.depth_limit.Tie as tie
 
-widths-of-requires : tie.Need-widths-of-requires
+widths-of-requires : tie.Need-widths_of-requires
 widths-of-requires c κs = search rules
 
-total-of-requires : tie.Need-total-of-requires
+total-of-requires : tie.Need-total_of-bits-requires
 total-of-requires c κs =
-    widths-fit c.before.args.shape (width_list c.widths-of.result) c.before.requires.0 c.widths-of.ensures
+    widths-fit c.before.args.shape (width_list c.widths_of.result) c.before.requires.0 c.widths_of.ensures
 
 log2-requires : tie.Need-log2-requires
 log2-requires c κs = search rules
@@ -23,22 +23,22 @@ smaller-requires c κs = search rules
 smaller-requires-2 : tie.Need-smaller-requires-2
 smaller-requires-2 c κs = search rules
 
-cast-result : tie.Need-overflow-cast-result
+cast-result : tie.Need-overflow_cast-result
 cast-result c = search rules
 
 returns : tie.Need-returns
 unfolding depth_limit_of
 returns c =
     rw (
-      c.smaller2.ensures,
+      c.smaller-2.ensures,
       c.before.smaller.ensures,
       c.before.before.log2.ensures,
-      c.before.before.before.total_of.ensures.0,
-      ← c.before.before.before.before.widths-of.ensures,
+      c.before.before.before.total_of-bits.ensures.0,
+      ← c.before.before.before.before.widths_of.ensures,
     )
 
-pub depth-limit-spec : {M : Type 1} → statement M
-depth-limit-spec =
+pub depth_limit_spec : {M : Type 1} → statement M
+depth_limit_spec =
     tie.close
     (tie.spec
     widths-of-requires

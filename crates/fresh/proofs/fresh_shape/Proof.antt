@@ -8,25 +8,25 @@ use Rattle.model.specs.Limits.{fresh_shape}
 use Rattle.fresh.proofs.fresh_shape.Statement.{statement}
 use Rattle.fresh.proofs.fresh_shape.Tie as tie
 
-fit : (c : tie.After-widths-of) → Fit (width_list c.widths-of.result)
-fit c = widths-fit c.before.args.shape (width_list c.widths-of.result) c.before.requires c.widths-of.ensures
+fit : (c : tie.After-widths_of-used) → Fit (width_list c.widths_of-used.result)
+fit c = widths-fit c.before.args.shape (width_list c.widths_of-used.result) c.before.requires c.widths_of-used.ensures
 
-widths-of-requires : tie.Need-widths-of-requires
+widths-of-requires : tie.Need-widths_of-used-requires
 widths-of-requires c κs = search rules
 
-cast-t4 : tie.Need-overflow-cast-t4
+cast-t4 : tie.Need-overflow_cast-widths
 cast-t4 c = record { fits = omega (arith, fit c.before 0) }
 
-cast-t5 : tie.Need-overflow-cast-t5
+cast-t5 : tie.Need-overflow_cast-widths-2
 cast-t5 c = record { fits = omega (arith, fit c.before.before 1) }
 
-cast-t6 : tie.Need-overflow-cast-t6
+cast-t6 : tie.Need-overflow_cast-widths-3
 cast-t6 c = record { fits = omega (arith, fit c.before.before.before 2) }
 
-cast-t7 : tie.Need-overflow-cast-t7
+cast-t7 : tie.Need-overflow_cast-widths-4
 cast-t7 c = record { fits = omega (arith, fit c.before.before.before.before 3) }
 
-marks-below-requires : tie.Need-marks-below-requires
+marks-below-requires : tie.Need-marks_below-requires
 marks-below-requires c κs =
     let start = c.before.before.before.before.before in
     omega (arith, attributes-le start.args.shape (in_bounds-of start.args.shape start.requires))
@@ -38,10 +38,10 @@ returns c =
     let shape = all-widths.before.args.shape in
     λ i. record {
       attributes = shape.attributes;
-      widths = all-widths.widths-of.ensures i;
+      widths = all-widths.widths_of-used.ensures i;
       capacity = shape.capacity;
-      signs = c.marks-below.ensures i;
+      signs = c.marks_below.ensures i;
     }
 
-pub fresh-shape-spec : {M : Type 1} → statement M
-fresh-shape-spec = tie.close (tie.spec widths-of-requires cast-t4 cast-t5 cast-t6 cast-t7 marks-below-requires returns)
+pub fresh_shape_spec : {M : Type 1} → statement M
+fresh_shape_spec = tie.close (tie.spec widths-of-requires cast-t4 cast-t5 cast-t6 cast-t7 marks-below-requires returns)

@@ -11,14 +11,14 @@ use Rattle.fresh.proofs.log2.Tie as tie
 zeros : (c : tie.Start) → count_leading_zeros 64 c.args.m ≤ 63
 zeros c = (leading-bounds c.args.m (λ e. omega arith) c.ranges.m.fits).0
 
-cast-result : tie.Need-overflow-cast-result
+cast-result : tie.Need-overflow_cast-result
 cast-result c = record { fits = omega (arith, zeros c) }
 
-sub-result : tie.Need-overflow-sub-result
+sub-result : tie.Need-overflow_sub-result
 sub-result c = omega (arith, zeros c)
 
 returns : tie.Need-returns
 returns c = sym (logarithm-leading_zeros c.args.m c.requires c.ranges.m.fits)
 
-pub log2-spec : {M : Type 1} → statement M
-log2-spec = tie.close (tie.spec cast-result sub-result returns)
+pub log2_spec : {M : Type 1} → statement M
+log2_spec = tie.close (tie.spec cast-result sub-result returns)

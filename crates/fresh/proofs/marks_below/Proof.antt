@@ -12,14 +12,14 @@ power d few =
     let most : 2 ^ d ≤ 2 ^ 4 = pow_mono {j = 4} few in
     omega (arith, most)
 
-shl-result : tie.Need-overflow-shl-result
+shl-result : tie.Need-overflow_shl-result
 shl-result c = search rules
 
-rem-result : tie.Need-nonzero-rem-result
+rem-result : tie.Need-nonzero_rem-result
 rem-result c = omega (arith, power c.args.d c.requires, pow_pos c.args.d)
 
 returns : tie.Need-returns
 returns c = ap (λ n. c.args.signs % n) (power c.args.d c.requires)
 
-pub marks-below-spec : {M : Type 1} → statement M
-marks-below-spec = tie.close (tie.spec shl-result rem-result returns)
+pub marks_below_spec : {M : Type 1} → statement M
+marks_below_spec = tie.close (tie.spec shl-result rem-result returns)

@@ -4,37 +4,37 @@ use borrow.Author.Rules.{rules}
 use Rattle.host_changes.proofs.delete_in_words.Statement.{statement}
 use Rattle.host_changes.proofs.delete_in_words.Tie as tie
 
-state-in-requires : tie.Need-state-in-requires
+state-in-requires : tie.Need-state_in-requires
 state-in-requires c κs = search rules
 
-delete-requires : tie.Need-delete-requires
+delete-requires : tie.Need-delete-deleted-requires
 delete-requires c κs = search rules
 
-settle-change-requires : tie.Need-settle-change-requires
+settle-change-requires : tie.Need-settle_change-requires
 settle-change-requires c κs =
     let call = c.before.before.before.before.before in
     let read = call.before.before.before in
-    words-of-done (delete-judged _ _ _ _ _) _ _ read.state-in.ensures _ _ call.delete.ensures
+    words-of-done (delete-judged _ _ _ _ _) _ _ read.state_in.ensures _ _ call.delete-deleted.ensures
 
-same_length : tie.Need-same-length
+same_length : tie.Need-shape_of-state
 same_length c = search rules
 
-same-length-2 : tie.Need-same-length-2
+same-length-2 : tie.Need-shape_of-dir
 same-length-2 c = search rules
 
-same-length-3 : tie.Need-same-length-3
+same-length-3 : tie.Need-shape_of-pages
 same-length-3 c = search rules
 
 returns : tie.Need-returns
 returns c =
     let call = c.before.before.before.before.before.before.before.before in
     let read = call.before.before.before in
-    let settled = c.before.before.settle-change.ensures in
-    promise-settled (delete-judged _ _ _ _ _) _ _ read.state-in.ensures _ _ call.delete.ensures _ _ _ _
+    let settled = c.before.before.settle_change.ensures in
+    promise-settled (delete-judged _ _ _ _ _) _ _ read.state_in.ensures _ _ call.delete-deleted.ensures _ _ _ _
     settled.0 settled.1
 
-pub delete-in-words-spec : {M : Type 1} → statement M
-delete-in-words-spec =
+pub delete_in_words_spec : {M : Type 1} → statement M
+delete_in_words_spec =
     tie.close
     (tie.spec
     state-in-requires

@@ -5,49 +5,49 @@ use borrow.Author.Rules.{rules}
 use Rattle.host_changes.proofs.fresh_in_words.Statement.{statement}
 use Rattle.host_changes.proofs.fresh_in_words.Tie as tie
 
-fresh-requires : tie.Need-fresh-requires
+fresh-requires : tie.Need-fresh-made-requires
 fresh-requires c κs = search rules
 
 settle-requires : tie.Need-settle-requires
 settle-requires c κs = search rules
 
-same_length : tie.Need-same-length
+same_length : tie.Need-shape_of-state-then-state-ge-STATE_SIZE
 same_length c = search rules
 
-same-length-2 : tie.Need-same-length-2
+same-length-2 : tie.Need-shape_of-dir-then-state-ge-STATE_SIZE
 same-length-2 c = search rules
 
-same-length-3 : tie.Need-same-length-3
+same-length-3 : tie.Need-shape_of-pages-then-state-ge-STATE_SIZE
 same-length-3 c = search rules
 
-returns : tie.Need-returns
+returns : tie.Need-returns-then-state-ge-STATE_SIZE
 returns c =
     let call = c.before.before.before.before.before.before.before.before in
     let long = call.before.before.before in
     let a = long.before.before.before.before.args in
     let settled = c.before.before.settle.ensures in
-    long-settled a.shape a.state.now a.dir.now a.pages.now long.if1.true _ _ _ _
-    call.fresh.ensures _ _ _ settled.0 settled.1
+    long-settled a.shape a.state.now a.dir.now a.pages.now long.if-state-ge-STATE_SIZE.true _ _ _ _
+    call.fresh-made.ensures _ _ _ settled.0 settled.1
 
-sub-fresh : tie.Need-overflow-sub-fresh
+sub-fresh : tie.Need-slice_bounds-fresh-count
 sub-fresh c = search rules
 
-part-fresh-start : tie.Need-slice-bounds-fresh-start
+part-fresh-start : tie.Need-slice_bounds-fresh-start
 part-fresh-start c = search rules
 
-part-fresh-end : tie.Need-slice-bounds-fresh-end
+part-fresh-end : tie.Need-slice_bounds-fresh-end
 part-fresh-end c = search rules
 
-sub-fresh-2 : tie.Need-overflow-sub-fresh-2
+sub-fresh-2 : tie.Need-slice_bounds-fresh-count-2
 sub-fresh-2 c = search rules
 
-part-fresh-start-2 : tie.Need-slice-bounds-fresh-start-2
+part-fresh-start-2 : tie.Need-slice_bounds-fresh-start-2
 part-fresh-start-2 c = search rules
 
-part-fresh-end-2 : tie.Need-slice-bounds-fresh-end-2
+part-fresh-end-2 : tie.Need-slice_bounds-fresh-end-2
 part-fresh-end-2 c = search rules
 
-fresh-requires-2 : tie.Need-fresh-requires-2
+fresh-requires-2 : tie.Need-fresh-refused-requires
 fresh-requires-2 c κs = search rules
 
 settle-requires-2 : tie.Need-settle-requires-2
@@ -56,29 +56,29 @@ settle-requires-2 c κs =
     let short = call.before.before.before in
     let a = short.before.before.before.before.args in
     λ done. absurd
-    (short-not-done a.shape a.state.now a.dir.now a.pages.now short.if1.false _ _ _ _
-    call.fresh2.ensures done)
+    (short-not-done a.shape a.state.now a.dir.now a.pages.now short.if-state-ge-STATE_SIZE.false _ _ _ _
+    call.fresh-refused.ensures done)
 
-same-length-4 : tie.Need-same-length-4
+same-length-4 : tie.Need-shape_of-state
 same-length-4 c = search rules
 
-same-length-5 : tie.Need-same-length-5
+same-length-5 : tie.Need-shape_of-dir
 same-length-5 c = search rules
 
-same-length-6 : tie.Need-same-length-6
+same-length-6 : tie.Need-shape_of-pages
 same-length-6 c = search rules
 
-returns-2 : tie.Need-returns-2
+returns-2 : tie.Need-returns
 returns-2 c =
     let call = c.before.before.before.before.before.before.before.before in
     let short = call.before.before.before in
     let a = short.before.before.before.before.args in
-    let settled = c.before.before.settle2.ensures in
-    short-settled a.shape a.state.now a.dir.now a.pages.now short.if1.false _ _ _ _
-    call.fresh2.ensures _ _ _ settled.0 settled.1
+    let settled = c.before.before.settle-2.ensures in
+    short-settled a.shape a.state.now a.dir.now a.pages.now short.if-state-ge-STATE_SIZE.false _ _ _ _
+    call.fresh-refused.ensures _ _ _ settled.0 settled.1
 
-pub fresh-in-words-spec : {M : Type 1} → statement M
-fresh-in-words-spec =
+pub fresh_in_words_spec : {M : Type 1} → statement M
+fresh_in_words_spec =
     tie.close
     (tie.spec
     fresh-requires

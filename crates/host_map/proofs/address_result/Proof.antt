@@ -8,40 +8,40 @@ use borrow.Author.Rules.{rules}
 use Rattle.host_map.proofs.address_result.Statement.{statement}
 use Rattle.host_map.proofs.address_result.Tie as tie
 
-address-of-requires : tie.Need-address-of-requires
+address-of-requires : tie.Need-address_of-answer-requires
 address-of-requires c κs = search rules
 
-enum-known-answer : tie.Need-enum-known-answer
+enum-known-answer : tie.Need-enum_known-answer
 enum-known-answer c = search rules
 
-enum-known-answer-2 : tie.Need-enum-known-answer-2
+enum-known-answer-2 : tie.Need-enum_known-answer-in-Refused-1
 enum-known-answer-2 c = search rules
 
-enum-known-answer-3 : tie.Need-enum-known-answer-3
+enum-known-answer-3 : tie.Need-enum_known-answer-in-Width-1
 enum-known-answer-3 c = search rules
 
-returns : tie.Need-returns
+returns : tie.Need-returns-in-Address
 unfolding address_answer_of
 returns c =
-    let call = c.before.before.before.address-of in
-    reports-accepted _ _ _ (ap address_answer_of (sym c.before.answer.given.1) ∙ call.ensures)
+    let call = c.before.before.before.address_of-answer in
+    reports-accepted _ _ _ (ap address_answer_of (sym c.before.answer-1.given.1) ∙ call.ensures)
 
-returns-2 : tie.Need-returns-2
+returns-2 : tie.Need-returns-in-Refused
 unfolding address_answer_of
 returns-2 c =
     let call = c.before.before.before in
     let s = call.before.args in
     reports-refused _ _ _ (address_answer-alone s.shape (index_list s.index))
-    (ap address_answer_of (sym c.before.answer2.given.1) ∙ call.address-of.ensures)
+    (ap address_answer_of (sym c.before.answer-in-Refused-1.given.1) ∙ call.address_of-answer.ensures)
 
-returns-3 : tie.Need-returns-3
+returns-3 : tie.Need-returns-in-Width
 unfolding address_answer_of
 returns-3 c =
-    let call = c.before.before.before.address-of in
-    reports-width _ _ _ (ap address_answer_of (sym c.before.answer3.given.1) ∙ call.ensures)
+    let call = c.before.before.before.address_of-answer in
+    reports-width _ _ _ (ap address_answer_of (sym c.before.answer-in-Width-1.given.1) ∙ call.ensures)
 
-pub address-result-spec : {M : Type 1} → statement M
-address-result-spec =
+pub address_result_spec : {M : Type 1} → statement M
+address_result_spec =
     tie.close
     (tie.spec
     address-of-requires

@@ -14,53 +14,53 @@ use Rattle.host_map.proofs.index_result.Tie as tie
 abbrev zeros : List ℕ
 zeros = 0 ∷ 0 ∷ 0 ∷ 0 ∷ []
 
-index-at-requires : tie.Need-index-at-requires
+index-at-requires : tie.Need-index_at-answer-requires
 index-at-requires c κs = search rules
 
-enum-known-answer : tie.Need-enum-known-answer
+enum-known-answer : tie.Need-enum_known-answer
 enum-known-answer c = search rules
 
-enum-known-answer-2 : tie.Need-enum-known-answer-2
+enum-known-answer-2 : tie.Need-enum_known-answer-in-Refused-1
 enum-known-answer-2 c = search rules
 
-no-index-requires : tie.Need-no-index-requires
+no-index-requires : tie.Need-no_index-requires
 no-index-requires c κs = search rules
 
-enum-known-answer-3 : tie.Need-enum-known-answer-3
+enum-known-answer-3 : tie.Need-enum_known-answer-in-Width-1
 enum-known-answer-3 c = search rules
 
-no-index-requires-2 : tie.Need-no-index-requires-2
+no-index-requires-2 : tie.Need-no_index-requires-in-Width
 no-index-requires-2 c κs = search rules
 
-returns : tie.Need-returns
+returns : tie.Need-returns-in-Index
 unfolding index_answer_of
 returns c =
-    let call = c.before.before.before.index_at in
-    reports-accepted _ _ _ (ap index_answer_of (sym c.before.answer.given.1) ∙ call.ensures)
+    let call = c.before.before.before.index_at-answer in
+    reports-accepted _ _ _ (ap index_answer_of (sym c.before.answer-1.given.1) ∙ call.ensures)
 
-returns-2 : tie.Need-returns-2
+returns-2 : tie.Need-returns-in-Refused
 unfolding index_answer_of
 returns-2 c =
     let call = c.before.before.before.before in
     let s = call.before.args in
-    let told = c.before.before.answer2.given in
+    let told = c.before.before.answer-in-Refused-1.given in
     let answer = index_answer s.shape s.address in
     subst (λ values. Reports told.0.0 0 values zeros answer) (sym c.no_index.ensures)
     (reports-refused answer _ zeros (index_answer-alone s.shape s.address)
-    (ap index_answer_of (sym told.1) ∙ call.index_at.ensures))
+    (ap index_answer_of (sym told.1) ∙ call.index_at-answer.ensures))
 
-returns-3 : tie.Need-returns-3
+returns-3 : tie.Need-returns-in-Width
 unfolding index_answer_of
 returns-3 c =
     let call = c.before.before.before.before in
     let s = call.before.args in
-    let told = c.before.before.answer3.given in
+    let told = c.before.before.answer-in-Width-1.given in
     let answer = index_answer s.shape s.address in
-    subst (λ values. Reports 14 told.0.0 values zeros answer) (sym c.no-index2.ensures)
-    (reports-width answer _ zeros (ap index_answer_of (sym told.1) ∙ call.index_at.ensures))
+    subst (λ values. Reports 14 told.0.0 values zeros answer) (sym c.no_index-in-Width.ensures)
+    (reports-width answer _ zeros (ap index_answer_of (sym told.1) ∙ call.index_at-answer.ensures))
 
-pub index-result-spec : {M : Type 1} → statement M
-index-result-spec =
+pub index_result_spec : {M : Type 1} → statement M
+index_result_spec =
     tie.close
     (tie.spec
     index-at-requires

@@ -16,22 +16,22 @@ Promise c state =
     let a = c.before.before.before.before.before.args in
     CheckPromise (store state a.dir.now a.pages.now) (checked_answer c.check.result)
 
-state-in-requires : tie.Need-state-in-requires
+state-in-requires : tie.Need-state_in-requires
 state-in-requires c κs = search rules
 
 check-requires : tie.Need-check-requires
 check-requires c κs = search rules
 
-checked-result-requires : tie.Need-checked-result-requires
+checked-result-requires : tie.Need-checked_result-requires
 checked-result-requires c κs = check-numbers _ _ c.check.ensures
 
 returns : tie.Need-returns
 returns c =
     let s = c.before in (
-      keeps-reported _ _ _ _ _ _ (subst (Promise s) s.before.state-in.ensures s.check.ensures)
-          c.checked-result.ensures.0,
-      c.checked-result.ensures.1,
+      keeps-reported _ _ _ _ _ _ (subst (Promise s) s.before.state_in.ensures s.check.ensures)
+          c.checked_result.ensures.0,
+      c.checked_result.ensures.1,
     )
 
-pub check-result-spec : {M : Type 1} → statement M
-check-result-spec = tie.close (tie.spec state-in-requires check-requires checked-result-requires returns)
+pub check_result_spec : {M : Type 1} → statement M
+check_result_spec = tie.close (tie.spec state-in-requires check-requires checked-result-requires returns)

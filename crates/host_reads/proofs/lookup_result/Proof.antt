@@ -16,20 +16,20 @@ Promise c state =
     let a = c.before.before.before.before.before.args in
     LookupPromise (store state a.dir.now a.pages.now) a.key.values (found_answer c.lookup.result)
 
-state-in-requires : tie.Need-state-in-requires
+state-in-requires : tie.Need-state_in-requires
 state-in-requires c κs = search rules
 
 lookup-requires : tie.Need-lookup-requires
 lookup-requires c κs = search rules
 
-found-result-requires : tie.Need-found-result-requires
+found-result-requires : tie.Need-found_result-requires
 found-result-requires c κs = lookup-numbers _ _ _ c.lookup.ensures
 
 returns : tie.Need-returns
 returns c =
     let s = c.before in
-    keeps_depth-told _ _ _ _ _ _ _ (subst (Promise s) s.before.state-in.ensures s.lookup.ensures)
-    c.found-result.ensures
+    keeps_depth-told _ _ _ _ _ _ _ (subst (Promise s) s.before.state_in.ensures s.lookup.ensures)
+    c.found_result.ensures
 
-pub lookup-result-spec : {M : Type 1} → statement M
-lookup-result-spec = tie.close (tie.spec state-in-requires lookup-requires found-result-requires returns)
+pub lookup_result_spec : {M : Type 1} → statement M
+lookup_result_spec = tie.close (tie.spec state-in-requires lookup-requires found-result-requires returns)

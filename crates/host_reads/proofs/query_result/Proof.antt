@@ -22,20 +22,20 @@ Promise c q state =
     QueryPromise (store state a.dir.now a.pages.now) q a.out.now (listed_answer c.query.result)
     c.query.new.1.1.1.1.0
 
-state-in-requires : tie.Need-state-in-requires
+state-in-requires : tie.Need-state_in-requires
 state-in-requires c κs = search rules
 
-store-query-requires : tie.Need-store-query-requires
+store-query-requires : tie.Need-store_query-requires
 store-query-requires c κs = search rules
 
 query-requires : tie.Need-query-requires
 query-requires c κs = search rules
 
-listed-result-requires : tie.Need-listed-result-requires
+listed-result-requires : tie.Need-listed_result-requires
 listed-result-requires c κs =
     list-numbers _ _ _ _ _ _ _ (named-query _ _) c.before.before.query.ensures.listed-as
 
-same_length : tie.Need-same-length
+same_length : tie.Need-shape_of-out
 same_length c = search rules
 
 returns : tie.Need-returns
@@ -43,15 +43,15 @@ returns c =
     let s = c.before.before.before in
     let a = s.before.before.before.before.before.before.before.before.args in
     let asked =
-    subst (λ q. Promise s q s.before.before.before.state-in.result) s.before.before.store-query.ensures
+    subst (λ q. Promise s q s.before.before.before.state_in.result) s.before.before.store_query.ensures
     s.query.ensures in
     keeps-reported _ _ _ _ _ _
-    (subst (Promise s (wanted_of a.wanted.given a.wanted.values)) s.before.before.before.state-in.ensures
+    (subst (Promise s (wanted_of a.wanted.given a.wanted.values)) s.before.before.before.state_in.ensures
     asked)
-    c.listed-result.ensures
+    c.listed_result.ensures
 
-pub query-result-spec : {M : Type 1} → statement M
-query-result-spec =
+pub query_result_spec : {M : Type 1} → statement M
+query_result_spec =
     tie.close
     (tie.spec
     state-in-requires

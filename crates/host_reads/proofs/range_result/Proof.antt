@@ -22,19 +22,19 @@ Promise c r state =
     RangePromise (store state a.dir.now a.pages.now) r a.out.now (listed_answer c.range.result)
     c.range.new.1.1.1.1.0
 
-state-in-requires : tie.Need-state-in-requires
+state-in-requires : tie.Need-state_in-requires
 state-in-requires c κs = search rules
 
-store-range-requires : tie.Need-store-range-requires
+store-range-requires : tie.Need-store_range-requires
 store-range-requires c κs = search rules
 
 range-requires : tie.Need-range-requires
 range-requires c κs = search rules
 
-listed-result-requires : tie.Need-listed-result-requires
+listed-result-requires : tie.Need-listed_result-requires
 listed-result-requires c κs = list-numbers _ _ _ _ _ _ _ (named-range _ _) c.before.before.range.ensures
 
-same_length : tie.Need-same-length
+same_length : tie.Need-shape_of-out
 same_length c = search rules
 
 returns : tie.Need-returns
@@ -42,15 +42,15 @@ returns c =
     let s = c.before.before.before in
     let a = s.before.before.before.before.before.before.before.before.args in
     let asked =
-    subst (λ r. Promise s r s.before.before.before.state-in.result) s.before.before.store_range.ensures
+    subst (λ r. Promise s r s.before.before.before.state_in.result) s.before.before.store_range.ensures
     s.range.ensures in
     keeps-reported _ _ _ _ _ _
     (subst (Promise s (intervals_of a.within.given a.within.lows a.within.highs))
-    s.before.before.before.state-in.ensures asked)
-    c.listed-result.ensures
+    s.before.before.before.state_in.ensures asked)
+    c.listed_result.ensures
 
-pub range-result-spec : {M : Type 1} → statement M
-range-result-spec =
+pub range_result_spec : {M : Type 1} → statement M
+range_result_spec =
     tie.close
     (tie.spec
     state-in-requires

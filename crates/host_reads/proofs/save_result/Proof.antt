@@ -17,24 +17,24 @@ Promise c state =
     SavePromise (store state a.dir.now a.pages.now) a.out.now (saved_answer c.save.result)
     c.save.new.1.1.1.0
 
-state-in-requires : tie.Need-state-in-requires
+state-in-requires : tie.Need-state_in-requires
 state-in-requires c κs = search rules
 
 save-requires : tie.Need-save-requires
 save-requires c κs = search rules
 
-saved-result-requires : tie.Need-saved-result-requires
+saved-result-requires : tie.Need-saved_result-requires
 saved-result-requires c κs = save-numbers _ _ _ _ c.before.before.save.ensures
 
-same_length : tie.Need-same-length
+same_length : tie.Need-shape_of-out
 same_length c = search rules
 
 returns : tie.Need-returns
 returns c =
     let s = c.before.before.before in
-    keeps-reported _ _ _ _ _ _ (subst (Promise s) s.before.before.state-in.ensures s.save.ensures)
-    c.saved-result.ensures
+    keeps-reported _ _ _ _ _ _ (subst (Promise s) s.before.before.state_in.ensures s.save.ensures)
+    c.saved_result.ensures
 
-pub save-result-spec : {M : Type 1} → statement M
-save-result-spec =
+pub save_result_spec : {M : Type 1} → statement M
+save_result_spec =
     tie.close (tie.spec state-in-requires save-requires saved-result-requires same_length returns)

@@ -7,42 +7,42 @@ use borrow.Author.Rules.{rules}
 use Rattle.host_results.proofs.checked_result.Statement.{statement}
 use Rattle.host_results.proofs.checked_result.Tie as tie
 
-enum_told : tie.Need-enum-told
+enum_told : tie.Need-enum_told-1
 enum_told c = search rules
 
-enum-told-2 : tie.Need-enum-told-2
+enum-told-2 : tie.Need-enum_told-in-No
 enum-told-2 c = search rules
 
-enum-known-answer : tie.Need-enum-known-answer
+enum-known-answer : tie.Need-enum_known-answer
 enum-known-answer c = search rules
 
-enum-known-answer-2 : tie.Need-enum-known-answer-2
+enum-known-answer-2 : tie.Need-enum_known-answer-in-Width-1
 enum-known-answer-2 c = search rules
 
-returns : tie.Need-returns
+returns : tie.Need-returns-in-Yes
 unfolding checked_answer
-returns c = (reports-accepted _ _ _ (ap checked_answer (sym c.enum_told.given.1)), omega arith)
+returns c = (reports-accepted _ _ _ (ap checked_answer (sym c.enum_told-1.given.1)), omega arith)
 
-returns-2 : tie.Need-returns-2
+returns-2 : tie.Need-returns-in-No
 unfolding checked_answer
-returns-2 c = (reports-accepted _ _ _ (ap checked_answer (sym c.enum-told2.given.1)), omega arith)
+returns-2 c = (reports-accepted _ _ _ (ap checked_answer (sym c.enum_told-in-No-1.given.1)), omega arith)
 
-returns-3 : tie.Need-returns-3
+returns-3 : tie.Need-returns-in-Refused
 unfolding checked_answer
 returns-3 c = (
-  reports-refused _ _ _ c.before.before.before.requires (ap checked_answer (sym c.before.answer.given.1)),
+  reports-refused _ _ _ c.before.before.before.requires (ap checked_answer (sym c.before.answer-1.given.1)),
   omega arith,
 )
 
-returns-4 : tie.Need-returns-4
+returns-4 : tie.Need-returns-in-Width
 unfolding checked_answer
 returns-4 c = (
-  reports-width _ _ _ (ap checked_answer (sym c.before.answer2.given.1)),
+  reports-width _ _ _ (ap checked_answer (sym c.before.answer-in-Width-1.given.1)),
   omega arith,
 )
 
-pub checked-result-spec : {M : Type 1} → statement M
-checked-result-spec =
+pub checked_result_spec : {M : Type 1} → statement M
+checked_result_spec =
     tie.close
     (tie.spec
     enum_told

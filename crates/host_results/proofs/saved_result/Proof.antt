@@ -6,30 +6,30 @@ use borrow.Author.Rules.{rules}
 use Rattle.host_results.proofs.saved_result.Statement.{statement}
 use Rattle.host_results.proofs.saved_result.Tie as tie
 
-enum-known-answer : tie.Need-enum-known-answer
+enum-known-answer : tie.Need-enum_known-answer
 enum-known-answer c = search rules
 
-enum-known-answer-2 : tie.Need-enum-known-answer-2
+enum-known-answer-2 : tie.Need-enum_known-answer-in-Refused-1
 enum-known-answer-2 c = search rules
 
-enum-known-answer-3 : tie.Need-enum-known-answer-3
+enum-known-answer-3 : tie.Need-enum_known-answer-in-Width-1
 enum-known-answer-3 c = search rules
 
-returns : tie.Need-returns
+returns : tie.Need-returns-in-Bytes
 unfolding saved_answer
-returns c = reports-accepted _ _ _ (ap saved_answer (sym c.before.answer.given.1))
+returns c = reports-accepted _ _ _ (ap saved_answer (sym c.before.answer-1.given.1))
 
-returns-2 : tie.Need-returns-2
+returns-2 : tie.Need-returns-in-Refused
 unfolding saved_answer
 returns-2 c =
-    reports-refused _ _ _ c.before.before.before.requires (ap saved_answer (sym c.before.answer2.given.1))
+    reports-refused _ _ _ c.before.before.before.requires (ap saved_answer (sym c.before.answer-in-Refused-1.given.1))
 
-returns-3 : tie.Need-returns-3
+returns-3 : tie.Need-returns-in-Width
 unfolding saved_answer
-returns-3 c = reports-width _ _ _ (ap saved_answer (sym c.before.answer3.given.1))
+returns-3 c = reports-width _ _ _ (ap saved_answer (sym c.before.answer-in-Width-1.given.1))
 
-pub saved-result-spec : {M : Type 1} → statement M
-saved-result-spec =
+pub saved_result_spec : {M : Type 1} → statement M
+saved_result_spec =
     tie.close
     (tie.spec
     enum-known-answer

@@ -26,52 +26,52 @@ numbers : (a b : Made) → a ≡ b
     × (carried_beside 14 (made_answer a) ≡ carried_beside 14 (made_answer b))
 numbers a b e = (ap (λ c. number_told (made_answer c)) e, ap (λ c. carried_beside 14 (made_answer c)) e)
 
-enum_told : tie.Need-enum-told
+enum_told : tie.Need-enum_told-1
 enum_told c = search rules
 
-put-state-requires : tie.Need-put-state-requires
+put-state-requires : tie.Need-put_state-requires
 unfolding made_answer
 put-state-requires c κs =
-    c.before.before.before.before.requires (ap (λ a. is_refused (made_answer a)) c.before.enum_told.given.1)
+    c.before.before.before.before.requires (ap (λ a. is_refused (made_answer a)) c.before.enum_told-1.given.1)
 
-enum-known-answer : tie.Need-enum-known-answer
+enum-known-answer : tie.Need-enum_known-answer
 enum-known-answer c = search rules
 
-enum-known-answer-2 : tie.Need-enum-known-answer-2
+enum-known-answer-2 : tie.Need-enum_known-answer-in-Width-1
 enum-known-answer-2 c = search rules
 
-same_length : tie.Need-same-length
+same_length : tie.Need-shape_of-words
 same_length c = search rules
 
-returns : tie.Need-returns
+returns : tie.Need-returns-in-Done
 unfolding made_answer
 returns c =
     let told = c.before.before.before.before in
     let start = told.before.before.before in
-    let made = told.enum_told.given.1 in (
+    let made = told.enum_told-1.given.1 in (
       numbers _ _ (sym made),
       settled-done _ _ _ (ap (λ a. is_refused (made_answer a)) made) (four start) (thirteen start) _
-          c.before.before.put-state.ensures,
+          c.before.before.put_state.ensures,
     )
 
-returns-2 : tie.Need-returns-2
+returns-2 : tie.Need-returns-in-Refused
 unfolding made_answer
 returns-2 c =
-    let made = c.before.answer.given.1 in (
+    let made = c.before.answer-1.given.1 in (
       numbers _ _ (sym made),
       settled-refused _ _ _ (ap (λ a. is_refused (made_answer a)) made),
     )
 
-returns-3 : tie.Need-returns-3
+returns-3 : tie.Need-returns-in-Width
 unfolding made_answer
 returns-3 c =
-    let made = c.before.answer2.given.1 in (
+    let made = c.before.answer-in-Width-1.given.1 in (
       numbers _ _ (sym made),
       settled-refused _ _ _ (ap (λ a. is_refused (made_answer a)) made),
     )
 
-pub settle-spec : {M : Type 1} → statement M
-settle-spec =
+pub settle_spec : {M : Type 1} → statement M
+settle_spec =
     tie.close
     (tie.spec
     enum_told

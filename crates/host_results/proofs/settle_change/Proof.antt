@@ -32,64 +32,64 @@ numbers a b e = (
   ap (λ c. depth_told (changed_answer c)) e,
 )
 
-enum-known-answer : tie.Need-enum-known-answer
+enum-known-answer : tie.Need-enum_known-answer
 enum-known-answer c = search rules
 
-enum-known-answer-2 : tie.Need-enum-known-answer-2
+enum-known-answer-2 : tie.Need-enum_known-answer-in-Absent-1
 enum-known-answer-2 c = search rules
 
-enum-known-answer-3 : tie.Need-enum-known-answer-3
+enum-known-answer-3 : tie.Need-enum_known-answer-in-Done-1
 enum-known-answer-3 c = search rules
 
-enum-known-answer-4 : tie.Need-enum-known-answer-4
+enum-known-answer-4 : tie.Need-enum_known-answer-in-Width-1
 enum-known-answer-4 c = search rules
 
-put-state-requires : tie.Need-put-state-requires
+put-state-requires : tie.Need-put_state-requires
 unfolding changed_answer
 put-state-requires c κs =
     c.before.before.before.before.before.requires
-    (ap (λ a. is_refused (changed_answer a)) c.before.before.answer3.given.1)
+    (ap (λ a. is_refused (changed_answer a)) c.before.before.answer-in-Done-1.given.1)
 
-returns : tie.Need-returns
+returns : tie.Need-returns-in-Refused
 unfolding changed_answer
 returns c =
-    let told = c.before.answer.given.1 in (
+    let told = c.before.answer-1.given.1 in (
       numbers _ _ (sym told),
       settled-refused _ _ _ (ap (λ a. is_refused (changed_answer a)) told),
     )
 
-returns-2 : tie.Need-returns-2
+returns-2 : tie.Need-returns-in-Absent
 unfolding changed_answer
 returns-2 c =
-    let told = c.before.answer2.given.1 in (
+    let told = c.before.answer-in-Absent-1.given.1 in (
       numbers _ _ (sym told),
       settled-refused _ _ _ (ap (λ a. is_refused (changed_answer a)) told),
     )
 
-same_length : tie.Need-same-length
+same_length : tie.Need-shape_of-words
 same_length c = search rules
 
-returns-3 : tie.Need-returns-3
+returns-3 : tie.Need-returns-in-Done
 unfolding changed_answer
 returns-3 c =
     let told = c.before.before.before.before.before in
     let start = told.before.before.before in
-    let done = told.answer3.given.1 in (
+    let done = told.answer-in-Done-1.given.1 in (
       numbers _ _ (sym done),
       settled-done _ _ _ (ap (λ a. is_refused (changed_answer a)) done) (four start) (thirteen start) _
-          c.before.before.put-state.ensures,
+          c.before.before.put_state.ensures,
     )
 
-returns-4 : tie.Need-returns-4
+returns-4 : tie.Need-returns-in-Width
 unfolding changed_answer
 returns-4 c =
-    let told = c.before.answer4.given.1 in (
+    let told = c.before.answer-in-Width-1.given.1 in (
       numbers _ _ (sym told),
       settled-refused _ _ _ (ap (λ a. is_refused (changed_answer a)) told),
     )
 
-pub settle-change-spec : {M : Type 1} → statement M
-settle-change-spec =
+pub settle_change_spec : {M : Type 1} → statement M
+settle_change_spec =
     tie.close
     (tie.spec
     enum-known-answer

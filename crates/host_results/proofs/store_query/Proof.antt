@@ -6,16 +6,16 @@ use borrow.Author.Rules.{rules}
 use Rattle.host_results.proofs.store_query.Statement.{statement}
 use Rattle.host_results.proofs.store_query.Tie as tie
 
-wanted-at-requires : tie.Need-wanted-at-requires
+wanted-at-requires : tie.Need-wanted_at-a0-requires
 wanted-at-requires c κs = search rules
 
-wanted-at-requires-2 : tie.Need-wanted-at-requires-2
+wanted-at-requires-2 : tie.Need-wanted_at-a1-requires
 wanted-at-requires-2 c κs = search rules
 
-wanted-at-requires-3 : tie.Need-wanted-at-requires-3
+wanted-at-requires-3 : tie.Need-wanted_at-a2-requires
 wanted-at-requires-3 c κs = search rules
 
-wanted-at-requires-4 : tie.Need-wanted-at-requires-4
+wanted-at-requires-4 : tie.Need-wanted_at-a3-requires
 wanted-at-requires-4 c κs = search rules
 
 returns : tie.Need-returns
@@ -23,14 +23,14 @@ unfolding wanted_values wanted_of
 returns c =
     let two = c.before.before in
     rw (
-      two.before.wanted-at.ensures,
-      two.wanted-at2.ensures,
-      c.before.wanted-at3.ensures,
-      c.wanted-at4.ensures,
+      two.before.wanted_at-a0.ensures,
+      two.wanted_at-a1.ensures,
+      c.before.wanted_at-a2.ensures,
+      c.wanted_at-a3.ensures,
     ) refl
 
-pub store-query-spec : {M : Type 1} → statement M
-store-query-spec =
+pub store_query_spec : {M : Type 1} → statement M
+store_query_spec =
     tie.close
     (tie.spec
     wanted-at-requires

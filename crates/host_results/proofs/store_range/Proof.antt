@@ -5,16 +5,16 @@ use borrow.Author.Rules.{rules}
 use Rattle.host_results.proofs.store_range.Statement.{statement}
 use Rattle.host_results.proofs.store_range.Tie as tie
 
-span-at-requires : tie.Need-span-at-requires
+span-at-requires : tie.Need-span_at-a0-requires
 span-at-requires c κs = search rules
 
-span-at-requires-2 : tie.Need-span-at-requires-2
+span-at-requires-2 : tie.Need-span_at-a1-requires
 span-at-requires-2 c κs = search rules
 
-span-at-requires-3 : tie.Need-span-at-requires-3
+span-at-requires-3 : tie.Need-span_at-a2-requires
 span-at-requires-3 c κs = search rules
 
-span-at-requires-4 : tie.Need-span-at-requires-4
+span-at-requires-4 : tie.Need-span_at-a3-requires
 span-at-requires-4 c κs = search rules
 
 returns : tie.Need-returns
@@ -22,13 +22,13 @@ unfolding range_intervals intervals_of
 returns c =
     let two = c.before.before in
     rw (
-      two.before.span-at.ensures,
-      two.span-at2.ensures,
-      c.before.span-at3.ensures,
-      c.span-at4.ensures,
+      two.before.span_at-a0.ensures,
+      two.span_at-a1.ensures,
+      c.before.span_at-a2.ensures,
+      c.span_at-a3.ensures,
     ) refl
 
-pub store-range-spec : {M : Type 1} → statement M
-store-range-spec =
+pub store_range_spec : {M : Type 1} → statement M
+store_range_spec =
     tie.close
     (tie.spec span-at-requires span-at-requires-2 span-at-requires-3 span-at-requires-4 returns)

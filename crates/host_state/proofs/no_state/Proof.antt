@@ -8,5 +8,5 @@ returns : tie.Need-returns
 unfolding no_state
 returns c = refl
 
-pub no-state-spec : {M : Type 1} → statement M
-no-state-spec = tie.close (tie.spec returns)
+pub no_state_spec : {M : Type 1} → statement M
+no_state_spec = tie.close (tie.spec returns)

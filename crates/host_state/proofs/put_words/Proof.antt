@@ -9,40 +9,40 @@ use Rattle.host_state.proofs.ImageLaws.{paste-next, paste-whole}
 use Rattle.host_state.proofs.put_words.Statement.{statement}
 use Rattle.host_state.proofs.put_words.Tie as tie
 
-abbrev invariant-loop : tie.invariant-loop
+abbrev invariant-loop : tie.invariant-loop-i
 invariant-loop words₀ image n i₀ words i =
     (i ≤ n) × (n ≡ length image) × (length words ≡ length words₀) × (words ≡ paste words₀ 0 image i)
 
-abbrev decreases-loop : tie.decreases-loop
+abbrev decreases-loop : tie.decreases-loop-i
 decreases-loop words₀ image n i₀ words i = n - i
 
-loop-holds : tie.Need-loop-init invariant-loop decreases-loop
+loop-holds : tie.Need-loop-i-init invariant-loop decreases-loop
 loop-holds c =
     let a = c.args in
     (omega arith, refl, refl, paste-zero a.words.now 0 a.image.now)
 
-mul_words : tie.Need-overflow-mul-words invariant-loop decreases-loop
+mul_words : tie.Need-offset_bounds-image-i invariant-loop decreases-loop
 mul_words c = omega arith
 
-shared-slice-read-words : tie.Need-shared-slice-read-words invariant-loop decreases-loop
+shared-slice-read-words : tie.Need-bounds-image-i invariant-loop decreases-loop
 shared-slice-read-words c = omega arith
 
-mul-words-2 : tie.Need-overflow-mul-words-2 invariant-loop decreases-loop
+mul-words-2 : tie.Need-offset_bounds-words-i invariant-loop decreases-loop
 mul-words-2 c = omega arith
 
-slice-write-words : tie.Need-slice-write-words invariant-loop decreases-loop
+slice-write-words : tie.Need-bounds-words-i invariant-loop decreases-loop
 slice-write-words c = omega arith
 
-add-i : tie.Need-overflow-add-i invariant-loop decreases-loop
+add-i : tie.Need-overflow_add-i invariant-loop decreases-loop
 add-i c = omega arith
 
-loop-less : tie.Need-loop-smaller invariant-loop decreases-loop
+loop-less : tie.Need-loop-i-smaller invariant-loop decreases-loop
 loop-less c = omega arith
 
-loop-again : tie.Need-loop-preserved invariant-loop decreases-loop
+loop-again : tie.Need-loop-i-preserved invariant-loop decreases-loop
 loop-again c =
     let a = c.before.before.before.args in
-    let now = c.before.before.loop in (
+    let now = c.before.before.loop-i in (
       omega arith,
       now.invariant.1,
       simp length-set now.invariant.2,
@@ -50,18 +50,18 @@ loop-again c =
           ∙ paste-next a.words.now a.image.now now.i (omega arith) (omega arith),
     )
 
-same_length : tie.Need-same-length invariant-loop decreases-loop
-same_length c = c.before.loop.invariant.2
+same_length : tie.Need-shape_of-words invariant-loop decreases-loop
+same_length c = c.before.loop-i.invariant.2
 
 returns : tie.Need-returns invariant-loop decreases-loop
 returns c =
     let a = c.before.before.args in
-    let end : c.before.loop.i ≡ length a.image.now = omega arith in
-    c.before.loop.invariant.3 ∙ ap (paste a.words.now 0 a.image.now) end
+    let end : c.before.loop-i.i ≡ length a.image.now = omega arith in
+    c.before.loop-i.invariant.3 ∙ ap (paste a.words.now 0 a.image.now) end
     ∙ paste-whole a.words.now a.image.now
 
-pub put-words-spec : {M : Type 1} → statement M
-put-words-spec =
+pub put_words_spec : {M : Type 1} → statement M
+put_words_spec =
     tie.close
     (tie.spec
     invariant-loop

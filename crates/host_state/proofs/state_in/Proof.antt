@@ -5,21 +5,21 @@ use borrow.Author.Rules.{rules}
 use Rattle.host_state.proofs.state_in.Statement.{statement}
 use Rattle.host_state.proofs.state_in.Tie as tie
 
-no-state-requires : tie.Need-no-state-requires
+no-state-requires : tie.Need-no_state-requires
 no-state-requires c κs = search rules
 
-returns : tie.Need-returns
+returns : tie.Need-returns-then-words-lt-STATE_SIZE
 returns c =
     let words = c.before.before.before.args.words.now in
-    c.no-state.ensures ∙ sym (state_in-short words c.before.if1.true)
+    c.no_state.ensures ∙ sym (state_in-short words c.before.if-words-lt-STATE_SIZE.true)
 
-shown-state-requires : tie.Need-shown-state-requires
+shown-state-requires : tie.Need-shown_state-requires
 shown-state-requires c κs = search rules
 
-returns-2 : tie.Need-returns-2
+returns-2 : tie.Need-returns
 returns-2 c =
     let words = c.before.before.before.args.words.now in
-    c.shown-state.ensures ∙ sym (state_in-long words c.before.if1.false)
+    c.shown_state.ensures ∙ sym (state_in-long words c.before.if-words-lt-STATE_SIZE.false)
 
-pub state-in-spec : {M : Type 1} → statement M
-state-in-spec = tie.close (tie.spec no-state-requires returns shown-state-requires returns-2)
+pub state_in_spec : {M : Type 1} → statement M
+state_in_spec = tie.close (tie.spec no-state-requires returns shown-state-requires returns-2)

@@ -24,28 +24,28 @@ abbrev given : tie.Start → Store
 given s = store s.args.state s.args.dir.now s.args.pages.now
 
 -- where the key was encoded, and its encodings
-abbrev encoding : tie.After-allocate → tie.After-encode-key
+abbrev encoding : tie.After-allocate-plan → tie.After-encode_key-encoded
 encoding p = p.before.before.before.before.before.before.before
 
-abbrev encoded : tie.After-allocate → List ℕ
+abbrev encoded : tie.After-allocate-plan → List ℕ
 encoded p = (encoding p).encode-key.result.values
 
 -- where the function began
-abbrev start : tie.After-allocate → tie.Start
+abbrev start : tie.After-allocate-plan → tie.Start
 start p = (encoding p).before.before.before
 
 -- the early refusals let the key pass
-through : (c : tie.After-encode-key)
-    → Passed (given c.before.before.before) c.encode-key.result.values
-through c = subst (Passed _) (sym c.encode-key.ensures) (passed _ _ c.before.before.before.requires)
+through : (c : tie.After-encode_key-encoded)
+    → Passed (given c.before.before.before) c.encode_key-encoded.result.values
+through c = subst (Passed _) (sym c.encode_key-encoded.ensures) (passed _ _ c.before.before.before.requires)
 
 -- what the plan tells
-planned : (p : tie.After-allocate) (plan : Plan) → p.allocate.result ≡ plan
+planned : (p : tie.After-allocate-plan) (plan : Plan) → p.allocate-plan.result ≡ plan
     → InsertPlanned (given (start p)) (encoded p) plan
-planned p plan e = subst (InsertPlanned (given (start p)) (encoded p)) e p.allocate.ensures
+planned p plan e = subst (InsertPlanned (given (start p)) (encoded p)) e p.allocate-plan.ensures
 
 -- what holds of all values with these encodings holds of the call's
-called : (p : tie.After-allocate) (X : List ℕ → Type 0) → OfValues (given (start p)) (encoded p) X
+called : (p : tie.After-allocate-plan) (X : List ℕ → Type 0) → OfValues (given (start p)) (encoded p) X
     → X (start p).args.key.values
 called p X told = told (start p).args.key.values (start p).requires (sym (encoding p).encode-key.ensures)
 
@@ -53,76 +53,76 @@ called p X told = told (start p).args.key.values (start p).requires (sym (encodi
 small : (s : tie.Start) → s.args.content.payload < 2 ^ 32
 small s = s.well-formed.1.1.1.1.0.1.1.0.1
 
-encode-key-requires : tie.Need-encode-key-requires
+encode-key-requires : tie.Need-encode_key-encoded-requires
 encode-key-requires c κs = (passed _ _ c.before.before.requires).shape
 
-find-requires : tie.Need-find-requires
+find-requires : tie.Need-find-found-requires
 find-requires c κs = through c.before.before.before
 
-allocate-requires : tie.Need-allocate-requires
-allocate-requires c κs = c.before.before.find.ensures
+allocate-requires : tie.Need-allocate-plan-requires
+allocate-requires c κs = c.before.before.find-found.ensures
 
-pack-key-requires : tie.Need-pack-key-requires
+pack-key-requires : tie.Need-pack_key-packed-requires
 pack-key-requires c κs = SixteenBits-passed _ _ (through (encoding c))
 
-bias-key-requires : tie.Need-bias-key-requires
+bias-key-requires : tie.Need-bias_key-requires
 bias-key-requires c κs = (through (encoding c.before)).shape
 
-to-fields-requires : tie.Need-to-fields-requires
+to-fields-requires : tie.Need-to_fields-fields-requires
 to-fields-requires c κs = search rules
 
 -- where a page was allocated, and the packed fields that are written
-abbrev allocated : tie.After-to-fields → tie.After-allocate
+abbrev allocated : tie.After-to_fields-fields → tie.After-allocate-plan
 allocated f = f.before.before.before
 
-written : (f : tie.After-to-fields)
-    → f.to_Fields.result
+written : (f : tie.After-to_fields-fields)
+    → f.to_fields-fields.result
     ≡ fields_key (start (allocated f)).args.state.shape (packed_key (encoded (allocated f)))
 written f =
-    f.to_Fields.ensures
-    ∙ (λ i. lane_difference (f.before.before.pack-key.ensures i) (f.before.bias-key.ensures i))
+    f.to_fields-fields.ensures
+    ∙ (λ i. lane_difference (f.before.before.pack_key-packed.ensures i) (f.before.bias_key.ensures i))
 
-cast-b : tie.Need-overflow-cast-b
+cast-b : tie.Need-overflow_cast-b
 cast-b c = search rules
 
-enum-known-plan : tie.Need-enum-known-plan
+enum-known-plan : tie.Need-enum_known-plan
 enum-known-plan c = search rules
 
-same_length : tie.Need-same-length
+same_length : tie.Need-shape_of-dir-in-Refused
 same_length c = search rules
 
-same-length-2 : tie.Need-same-length-2
+same-length-2 : tie.Need-shape_of-pages-in-Refused
 same-length-2 c = search rules
 
-returns : tie.Need-returns
+returns : tie.Need-returns-in-Refused
 unfolding changed_answer
 returns c =
     let p = allocated c.before.before.before.before in
-    called p _ (planned p _ c.before.plan.given.1) (start p).args.content
+    called p _ (planned p _ c.before.plan-1.given.1) (start p).args.content
 
 -- ---- the page is not full
 
-enum-known-plan-2 : tie.Need-enum-known-plan-2
+enum-known-plan-2 : tie.Need-enum_known-plan-in-Take-1
 enum-known-plan-2 c = search rules
 
-cast-insert-record : tie.Need-overflow-cast-insert-record
+cast-insert-record : tie.Need-overflow_cast-page
 cast-insert-record c = search rules
 
-insert-record-requires : tie.Need-insert-record-requires
+insert-record-requires : tie.Need-insert_record-requires
 insert-record-requires c κs =
     let plan = c.before.before in
     let p = allocated plan.before.before.before in
     let s = start p in
     lent-taken (given s) (encoded p) s.args.content (small s) _ refl _ _ _ _
-    (planned p _ plan.plan2.given.1)
+    (planned p _ plan.plan-in-Take-1.given.1)
 
-same-length-3 : tie.Need-same-length-3
+same-length-3 : tie.Need-shape_of-dir-in-Take
 same-length-3 c = search rules
 
-same-length-4 : tie.Need-same-length-4
+same-length-4 : tie.Need-shape_of-pages-in-Take
 same-length-4 c = search rules
 
-returns-2 : tie.Need-returns-2
+returns-2 : tie.Need-returns-in-Take
 unfolding changed_answer
 returns-2 c =
     let inserted = c.before.before in
@@ -132,39 +132,39 @@ returns-2 c =
     let s = start p in
     called p _
     (by-taken (given s) (encoded p) s.args.content (small s) _ (written f) _ _ _ _
-    (planned p _ plan.plan2.given.1) _ inserted.insert-record.ensures)
+    (planned p _ plan.plan-in-Take-1.given.1) _ inserted.insert_record.ensures)
 
 -- ---- the page was null
 
-enum-known-plan-3 : tie.Need-enum-known-plan-3
+enum-known-plan-3 : tie.Need-enum_known-plan-in-Get-1
 enum-known-plan-3 c = search rules
 
-cast-insert-record-2 : tie.Need-overflow-cast-insert-record-2
+cast-insert-record-2 : tie.Need-overflow_cast-page-in-Get
 cast-insert-record-2 c = search rules
 
-insert-record-requires-2 : tie.Need-insert-record-requires-2
+insert-record-requires-2 : tie.Need-insert_record-requires-in-Get
 insert-record-requires-2 c κs =
     let plan = c.before.before in
     let p = allocated plan.before.before.before in
     let s = start p in
-    let told = planned p _ plan.plan3.given.1 in
+    let told = planned p _ plan.plan-in-Get-1.given.1 in
     lent-got (given s) (encoded p) s.args.content (small s) _ refl _ _ told.0 told.1
 
-set-word-requires : tie.Need-set-word-requires
+set-word-requires : tie.Need-set_word-requires
 set-word-requires c κs =
     let plan = c.before.before.before.before.before.before in
     let p = allocated plan.before.before.before in
     let s = start p in
-    let told = planned p _ plan.plan3.given.1 in
+    let told = planned p _ plan.plan-in-Get-1.given.1 in
     word-asked (given s) (encoded p) s.args.content (small s) _ refl _ _ told.0 told.1
 
-same-length-5 : tie.Need-same-length-5
+same-length-5 : tie.Need-shape_of-dir-in-Get
 same-length-5 c = search rules
 
-same-length-6 : tie.Need-same-length-6
+same-length-6 : tie.Need-shape_of-pages-in-Get
 same-length-6 c = search rules
 
-returns-3 : tie.Need-returns-3
+returns-3 : tie.Need-returns-in-Get
 unfolding changed_answer
 returns-3 c =
     let set = c.before.before in
@@ -173,89 +173,89 @@ returns-3 c =
     let f = plan.before.before.before in
     let p = allocated f in
     let s = start p in
-    let told = planned p _ plan.plan3.given.1 in
+    let told = planned p _ plan.plan-in-Get-1.given.1 in
     called p _
     (by-got (given s) (encoded p) s.args.content (small s) _ (written f) _ _ told.0
-    told.1 _ set.set_word.ensures _ inserted.insert-record2.ensures)
+    told.1 _ set.set_word.ensures _ inserted.insert_record-in-Get.ensures)
 
 -- ---- the page is full
 
-enum-known-plan-4 : tie.Need-enum-known-plan-4
+enum-known-plan-4 : tie.Need-enum_known-plan-in-Divide-1
 enum-known-plan-4 c = search rules
 
-double-requires : tie.Need-double-requires
+double-requires : tie.Need-double-deeper-requires
 double-requires c κs =
     let plan = c.before.before in
     let p = allocated plan.before.before.before in
     let s = start p in
-    let told = planned p _ plan.plan4.given.1 in
+    let told = planned p _ plan.plan-in-Divide-1.given.1 in
     doubling-asked (given s) (encoded p) s.args.content (small s) _ refl _ _ _ told.0 told.1
 
-set-words-requires : tie.Need-set-words-requires
+set-words-requires : tie.Need-set_words-requires
 set-words-requires c κs =
     let doubled = c.before.before.before in
     let plan = doubled.before.before.before in
     let p = allocated plan.before.before.before in
     let s = start p in
-    let told = planned p _ plan.plan4.given.1 in
+    let told = planned p _ plan.plan-in-Divide-1.given.1 in
     leaves-asked (given s) (encoded p) s.args.content (small s) _ refl _ _ _ told.0 told.1 _ _
-    doubled.double.ensures
+    doubled.double-deeper.ensures
 
-count-leaves-requires : tie.Need-count-leaves-requires
+count-leaves-requires : tie.Need-count_leaves-state-requires
 count-leaves-requires c κs =
     let doubled = c.before.before.before.before.before.before in
     let plan = doubled.before.before.before in
     let p = allocated plan.before.before.before in
     let s = start p in
-    let told = planned p _ plan.plan4.given.1 in
+    let told = planned p _ plan.plan-in-Divide-1.given.1 in
     tally-asked (given s) (encoded p) s.args.content (small s) _ refl _ _ _ told.0 told.1 _
-    (ap (λ st. st.tally) doubled.double.ensures.state)
+    (ap (λ st. st.tally) doubled.double-deeper.ensures.state)
 
-cast-divide-pages : tie.Need-overflow-cast-divide-pages
+cast-divide-pages : tie.Need-overflow_cast-split
 cast-divide-pages c = search rules
 
-cast-divide-pages-2 : tie.Need-overflow-cast-divide-pages-2
+cast-divide-pages-2 : tie.Need-overflow_cast-free
 cast-divide-pages-2 c =
     let plan = c.before.before.before.before.before.before.before.before.before.before.before.before in
-    let told = (planned (allocated plan.before.before.before) _ plan.plan4.given.1).0 in
+    let told = (planned (allocated plan.before.before.before) _ plan.plan-in-Divide-1.given.1).0 in
     omega (arith, told.free-within, told.found.asked.pages-lent.few)
 
-divide-pages-requires : tie.Need-divide-pages-requires
+divide-pages-requires : tie.Need-divide_pages-requires
 divide-pages-requires c κs =
     let counted = c.before.before in
     let plan = counted.before.before.before.before.before.before.before.before.before.before in
     let p = allocated plan.before.before.before in
     let s = start p in
-    let told = planned p _ plan.plan4.given.1 in (
+    let told = planned p _ plan.plan-in-Divide-1.given.1 in (
       pages-lent (given s) (encoded p) s.args.content (small s) _ refl _ _ _ told.0 told.1,
       cut_fits (given s) (encoded p) s.args.content (small s) _ refl _ _ _ told.0 told.1,
     )
 
 -- where the plan was taken, once the pages are divided
-abbrev dividing : tie.After-struct-known3 → tie.After-plan4
+abbrev dividing : tie.After-struct_known-in-Divide-2-1 → tie.In-Divide-2
 dividing c =
     c.before.before.before.before.before.before.before.before.before.before.before.before.before.before.before.before
 
 -- the step's number is below L
-short : (c : tie.After-struct-known3) → (dividing c).plan4.given.0.0.step < 12
+short : (c : tie.After-struct_known-in-Divide-2-1) → (dividing c).plan4.given.0.0.step < 12
 short c =
     let plan = dividing c in
     let found = (planned (allocated plan.before.before.before) _ plan.plan4.given.1).0.found in
     omega (arith, found.met.deep, found.asked.short)
 
-cast-depth : tie.Need-overflow-cast-depth
+cast-depth : tie.Need-overflow_cast-depth
 cast-depth c = omega (arith, short c)
 
-add-depth : tie.Need-overflow-add-depth
+add-depth : tie.Need-overflow_add-depth
 add-depth c = omega (arith, short c)
 
-same-length-7 : tie.Need-same-length-7
+same-length-7 : tie.Need-shape_of-dir-in-Divide
 same-length-7 c = search rules
 
-same-length-8 : tie.Need-same-length-8
+same-length-8 : tie.Need-shape_of-pages-in-Divide
 same-length-8 c = search rules
 
-returns-4 : tie.Need-returns-4
+returns-4 : tie.Need-returns-in-Divide
 unfolding changed_answer
 returns-4 c =
     let pages = c.before.before.before in
@@ -266,11 +266,11 @@ returns-4 c =
     let f = plan.before.before.before in
     let p = allocated f in
     let s = start p in
-    let told = planned p _ plan.plan4.given.1 in
+    let told = planned p _ plan.plan-in-Divide-1.given.1 in
     called p _
     (by-divided (given s) (encoded p) s.args.content (small s) _ (written f) _ _ _ told.0
-    told.1 _ _ doubled.double.ensures _ set.set_words.ensures _ counted.count-leaves.ensures _
-    pages.divide-pages.ensures)
+    told.1 _ _ doubled.double-deeper.ensures _ set.set_words.ensures _ counted.count_leaves-state.ensures _
+    pages.divide_pages.ensures)
 
 pub add_spec : {M : Type 1} → statement M
 add_spec =

@@ -17,7 +17,7 @@ use Rattle.insert.proofs.insert.Statement.{statement}
 use Rattle.insert.proofs.insert.Tie as tie
 
 -- where the function began, and the store as it came
-abbrev start : tie.After-lent-number → tie.Start
+abbrev start : tie.After-lent_number-number → tie.Start
 start c = c.before.before.before
 
 abbrev given : tie.Start → Store
@@ -30,44 +30,44 @@ early before values content zero e some = absurd (some refl)
 early before values content (suc k) e some = insert-early before values content k (sym e)
 
 -- none of 1, 14, 15, 2 and 3 holds
-none : (c : tie.Else2)
+none : (c : tie.Else-not-encodings_fit)
     → let s = start c.before.before.before.before in key_number (given s) s.args.key.values ≡ 0
 none c =
     let e = c.before.before in
     let n = e.before.before in
     let a = (start n).args in
-    number-none a.state a.dir.now a.pages.now _ n.lent-number.ensures a.key.values
-    e.before.if1.false _ e.encode-key.ensures _ c.before.encodings-fit.ensures (not-false _ c.if2.false)
+    number-none a.state a.dir.now a.pages.now _ n.lent_number-number.ensures a.key.values
+    e.before.if-number-ne0.false _ e.encode_key.ensures _ c.before.encodings_fit.ensures (not-false _ c.if-not-encodings_fit.false-raw)
 
-lent-number-requires : tie.Need-lent-number-requires
+lent-number-requires : tie.Need-lent_number-number-requires
 lent-number-requires c κs = search rules
 
-refuse-change-requires : tie.Need-refuse-change-requires
+refuse-change-requires : tie.Need-refuse_change-answer-requires
 refuse-change-requires c κs = search rules
 
-returns : tie.Need-returns
+returns : tie.Need-returns-then-number-ne0
 returns c =
-    let some = c.before.if1.true in
+    let some = c.before.if-number-ne0.true in
     let n = c.before.before in
     let s = start n in
     let a = s.args in
-    rw c.refuse-change.ensures
-    (early (given s) a.key.values a.content n.lent-number.result
-    (number-lent a.state a.dir.now a.pages.now _ n.lent-number.ensures a.key.values some) some)
+    rw c.refuse_change-answer.ensures
+    (early (given s) a.key.values a.content n.lent_number-number.result
+    (number-lent a.state a.dir.now a.pages.now _ n.lent_number-number.ensures a.key.values some) some)
 
-encode-key-requires : tie.Need-encode-key-requires
+encode-key-requires : tie.Need-encode_key-requires
 encode-key-requires c κs =
     let n = c.before in
     let a = (start n).args in
-    shape-lent a.state a.dir.now a.pages.now _ n.lent-number.ensures c.if1.false
+    shape-lent a.state a.dir.now a.pages.now _ n.lent_number-number.ensures c.if-number-ne0.false
 
-encodings-fit-requires : tie.Need-encodings-fit-requires
+encodings-fit-requires : tie.Need-encodings_fit-requires
 encodings-fit-requires c κs =
     let n = c.before.before in
     let a = (start n).args in
-    shape-lent a.state a.dir.now a.pages.now _ n.lent-number.ensures c.before.if1.false
+    shape-lent a.state a.dir.now a.pages.now _ n.lent_number-number.ensures c.before.if-number-ne0.false
 
-returns-2 : tie.Need-returns-2
+returns-2 : tie.Need-returns-then-not-encodings_fit
 unfolding changed_answer
 returns-2 c =
     let e = c.before.before in
@@ -75,37 +75,37 @@ returns-2 c =
     let s = start n in
     let a = s.args in
     early (given s) a.key.values a.content 3
-    (number-out a.state a.dir.now a.pages.now _ n.lent-number.ensures a.key.values
-    e.before.if1.false _ e.encode-key.ensures _ c.before.encodings-fit.ensures (not-true _ c.if2.true))
+    (number-out a.state a.dir.now a.pages.now _ n.lent_number-number.ensures a.key.values
+    e.before.if-number-ne0.false _ e.encode_key.ensures _ c.before.encodings_fit.ensures (not-true _ c.if-not-encodings_fit.true-raw))
     (λ z. omega (arith, z))
 
-returns-3 : tie.Need-returns-3
+returns-3 : tie.Need-returns-then-content-eq0
 unfolding changed_answer
 returns-3 c =
     let passed = c.before.before in
     let s = start passed.before.before.before.before in
-    insert-zero (given s) s.args.key.values s.args.content (none passed) c.if3.true
+    insert-zero (given s) s.args.key.values s.args.content (none passed) c.if-content-eq0.true
 
 add-requires : tie.Need-add-requires
 add-requires c κs = none c.before.before.before.before
 
-same_length : tie.Need-same-length
+same_length : tie.Need-shape_of-dir
 same_length c = search rules
 
-same-length-2 : tie.Need-same-length-2
+same-length-2 : tie.Need-shape_of-pages
 same-length-2 c = search rules
 
-returns-4 : tie.Need-returns-4
+returns-4 : tie.Need-returns
 returns-4 c =
     let added = c.before.before.before.before in
     let judged = added.before.before.before in
     let passed = judged.before.before in
     let s = start passed.before.before.before.before in
-    insert-added (given s) s.args.key.values s.args.content (none passed) judged.if3.false _ _
+    insert-added (given s) s.args.key.values s.args.content (none passed) judged.if-content-eq0.false _ _
     added.add.ensures
 
-pub insert-spec : {M : Type 1} → statement M
-insert-spec =
+pub insert_spec : {M : Type 1} → statement M
+insert_spec =
     tie.close
     (tie.spec
     lent-number-requires

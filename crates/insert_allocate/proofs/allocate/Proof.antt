@@ -13,35 +13,35 @@ found : (s : tie.Start) (it : Found) → s.args.found ≡ it
 found s it e =
     subst (InsertFound (store s.args.state s.args.dir.now s.args.pages.now) s.args.encoded) e s.requires
 
-enum-known-found : tie.Need-enum-known-found
+enum-known-found : tie.Need-enum_known-found
 enum-known-found c = search rules
 
-enum-known-found-2 : tie.Need-enum-known-found-2
+enum-known-found-2 : tie.Need-enum_known-found-in-Room-1
 enum-known-found-2 c = search rules
 
-enum-known-found-3 : tie.Need-enum-known-found-3
+enum-known-found-3 : tie.Need-enum_known-found-in-Null-1
 enum-known-found-3 c = search rules
 
-allocate-first-requires : tie.Need-allocate-first-requires
-allocate-first-requires c κs = found c.before.before.before.before.before _ c.before.found3.given.1
+allocate-first-requires : tie.Need-allocate_first-requires
+allocate-first-requires c κs = found c.before.before.before.before.before _ c.before.found-in-Null-1.given.1
 
-enum-known-found-4 : tie.Need-enum-known-found-4
+enum-known-found-4 : tie.Need-enum_known-found-in-Full-1
 enum-known-found-4 c = search rules
 
-allocate-half-requires : tie.Need-allocate-half-requires
-allocate-half-requires c κs = found c.before.before.before.before.before _ c.before.found4.given.1
+allocate-half-requires : tie.Need-allocate_half-requires
+allocate-half-requires c κs = found c.before.before.before.before.before _ c.before.found-in-Full-1.given.1
 
-returns : tie.Need-returns
-returns c = found c.before.before.before.before.before _ c.before.found.given.1
+returns : tie.Need-returns-in-Refused
+returns c = found c.before.before.before.before.before _ c.before.found-1.given.1
 
-returns-2 : tie.Need-returns-2
-returns-2 c = found c.before.before.before.before.before _ c.before.found2.given.1
+returns-2 : tie.Need-returns-in-Room
+returns-2 c = found c.before.before.before.before.before _ c.before.found-in-Room-1.given.1
 
-returns-3 : tie.Need-returns-3
-returns-3 c = c.allocate-first.ensures
+returns-3 : tie.Need-returns-in-Null
+returns-3 c = c.allocate_first.ensures
 
-returns-4 : tie.Need-returns-4
-returns-4 c = c.allocate-half.ensures
+returns-4 : tie.Need-returns-in-Full
+returns-4 c = c.allocate_half.ensures
 
 pub allocate_spec : {M : Type 1} → statement M
 allocate_spec =

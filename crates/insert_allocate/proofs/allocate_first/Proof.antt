@@ -13,45 +13,45 @@ abbrev given : tie.Start → Store
 given s = store s.args.state s.args.dir.now s.args.pages.now
 
 -- where the function began
-abbrev start : tie.After-spare-page → tie.Start
+abbrev start : tie.After-spare_page-free → tie.Start
 start f = f.before.before.before.before
 
-spare-page-requires : tie.Need-spare-page-requires
+spare-page-requires : tie.Need-spare_page-free-requires
 spare-page-requires c κs = c.before.before.before.requires.asked.pages-lent
 
-returns : tie.Need-returns
+returns : tie.Need-returns-then-free-limits
 returns c =
     let f = c.before.before in
     let s = start f in
-    seven-empty (given s) s.args.encoded _ _ f.spare-page.ensures s.args.depth s.pre c.if1.true
+    seven-empty (given s) s.args.encoded _ _ f.spare_page-free.ensures s.args.depth s.pre c.if-free-limits.true
 
-pack-empty-requires : tie.Need-pack-empty-requires
+pack-empty-requires : tie.Need-pack_empty-requires
 pack-empty-requires c κs =
     let p = (start c.before.before).requires in
     omega (arith, p.depth_le, p.asked.within-limit, p.asked.short)
 
-leaf-whole-requires : tie.Need-leaf-whole-requires
+leaf-whole-requires : tie.Need-leaf_whole-requires
 leaf-whole-requires c κs =
     let s = start c.before.before.before in
     (directory-lent (given s) s.args.encoded s.pre.asked, s.pre.depth_le)
 
-returns-2 : tie.Need-returns-2
+returns-2 : tie.Need-returns-then-not-leaf_whole
 returns-2 c =
     let t = c.before in
     let f = t.before.before.before.before in
     let s = start f in
-    nine-empty (given s) s.args.encoded _ _ f.spare-page.ensures s.args.depth s.pre _
-    t.before.pack-empty.ensures _ t.leaf-whole.ensures (not-true _ c.if2.true)
+    nine-empty (given s) s.args.encoded _ _ f.spare_page-free.ensures s.args.depth s.pre _
+    t.before.pack_empty.ensures _ t.leaf_whole.ensures (not-true _ c.if-not-leaf_whole.true-raw)
 
-returns-3 : tie.Need-returns-3
+returns-3 : tie.Need-returns
 returns-3 c =
     let t = c.before in
     let room = t.before.before in
     let f = room.before.before in
     let s = start f in
-    get-planned (given s) s.args.encoded _ _ f.spare-page.ensures s.args.depth s.pre _
-    t.before.pack-empty.ensures _ t.leaf-whole.ensures room.if1.false (not-false _ c.if2.false)
+    get-planned (given s) s.args.encoded _ _ f.spare_page-free.ensures s.args.depth s.pre _
+    t.before.pack_empty.ensures _ t.leaf_whole.ensures room.if-free-limits.false (not-false _ c.if-not-leaf_whole.false-raw)
 
-pub allocate-first-spec : {M : Type 1} → statement M
-allocate-first-spec =
+pub allocate_first_spec : {M : Type 1} → statement M
+allocate_first_spec =
     tie.close (tie.spec spare-page-requires returns pack-empty-requires leaf-whole-requires returns-2 returns-3)

@@ -12,45 +12,45 @@ abbrev given : tie.Start → Store
 given s = store s.args.state s.args.dir.now s.args.pages.now
 
 -- where the function began
-abbrev start : tie.After-spare-page → tie.Start
+abbrev start : tie.After-spare_page-free → tie.Start
 start f = f.before.before.before.before
 
-spare-page-requires : tie.Need-spare-page-requires
+spare-page-requires : tie.Need-spare_page-free-requires
 spare-page-requires c κs = c.before.before.before.requires.asked.pages-lent
 
-returns : tie.Need-returns
+returns : tie.Need-returns-then-free-limits
 returns c =
     let f = c.before.before in
     let s = start f in
-    seven-full (given s) s.args.encoded _ _ f.spare-page.ensures _ _ s.pre c.if1.true
+    seven-full (given s) s.args.encoded _ _ f.spare_page-free.ensures _ _ s.pre c.if-free-limits.true
 
-pack-page-requires : tie.Need-pack-page-requires
+pack-page-requires : tie.Need-pack_page-word-requires
 pack-page-requires c κs =
     let s = start c.before.before in
     own-word-fits (given s) s.args.encoded _ _ s.pre
 
-leaf-whole-requires : tie.Need-leaf-whole-requires
+leaf-whole-requires : tie.Need-leaf_whole-requires
 leaf-whole-requires c κs =
     let s = start c.before.before.before in
     (directory-lent (given s) s.args.encoded s.pre.asked, s.pre.met.ends-met.met.depth_le)
 
-returns-2 : tie.Need-returns-2
+returns-2 : tie.Need-returns-then-not-leaf_whole
 returns-2 c =
     let t = c.before in
     let f = t.before.before.before.before in
     let s = start f in
-    nine-full (given s) s.args.encoded _ _ f.spare-page.ensures _ _ s.pre _ t.before.pack-page.ensures _
-    t.leaf-whole.ensures (not-true _ c.if2.true)
+    nine-full (given s) s.args.encoded _ _ f.spare_page-free.ensures _ _ s.pre _ t.before.pack_page-word.ensures _
+    t.leaf_whole.ensures (not-true _ c.if-not-leaf_whole.true-raw)
 
-returns-3 : tie.Need-returns-3
+returns-3 : tie.Need-returns
 returns-3 c =
     let t = c.before in
     let room = t.before.before in
     let f = room.before.before in
     let s = start f in
-    divide-planned (given s) s.args.encoded _ _ f.spare-page.ensures _ _ s.pre _
-    t.before.pack-page.ensures _ t.leaf-whole.ensures room.if1.false (not-false _ c.if2.false)
+    divide-planned (given s) s.args.encoded _ _ f.spare_page-free.ensures _ _ s.pre _
+    t.before.pack_page-word.ensures _ t.leaf_whole.ensures room.if-free-limits.false (not-false _ c.if-not-leaf_whole.false-raw)
 
-pub allocate-half-spec : {M : Type 1} → statement M
-allocate-half-spec =
+pub allocate_half_spec : {M : Type 1} → statement M
+allocate_half_spec =
     tie.close (tie.spec spare-page-requires returns pack-page-requires leaf-whole-requires returns-2 returns-3)

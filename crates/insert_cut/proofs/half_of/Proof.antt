@@ -13,74 +13,74 @@ use Rattle.insert_cut.proofs.half_of.Statement.{statement}
 use Rattle.insert_cut.proofs.half_of.Tie as tie
 
 -- what is computed is the key's bit
-bit : (c : tie.After-pair-bit)
+bit : (c : tie.After-pair_bit)
     → let a = c.before.before.before.args in
-    pair_bit (width_list a.widths) (unpacked_key a.key) a.pair ≡ c.pair-bit.result
+    pair_bit (width_list a.widths) (unpacked_key a.key) a.pair ≡ c.pair_bit.result
 bit c =
     let a = c.before.before.before.args in
-    pair_bit-unpacked_key (width_list a.widths) a.key a.pair ∙ sym c.pair-bit.ensures
+    pair_bit-unpacked_key (width_list a.widths) a.key a.pair ∙ sym c.pair_bit.ensures
 
-first-one-requires : tie.Need-first-one-requires
+first-one-requires : tie.Need-first_one-start-requires
 first-one-requires c κs = search rules
 
-pair-bit-requires : tie.Need-pair-bit-requires
+pair-bit-requires : tie.Need-pair_bit-requires
 pair-bit-requires c κs = search rules
 
-returns : tie.Need-returns
+returns : tie.Need-returns-then-i-start
 returns c =
     let p = c.before.before in
     let a = p.before.before.before.args in
     damaged-high (width_list a.widths) a.bias a.page.now a.n a.key a.i a.pair _
-    p.before.first_one.ensures
-    (bit p ∙ c.before.if1.true) c.if2.true
+    p.before.first_one-start.ensures
+    (bit p ∙ c.before.if-pair_bit.true) c.if-i-start.true
 
-returns-2 : tie.Need-returns-2
+returns-2 : tie.Need-returns-then-start-eq0
 returns-2 c =
     let p = c.before.before.before in
     let a = p.before.before.before.args in
     damaged-none (width_list a.widths) a.bias a.page.now a.n a.key a.i a.pair _
-    p.before.first_one.ensures
-    (bit p ∙ c.before.before.if1.true) c.if3.true
+    p.before.first_one-start.ensures
+    (bit p ∙ c.before.before.if-pair_bit.true) c.if-start-eq0.true
 
-returns-3 : tie.Need-returns-3
+returns-3 : tie.Need-returns-then-pair_bit
 returns-3 c =
     let p = c.before.before.before in
     let s = p.before.before.before in
     let a = s.args in
-    own-high (width_list a.widths) a.bias a.page.now a.n a.key a.i a.pair _ p.before.first_one.ensures
-    (bit p ∙ c.before.before.if1.true) (omega (arith, c.before.if2.false)) c.if3.false s.requires.0.0
+    own-high (width_list a.widths) a.bias a.page.now a.n a.key a.i a.pair _ p.before.first_one-start.ensures
+    (bit p ∙ c.before.before.if-pair_bit.true) (omega (arith, c.before.if-i-start.false)) c.if-start-eq0.false s.requires.0.0
 
-returns-4 : tie.Need-returns-4
+returns-4 : tie.Need-returns-then-start-i
 returns-4 c =
     let p = c.before.before in
     let a = p.before.before.before.args in
     damaged-low (width_list a.widths) a.bias a.page.now a.n a.key a.i a.pair _
-    p.before.first_one.ensures
-    (bit p ∙ c.before.if1.false) c.if4.true
+    p.before.first_one-start.ensures
+    (bit p ∙ c.before.if-pair_bit.false) c.if-start-i.true
 
-returns-5 : tie.Need-returns-5
+returns-5 : tie.Need-returns-then-start-n
 returns-5 c =
     let p = c.before.before.before in
     let a = p.before.before.before.args in
     damaged-all (width_list a.widths) a.bias a.page.now a.n a.key a.i a.pair _
-    p.before.first_one.ensures
-    (bit p ∙ c.before.before.if1.false) c.if5.true
+    p.before.first_one-start.ensures
+    (bit p ∙ c.before.before.if-pair_bit.false) c.if-start-n.true
 
-returns-6 : tie.Need-returns-6
+returns-6 : tie.Need-returns
 returns-6 c =
     let p = c.before.before.before in
     let a = p.before.before.before.args in
-    own-low (width_list a.widths) a.bias a.page.now a.n a.key a.i a.pair _ p.before.first_one.ensures
-    (bit p ∙ c.before.before.if1.false) (omega (arith, c.before.if4.false))
+    own-low (width_list a.widths) a.bias a.page.now a.n a.key a.i a.pair _ p.before.first_one-start.ensures
+    (bit p ∙ c.before.before.if-pair_bit.false) (omega (arith, c.before.if-start-i.false))
     (omega (
       arith,
-      c.if5.false,
-      p.before.first_one.ensures,
+      c.if-start-n.false,
+      p.before.first_one-start.ensures,
       first_one-le (width_list a.widths) a.bias a.pair a.page.now a.n 0,
     ))
 
-pub half-of-spec : {M : Type 1} → statement M
-half-of-spec =
+pub half_of_spec : {M : Type 1} → statement M
+half_of_spec =
     tie.close
     (tie.spec
     first-one-requires

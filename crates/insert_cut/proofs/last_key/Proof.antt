@@ -4,19 +4,19 @@ use borrow.Author.Tests.{eq-eqb, ne_eqb}
 use Rattle.insert_cut.proofs.last_key.Statement.{statement}
 use Rattle.insert_cut.proofs.last_key.Tie as tie
 
-sub-code-at : tie.Need-overflow-sub-code-at
+sub-code-at : tie.Need-overflow_sub-n
 sub-code-at c = search rules
 
-code-at-requires : tie.Need-code-at-requires
+code-at-requires : tie.Need-code_at-requires
 code-at-requires c κs = search rules
 
-returns : tie.Need-returns
-returns c = let a = c.before.before.args in rw (eq-eqb a.i a.n c.if1.true)
+returns : tie.Need-returns-then-i-n
+returns c = let a = c.before.before.args in rw (eq-eqb a.i a.n c.if-i-n.true)
 
-returns-2 : tie.Need-returns-2
+returns-2 : tie.Need-returns-else-i-n
 returns-2 c =
     let a = c.before.before.before.args in
-    rw (ne_eqb a.i a.n c.before.if1.false) c.code_at.ensures
+    rw (ne_eqb a.i a.n c.before.if-i-n.false) c.code_at.ensures
 
-pub last-key-spec : {M : Type 1} → statement M
-last-key-spec = tie.close (tie.spec sub-code-at code-at-requires returns returns-2)
+pub last_key_spec : {M : Type 1} → statement M
+last_key_spec = tie.close (tie.spec sub-code-at code-at-requires returns returns-2)

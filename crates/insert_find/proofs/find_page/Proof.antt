@@ -13,32 +13,32 @@ use Rattle.insert_find.proofs.find_page.Statement.{statement}
 use Rattle.insert_find.proofs.find_page.Tie as tie
 
 -- page and depth that the word names
-held : (c : tie.After-leaf2)
+held : (c : tie.In-Page-2)
     → let a = c.before.before.before.before.args in
-    let leaf = c.leaf2.given.0 in
+    let leaf = c.leaf-in-Page-1.given.0 in
     (leaf.0 < a.state.limits.pages) × (leaf.1.0 ≤ a.state.deepest) ×
     (a.word ≡ word_of (Page leaf.0 leaf.1.0))
 held c =
     let s = c.before.before.before.before in
     held-page s.args.state s.args.word s.requires.1 _ _
-    (sym c.before.before.unpack.ensures ∙ c.leaf2.given.1)
+    (sym c.before.before.unpack-leaf.ensures ∙ c.leaf-in-Page-1.given.1)
 
-unpack-requires : tie.Need-unpack-requires
+unpack-requires : tie.Need-unpack-leaf-requires
 unpack-requires c κs = search rules
 
-enum-known-leaf : tie.Need-enum-known-leaf
+enum-known-leaf : tie.Need-enum_known-leaf
 enum-known-leaf c = search rules
 
-enum-known-leaf-2 : tie.Need-enum-known-leaf-2
+enum-known-leaf-2 : tie.Need-enum_known-leaf-in-Page-1
 enum-known-leaf-2 c = search rules
 
-find-place-requires : tie.Need-find-place-requires
+find-place-requires : tie.Need-find_place-requires
 find-place-requires c κs =
     let s = c.before.before.before.before.before in
     let st = s.args.state in
     let lent = s.requires.0 in
     let h = held c.before in
-    let end = page-end-le st.shape.capacity c.before.leaf2.given.0.0 st.limits.pages h.0 in (
+    let end = page-end-le st.shape.capacity c.before.leaf-in-Page-1.given.0.0 st.limits.pages h.0 in (
       lent,
       record {
         capacity-le = (capacity-bounds st.shape lent.shape).1;
@@ -49,12 +49,12 @@ find-place-requires c κs =
       h.1,
     )
 
-returns : tie.Need-returns
+returns : tie.Need-returns-in-Empty
 returns c words encoded m =
     let leaf = c.before in
     let s = leaf.before.before.before.before in
     let h = held-empty s.args.state s.args.word s.requires.1 _
-    (sym leaf.before.before.unpack.ensures ∙ leaf.leaf.given.1) in
+    (sym leaf.before.before.unpack-leaf.ensures ∙ leaf.leaf-1.given.1) in
     record {
       asked = m.asked;
       depth_le = h.0;
@@ -62,11 +62,11 @@ returns c words encoded m =
       own = m.found-is ∙ h.1;
     }
 
-returns-2 : tie.Need-returns-2
+returns-2 : tie.Need-returns-in-Page
 returns-2 c words encoded m =
     let h = held c.before.before in
     let s = c.before.before.before.before.before.before in
-    c.find-place.ensures words encoded
+    c.find_place.ensures words encoded
     (record {
       asked = m.asked;
       key-is = m.key-is;
@@ -76,8 +76,8 @@ returns-2 c words encoded m =
       own = m.found-is ∙ h.2;
     })
 
-pub find-page-spec : {M : Type 1} → statement M
-find-page-spec =
+pub find_page_spec : {M : Type 1} → statement M
+find_page_spec =
     tie.close
     (tie.spec
     unpack-requires

@@ -24,64 +24,64 @@ use Rattle.insert_find.proofs.find_place.Statement.{statement}
 use Rattle.insert_find.proofs.find_place.Tie as tie
 
 -- what is found is the key's place on the page
-place : (c : tie.After-find)
+place : (c : tie.After-find-place)
     → let f = c.before.before.before.before.before.before.before.before.before.before in
     let a = f.before.before.before.before.args in
     Placed (widths_of a.state.shape) (bias_key a.state.shape) (unpacked_key a.key)
     (page_at a.state.shape.capacity a.pages.now a.page)
-    f.count_at.result c.find.result
+    f.count_at-n.result c.find-place.result
 place c =
     let bias = c.before in
     let widths = bias.before in
     let size = widths.before.before in
     let f = size.before.before.before.before.before.before in
     let a = f.before.before.before.before.args in
-    let n = f.count_at.result in
-    let start = size.before.page-start.result in
-    let part = mid_of start (start + size.page-size.result - start) a.pages.now in
-    subst (λ page. Placed (widths_of a.state.shape) (bias_key a.state.shape) (unpacked_key a.key) page n c.find.result)
-    (mid_of-page a.state.shape.capacity a.page _ _ a.pages.now size.before.page-start.ensures
-    size.page-size.ensures)
-    (subst (λ h. Placed (widths_of a.state.shape) h (unpacked_key a.key) part n c.find.result)
-    bias.bias-key.ensures
-    (subst (λ ws. Placed ws bias.bias-key.result (unpacked_key a.key) part n c.find.result)
-    widths.widths-of.ensures c.find.ensures))
+    let n = f.count_at-n.result in
+    let start = size.before.page_start-start.result in
+    let part = mid_of start (start + size.page_size.result - start) a.pages.now in
+    subst (λ page. Placed (widths_of a.state.shape) (bias_key a.state.shape) (unpacked_key a.key) page n c.find-place.result)
+    (mid_of-page a.state.shape.capacity a.page _ _ a.pages.now size.before.page_start-start.ensures
+    size.page_size.ensures)
+    (subst (λ h. Placed (widths_of a.state.shape) h (unpacked_key a.key) part n c.find-place.result)
+    bias.bias_key.ensures
+    (subst (λ ws. Placed ws bias.bias_key.result (unpacked_key a.key) part n c.find-place.result)
+    widths.widths_of.ensures c.find-place.ensures))
 
 -- the page is the leaf's
-own : (c : tie.After-find)
+own : (c : tie.After-find-place)
     → let f = c.before.before.before.before.before.before.before.before.before.before in
     let a = f.before.before.before.before.args in
     own_page a.state.shape a.depth a.key (page_at a.state.shape.capacity a.pages.now a.page)
-    f.count_at.result
+    f.count_at-n.result
     ≡ true
 own c =
     let held = c.before.before.before.before.before.before in
-    let holds = held.before.page-holds in
-    sym holds.ensures ∙ not-false holds.result held.if3.false
+    let holds = held.before.page_holds in
+    sym holds.ensures ∙ not-false holds.result held.if-not-page_holds.false-raw
 
-cast-capacity : tie.Need-overflow-cast-capacity
+cast-capacity : tie.Need-overflow_cast-capacity
 cast-capacity c = search rules
 
-count-at-requires : tie.Need-count-at-requires
+count-at-requires : tie.Need-count_at-n-requires
 count-at-requires c κs = c.before.before.before.requires.1
 
-returns : tie.Need-returns
+returns : tie.Need-returns-then-n-eq0
 returns c words encoded m =
     let f = c.before in
     let a = f.before.before.before.before.args in
     nine-count (store a.state words a.pages.now) encoded a.key a.page a.depth m _
-    f.count_at.ensures.0
-    (inl c.if1.true)
+    f.count_at-n.ensures.0
+    (inl c.if-n-eq0.true)
 
-returns-2 : tie.Need-returns-2
+returns-2 : tie.Need-returns-then-capacity-n
 returns-2 c words encoded m =
     let f = c.before.before in
     let a = f.before.before.before.before.args in
     nine-count (store a.state words a.pages.now) encoded a.key a.page a.depth m _
-    f.count_at.ensures.0
-    (inr c.if2.true)
+    f.count_at-n.ensures.0
+    (inr c.if-capacity-n.true)
 
-page-holds-requires : tie.Need-page-holds-requires
+page-holds-requires : tie.Need-page_holds-requires
 page-holds-requires c κs =
     let s = c.before.before.before.before.before.before in
     record {
@@ -89,121 +89,121 @@ page-holds-requires c κs =
       deep = le_trans s.requires.3 s.requires.2.bits;
       fits = s.requires.2.fits;
       lent = s.requires.1;
-      some = omega (arith, c.before.if1.false);
-      few = omega (arith, c.if2.false);
+      some = omega (arith, c.before.if-n-eq0.false);
+      few = omega (arith, c.if-capacity-n.false);
     }
 
-returns-3 : tie.Need-returns-3
+returns-3 : tie.Need-returns-then-not-page_holds
 returns-3 c words encoded m =
     let f = c.before.before.before.before in
     let a = f.before.before.before.before.args in
-    let holds = c.before.page-holds in
+    let holds = c.before.page_holds in
     nine-ends (store a.state words a.pages.now) encoded a.key a.page a.depth m _
-    f.count_at.ensures.0 (sym holds.ensures ∙ not-true holds.result c.if3.true)
+    f.count_at-n.ensures.0 (sym holds.ensures ∙ not-true holds.result c.if-not-page_holds.true-raw)
 
-page-start-requires : tie.Need-page-start-requires
+page-start-requires : tie.Need-page_start-start-requires
 page-start-requires c κs = search rules
 
-page-size-requires : tie.Need-page-size-requires
+page-size-requires : tie.Need-page_size-requires
 page-size-requires c κs = search rules
 
-add-end : tie.Need-overflow-add-end
+add-end : tie.Need-overflow_add-end
 add-end c = search rules
 
-sub-find : tie.Need-overflow-sub-find
+sub-find : tie.Need-slice_bounds-find-count
 sub-find c = search rules
 
-part-find-start : tie.Need-slice-bounds-find-start
+part-find-start : tie.Need-slice_bounds-find-start
 part-find-start c = search rules
 
-part-find-end : tie.Need-slice-bounds-find-end
+part-find-end : tie.Need-slice_bounds-find-end
 part-find-end c = search rules
 
-widths-of-requires : tie.Need-widths-of-requires
+widths-of-requires : tie.Need-widths_of-requires
 widths-of-requires c κs = search rules
 
-bias-key-requires : tie.Need-bias-key-requires
+bias-key-requires : tie.Need-bias_key-requires
 bias-key-requires c κs =
     c.before.before.before.before.before.before.before.before.before.before.before.before.requires.0.shape
 
-find-requires : tie.Need-find-requires
+find-requires : tie.Need-find-place-requires
 find-requires c κs =
     let size = c.before.before.before in
     let held = size.before.before in
     let s = held.before.before.before.before.before.before.before.before in
     let st = s.args.state in
-    let few = held.before.before.if2.false in
+    let few = held.before.before.if-capacity-n.false in
     let part = mid_of-page st.shape.capacity s.args.page _ _ s.args.pages.now
-    size.before.page-start.ensures size.page-size.ensures in
+    size.before.page_start-start.ensures size.page_size.ensures in
     let whole = ap length part
     ∙ length-page_at st.shape.capacity s.args.page s.args.pages.now s.requires.1.whole in
-    (omega (arith, whole), widths-fit st.shape _ s.requires.0.shape c.before.widths-of.ensures)
+    (omega (arith, whole), widths-fit st.shape _ s.requires.0.shape c.before.widths_of.ensures)
 
-enum-known-place : tie.Need-enum-known-place
+enum-known-place : tie.Need-enum_known-place
 enum-known-place c = search rules
 
-enum_told : tie.Need-enum-told
+enum_told : tie.Need-enum_told-1
 enum_told c = search rules
 
-returns-4 : tie.Need-returns-4
+returns-4 : tie.Need-returns-in_default
 returns-4 c words encoded m =
     let d = c.before.before in
     let few = d.before.before.before.before.before.before.before.before in
     let f = few.before.before in
     let s = f.before.before.before.before in
     let a = s.args in
-    let known = f.before.before.before.shared-slice-known.given in
+    let known = f.before.before.before.shared_slice_known-1.given in
     four-stored (store a.state words a.pages.now) encoded a.key a.page a.depth m _
-    f.count_at.ensures.0
-    (omega (arith, few.if2.false)) (own d) (λ i. omega (arith, known i)) _
+    f.count_at-n.ensures.0
+    (omega (arith, few.if-capacity-n.false)) (own d) (λ i. omega (arith, known i)) _
     (subst
     (Placed (widths_of a.state.shape) (bias_key a.state.shape) (unpacked_key a.key)
-    (page_at a.state.shape.capacity a.pages.now a.page) f.count_at.result)
-    c.enum_told.given.1 (place d))
+    (page_at a.state.shape.capacity a.pages.now a.page) f.count_at-n.result)
+    c.enum_told-1.given.1 (place d))
 
-returns-5 : tie.Need-returns-5
+returns-5 : tie.Need-returns-then-n-capacity
 returns-5 c words encoded m =
-    let found = c.before.before.place in
+    let found = c.before.before.place-1 in
     let d = c.before.before.before.before in
     let few = d.before.before.before.before.before.before.before.before in
     let f = few.before.before in
     let a = f.before.before.before.before.args in
-    let known = f.before.before.before.shared-slice-known.given in
+    let known = f.before.before.before.shared_slice_known-1.given in
     room-found (store a.state words a.pages.now) encoded a.key a.page a.depth m _
-    f.count_at.ensures.0 (omega (arith, few.if2.false)) (own d)
+    f.count_at-n.ensures.0 (omega (arith, few.if-capacity-n.false)) (own d)
     (λ i. omega (arith, known i)) _
     (subst
     (Placed (widths_of a.state.shape) (bias_key a.state.shape) (unpacked_key a.key)
-    (page_at a.state.shape.capacity a.pages.now a.page) f.count_at.result)
-    found.given.1 (place d)) c.if4.true
+    (page_at a.state.shape.capacity a.pages.now a.page) f.count_at-n.result)
+    found.given.1 (place d)) c.if-n-capacity.true
 
-find-split-requires : tie.Need-find-split-requires
+find-split-requires : tie.Need-find_split-requires
 find-split-requires c κs =
     let f =
     c.before.before.before.before.before.before.before.before.before.before.before.before.before.before in
     let s = f.before.before.before.before in
     (s.pre.0, s.pre.1)
 
-returns-6 : tie.Need-returns-6
+returns-6 : tie.Need-returns
 returns-6 c words encoded m =
-    let found = c.before.before.before.place in
+    let found = c.before.before.before.place-1 in
     let d = c.before.before.before.before.before in
     let few = d.before.before.before.before.before.before.before.before in
     let f = few.before.before in
     let a = f.before.before.before.before.args in
-    let known = f.before.before.before.shared-slice-known.given in
-    c.find-split.ensures words encoded
+    let known = f.before.before.before.shared_slice_known-1.given in
+    c.find_split.ensures words encoded
     (full-met (store a.state words a.pages.now) encoded a.key a.page a.depth m _
-    f.count_at.ensures.0
-    (omega (arith, few.if2.false)) (own d) (λ i. omega (arith, known i)) _
+    f.count_at-n.ensures.0
+    (omega (arith, few.if-capacity-n.false)) (own d) (λ i. omega (arith, known i)) _
     (subst
     (Placed (widths_of a.state.shape) (bias_key a.state.shape) (unpacked_key a.key)
-    (page_at a.state.shape.capacity a.pages.now a.page) f.count_at.result)
+    (page_at a.state.shape.capacity a.pages.now a.page) f.count_at-n.result)
     found.given.1 (place d))
-    (omega (arith, c.before.if4.false)))
+    (omega (arith, c.before.if-n-capacity.false)))
 
-pub find-place-spec : {M : Type 1} → statement M
-find-place-spec =
+pub find_place_spec : {M : Type 1} → statement M
+find_place_spec =
     tie.close
     (tie.spec
     cast-capacity

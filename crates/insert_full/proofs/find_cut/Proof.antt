@@ -15,47 +15,47 @@ use Rattle.insert_full.proofs.find_cut.Statement.{statement}
 use Rattle.insert_full.proofs.find_cut.Tie as tie
 
 -- the part is the leaf's page
-part : (c : tie.After-page-size)
+part : (c : tie.After-page_size)
     → let a = c.before.before.before.before.before.before.args in
-    let start = c.before.page-start.result in
-    mid_of start (start + c.page-size.result - start) a.pages.now
+    let start = c.before.page_start-start.result in
+    mid_of start (start + c.page_size.result - start) a.pages.now
     ≡ page_at a.state.shape.capacity a.pages.now a.split.page
 part c =
     let a = c.before.before.before.before.before.before.args in
-    mid_of-page a.state.shape.capacity a.split.page _ _ a.pages.now c.before.page-start.ensures
-    c.page-size.ensures
+    mid_of-page a.state.shape.capacity a.split.page _ _ a.pages.now c.before.page_start-start.ensures
+    c.page_size.ensures
 
-cast-capacity : tie.Need-overflow-cast-capacity
+cast-capacity : tie.Need-overflow_cast-capacity
 cast-capacity c = search rules
 
-cast-page-start : tie.Need-overflow-cast-page-start
+cast-page-start : tie.Need-overflow_cast-split
 cast-page-start c = search rules
 
-page-start-requires : tie.Need-page-start-requires
+page-start-requires : tie.Need-page_start-start-requires
 page-start-requires c κs = search rules
 
-page-size-requires : tie.Need-page-size-requires
+page-size-requires : tie.Need-page_size-requires
 page-size-requires c κs = search rules
 
-add-end : tie.Need-overflow-add-end
+add-end : tie.Need-overflow_add-end
 add-end c = search rules
 
-sub-half-of : tie.Need-overflow-sub-half-of
+sub-half-of : tie.Need-slice_bounds-half_of-count
 sub-half-of c = search rules
 
-part-half-of-start : tie.Need-slice-bounds-half-of-start
+part-half-of-start : tie.Need-slice_bounds-half_of-start
 part-half-of-start c = search rules
 
-part-half-of-end : tie.Need-slice-bounds-half-of-end
+part-half-of-end : tie.Need-slice_bounds-half_of-end
 part-half-of-end c = search rules
 
-widths-of-requires : tie.Need-widths-of-requires
+widths-of-requires : tie.Need-widths_of-requires
 widths-of-requires c κs = search rules
 
-bias-key-requires : tie.Need-bias-key-requires
+bias-key-requires : tie.Need-bias_key-requires
 bias-key-requires c κs = c.before.before.before.before.before.before.before.before.requires.0.0.shape
 
-half-of-requires : tie.Need-half-of-requires
+half-of-requires : tie.Need-half_of-half-requires
 half-of-requires c κs =
     let size = c.before.before.before in
     let s = size.before.before.before.before.before.before in
@@ -65,35 +65,35 @@ half-of-requires c κs =
     let b = capacity-bounds st.shape s.requires.0.0.shape in
     let whole = ap length (part size)
     ∙ length-page_at st.shape.capacity s.args.split.page s.args.pages.now page.whole in (
-      (b.0, b.1, omega (arith, whole), widths-fit st.shape _ s.requires.0.0.shape c.before.widths-of.ensures),
-      (s.requires.1.0, subst (λ ws. pair / 4 < get_or ws (pair % 4) 0) (sym c.before.widths-of.ensures) s.requires.1.1),
+      (b.0, b.1, omega (arith, whole), widths-fit st.shape _ s.requires.0.0.shape c.before.widths_of.ensures),
+      (s.requires.1.0, subst (λ ws. pair / 4 < get_or ws (pair % 4) 0) (sym c.before.widths_of.ensures) s.requires.1.1),
     )
 
-enum-known-half : tie.Need-enum-known-half
+enum-known-half : tie.Need-enum_known-half
 enum-known-half c = search rules
 
-enum_told : tie.Need-enum-told
+enum_told : tie.Need-enum_told-1
 enum_told c = search rules
 
-returns : tie.Need-returns
+returns : tie.Need-returns-in_default
 returns c words encoded m =
     let h = c.before.before in
     let size = h.before.before.before.before in
     let a = size.before.before.before.before.before.before.args in
-    nine-half (store a.state words a.pages.now) encoded a.key a.split m _ _ _ h.before.before.widths-of.ensures
-    (part size) h.before.bias-key.ensures
-    h.half_of_lem.result h.half_of_lem.ensures c.enum_told.given.1
+    nine-half (store a.state words a.pages.now) encoded a.key a.split m _ _ _ h.before.before.widths_of.ensures
+    (part size) h.before.bias_key.ensures
+    h.half_of-half.result h.half_of-half.ensures c.enum_told-1.given.1
 
-returns-2 : tie.Need-returns-2
+returns-2 : tie.Need-returns
 returns-2 c words encoded m =
     let h = c.before.before.before in
     let size = h.before.before.before.before in
     let a = size.before.before.before.before.before.before.args in
     full-found (store a.state words a.pages.now) encoded a.key a.split m _ _ _
-    h.before.before.widths-of.ensures (part size) h.before.bias-key.ensures h.half_of_lem.result h.half_of_lem.ensures _ c.before.half.given.1
+    h.before.before.widths_of.ensures (part size) h.before.bias_key.ensures h.half_of-half.result h.half_of-half.ensures _ c.before.half-1.given.1
 
-pub find-cut-spec : {M : Type 1} → statement M
-find-cut-spec =
+pub find_cut_spec : {M : Type 1} → statement M
+find_cut_spec =
     tie.close
     (tie.spec
     cast-capacity

@@ -21,84 +21,84 @@ use Rattle.insert_full.proofs.find_split.Statement.{statement}
 use Rattle.insert_full.proofs.find_split.Tie as tie
 
 -- widths that fit
-fit : (c : tie.After-widths-of) → Fit (width_list c.widths-of.result)
+fit : (c : tie.After-widths_of-widths) → Fit (width_list c.widths_of-widths.result)
 fit c =
     let s = c.before.before.before.before.before.before in
-    widths-fit s.args.state.shape _ s.requires.0.shape c.widths-of.ensures
+    widths-fit s.args.state.shape _ s.requires.0.shape c.widths_of-widths.ensures
 
 -- the part is the leaf's page
-part : (c : tie.After-page-size)
+part : (c : tie.After-page_size)
     → let a = c.before.before.before.before.before.before.before.before.args in
-    let start = c.before.page-start.result in
-    mid_of start (start + c.page-size.result - start) a.pages.now
+    let start = c.before.page_start-start.result in
+    mid_of start (start + c.page_size.result - start) a.pages.now
     ≡ page_at a.state.shape.capacity a.pages.now a.page
 part c =
     let a = c.before.before.before.before.before.before.before.before.args in
-    mid_of-page a.state.shape.capacity a.page _ _ a.pages.now c.before.page-start.ensures
-    c.page-size.ensures
+    mid_of-page a.state.shape.capacity a.page _ _ a.pages.now c.before.page_start-start.ensures
+    c.page_size.ensures
 
 -- what is computed is where the first and the last key differ, at the step with its number
-met : (c : tie.After-ends-pair)
+met : (c : tie.After-ends_pair-pair)
     → let w = c.before.before.before.before in
     let a = w.before.before.before.before.before.before.args in
     (words encoded : List ℕ)
     → FullMet (store a.state words a.pages.now) encoded a.key a.page a.depth a.i
-    → EndsMet (store a.state words a.pages.now) encoded a.page a.depth a.i c.ends-pair.result
-    (length (steps_below (width_list w.widths-of.result) c.ends-pair.result))
+    → EndsMet (store a.state words a.pages.now) encoded a.page a.depth a.i c.ends_pair-pair.result
+    (length (steps_below (width_list w.widths_of-widths.result) c.ends_pair-pair.result))
 met c words encoded m =
     let w = c.before.before.before.before in
     let a = w.before.before.before.before.before.before.args in
     ends-met (store a.state words a.pages.now) encoded a.key a.page a.depth a.i
-    c.ends-pair.result _
-    m (width_list w.widths-of.result) _ _ w.widths-of.ensures
-    (part c.before.before) w.before.bias-key.ensures c.ends-pair.ensures refl
+    c.ends_pair-pair.result _
+    m (width_list w.widths_of-widths.result) _ _ w.widths_of-widths.ensures
+    (part c.before.before) w.before.bias_key-bias.ensures c.ends_pair-pair.ensures refl
 
-below : (c : tie.Else1) → c.before.ends-pair.result < 64
-below c = omega (arith, c.before.ends-pair.ensures.most, c.if1.false)
+below : (c : tie.Else-pair-eq64) → c.before.ends_pair-pair.result < 64
+below c = omega (arith, c.before.ends_pair-pair.ensures.most, c.if-pair-eq64.false)
 
 -- the same, with the number as it is computed
-met-step : (c : tie.After-steps-before)
+met-step : (c : tie.After-steps_before-step)
     → let e = c.before.before in
     let a = e.before.before.before.before.before.before.before.before.before.before.args in
     (words encoded : List ℕ)
     → FullMet (store a.state words a.pages.now) encoded a.key a.page a.depth a.i
-    → EndsMet (store a.state words a.pages.now) encoded a.page a.depth a.i e.ends-pair.result
-    c.steps-before.result
+    → EndsMet (store a.state words a.pages.now) encoded a.page a.depth a.i e.ends_pair-pair.result
+    c.steps_before-step.result
 met-step c words encoded m =
     let e = c.before.before in
     let a = e.before.before.before.before.before.before.before.before.before.before.args in
     subst
-    (EndsMet (store a.state words a.pages.now) encoded a.page a.depth a.i e.ends-pair.result)
-    c.steps-before.ensures.before (met e words encoded m)
+    (EndsMet (store a.state words a.pages.now) encoded a.page a.depth a.i e.ends_pair-pair.result)
+    c.steps_before-step.ensures.before (met e words encoded m)
 
-cast-capacity : tie.Need-overflow-cast-capacity
+cast-capacity : tie.Need-overflow_cast-capacity
 cast-capacity c = search rules
 
-bias-key-requires : tie.Need-bias-key-requires
+bias-key-requires : tie.Need-bias_key-bias-requires
 bias-key-requires c κs = c.before.before.before.before.requires.0.shape
 
-widths-of-requires : tie.Need-widths-of-requires
+widths-of-requires : tie.Need-widths_of-widths-requires
 widths-of-requires c κs = search rules
 
-page-start-requires : tie.Need-page-start-requires
+page-start-requires : tie.Need-page_start-start-requires
 page-start-requires c κs = search rules
 
-page-size-requires : tie.Need-page-size-requires
+page-size-requires : tie.Need-page_size-requires
 page-size-requires c κs = search rules
 
-add-end : tie.Need-overflow-add-end
+add-end : tie.Need-overflow_add-end
 add-end c = search rules
 
-sub-ends-pair : tie.Need-overflow-sub-ends-pair
+sub-ends-pair : tie.Need-slice_bounds-ends_pair-count
 sub-ends-pair c = search rules
 
-part-ends-pair-start : tie.Need-slice-bounds-ends-pair-start
+part-ends-pair-start : tie.Need-slice_bounds-ends_pair-start
 part-ends-pair-start c = search rules
 
-part-ends-pair-end : tie.Need-slice-bounds-ends-pair-end
+part-ends-pair-end : tie.Need-slice_bounds-ends_pair-end
 part-ends-pair-end c = search rules
 
-ends-pair-requires : tie.Need-ends-pair-requires
+ends-pair-requires : tie.Need-ends_pair-pair-requires
 ends-pair-requires c κs =
     let size = c.before in
     let w = size.before.before in
@@ -109,59 +109,59 @@ ends-pair-requires c κs =
     ∙ length-page_at st.shape.capacity s.args.page s.args.pages.now s.requires.1.whole in
     (b.0, b.1, omega (arith, whole), fit w)
 
-returns : tie.Need-returns
+returns : tie.Need-returns-then-pair-eq64
 returns c words encoded m =
     let a = c.before.before.before.before.before.before.before.before.before.before.before.args in
     nine-ends (store a.state words a.pages.now) encoded m.asked _ _ _ _ _ (met c.before words encoded m)
-    c.if1.true
+    c.if-pair-eq64.true
 
-steps-before-requires : tie.Need-steps-before-requires
-steps-before-requires c κs = (fit c.before.before.before.before.before, c.before.ends-pair.ensures.most)
+steps-before-requires : tie.Need-steps_before-step-requires
+steps-before-requires c κs = (fit c.before.before.before.before.before, c.before.ends_pair-pair.ensures.most)
 
-cast-if2 : tie.Need-overflow-cast-if2
+cast-if2 : tie.Need-overflow_cast-limits
 cast-if2 c = search rules
 
-returns-2 : tie.Need-returns-2
+returns-2 : tie.Need-returns-then-limits-step
 returns-2 c words encoded m =
     let t = c.before.before in
     let a = t.before.before.before.before.before.before.before.before.before.before.before.before.args in
     six-alike (store a.state words a.pages.now) encoded m.asked _ _ _ _ _ (met-step t words encoded m)
-    (below t.before) c.if2.true
+    (below t.before) c.if-limits-step.true
 
-returns-3 : tie.Need-returns-3
+returns-3 : tie.Need-returns-then-step-depth
 returns-3 c words encoded m =
     let t = c.before.before.before in
     let a = t.before.before.before.before.before.before.before.before.before.before.before.before.args in
     nine-below (store a.state words a.pages.now) encoded m.asked _ _ _ _ _ (met-step t words encoded m)
-    (below t.before) c.if3.true
+    (below t.before) c.if-step-depth.true
 
-tally-holds-requires : tie.Need-tally-holds-requires
+tally-holds-requires : tie.Need-tally_holds-requires
 tally-holds-requires c κs = search rules
 
-returns-4 : tie.Need-returns-4
+returns-4 : tie.Need-returns-then-not-tally_holds
 returns-4 c words encoded m =
     let e = c.before.before.before.before.before.before in
     let a = e.before.before.before.before.before.before.before.before.before.before.before.args in
-    let tally = c.before.tally-holds in
+    let tally = c.before.tally_holds in
     nine-tally (store a.state words a.pages.now) encoded
-    (sym tally.ensures ∙ not-true tally.result c.if4.true)
+    (sym tally.ensures ∙ not-true tally.result c.if-not-tally_holds.true-raw)
 
-find-cut-requires : tie.Need-find-cut-requires
+find-cut-requires : tie.Need-find_cut-requires
 find-cut-requires c κs =
     let e = c.before.before.before.before.before.before in
     let w = e.before.before.before.before.before in
     let s = w.before.before.before.before.before.before in
-    let pair = e.before.ends-pair.result in
-    let live = e.before.ends-pair.ensures.step-there (below e) in (
+    let pair = e.before.ends_pair-pair.result in
+    let live = e.before.ends_pair-pair.ensures.step-there (below e) in (
       (s.requires.0, s.requires.1),
-      (below e, subst (λ ws. pair / 4 < get_or ws (pair % 4) 0) w.widths-of.ensures live),
+      (below e, subst (λ ws. pair / 4 < get_or ws (pair % 4) 0) w.widths_of-widths.ensures live),
     )
 
-returns-5 : tie.Need-returns-5
+returns-5 : tie.Need-returns
 returns-5 c words encoded m =
     let t = c.before.before.before.before.before.before in
-    let tally = c.before.before.tally-holds in
-    c.find-cut.ensures words encoded
+    let tally = c.before.before.tally_holds in
+    c.find_cut.ensures words encoded
     (record {
       asked = m.asked;
       key-is = m.key-is;
@@ -169,14 +169,14 @@ returns-5 c words encoded m =
           record {
             ends-met = met-step t words encoded m;
             differ = below t.before;
-            below = omega (arith, c.before.before.before.if3.false);
-            deep = omega (arith, c.before.before.before.before.if2.false);
-            tally = sym tally.ensures ∙ not-false tally.result c.before.if4.false;
+            below = omega (arith, c.before.before.before.if-step-depth.false);
+            deep = omega (arith, c.before.before.before.before.if-limits-step.false);
+            tally = sym tally.ensures ∙ not-false tally.result c.before.if-not-tally_holds.false-raw;
           };
     })
 
-pub find-split-spec : {M : Type 1} → statement M
-find-split-spec =
+pub find_split_spec : {M : Type 1} → statement M
+find_split_spec =
     tie.close
     (tie.spec
     cast-capacity

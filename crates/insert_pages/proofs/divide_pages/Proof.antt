@@ -15,31 +15,31 @@ carry-requires c κs =
     let s = c.before.before in
     (s.requires.0, (s.requires.1.start-le, omega arith, omega arith))
 
-either-requires : tie.Need-either-requires
+either-requires : tie.Need-either-own-requires
 either-requires c κs = search rules
 
-sub-either : tie.Need-overflow-sub-either
+sub-either : tie.Need-overflow_sub-capacity
 sub-either c =
     let s = c.before.before.before.before.before.before.before in
     omega (arith, s.requires.1.start-le)
 
-either-requires-2 : tie.Need-either-requires-2
+either-requires-2 : tie.Need-either-count-requires
 either-requires-2 c κs = search rules
 
-insert-record-requires : tie.Need-insert-record-requires
+insert-record-requires : tie.Need-insert_record-requires
 insert-record-requires c κs =
     let s = c.before.before.before.before.before.before.before.before.before in
     let a = s.args in
     let fits = s.requires.1 in
-    let count = c.before.either2 in (
+    let count = c.before.either-count in (
       lent-carried a.capacity a.page a.free a.cut a.pages.now _ s.requires.0.0 s.requires.0.1 fits
           c.before.before.before.before.before.before.carry.ensures _
-          c.before.before.before.either.ensures,
+          c.before.before.before.either-own.ensures,
       subst (λ k. a.cut.place ≤ k) (sym count.ensures) fits.place-le,
       subst (λ k. k < a.capacity) (sym count.ensures) fits.room,
     )
 
-same_length : tie.Need-same-length
+same_length : tie.Need-shape_of-pages
 same_length c = search rules
 
 returns : tie.Need-returns
@@ -48,14 +48,14 @@ returns c =
     let s = c.before.before.before.before.before.before.before.before.before.before.before.before in
     let a = s.args in
     let new = packed_bytes a.key a.content in
-    let count = c.before.before.before.before.either2 in
-    let own = c.before.before.before.before.before.before.either in
+    let count = c.before.before.before.before.either-count in
+    let own = c.before.before.before.before.before.before.either-own in
     let carried = c.before.before.before.before.before.before.before.before.before.carry in
-    c.before.before.insert-record.ensures
+    c.before.before.insert_record.ensures
     ∙ (λ j. inserted_pages a.capacity (own.ensures j) a.cut.place (count.ensures j) new (carried.ensures j))
 
-pub divide-pages-spec : {M : Type 1} → statement M
-divide-pages-spec =
+pub divide_pages_spec : {M : Type 1} → statement M
+divide_pages_spec =
     tie.close
     (tie.spec
     carry-requires

@@ -10,28 +10,28 @@ use Rattle.insert_pages.proofs.InsertedLaws.{length_inserted}
 use Rattle.insert_pages.proofs.insert_record.Statement.{statement}
 use Rattle.insert_pages.proofs.insert_record.Tie as tie
 
-page-start-requires : tie.Need-page-start-requires
+page-start-requires : tie.Need-page_start-start-requires
 page-start-requires c κs = search rules
 
-page-size-requires : tie.Need-page-size-requires
+page-size-requires : tie.Need-page_size-requires
 page-size-requires c κs = search rules
 
-add-end : tie.Need-overflow-add-end
+add-end : tie.Need-overflow_add-end
 add-end c = search rules
 
-sub-insert-at : tie.Need-overflow-sub-insert-at
+sub-insert-at : tie.Need-slice_bounds-insert_at-count
 sub-insert-at c = search rules
 
-part-insert-at-start : tie.Need-slice-bounds-insert-at-start
+part-insert-at-start : tie.Need-slice_bounds-insert_at-start
 part-insert-at-start c = search rules
 
-part-insert-at-end : tie.Need-slice-bounds-insert-at-end
+part-insert-at-end : tie.Need-slice_bounds-insert_at-end
 part-insert-at-end c = search rules
 
-insert-at-requires : tie.Need-insert-at-requires
+insert-at-requires : tie.Need-insert_at-requires
 insert-at-requires c κs = search rules
 
-same_length : tie.Need-same-length
+same_length : tie.Need-shape_of-pages
 same_length c = search rules
 
 returns : tie.Need-returns
@@ -41,14 +41,14 @@ returns c =
     let s = size.before.before.before in
     let a = s.args in
     let new = packed_bytes a.key a.content in
-    put_mid-change a.capacity a.p _ _ a.pages.now size.before.page-start.ensures
-    size.page-size.ensures (inserted_page a.i a.n new) _
-    c.before.before.insert-at.ensures
+    put_mid-change a.capacity a.p _ _ a.pages.now size.before.page_start-start.ensures
+    size.page_size.ensures (inserted_page a.i a.n new) _
+    c.before.before.insert_at.ensures
     (length_inserted a.capacity a.p a.i a.n new a.pages.now s.requires.0 s.requires.1 s.requires.2
     (length-packed_bytes a.key a.content))
 
-pub insert-record-spec : {M : Type 1} → statement M
-insert-record-spec =
+pub insert_record_spec : {M : Type 1} → statement M
+insert_record_spec =
     tie.close
     (tie.spec
     page-start-requires

@@ -9,32 +9,32 @@ use Rattle.pages.proofs.FreeLaws.{free_page-le}
 use Rattle.insert_spare.proofs.spare_page.Statement.{statement}
 use Rattle.insert_spare.proofs.spare_page.Tie as tie
 
-leaf-count-requires : tie.Need-leaf-count-requires
+leaf-count-requires : tie.Need-leaf_count-requires
 leaf-count-requires c κs = search rules
 
-one-less-requires : tie.Need-one-less-requires
+one-less-requires : tie.Need-one_less-start-requires
 one-less-requires c κs = search rules
 
-cast-free-page : tie.Need-overflow-cast-free-page
+cast-free-page : tie.Need-overflow_cast-shape
 cast-free-page c = search rules
 
-cast-free-page-2 : tie.Need-overflow-cast-free-page-2
+cast-free-page-2 : tie.Need-overflow_cast-limits
 cast-free-page-2 c = search rules
 
-free-page-requires : tie.Need-free-page-requires
+free-page-requires : tie.Need-free_page-requires
 free-page-requires c κs =
     let s = c.before.before.before.before.before.before.before in
     ((capacity-bounds s.args.state.shape s.requires.shape).1, s.requires.few, s.requires.lent)
 
-cast-result : tie.Need-overflow-cast-result
+cast-result : tie.Need-overflow_cast-result
 cast-result c =
     let s = c.before.before.before.before.before.before.before.before in
     let st = s.args.state in
     omega (
       arith,
-      c.free-page.ensures,
+      c.free_page.ensures,
       free_page-le st.shape.capacity s.args.pages.now st.limits.pages
-          c.before.before.before.one_less.result,
+          c.before.before.before.one_less-start.result,
       s.requires.few,
     )
 
@@ -42,13 +42,13 @@ returns : tie.Need-returns
 returns c =
     let s = c.before.before.before.before.before.before.before.before in
     let st = s.args.state in
-    c.free-page.ensures
+    c.free_page.ensures
     ∙ ap (free_page st.shape.capacity s.args.pages.now st.limits.pages)
-    (c.before.before.before.one_less.ensures
-    ∙ ap (λ n. n - 1) c.before.before.before.before.leaf-count.ensures)
+    (c.before.before.before.one_less-start.ensures
+    ∙ ap (λ n. n - 1) c.before.before.before.before.leaf_count.ensures)
 
-pub spare-page-spec : {M : Type 1} → statement M
-spare-page-spec =
+pub spare_page_spec : {M : Type 1} → statement M
+spare_page_spec =
     tie.close
     (tie.spec leaf-count-requires one-less-requires cast-free-page cast-free-page-2 free-page-requires cast-result
     returns)

@@ -8,19 +8,19 @@ use Rattle.insert_words.proofs.count_leaves.Statement.{statement}
 use Rattle.insert_words.proofs.count_leaves.Tie as tie
 
 -- where the function began
-abbrev start : tie.After-struct-known2 → tie.Start
+abbrev start : tie.After-struct_known-2-1 → tie.Start
 start c = c.before.before.before.before
 
-cast-x : tie.Need-overflow-cast-x
+cast-x : tie.Need-overflow_cast-x
 cast-x c = search rules
 
-add-levels : tie.Need-overflow-add-levels
+add-levels : tie.Need-overflow_add-levels
 add-levels c = omega (arith, (start c).requires.short)
 
-sub-levels : tie.Need-overflow-sub-levels
+sub-levels : tie.Need-overflow_sub-levels
 sub-levels c = omega (arith, (start c).requires.below)
 
-divided-requires : tie.Need-divided-requires
+divided-requires : tie.Need-divided-tally-requires
 divided-requires c κs =
     let s = start c in
     (omega (arith, s.pre.below, s.pre.short), s.pre.tally)
@@ -33,8 +33,8 @@ returns c =
     omega (arith, s.pre.below) in
     record {
       state = refl;
-      tallied = c.divided.ensures ∙ ap (λ n. divided_tally a.split.depth n a.state.tally.leaves) levels;
+      tallied = c.divided-tally.ensures ∙ ap (λ n. divided_tally a.split.depth n a.state.tally.leaves) levels;
     }
 
-pub count-leaves-spec : {M : Type 1} → statement M
-count-leaves-spec = tie.close (tie.spec cast-x add-levels sub-levels divided-requires returns)
+pub count_leaves_spec : {M : Type 1} → statement M
+count_leaves_spec = tie.close (tie.spec cast-x add-levels sub-levels divided-requires returns)

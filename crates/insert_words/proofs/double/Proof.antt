@@ -13,21 +13,21 @@ use Rattle.insert_words.proofs.double.Statement.{statement}
 use Rattle.insert_words.proofs.double.Tie as tie
 
 -- where the function began
-abbrev start : tie.After-greater → tie.Start
+abbrev start : tie.After-greater-depth → tie.Start
 start g = g.before.before.before.before.before.before.before
 
-cast-old : tie.Need-overflow-cast-old
+cast-old : tie.Need-overflow_cast-old
 cast-old c = search rules
 
-add-greater : tie.Need-overflow-add-greater
+add-greater : tie.Need-overflow_add-split
 add-greater c =
     let s = c.before.before.before.before.before.before in
     omega (arith, s.requires.deep, s.requires.short)
 
-greater-requires : tie.Need-greater-requires
+greater-requires : tie.Need-greater-depth-requires
 greater-requires c κs = search rules
 
-widths-of-requires : tie.Need-widths-of-requires
+widths-of-requires : tie.Need-widths_of-requires
 widths-of-requires c κs = search rules
 
 deepen-requires : tie.Need-deepen-requires
@@ -35,20 +35,20 @@ deepen-requires c κs =
     let w = c.before in
     let g = w.before in
     let s = start g in (
-      directory-fits s.args.state s.args.split _ s.pre _ _ _ g.greater.ensures s.pre.within-limit
-          (omega (arith, s.pre.deep)) _ w.widths-of.ensures,
-      omega (arith, g.greater.ensures),
+      directory-fits s.args.state s.args.split _ s.pre _ _ _ g.greater-depth.ensures s.pre.within-limit
+          (omega (arith, s.pre.deep)) _ w.widths_of.ensures,
+      omega (arith, g.greater-depth.ensures),
     )
 
-cast-deepest : tie.Need-overflow-cast-deepest
+cast-deepest : tie.Need-overflow_cast-deepest
 cast-deepest c =
     let g = c.before.before.before.before.before in
     let s = start g in
-    let short = depth-short s.args.state s.args.split _ s.pre _ _ _ g.greater.ensures
+    let short = depth-short s.args.state s.args.split _ s.pre _ _ _ g.greater-depth.ensures
     s.pre.within-limit (omega (arith, s.pre.deep)) in
     omega (arith, short)
 
-same_length : tie.Need-same-length
+same_length : tie.Need-shape_of-dir
 same_length c = search rules
 
 returns : tie.Need-returns
@@ -58,10 +58,10 @@ returns c =
     let g = w.before in
     let a = (start g).args in
     let words = d.new.1.1.1.0 in
-    let depth : g.greater.result ≡ max a.state.deepest (suc a.split.step) =
-    omega (arith, g.greater.ensures) in
-    let deepened : Deepened (widths_of a.state.shape) a.state.deepest g.greater.result a.dir.now words =
-    subst (λ ws. Deepened ws a.state.deepest g.greater.result a.dir.now words) w.widths-of.ensures
+    let depth : g.greater-depth.result ≡ max a.state.deepest (suc a.split.step) =
+    omega (arith, g.greater-depth.ensures) in
+    let deepened : Deepened (widths_of a.state.shape) a.state.deepest g.greater-depth.result a.dir.now words =
+    subst (λ ws. Deepened ws a.state.deepest g.greater-depth.result a.dir.now words) w.widths_of.ensures
     d.ensures in
     record {
       state =
@@ -75,12 +75,12 @@ returns c =
           depth;
       deepened = deepened;
       shown = λ P bytes D h.
-          shows-deepened a.state.shape P a.state.deepest g.greater.result (memory a.dir.now bytes) D
+          shows-deepened a.state.shape P a.state.deepest g.greater-depth.result (memory a.dir.now bytes) D
           words h deepened;
     }
 
-pub double-spec : {M : Type 1} → statement M
-double-spec =
+pub double_spec : {M : Type 1} → statement M
+double_spec =
     tie.close
     (tie.spec
     cast-old

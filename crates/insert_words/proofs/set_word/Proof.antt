@@ -7,13 +7,13 @@ use Rattle.directory_lent.proofs.FitLaws.{directory_fits, filled-shape}
 use Rattle.insert_words.proofs.set_word.Statement.{statement}
 use Rattle.insert_words.proofs.set_word.Tie as tie
 
-widths-of-requires : tie.Need-widths-of-requires
+widths-of-requires : tie.Need-widths_of-widths-requires
 widths-of-requires c κs = search rules
 
-cast_t : tie.Need-overflow-cast-t
+cast_t : tie.Need-overflow_cast-t
 cast_t c = search rules
 
-pack-page-requires : tie.Need-pack-page-requires
+pack-page-requires : tie.Need-pack_page-word-requires
 pack-page-requires c κs =
     let s = c.before.before.before in
     (s.requires.2, omega (arith, s.requires.1, s.requires.0.short))
@@ -22,9 +22,9 @@ fill-requires : tie.Need-fill-requires
 fill-requires c κs =
     let w = c.before.before.before in
     let s = w.before.before in
-    (directory_fits s.args.state _ w.widths-of.ensures _ _ s.requires.0 (le_refl _), s.requires.1)
+    (directory_fits s.args.state _ w.widths_of-widths.ensures _ _ s.requires.0 (le_refl _), s.requires.1)
 
-same_length : tie.Need-same-length
+same_length : tie.Need-shape_of-dir
 same_length c = search rules
 
 returns : tie.Need-returns
@@ -32,9 +32,9 @@ returns c =
     let packed = c.before.before.before.before in
     let w = packed.before.before in
     let a = w.before.before.args in
-    filled-shape a.state _ w.widths-of.ensures _ _ a.encoded _ _ _ _ packed.pack-page.ensures
+    filled-shape a.state _ w.widths_of-widths.ensures _ _ a.encoded _ _ _ _ packed.pack_page-word.ensures
     c.before.before.fill.ensures
 
-pub set-word-spec : {M : Type 1} → statement M
-set-word-spec =
+pub set_word_spec : {M : Type 1} → statement M
+set_word_spec =
     tie.close (tie.spec widths-of-requires cast_t pack-page-requires fill-requires same_length returns)

@@ -8,45 +8,45 @@ use Rattle.change.specs.Divided.{LeavesSet}
 use Rattle.insert_words.proofs.set_words.Statement.{statement}
 use Rattle.insert_words.proofs.set_words.Tie as tie
 
-widths-of-requires : tie.Need-widths-of-requires
+widths-of-requires : tie.Need-widths_of-widths-requires
 widths-of-requires c κs = search rules
 
-cast_t : tie.Need-overflow-cast-t
+cast_t : tie.Need-overflow_cast-t
 cast_t c = search rules
 
-cast-x : tie.Need-overflow-cast-x
+cast-x : tie.Need-overflow_cast-x
 cast-x c = search rules
 
-set-leaves-requires : tie.Need-set-leaves-requires
+set-leaves-requires : tie.Need-set_leaves-requires
 set-leaves-requires c κs =
     let w = c.before.before.before in
     let s = w.before.before in
     let a = s.args in
     let asked = s.requires.1 in (
       (
-        directory_fits a.state _ w.widths-of.ensures _ a.state.deepest s.requires.0 (le_refl _),
+        directory_fits a.state _ w.widths_of-widths.ensures _ a.state.deepest s.requires.0 (le_refl _),
         asked.below,
         asked.deep,
       ),
       (
         (asked.page-lt, asked.free-lt),
-        asked.bit_is ∙ ap (λ ws. split_bit ws a.encoded a.split.step) (sym w.widths-of.ensures),
+        asked.bit_is ∙ ap (λ ws. split_bit ws a.encoded a.split.step) (sym w.widths_of-widths.ensures),
       ),
     )
 
-same_length : tie.Need-same-length
+same_length : tie.Need-shape_of-dir
 same_length c = search rules
 
 returns : tie.Need-returns
 returns c =
-    let set = c.before.before.set-leaves in
+    let set = c.before.before.set_leaves in
     let w = c.before.before.before.before.before.before in
     let a = w.before.before.args in
     subst
     (λ ws. LeavesSet ws a.state.deepest a.split.depth a.split.step (split_bit ws a.encoded)
     a.split.page a.free a.dir.now set.new.1.1.1.1.1.1.1.1.0)
-    w.widths-of.ensures set.ensures
+    w.widths_of-widths.ensures set.ensures
 
-pub set-words-spec : {M : Type 1} → statement M
-set-words-spec =
+pub set_words_spec : {M : Type 1} → statement M
+set_words_spec =
     tie.close (tie.spec widths-of-requires cast_t cast-x set-leaves-requires same_length returns)

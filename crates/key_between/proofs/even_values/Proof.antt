@@ -6,5 +6,5 @@ use Rattle.key_between.proofs.even_values.Tie as tie
 returns : tie.Need-returns
 returns c = even_values-mask c.args.key
 
-pub even-values-spec : {M : Type 1} → statement M
-even-values-spec = tie.close (tie.spec returns)
+pub even_values_spec : {M : Type 1} → statement M
+even_values_spec = tie.close (tie.spec returns)

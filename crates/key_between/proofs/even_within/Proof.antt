@@ -7,10 +7,10 @@ use borrow.Author.Rules.{rules}
 use Rattle.key_between.proofs.even_within.Statement.{statement}
 use Rattle.key_between.proofs.even_within.Tie as tie
 
-not-below-requires : tie.Need-not-below-requires
+not-below-requires : tie.Need-not_below-requires
 not-below-requires c κs = search rules
 
-not-below-requires-2 : tie.Need-not-below-requires-2
+not-below-requires-2 : tie.Need-not_below-requires-2
 not-below-requires-2 c κs = search rules
 
 returns : tie.Need-returns
@@ -18,8 +18,8 @@ returns c =
     let a = c.before.before.args in
     let low = not_below a.low a.key in
     let high = not_below a.key a.high in
-    (λ i. bit_and (c.before.not-below.ensures i) (c.not-below2.ensures i))
+    (λ i. bit_and (c.before.not_below.ensures i) (c.not_below-2.ensures i))
     ∙ and-even_flags (low 0) (low 2) (high 0) (high 2)
 
-pub even-within-spec : {M : Type 1} → statement M
-even-within-spec = tie.close (tie.spec not-below-requires not-below-requires-2 returns)
+pub even_within_spec : {M : Type 1} → statement M
+even_within_spec = tie.close (tie.spec not-below-requires not-below-requires-2 returns)

@@ -7,41 +7,41 @@ use Rattle.key_encoding.proofs.CodeLaws.{bias_key-none, biases-listed, biases-li
 use Rattle.key_encoding.proofs.bias_key.Statement.{statement}
 use Rattle.key_encoding.proofs.bias_key.Tie as tie
 
-returns : tie.Need-returns
-returns c = bias_key-none c.before.before.args.shape c.if1.true
+returns : tie.Need-returns-then-shape-eq0
+returns c = bias_key-none c.before.before.args.shape c.if-shape-eq0.true
 
-bias-of-requires : tie.Need-bias-of-requires
+bias-of-requires : tie.Need-bias_of-b0-requires
 bias-of-requires c κs = search rules
 
-bias-of-requires-2 : tie.Need-bias-of-requires-2
+bias-of-requires-2 : tie.Need-bias_of-b1-requires
 bias-of-requires-2 c κs = search rules
 
-bias-of-requires-3 : tie.Need-bias-of-requires-3
+bias-of-requires-3 : tie.Need-bias_of-b2-requires
 bias-of-requires-3 c κs = search rules
 
-bias-of-requires-4 : tie.Need-bias-of-requires-4
+bias-of-requires-4 : tie.Need-bias_of-b3-requires
 bias-of-requires-4 c κs = search rules
 
-pack-key-requires : tie.Need-pack-key-requires
+pack-key-requires : tie.Need-pack_key-requires
 pack-key-requires c κs =
     let three = c.before.before.before in
     let start = three.before.before.before in
     biases-listed-lt start.args.shape _ _ _ _ start.requires
-    (biases-listed start.args.shape _ _ _ _ three.bias-of.ensures c.before.before.bias-of2.ensures
-    c.before.bias-of3.ensures c.bias-of4.ensures)
+    (biases-listed start.args.shape _ _ _ _ three.bias_of-b0.ensures c.before.before.bias_of-b1.ensures
+    c.before.bias_of-b2.ensures c.bias_of-b3.ensures)
 
-returns-2 : tie.Need-returns-2
+returns-2 : tie.Need-returns
 unfolding bias_key
 returns-2 c =
     let b = c.before in
     let three = b.before.before.before in
-    c.pack-key.ensures
+    c.pack_key.ensures
     ∙ ap packed_key
-    (biases-listed three.before.before.before.args.shape _ _ _ _ three.bias-of.ensures
-    b.before.before.bias-of2.ensures b.before.bias-of3.ensures b.bias-of4.ensures)
+    (biases-listed three.before.before.before.args.shape _ _ _ _ three.bias_of-b0.ensures
+    b.before.before.bias_of-b1.ensures b.before.bias_of-b2.ensures b.bias_of-b3.ensures)
 
-pub bias-key-spec : {M : Type 1} → statement M
-bias-key-spec =
+pub bias_key_spec : {M : Type 1} → statement M
+bias_key_spec =
     tie.close
     (tie.spec
     returns

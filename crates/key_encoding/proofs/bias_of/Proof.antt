@@ -8,40 +8,40 @@ use Rattle.key_encoding.proofs.bias_of.Statement.{statement}
 use Rattle.key_encoding.proofs.bias_of.Tie as tie
 
 -- behind the test the attribute is marked
-set : (c : tie.After-widths) → let args = c.before.before.before.args in marked args.shape args.j ≡ true
-set c = sym c.before.before.is-marked.ensures ∙ not-false _ c.before.if1.false
+set : (c : tie.After-widths-1) → let args = c.before.before.before.args in marked args.shape args.j ≡ true
+set c = sym c.before.before.is_marked.ensures ∙ not-false _ c.before.if-not-is_marked.false-raw
 
-is-marked-requires : tie.Need-is-marked-requires
+is-marked-requires : tie.Need-is_marked-requires
 is-marked-requires c κs = search rules
 
-returns : tie.Need-returns
+returns : tie.Need-returns-then-not-is_marked
 returns c =
     let args = c.before.before.args in
-    sym (bias-plain args.shape args.j (sym c.before.is-marked.ensures ∙ not-true _ c.if1.true))
+    sym (bias-plain args.shape args.j (sym c.before.is_marked.ensures ∙ not-true _ c.if-not-is_marked.true-raw))
 
-mul-result : tie.Need-overflow-mul-result
+mul-result : tie.Need-offset_bounds-widths-j
 mul-result c = search rules
 
-array-read-result : tie.Need-array-read-result
+array-read-result : tie.Need-bounds-widths-j
 array-read-result c = search rules
 
-sub-result : tie.Need-overflow-sub-result
+sub-result : tie.Need-overflow_sub-result
 sub-result c =
     let start = c.before.before.before in
     (width_read start.args.shape start.args.j start.requires.0 (set c)).0
 
-shl-result : tie.Need-overflow-shl-result
+shl-result : tie.Need-overflow_shl-result
 shl-result c =
     let start = c.before.before.before in
     omega (arith, (width_read start.args.shape start.args.j start.requires.0 (set c)).1)
 
-returns-2 : tie.Need-returns-2
+returns-2 : tie.Need-returns
 returns-2 c =
     let start = c.before.before.before in
     bias-shifted start.args.shape start.args.j start.requires.0 (set c)
 
-pub bias-of-spec : {M : Type 1} → statement M
-bias-of-spec =
+pub bias_of_spec : {M : Type 1} → statement M
+bias_of_spec =
     tie.close
     (tie.spec
     is-marked-requires

@@ -11,45 +11,45 @@ use Rattle.key_encoding.proofs.encode_key.Tie as tie
 four : (c : tie.Start) → length c.args.key.values ≡ 4
 four c = sym (length-map c.args.key.values (λ v. v)) ∙ c.well-formed.1.0.1.1.0.1.0.1
 
-returns : tie.Need-returns
+returns : tie.Need-returns-then-shape-eq0
 returns c =
     let start = c.before.before in
-    sym (encodings-none start.args.shape c.if1.true start.args.key.values (four start))
+    sym (encodings-none start.args.shape c.if-shape-eq0.true start.args.key.values (four start))
 
-array-read-encode-value : tie.Need-array-read-encode-value
+array-read-encode-value : tie.Need-bounds-values-0
 array-read-encode-value c = search rules
 
-encode-value-requires : tie.Need-encode-value-requires
+encode-value-requires : tie.Need-encode_value-e0-requires
 encode-value-requires c κs = search rules
 
-array-read-encode-value-2 : tie.Need-array-read-encode-value-2
+array-read-encode-value-2 : tie.Need-bounds-values-1
 array-read-encode-value-2 c = search rules
 
-encode-value-requires-2 : tie.Need-encode-value-requires-2
+encode-value-requires-2 : tie.Need-encode_value-e1-requires
 encode-value-requires-2 c κs = search rules
 
-array-read-encode-value-3 : tie.Need-array-read-encode-value-3
+array-read-encode-value-3 : tie.Need-bounds-values-2
 array-read-encode-value-3 c = search rules
 
-encode-value-requires-3 : tie.Need-encode-value-requires-3
+encode-value-requires-3 : tie.Need-encode_value-e2-requires
 encode-value-requires-3 c κs = search rules
 
-array-read-encode-value-4 : tie.Need-array-read-encode-value-4
+array-read-encode-value-4 : tie.Need-bounds-values-3
 array-read-encode-value-4 c = search rules
 
-encode-value-requires-4 : tie.Need-encode-value-requires-4
+encode-value-requires-4 : tie.Need-encode_value-e3-requires
 encode-value-requires-4 c κs = search rules
 
-returns-2 : tie.Need-returns-2
+returns-2 : tie.Need-returns
 returns-2 c =
     let three = c.before.before.before in
     let start = three.before.before.before.before in
     encodings-listed start.args.shape _ _ _ _ start.args.key.values
-    three.encode-value.ensures c.before.before.encode-value2.ensures
-    c.before.encode-value3.ensures c.encode-value4.ensures
+    three.encode_value-e0.ensures c.before.before.encode_value-e1.ensures
+    c.before.encode_value-e2.ensures c.encode_value-e3.ensures
 
-pub encode-key-spec : {M : Type 1} → statement M
-encode-key-spec =
+pub encode_key_spec : {M : Type 1} → statement M
+encode_key_spec =
     tie.close
     (tie.spec
     returns

@@ -6,36 +6,36 @@ use Rattle.shape.proofs.UnmarkedLaws.{encoded_wanted-none}
 use Rattle.key_encoding.proofs.encode_query.Statement.{statement}
 use Rattle.key_encoding.proofs.encode_query.Tie as tie
 
-returns : tie.Need-returns
+returns : tie.Need-returns-then-shape-eq0
 unfolding wanted_values
 returns c =
     let start = c.before.before in
-    sym (encoded_wanted-none start.args.shape c.if1.true (wanted_values start.args.query) refl)
+    sym (encoded_wanted-none start.args.shape c.if-shape-eq0.true (wanted_values start.args.query) refl)
 
-encode-wanted-requires : tie.Need-encode-wanted-requires
+encode-wanted-requires : tie.Need-encode_wanted-a0-requires
 encode-wanted-requires c κs = search rules
 
-encode-wanted-requires-2 : tie.Need-encode-wanted-requires-2
+encode-wanted-requires-2 : tie.Need-encode_wanted-a1-requires
 encode-wanted-requires-2 c κs = search rules
 
-encode-wanted-requires-3 : tie.Need-encode-wanted-requires-3
+encode-wanted-requires-3 : tie.Need-encode_wanted-a2-requires
 encode-wanted-requires-3 c κs = search rules
 
-encode-wanted-requires-4 : tie.Need-encode-wanted-requires-4
+encode-wanted-requires-4 : tie.Need-encode_wanted-a3-requires
 encode-wanted-requires-4 c κs = search rules
 
-returns-2 : tie.Need-returns-2
+returns-2 : tie.Need-returns
 unfolding wanted_values encoded_wanted
 returns-2 c =
     let two = c.before.before in
-    let e0 = two.before.encode-wanted.ensures in
-    let e1 = two.encode-wanted2.ensures in
-    let e2 = c.before.encode-wanted3.ensures in
-    let e3 = c.encode-wanted4.ensures in
+    let e0 = two.before.encode_wanted-a0.ensures in
+    let e1 = two.encode_wanted-a1.ensures in
+    let e2 = c.before.encode_wanted-a2.ensures in
+    let e3 = c.encode_wanted-a3.ensures in
     λ i. e0 i ∷ e1 i ∷ e2 i ∷ e3 i ∷ []
 
-pub encode-query-spec : {M : Type 1} → statement M
-encode-query-spec =
+pub encode_query_spec : {M : Type 1} → statement M
+encode_query_spec =
     tie.close
     (tie.spec
     returns

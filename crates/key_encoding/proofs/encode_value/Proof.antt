@@ -4,18 +4,18 @@ use Rattle.key_encoding.proofs.CodeLaws.{encode-sum}
 use Rattle.key_encoding.proofs.encode_value.Statement.{statement}
 use Rattle.key_encoding.proofs.encode_value.Tie as tie
 
-bias-of-requires : tie.Need-bias-of-requires
+bias-of-requires : tie.Need-bias_of-requires
 bias-of-requires c κs = search rules
 
-wrapping-add-u32-requires : tie.Need-wrapping-add-u32-requires
+wrapping-add-u32-requires : tie.Need-wrapping_add_u32-requires
 wrapping-add-u32-requires c κs = search rules
 
 returns : tie.Need-returns
 returns c =
     let start = c.before.before in
-    c.wrapping-add-u32.ensures
-    ∙ ap (λ b. (start.args.value + b) % 2 ^ 32) c.before.bias-of.ensures
+    c.wrapping_add_u32.ensures
+    ∙ ap (λ b. (start.args.value + b) % 2 ^ 32) c.before.bias_of.ensures
     ∙ encode-sum start.args.shape start.args.j start.args.value start.ranges.value.fits
 
-pub encode-value-spec : {M : Type 1} → statement M
-encode-value-spec = tie.close (tie.spec bias-of-requires wrapping-add-u32-requires returns)
+pub encode_value_spec : {M : Type 1} → statement M
+encode_value_spec = tie.close (tie.spec bias-of-requires wrapping-add-u32-requires returns)

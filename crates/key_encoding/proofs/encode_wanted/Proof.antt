@@ -6,38 +6,38 @@ use Rattle.key_encoding.proofs.CodeLaws.{get_d-wanted_values}
 use Rattle.key_encoding.proofs.encode_wanted.Statement.{statement}
 use Rattle.key_encoding.proofs.encode_wanted.Tie as tie
 
-mul-attribute : tie.Need-overflow-mul-attribute
+mul-attribute : tie.Need-offset_bounds-query-j
 mul-attribute c = search rules
 
-element-copy-out-attribute : tie.Need-element-copy-out-attribute
+element-copy-out-attribute : tie.Need-bounds-query-j
 element-copy-out-attribute c = search rules
 
-enum_told : tie.Need-enum-told
+enum_told : tie.Need-enum_told-1
 enum_told c = search rules
 
-enum-known-wanted : tie.Need-enum-known-wanted
+enum-known-wanted : tie.Need-enum_known-wanted
 enum-known-wanted c = search rules
 
-encode-value-requires : tie.Need-encode-value-requires
+encode-value-requires : tie.Need-encode_value-requires
 encode-value-requires c κs = search rules
 
-returns : tie.Need-returns
+returns : tie.Need-returns-in-Free
 returns c =
     let s = c.before.before.before in
     sym
     (ap (encode_wanted s.args.shape s.args.j) (get_d-wanted_values s.args.t3 s.args.j s.requires.1)
-    ∙ ap (λ w. encode_wanted s.args.shape s.args.j (wanted_value w)) c.enum_told.given.1)
+    ∙ ap (λ w. encode_wanted s.args.shape s.args.j (wanted_value w)) c.enum_told-1.given.1)
 
-returns-2 : tie.Need-returns-2
+returns-2 : tie.Need-returns-in-Given
 returns-2 c =
     let s = c.before.before.before.before.before in
-    ap (λ e. some e) c.encode-value.ensures
+    ap (λ e. some e) c.encode_value.ensures
     ∙ sym
     (ap (encode_wanted s.args.shape s.args.j) (get_d-wanted_values s.args.t3 s.args.j s.requires.1)
-    ∙ ap (λ w. encode_wanted s.args.shape s.args.j (wanted_value w)) c.before.before.wanted.given.1)
+    ∙ ap (λ w. encode_wanted s.args.shape s.args.j (wanted_value w)) c.before.before.wanted-1.given.1)
 
-pub encode-wanted-spec : {M : Type 1} → statement M
-encode-wanted-spec =
+pub encode_wanted_spec : {M : Type 1} → statement M
+encode_wanted_spec =
     tie.close
     (tie.spec
     mul-attribute

@@ -5,22 +5,22 @@ use Rattle.key_encoding.proofs.CodeLaws.{marked-used}
 use Rattle.key_encoding.proofs.is_marked.Statement.{statement}
 use Rattle.key_encoding.proofs.is_marked.Tie as tie
 
-cast-if1 : tie.Need-overflow-cast-if1
+cast-if1 : tie.Need-overflow_cast-shape
 cast-if1 c = search rules
 
-cast-result : tie.Need-overflow-cast-result
+cast-result : tie.Need-overflow_cast-result
 cast-result c = search rules
 
-shr-result : tie.Need-overflow-shr-result
+shr-result : tie.Need-overflow_shr-result
 shr-result c = search rules
 
-returns : tie.Need-returns
+returns : tie.Need-returns-then-j-shape
 returns c =
     let args = c.before.before.before.args in
-    marked-used args.shape args.j c.before.if1.true
+    marked-used args.shape args.j c.before.if-j-shape.true
 
-returns-2 : tie.Need-returns-2
-returns-2 c = let args = c.before.before.args in sym (marked-unused args.shape args.j c.if1.false)
+returns-2 : tie.Need-returns
+returns-2 c = let args = c.before.before.args in sym (marked-unused args.shape args.j c.if-j-shape.false)
 
-pub is-marked-spec : {M : Type 1} → statement M
-is-marked-spec = tie.close (tie.spec cast-if1 cast-result shr-result returns returns-2)
+pub is_marked_spec : {M : Type 1} → statement M
+is_marked_spec = tie.close (tie.spec cast-if1 cast-result shr-result returns returns-2)

@@ -4,11 +4,11 @@ use Rattle.key_encoding.proofs.CodeLaws.{lower-sum-lt}
 use Rattle.key_encoding.proofs.lane_add.Statement.{statement}
 use Rattle.key_encoding.proofs.lane_add.Tie as tie
 
-add-result : tie.Need-overflow-add-result
+add-result : tie.Need-overflow_add-result
 add-result c = record { fits = lower-sum-lt c.args.x c.args.y }
 
 returns : tie.Need-returns
 returns c = word_sum-lanes c.args.x c.args.y c.ranges.x.fits c.ranges.y.fits
 
-pub lane-add-spec : {M : Type 1} → statement M
-lane-add-spec = tie.close (tie.spec add-result returns)
+pub lane_add_spec : {M : Type 1} → statement M
+lane_add_spec = tie.close (tie.spec add-result returns)

@@ -4,16 +4,16 @@ use Rattle.std.proofs.Common.{rules}
 use Rattle.key_encoding.proofs.to_encodings.Statement.{statement}
 use Rattle.key_encoding.proofs.to_encodings.Tie as tie
 
-returns : tie.Need-returns
+returns : tie.Need-returns-then-bias-eq0
 returns c =
     let start = c.before in
-    lane_sum-zero start.args.fields start.args.bias start.ranges.fields.fits c.if1.true
+    lane_sum-zero start.args.fields start.args.bias start.ranges.fields.fits c.if-bias-eq0.true
 
-lane-add-requires : tie.Need-lane-add-requires
+lane-add-requires : tie.Need-lane_add-requires
 lane-add-requires c κs = search rules
 
-returns-2 : tie.Need-returns-2
+returns-2 : tie.Need-returns
 returns-2 c = search rules
 
-pub to-encodings-spec : {M : Type 1} → statement M
-to-encodings-spec = tie.close (tie.spec returns lane-add-requires returns-2)
+pub to_encodings_spec : {M : Type 1} → statement M
+to_encodings_spec = tie.close (tie.spec returns lane-add-requires returns-2)

@@ -4,16 +4,16 @@ use Rattle.std.proofs.Common.{rules}
 use Rattle.key_encoding.proofs.to_fields.Statement.{statement}
 use Rattle.key_encoding.proofs.to_fields.Tie as tie
 
-returns : tie.Need-returns
+returns : tie.Need-returns-then-bias-eq0
 returns c =
     let start = c.before in
-    lane_difference-zero start.args.key start.args.bias start.ranges.key.fits c.if1.true
+    lane_difference-zero start.args.key start.args.bias start.ranges.key.fits c.if-bias-eq0.true
 
-lane-sub-requires : tie.Need-lane-sub-requires
+lane-sub-requires : tie.Need-lane_sub-requires
 lane-sub-requires c κs = search rules
 
-returns-2 : tie.Need-returns-2
+returns-2 : tie.Need-returns
 returns-2 c = search rules
 
-pub to-fields-spec : {M : Type 1} → statement M
-to-fields-spec = tie.close (tie.spec returns lane-sub-requires returns-2)
+pub to_fields_spec : {M : Type 1} → statement M
+to_fields_spec = tie.close (tie.spec returns lane-sub-requires returns-2)

@@ -6,25 +6,25 @@ use borrow.Author.Rules.{rules}
 use Rattle.key_order.proofs.bit_of_first.Statement.{statement}
 use Rattle.key_order.proofs.bit_of_first.Tie as tie
 
-top-bits-requires : tie.Need-top-bits-requires
+top-bits-requires : tie.Need-top_bits-a3-requires
 top-bits-requires c κs = (c.requires 3, omega arith)
 
-top-bits-requires-2 : tie.Need-top-bits-requires-2
+top-bits-requires-2 : tie.Need-top_bits-requires
 top-bits-requires-2 c κs = (c.before.requires 2, omega arith)
 
-choose-requires : tie.Need-choose-requires
+choose-requires : tie.Need-choose-b2-requires
 choose-requires c κs = search rules
 
-top-bits-requires-3 : tie.Need-top-bits-requires-3
+top-bits-requires-3 : tie.Need-top_bits-requires-2
 top-bits-requires-3 c κs = (c.before.before.before.requires 1, omega arith)
 
-choose-requires-2 : tie.Need-choose-requires-2
+choose-requires-2 : tie.Need-choose-b1-requires
 choose-requires-2 c κs = search rules
 
-top-bits-requires-4 : tie.Need-top-bits-requires-4
+top-bits-requires-4 : tie.Need-top_bits-requires-3
 top-bits-requires-4 c κs = (c.before.before.before.before.before.requires 0, omega arith)
 
-choose-requires-3 : tie.Need-choose-requires-3
+choose-requires-3 : tie.Need-choose-requires
 choose-requires-3 c κs = search rules
 
 returns : tie.Need-returns
@@ -33,11 +33,11 @@ returns c =
     let third = second.before.before in
     let a = third.before.before.before.args in
     bit_of_first-chosen (width_list a.widths) a.key a.bit a.d0 a.d1 a.d2 _ _ _ _ _ _ _
-    c.before.top-bits4.ensures second.before.top-bits3.ensures third.before.top-bits2.ensures
-    third.before.before.top-bits.ensures third.choose.ensures second.choose2.ensures c.choose3.ensures
+    c.before.top_bits-3.ensures second.before.top_bits-2.ensures third.before.top_bits.ensures
+    third.before.before.top_bits-a3.ensures third.choose-b2.ensures second.choose-b1.ensures c.choose.ensures
 
-pub bit-of-first-spec : {M : Type 1} → statement M
-bit-of-first-spec =
+pub bit_of_first_spec : {M : Type 1} → statement M
+bit_of_first_spec =
     tie.close
     (tie.spec
     top-bits-requires

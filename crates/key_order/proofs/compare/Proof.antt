@@ -9,19 +9,19 @@ use borrow.Author.Rules.{rules}
 use Rattle.key_order.proofs.compare.Statement.{statement}
 use Rattle.key_order.proofs.compare.Tie as tie
 
-top-bits-requires : tie.Need-top-bits-requires
+top-bits-requires : tie.Need-top_bits-d0-requires
 top-bits-requires c κs = (c.requires 0, omega arith)
 
-top-bits-requires-2 : tie.Need-top-bits-requires-2
+top-bits-requires-2 : tie.Need-top_bits-d1-requires
 top-bits-requires-2 c κs = (c.before.requires 1, omega arith)
 
-top-bits-requires-3 : tie.Need-top-bits-requires-3
+top-bits-requires-3 : tie.Need-top_bits-d2-requires
 top-bits-requires-3 c κs = (c.before.before.requires 2, omega arith)
 
-top-bits-requires-4 : tie.Need-top-bits-requires-4
+top-bits-requires-4 : tie.Need-top_bits-d3-requires
 top-bits-requires-4 c κs = (c.before.before.before.requires 3, omega arith)
 
-returns : tie.Need-returns
+returns : tie.Need-returns-then-all-eq0
 returns c =
     let four = c.before in
     let two = four.before.before in
@@ -30,16 +30,16 @@ returns c =
     let w = a.widths in
     sym
     (compared-zero w.w0 w.w1 w.w2 w.w3 start.requires a.x a.y _ _ _ _
-    two.before.top-bits.ensures two.top-bits2.ensures four.before.top-bits3.ensures
-    four.top-bits4.ensures c.if1.true)
+    two.before.top_bits-d0.ensures two.top_bits-d1.ensures four.before.top_bits-d2.ensures
+    four.top_bits-d3.ensures c.if-all-eq0.true)
 
-leading-one-requires : tie.Need-leading-one-requires
+leading-one-requires : tie.Need-leading_one-requires
 leading-one-requires c κs = search rules
 
-bit-of-first-requires : tie.Need-bit-of-first-requires
+bit-of-first-requires : tie.Need-bit_of_first-requires
 bit-of-first-requires c κs = search rules
 
-returns-2 : tie.Need-returns-2
+returns-2 : tie.Need-returns-then-bit_of_first-eq0
 returns-2 c =
     let one = c.before.before in
     let four = one.before.before in
@@ -49,11 +49,11 @@ returns-2 c =
     let w = a.widths in
     sym
     (compared-bit w.w0 w.w1 w.w2 w.w3 start.requires a.x a.y _ _ _ _
-    two.before.top-bits.ensures two.top-bits2.ensures four.before.top-bits3.ensures
-    four.top-bits4.ensures _ _ one.leading-one.ensures c.before.bit-of-first.ensures
-    ∙ ap (λ β. cond β Before After) (eq-eqb _ 0 c.if2.true))
+    two.before.top_bits-d0.ensures two.top_bits-d1.ensures four.before.top_bits-d2.ensures
+    four.top_bits-d3.ensures _ _ one.leading_one.ensures c.before.bit_of_first.ensures
+    ∙ ap (λ β. cond β Before After) (eq-eqb _ 0 c.if-bit_of_first-eq0.true))
 
-returns-3 : tie.Need-returns-3
+returns-3 : tie.Need-returns
 returns-3 c =
     let one = c.before.before in
     let four = one.before.before in
@@ -63,12 +63,12 @@ returns-3 c =
     let w = a.widths in
     sym
     (compared-bit w.w0 w.w1 w.w2 w.w3 start.requires a.x a.y _ _ _ _
-    two.before.top-bits.ensures two.top-bits2.ensures four.before.top-bits3.ensures
-    four.top-bits4.ensures _ _ one.leading-one.ensures c.before.bit-of-first.ensures
-    ∙ ap (λ β. cond β Before After) (ne_eqb _ 0 c.if2.false))
+    two.before.top_bits-d0.ensures two.top_bits-d1.ensures four.before.top_bits-d2.ensures
+    four.top_bits-d3.ensures _ _ one.leading_one.ensures c.before.bit_of_first.ensures
+    ∙ ap (λ β. cond β Before After) (ne_eqb _ 0 c.if-bit_of_first-eq0.false))
 
-pub compare-spec : {M : Type 1} → statement M
-compare-spec =
+pub compare_spec : {M : Type 1} → statement M
+compare_spec =
     tie.close
     (tie.spec
     top-bits-requires

@@ -9,16 +9,16 @@ use borrow.Author.Rules.{rules}
 use Rattle.key_order.proofs.first_bit.Statement.{statement}
 use Rattle.key_order.proofs.first_bit.Tie as tie
 
-top-bits-requires : tie.Need-top-bits-requires
+top-bits-requires : tie.Need-top_bits-top-requires
 top-bits-requires c κs = search rules
 
-cast-result : tie.Need-overflow-cast-result
+cast-result : tie.Need-overflow_cast-result
 cast-result c = record { fits = zeros-fit _ }
 
-mul-result : tie.Need-overflow-mul-result
+mul-result : tie.Need-overflow_mul-result
 mul-result c = record { fits = zeros-fit-four _ }
 
-add-result : tie.Need-overflow-add-result
+add-result : tie.Need-overflow_add-result
 add-result c = record { fits = zeros-fit-place _ _ c.before.requires.1 }
 
 returns : tie.Need-returns
@@ -26,9 +26,9 @@ returns c =
     let start = c.before in
     let a = start.args in
     let v = packed_value a.z a.j in
-    subst (λ top. FirstBit a.w v a.j (4 * count_leading_zeros 64 top + a.j)) (sym c.top-bits.ensures)
+    subst (λ top. FirstBit a.w v a.j (4 * count_leading_zeros 64 top + a.j)) (sym c.top_bits-top.ensures)
     (first_bit-zeros a.w v a.j start.requires.0 start.requires.1)
 
-pub first-bit-spec : {M : Type 1} → statement M
-first-bit-spec =
+pub first_bit_spec : {M : Type 1} → statement M
+first_bit_spec =
     tie.close (tie.spec top-bits-requires cast-result mul-result add-result returns)

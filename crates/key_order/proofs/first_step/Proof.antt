@@ -8,10 +8,10 @@ use borrow.Author.Rules.{rules}
 use Rattle.key_order.proofs.first_step.Statement.{statement}
 use Rattle.key_order.proofs.first_step.Tie as tie
 
-first-pair-requires : tie.Need-first-pair-requires
+first-pair-requires : tie.Need-first_pair-requires
 first-pair-requires c κs = search rules
 
-steps-before-requires : tie.Need-steps-before-requires
+steps-before-requires : tie.Need-steps_before-requires
 steps-before-requires c κs = search rules
 
 returns : tie.Need-returns
@@ -19,11 +19,11 @@ returns c =
     let start = c.before.before in
     let a = start.args in
     let w = a.widths in
-    let pair = c.before.first-pair in
-    sym c.steps-before.ensures.before
+    let pair = c.before.first_pair in
+    sym c.steps_before.ensures.before
     ∙ sym
     (first_step-pair (width_list w) start.requires (unpacked_key a.x) (unpacked_key a.y) pair.result pair.ensures
     (length-steps w.w0 w.w1 w.w2 w.w3 start.requires))
 
-pub first-step-spec : {M : Type 1} → statement M
-first-step-spec = tie.close (tie.spec first-pair-requires steps-before-requires returns)
+pub first_step_spec : {M : Type 1} → statement M
+first_step_spec = tie.close (tie.spec first-pair-requires steps-before-requires returns)

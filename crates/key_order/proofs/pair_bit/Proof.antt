@@ -12,22 +12,22 @@ use borrow.Author.Rules.{rules}
 use Rattle.key_order.proofs.pair_bit.Statement.{statement}
 use Rattle.key_order.proofs.pair_bit.Tie as tie
 
-mul_low : tie.Need-overflow-mul-low
+mul_low : tie.Need-overflow_mul-low
 mul_low c = search rules
 
-width-at-requires : tie.Need-width-at-requires
+width-at-requires : tie.Need-width_at-requires
 width-at-requires c κs = search rules
 
-add_low : tie.Need-overflow-add-low
+add_low : tie.Need-overflow_add-low
 add_low c = omega (arith, c.before.requires.0 (c.before.args.g % 4))
 
-sub_low : tie.Need-overflow-sub-low
+sub_low : tie.Need-overflow_sub-low
 sub_low c = search rules
 
-sub-low-2 : tie.Need-overflow-sub-low-2
+sub-low-2 : tie.Need-overflow_sub-low-2
 sub-low-2 c = search rules
 
-shr-result : tie.Need-overflow-shr-result
+shr-result : tie.Need-overflow_shr-result
 shr-result c = omega (arith, c.before.requires.0 (c.before.args.g % 4))
 
 returns : tie.Need-returns
@@ -35,9 +35,9 @@ returns c =
     let start = c.before in
     let g = start.args.g in
     let key = start.args.key in
-    ap (λ w. eqb (bit_and (key / 2 ^ (16 * (g % 4) + w - 1 - g / 4)) 1) 1) c.width-at.ensures
+    ap (λ w. eqb (bit_and (key / 2 ^ (16 * (g % 4) + w - 1 - g / 4)) 1) 1) c.width_at.ensures
     ∙ shifted-bit key (get_or (width_list start.args.widths) (g % 4) 0) g (start.requires.0 (g % 4)) start.requires.2
 
-pub pair-bit-spec : {M : Type 1} → statement M
-pair-bit-spec =
+pub pair_bit_spec : {M : Type 1} → statement M
+pair_bit_spec =
     tie.close (tie.spec mul_low width-at-requires add_low sub_low sub-low-2 shr-result returns)

@@ -5,39 +5,39 @@ use Rattle.key_values.proofs.ValueLaws.{values-none, values_listed}
 use Rattle.key_values.proofs.decode_key.Statement.{statement}
 use Rattle.key_values.proofs.decode_key.Tie as tie
 
-unpack-key-requires : tie.Need-unpack-key-requires
+unpack-key-requires : tie.Need-unpack_key-requires
 unpack-key-requires c κs = search rules
 
-returns : tie.Need-returns
+returns : tie.Need-returns-then-shape-eq0
 returns c =
     let start = c.before.before.before in
-    c.unpack-key.ensures ∙ values-none start.args.shape start.requires c.before.if1.true start.args.key
+    c.unpack_key.ensures ∙ values-none start.args.shape start.requires c.before.if-shape-eq0.true start.args.key
 
-bias-key-requires : tie.Need-bias-key-requires
+bias-key-requires : tie.Need-bias_key-bias-requires
 bias-key-requires c κs = search rules
 
-value-less-requires : tie.Need-value-less-requires
+value-less-requires : tie.Need-value_less-v0-requires
 value-less-requires c κs = search rules
 
-value-less-requires-2 : tie.Need-value-less-requires-2
+value-less-requires-2 : tie.Need-value_less-v1-requires
 value-less-requires-2 c κs = search rules
 
-value-less-requires-3 : tie.Need-value-less-requires-3
+value-less-requires-3 : tie.Need-value_less-v2-requires
 value-less-requires-3 c κs = search rules
 
-value-less-requires-4 : tie.Need-value-less-requires-4
+value-less-requires-4 : tie.Need-value_less-v3-requires
 value-less-requires-4 c κs = search rules
 
-returns-2 : tie.Need-returns-2
+returns-2 : tie.Need-returns
 returns-2 c =
     let first = c.before.before.before in
     let start = first.before.before.before.before in
-    values_listed start.args.shape start.requires start.args.key _ first.before.bias-key.ensures _ _ _ _
-    first.value-less.ensures c.before.before.value-less2.ensures c.before.value-less3.ensures
-    c.value-less4.ensures
+    values_listed start.args.shape start.requires start.args.key _ first.before.bias_key-bias.ensures _ _ _ _
+    first.value_less-v0.ensures c.before.before.value_less-v1.ensures c.before.value_less-v2.ensures
+    c.value_less-v3.ensures
 
-pub decode-key-spec : {M : Type 1} → statement M
-decode-key-spec =
+pub decode_key_spec : {M : Type 1} → statement M
+decode_key_spec =
     tie.close
     (tie.spec
     unpack-key-requires

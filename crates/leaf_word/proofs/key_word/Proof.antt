@@ -11,31 +11,31 @@ use Rattle.record.specs.Packed.{unpacked_key}
 use Rattle.leaf_word.proofs.key_word.Statement.{statement}
 use Rattle.leaf_word.proofs.key_word.Tie as tie
 
-below : (c : tie.After-find-cell) → c.find-cell.result < 2 ^ c.before.before.args.t
+below : (c : tie.After-find_cell-cell) → c.find_cell-cell.result < 2 ^ c.before.before.args.t
 below c =
     let s = c.before.before in
     let w = s.args.widths in
-    rw c.find-cell.ensures
+    rw c.find_cell-cell.ensures
     ((cell_laws w.w0 w.w1 w.w2 w.w3 s.requires.fit).address-lt s.args.t s.requires.deep
     (split_bit (width_list w) (unpacked_key s.args.key)))
 
-find-cell-requires : tie.Need-find-cell-requires
+find-cell-requires : tie.Need-find_cell-cell-requires
 find-cell-requires c κs = let s = c.before in (s.requires.fit, s.requires.deep)
 
-mul-word : tie.Need-overflow-mul-word
+mul-word : tie.Need-offset_bounds-dir-cell
 mul-word c = record { fits = omega (arith, below c, c.before.before.requires.lent) }
 
-shared-slice-read-word : tie.Need-shared-slice-read-word
+shared-slice-read-word : tie.Need-bounds-dir-cell
 shared-slice-read-word c = omega (arith, below c.before, c.before.before.before.requires.lent)
 
-depth-of-requires : tie.Need-depth-of-requires
+depth-of-requires : tie.Need-depth_of-requires
 depth-of-requires c κs = search rules
 
 returns : tie.Need-returns
 returns c =
     let a = c.before.before.before.before.args in
-    (ap (λ i. get_or a.dir.now i 0) c.before.before.find-cell.ensures, c.depth-of.ensures.0)
+    (ap (λ i. get_or a.dir.now i 0) c.before.before.find_cell-cell.ensures, c.depth_of.ensures.0)
 
-pub key-word-spec : {M : Type 1} → statement M
-key-word-spec =
+pub key_word_spec : {M : Type 1} → statement M
+key_word_spec =
     tie.close (tie.spec find-cell-requires mul-word shared-slice-read-word depth-of-requires returns)

@@ -11,39 +11,39 @@ use borrow.Author.Rules.{rules}
 use Rattle.leaf_word.proofs.own_count.Statement.{statement}
 use Rattle.leaf_word.proofs.own_count.Tie as tie
 
-widths-of-requires : tie.Need-widths-of-requires
+widths-of-requires : tie.Need-widths_of-requires
 widths-of-requires c κs = search rules
 
-fixed-bits-requires : tie.Need-fixed-bits-requires
+fixed-bits-requires : tie.Need-fixed_bits-mask-requires
 fixed-bits-requires c κs =
     let s = c.before.before in
-    fixed-bits-asks s.args.shape s.requires.shape s.args.depth s.requires.deep _ c.widths-of.ensures
+    fixed-bits-asks s.args.shape s.requires.shape s.args.depth s.requires.deep _ c.widths_of.ensures
 
-bias-key-requires : tie.Need-bias-key-requires
+bias-key-requires : tie.Need-bias_key-bias-requires
 bias-key-requires c κs = search rules
 
-cast-capacity : tie.Need-overflow-cast-capacity
+cast-capacity : tie.Need-overflow_cast-capacity
 cast-capacity c = search rules
 
-page-start-requires : tie.Need-page-start-requires
+page-start-requires : tie.Need-page_start-start-requires
 page-start-requires c κs = search rules
 
-page-size-requires : tie.Need-page-size-requires
+page-size-requires : tie.Need-page_size-requires
 page-size-requires c κs = search rules
 
-add-end : tie.Need-overflow-add-end
+add-end : tie.Need-overflow_add-end
 add-end c = search rules
 
-sub-fair-count : tie.Need-overflow-sub-fair-count
+sub-fair-count : tie.Need-slice_bounds-fair_count-count
 sub-fair-count c = search rules
 
-part-fair-count-start : tie.Need-slice-bounds-fair-count-start
+part-fair-count-start : tie.Need-slice_bounds-fair_count-start
 part-fair-count-start c = search rules
 
-part-fair-count-end : tie.Need-slice-bounds-fair-count-end
+part-fair-count-end : tie.Need-slice_bounds-fair_count-end
 part-fair-count-end c = search rules
 
-fair-count-requires : tie.Need-fair-count-requires
+fair-count-requires : tie.Need-fair_count-requires
 fair-count-requires c κs = search rules
 
 returns : tie.Need-returns
@@ -55,18 +55,18 @@ returns c =
     let a = s.args in
     let b = a.shape.capacity in
     let page = page_at b a.pages.now a.g in
-    c.fair-count.ensures
-    ∙ ap (λ part. fair_count b (ends_agree bias.bias-key.result mask.fixed-bits.result a.key part (count_of part)) part)
-    (mid_of-page b a.g _ _ a.pages.now size.before.page-start.ensures size.page-size.ensures)
-    ∙ ap (λ h. fair_count b (ends_agree h mask.fixed-bits.result a.key page (count_of page)) page)
-    bias.bias-key.ensures
+    c.fair_count.ensures
+    ∙ ap (λ part. fair_count b (ends_agree bias.bias_key-bias.result mask.fixed_bits-mask.result a.key part (count_of part)) part)
+    (mid_of-page b a.g _ _ a.pages.now size.before.page_start-start.ensures size.page_size.ensures)
+    ∙ ap (λ h. fair_count b (ends_agree h mask.fixed_bits-mask.result a.key page (count_of page)) page)
+    bias.bias_key-bias.ensures
     ∙ ap (λ own. fair_count b own page)
-    (ends_agree-mask a.shape s.requires.shape a.depth s.requires.deep _ mask.before.widths-of.ensures
+    (ends_agree-mask a.shape s.requires.shape a.depth s.requires.deep _ mask.before.widths_of.ensures
     (bias_key a.shape) _
-    mask.fixed-bits.ensures a.key s.requires.fits page (count_of page))
+    mask.fixed_bits-mask.ensures a.key s.requires.fits page (count_of page))
 
-pub own-count-spec : {M : Type 1} → statement M
-own-count-spec =
+pub own_count_spec : {M : Type 1} → statement M
+own_count_spec =
     tie.close
     (tie.spec
     widths-of-requires

@@ -10,39 +10,39 @@ use borrow.Author.Rules.{rules}
 use Rattle.leaf_word.proofs.page_holds.Statement.{statement}
 use Rattle.leaf_word.proofs.page_holds.Tie as tie
 
-widths-of-requires : tie.Need-widths-of-requires
+widths-of-requires : tie.Need-widths_of-requires
 widths-of-requires c κs = search rules
 
-fixed-bits-requires : tie.Need-fixed-bits-requires
+fixed-bits-requires : tie.Need-fixed_bits-mask-requires
 fixed-bits-requires c κs =
     let s = c.before.before in
-    fixed-bits-asks s.args.shape s.requires.shape s.args.depth s.requires.deep _ c.widths-of.ensures
+    fixed-bits-asks s.args.shape s.requires.shape s.args.depth s.requires.deep _ c.widths_of.ensures
 
-bias-key-requires : tie.Need-bias-key-requires
+bias-key-requires : tie.Need-bias_key-bias-requires
 bias-key-requires c κs = search rules
 
-cast-capacity : tie.Need-overflow-cast-capacity
+cast-capacity : tie.Need-overflow_cast-capacity
 cast-capacity c = search rules
 
-page-start-requires : tie.Need-page-start-requires
+page-start-requires : tie.Need-page_start-start-requires
 page-start-requires c κs = search rules
 
-page-size-requires : tie.Need-page-size-requires
+page-size-requires : tie.Need-page_size-requires
 page-size-requires c κs = search rules
 
-add-end : tie.Need-overflow-add-end
+add-end : tie.Need-overflow_add-end
 add-end c = search rules
 
-sub-ends-agree : tie.Need-overflow-sub-ends-agree
+sub-ends-agree : tie.Need-slice_bounds-ends_agree-count
 sub-ends-agree c = search rules
 
-part-ends-agree-start : tie.Need-slice-bounds-ends-agree-start
+part-ends-agree-start : tie.Need-slice_bounds-ends_agree-start
 part-ends-agree-start c = search rules
 
-part-ends-agree-end : tie.Need-slice-bounds-ends-agree-end
+part-ends-agree-end : tie.Need-slice_bounds-ends_agree-end
 part-ends-agree-end c = search rules
 
-ends-agree-requires : tie.Need-ends-agree-requires
+ends-agree-requires : tie.Need-ends_agree-requires
 ends-agree-requires c κs = search rules
 
 returns : tie.Need-returns
@@ -53,17 +53,17 @@ returns c =
     let s = mask.before.before.before in
     let a = s.args in
     let b = a.shape.capacity in
-    c.ends-agree.ensures
-    ∙ ap (λ page. ends_agree bias.bias-key.result mask.fixed-bits.result a.key page a.n)
-    (mid_of-page b a.g _ _ a.pages.now size.before.page-start.ensures size.page-size.ensures)
-    ∙ ap (λ h. ends_agree h mask.fixed-bits.result a.key (page_at b a.pages.now a.g) a.n)
-    bias.bias-key.ensures
-    ∙ ends_agree-mask a.shape s.requires.shape a.depth s.requires.deep _ mask.before.widths-of.ensures
+    c.ends_agree.ensures
+    ∙ ap (λ page. ends_agree bias.bias_key-bias.result mask.fixed_bits-mask.result a.key page a.n)
+    (mid_of-page b a.g _ _ a.pages.now size.before.page_start-start.ensures size.page_size.ensures)
+    ∙ ap (λ h. ends_agree h mask.fixed_bits-mask.result a.key (page_at b a.pages.now a.g) a.n)
+    bias.bias_key-bias.ensures
+    ∙ ends_agree-mask a.shape s.requires.shape a.depth s.requires.deep _ mask.before.widths_of.ensures
     (bias_key a.shape) _
-    mask.fixed-bits.ensures a.key s.requires.fits (page_at b a.pages.now a.g) a.n
+    mask.fixed_bits-mask.ensures a.key s.requires.fits (page_at b a.pages.now a.g) a.n
 
-pub page-holds-spec : {M : Type 1} → statement M
-page-holds-spec =
+pub page_holds_spec : {M : Type 1} → statement M
+page_holds_spec =
     tie.close
     (tie.spec
     widths-of-requires

@@ -9,44 +9,44 @@ use borrow.Author.Rules.{rules}
 use Rattle.leaf_word.proofs.word_holds.Statement.{statement}
 use Rattle.leaf_word.proofs.word_holds.Tie as tie
 
-depth-of-requires : tie.Need-depth-of-requires
+depth-of-requires : tie.Need-depth_of-depth-requires
 depth-of-requires c κs = search rules
 
-returns : tie.Need-returns
+returns : tie.Need-returns-then-state-depth
 returns c =
     let a = c.before.before.before.args in
-    word_holds-deep a.state a.word (rw c.before.before.depth-of.ensures.0 at c.if1.true)
+    word_holds-deep a.state a.word (rw c.before.before.depth_of-depth.ensures.0 at c.if-state-depth.true)
 
-cast-if2 : tie.Need-overflow-cast-if2
+cast-if2 : tie.Need-overflow_cast-depth
 cast-if2 c = search rules
 
-mul-if2 : tie.Need-overflow-mul-if2
+mul-if2 : tie.Need-offset_bounds-leaves-depth
 mul-if2 c = search rules
 
-array-read-if2 : tie.Need-array-read-if2
+array-read-if2 : tie.Need-bounds-leaves-depth
 array-read-if2 c = search rules
 
-returns-2 : tie.Need-returns-2
+returns-2 : tie.Need-returns-then-leaves-depth-eq0
 returns-2 c =
     let test = c.before.before.before in
-    let depth = test.before.before.depth-of.ensures.0 in
+    let depth = test.before.before.depth_of-depth.ensures.0 in
     let a = test.before.before.before.args in
-    word_holds-none a.state a.word (omega (arith, depth, test.if1.false)) (rw depth at c.if2.true)
+    word_holds-none a.state a.word (omega (arith, depth, test.if-state-depth.false)) (rw depth at c.if-leaves-depth-eq0.true)
 
-field-of-requires : tie.Need-field-of-requires
+field-of-requires : tie.Need-field_of-requires
 field-of-requires c κs = search rules
 
-returns-3 : tie.Need-returns-3
+returns-3 : tie.Need-returns
 returns-3 c =
     let test = c.before.before.before.before.before.before in
-    let depth = test.before.before.depth-of.ensures.0 in
+    let depth = test.before.before.depth_of-depth.ensures.0 in
     let a = test.before.before.before.args in
-    let deep : depth_field a.word ≤ a.state.deepest = omega (arith, depth, test.if1.false) in
+    let deep : depth_field a.word ≤ a.state.deepest = omega (arith, depth, test.if-state-depth.false) in
     ap (λ page. leb page a.state.limits.pages) c.before.field_of.ensures.0
-    ∙ word_holds-page a.state a.word deep (rw depth at c.before.before.before.if2.false)
+    ∙ word_holds-page a.state a.word deep (rw depth at c.before.before.before.if-leaves-depth-eq0.false)
 
-pub word-holds-spec : {M : Type 1} → statement M
-word-holds-spec =
+pub word_holds_spec : {M : Type 1} → statement M
+word_holds_spec =
     tie.close
     (tie.spec
     depth-of-requires

@@ -13,110 +13,110 @@ use Rattle.load.proofs.JoinedLaws.{joined-none, joined_key, joined-more}
 use Rattle.load.proofs.add_records.Statement.{statement}
 use Rattle.load.proofs.add_records.Tie as tie
 
-abbrev invariant-loop : tie.invariant-loop
+abbrev invariant-loop : tie.invariant-loop-i
 invariant-loop dir₀ pages₀ file n shape bias current₀ i₀ dir pages current i =
     (i ≤ n) × Joined (store current₀ dir₀ pages₀) i file (store current dir pages)
 
-abbrev decreases-loop : tie.decreases-loop
+abbrev decreases-loop : tie.decreases-loop-i
 decreases-loop dir₀ pages₀ file n shape bias current₀ i₀ dir pages current i = n - i
 
 -- where the function began, and the store as it came
-abbrev start : tie.After-bias-key invariant-loop decreases-loop → tie.Start invariant-loop decreases-loop
+abbrev start : tie.After-bias_key-bias invariant-loop decreases-loop → tie.Start invariant-loop decreases-loop
 start c = c.before.before.before.before.before
 
 abbrev given : tie.Start invariant-loop decreases-loop → Store
 given s = store s.args.state s.args.dir.now s.args.pages.now
 
-bias-key-requires : tie.Need-bias-key-requires invariant-loop decreases-loop
+bias-key-requires : tie.Need-bias_key-bias-requires invariant-loop decreases-loop
 bias-key-requires c κs =
     let s = c.before.before.before.before in
     shape_number-true s.args.state.shape s.requires.sound.shape
 
-loop-holds : tie.Need-loop-init invariant-loop decreases-loop
+loop-holds : tie.Need-loop-i-init invariant-loop decreases-loop
 loop-holds c =
     let s = start c in
     (omega arith, joined-none (given s) s.args.n s.args.file.now s.pre)
 
-encodings-at-requires : tie.Need-encodings-at-requires invariant-loop decreases-loop
+encodings-at-requires : tie.Need-encodings_at-requires invariant-loop decreases-loop
 encodings-at-requires c κs =
     let s = start c.before.before in
-    omega (arith, s.pre.lent, c.loop-test.true)
+    omega (arith, s.pre.lent, c.loop-i-test.true)
 
-decode-key-requires : tie.Need-decode-key-requires invariant-loop decreases-loop
+decode-key-requires : tie.Need-decode_key-key-requires invariant-loop decreases-loop
 decode-key-requires c κs =
     let s = start c.before.before.before in
     shape_number-true s.args.state.shape s.pre.sound.shape
 
-mul-read-content : tie.Need-overflow-mul-read-content invariant-loop decreases-loop
+mul-read-content : tie.Need-overflow_mul-i invariant-loop decreases-loop
 mul-read-content c =
     let test = c.before.before in
     let s = start test.before.before in
-    record { fits = omega (arith, s.pre.lent, test.loop-test.true) }
+    record { fits = omega (arith, s.pre.lent, test.loop-i-test.true) }
 
-read-content-requires : tie.Need-read-content-requires invariant-loop decreases-loop
+read-content-requires : tie.Need-read_content-content-requires invariant-loop decreases-loop
 read-content-requires c κs =
     let test = c.before.before in
     let s = start test.before.before in
-    omega (arith, s.pre.lent, test.loop-test.true)
+    omega (arith, s.pre.lent, test.loop-i-test.true)
 
 -- the values are those of record i
-values-as : (d : tie.After-decode-key invariant-loop decreases-loop)
+values-as : (d : tie.After-decode_key-key invariant-loop decreases-loop)
     → let s = start d.before.before.before.before in
-    d.decode-key.result.values
+    d.decode_key-key.result.values
     ≡ values_of s.args.state.shape
-    (encodings_at (bias_key s.args.state.shape) s.args.file.now d.before.before.before.loop.i)
+    (encodings_at (bias_key s.args.state.shape) s.args.file.now d.before.before.before.loop-i.i)
 values-as d =
     let b = d.before.before.before.before in
     let s = start b in
-    d.decode-key.ensures
+    d.decode_key-key.ensures
     ∙ ap (values_of s.args.state.shape)
-    (d.before.encodings-at.ensures
-    ∙ ap (λ k. encodings_at k s.args.file.now d.before.before.before.loop.i) b.bias-key.ensures)
+    (d.before.encodings_at.ensures
+    ∙ ap (λ k. encodings_at k s.args.file.now d.before.before.before.loop-i.i) b.bias_key-bias.ensures)
 
-add-requires : tie.Need-add-requires invariant-loop decreases-loop
+add-requires : tie.Need-add-step-requires invariant-loop decreases-loop
 add-requires c κs =
     let d = c.before.before.before in
-    joined_key _ _ _ _ _ (start d.before.before.before.before).pre d.before.before.before.loop.invariant.1
-    d.before.before.loop-test.true _ _ (values-as d) c.before.before.read-content.ensures
+    joined_key _ _ _ _ _ (start d.before.before.before.before).pre d.before.before.before.loop-i.invariant.1
+    d.before.before.loop-i-test.true _ _ (values-as d) c.before.before.read_content-content.ensures
 
-add-i : tie.Need-overflow-add-i invariant-loop decreases-loop
+add-i : tie.Need-overflow_add-i invariant-loop decreases-loop
 add-i c =
     let test = c.before.before.before.before.before.before.before.before.before.before.before in
-    record { fits = omega (arith, test.loop-test.true, (start test.before.before).fits.n.fits) }
+    record { fits = omega (arith, test.loop-i-test.true, (start test.before.before).fits.n.fits) }
 
-loop-less : tie.Need-loop-smaller invariant-loop decreases-loop
+loop-less : tie.Need-loop-i-smaller invariant-loop decreases-loop
 loop-less c =
     let test = c.before.before.before.before.before.before.before.before.before.before.before in
-    omega (arith, test.loop-test.true)
+    omega (arith, test.loop-i-test.true)
 
-loop-again : tie.Need-loop-preserved invariant-loop decreases-loop
+loop-again : tie.Need-loop-i-preserved invariant-loop decreases-loop
 loop-again c =
     let added = c.before.before.before.before.before in
     let read = added.before.before.before in
     let d = read.before in
     let test = d.before.before in (
-      omega (arith, test.loop-test.true),
-      joined-more _ _ _ _ _ (start test.before.before).pre test.before.loop.invariant.1
-          test.loop-test.true _ _ (values-as d) read.read-content.ensures _ _ added.add.ensures,
+      omega (arith, test.loop-i-test.true),
+      joined-more _ _ _ _ _ (start test.before.before).pre test.before.loop-i.invariant.1
+          test.loop-i-test.true _ _ (values-as d) read.read_content-content.ensures _ _ added.add-step.ensures,
     )
 
-same_length : tie.Need-same-length invariant-loop decreases-loop
-same_length c = c.before.loop.invariant.1.words-length
+same_length : tie.Need-shape_of-dir invariant-loop decreases-loop
+same_length c = c.before.loop-i.invariant.1.words-length
 
-same-length-2 : tie.Need-same-length-2 invariant-loop decreases-loop
-same-length-2 c = c.before.loop.invariant.1.bytes-length
+same-length-2 : tie.Need-shape_of-pages invariant-loop decreases-loop
+same-length-2 c = c.before.loop-i.invariant.1.bytes-length
 
 returns : tie.Need-returns invariant-loop decreases-loop
 returns c =
-    let loop = c.before.loop in
+    let loop = c.before.loop-i in
     let s = start c.before.before in
-    let all : loop.i ≡ s.args.n = omega (arith, loop.invariant.0, c.loop-test.false) in
+    let all : loop.i ≡ s.args.n = omega (arith, loop.invariant.0, c.loop-i-test.false) in
     subst
-    (λ (k : ℕ). Joined (given s) k s.args.file.now (store loop.current loop.dir loop.pages))
+    (λ (k : ℕ). Joined (given s) k s.args.file.now (store loop.current-1 loop.dir-1 loop.pages-1))
     all loop.invariant.1
 
-pub add-records-spec : {M : Type 1} → statement M
-add-records-spec =
+pub add_records_spec : {M : Type 1} → statement M
+add_records_spec =
     tie.close
     (tie.spec
     invariant-loop

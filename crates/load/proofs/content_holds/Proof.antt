@@ -12,39 +12,39 @@ use Rattle.load.proofs.NumberLaws.{set-read}
 use Rattle.load.proofs.content_holds.Statement.{statement}
 use Rattle.load.proofs.content_holds.Tie as tie
 
-is-plain-requires : tie.Need-is-plain-requires
+is-plain-requires : tie.Need-is_plain-requires
 is-plain-requires c κs = let s = c.before in (end-within s.args.file.now s.requires.0, s.requires.1)
 
-returns : tie.Need-returns
+returns : tie.Need-returns-then-not-is_plain
 returns c =
     let file = c.before.before.before.args.file.now in
-    let plain : is_plain file ≡ false = sym c.before.is-plain.ensures ∙ not-true _ c.if1.true in
+    let plain : is_plain file ≡ false = sym c.before.is_plain.ensures ∙ not-true _ c.if-not-is_plain.true-raw in
     sym (ap (λ b. b && is_set (file_shape file) (file_records file)) plain)
 
-shape-in-requires : tie.Need-shape-in-requires
+shape-in-requires : tie.Need-shape_in-requires
 shape-in-requires c κs = let s = c.before.before.before in end-within s.args.file.now s.requires.0
 
-record-count-requires : tie.Need-record-count-requires
+record-count-requires : tie.Need-record_count-requires
 record-count-requires c κs = search rules
 
-is-set-requires : tie.Need-is-set-requires
+is-set-requires : tie.Need-is_set-requires
 is-set-requires c κs =
     let shape = c.before in
     let good = shape.before.before.before.before.requires.1 in
-    (ap shape_number shape.shape-in.ensures ∙ good, omega (arith, c.record-count.ensures.1))
+    (ap shape_number shape.shape_in.ensures ∙ good, omega (arith, c.record_count.ensures.1))
 
-returns-2 : tie.Need-returns-2
+returns-2 : tie.Need-returns
 returns-2 c =
     let shape = c.before.before in
     let passed = shape.before in
     let file = passed.before.before.before.args.file.now in
-    let plain : is_plain file ≡ true = sym passed.before.is-plain.ensures ∙ not-false _ passed.if1.false in
+    let plain : is_plain file ≡ true = sym passed.before.is_plain.ensures ∙ not-false _ passed.if-not-is_plain.false-raw in
     c.is_set.ensures
-    ∙ set-read file _ shape.shape-in.ensures _ c.before.record-count.ensures.0
+    ∙ set-read file _ shape.shape_in.ensures _ c.before.record_count.ensures.0
     ∙ sym (ap (λ b. b && is_set (file_shape file) (file_records file)) plain)
 
-pub content-holds-spec : {M : Type 1} → statement M
-content-holds-spec =
+pub content_holds_spec : {M : Type 1} → statement M
+content_holds_spec =
     tie.close
     (tie.spec
     is-plain-requires

@@ -17,86 +17,86 @@ use Rattle.load.proofs.load.Statement.{statement}
 use Rattle.load.proofs.load.Tie as tie
 
 -- where the function began
-abbrev start : tie.After-load-number → tie.Start
+abbrev start : tie.After-load_number-number → tie.Start
 start c = c.before.before.before.before
 
-number : (c : tie.After-load-number)
-    → let a = (start c).args in c.load-number.result ≡ load_number a.file.now (memory a.dir.now a.pages.now)
+number : (c : tie.After-load_number-number)
+    → let a = (start c).args in c.load_number-number.result ≡ load_number a.file.now (memory a.dir.now a.pages.now)
 number c =
     let a = (start c).args in
-    c.load-number.ensures ∙ sym (load_number-by a.file.now (memory a.dir.now a.pages.now))
+    c.load_number-number.ensures ∙ sym (load_number-by a.file.now (memory a.dir.now a.pages.now))
 
 -- the number is not 12
-whole : (c : tie.Else1) → is_whole (start c.before).args.file.now ≡ true
+whole : (c : tie.Else-number-eq12) → is_whole (start c.before).args.file.now ≡ true
 whole c =
     whole-of-load_number_by (start c.before).args.file.now _ _
-    (λ e. c.if1.false (c.before.load-number.ensures ∙ e))
+    (λ e. c.if-number-eq12.false (c.before.load_number-number.ensures ∙ e))
 
 -- no condition holds
-none : (c : tie.Else2)
+none : (c : tie.Else-number-ne0)
     → let a = (start c.before.before).args in
     load_number a.file.now (memory a.dir.now a.pages.now) ≡ 0
-none c = sym (number c.before.before) ∙ c.if2.false
+none c = sym (number c.before.before) ∙ c.if-number-ne0.false
 
-load-number-requires : tie.Need-load-number-requires
+load-number-requires : tie.Need-load_number-number-requires
 load-number-requires c κs = search rules
 
 refuse-requires : tie.Need-refuse-requires
 refuse-requires c κs = search rules
 
-returns : tie.Need-returns
+returns : tie.Need-returns-then-number-eq12
 unfolding made_answer
 returns c =
     let n = c.before.before in
     let a = (start n).args in
     promise-refused a.file.now (memory a.dir.now a.pages.now) 12 _ _
-    (sym c.before.if1.true ∙ number n) (λ e. omega arith) c.refuse.ensures.0 c.refuse.ensures.1 refl
+    (sym c.before.if-number-eq12.true ∙ number n) (λ e. omega arith) c.refuse.ensures.0 c.refuse.ensures.1 refl
 
-shape-in-requires : tie.Need-shape-in-requires
+shape-in-requires : tie.Need-shape_in-requires
 shape-in-requires c κs = end-within (start c.before.before).args.file.now (whole c.before)
 
-refuse-made-requires : tie.Need-refuse-made-requires
+refuse-made-requires : tie.Need-refuse_made-requires
 refuse-made-requires c κs = search rules
 
-refuse-requires-2 : tie.Need-refuse-requires-2
+refuse-requires-2 : tie.Need-refuse-requires-then-number-ne0
 refuse-requires-2 c κs = search rules
 
-returns-2 : tie.Need-returns-2
+returns-2 : tie.Need-returns-then-number-ne0
 returns-2 c =
     let shape = c.before.before in
     let n = shape.before.before.before in
     let a = (start n).args in
-    promise-refused a.file.now (memory a.dir.now a.pages.now) _ _ _ (number n) shape.before.if2.true
-    (c.refuse2.ensures.0
-    ∙ c.before.refuse-made.ensures
-    ∙ ap (λ (s : Shape). refused_for s n.load-number.result) shape.shape-in.ensures)
-    c.refuse2.ensures.1 refl
+    promise-refused a.file.now (memory a.dir.now a.pages.now) _ _ _ (number n) shape.before.if-number-ne0.true
+    (c.refuse-then-number-ne0.ensures.0
+    ∙ c.before.refuse_made.ensures
+    ∙ ap (λ (s : Shape). refused_for s n.load_number-number.result) shape.shape_in.ensures)
+    c.refuse-then-number-ne0.ensures.1 refl
 
-shape-in-requires-2 : tie.Need-shape-in-requires-2
+shape-in-requires-2 : tie.Need-shape_in-requires-2
 shape-in-requires-2 c κs = end-within (start c.before.before).args.file.now (whole c.before)
 
-fresh-requires : tie.Need-fresh-requires
+fresh-requires : tie.Need-fresh-made-requires
 fresh-requires c κs = search rules
 
-record-count-requires : tie.Need-record-count-requires
+record-count-requires : tie.Need-record_count-n-requires
 record-count-requires c κs = whole c.before.before.before.before.before.before.before.before.before
 
-add-records-requires : tie.Need-add-records-requires
+add-records-requires : tie.Need-add_records-state-requires
 add-records-requires c κs =
-    let counted = c.before.before.record-count in
+    let counted = c.before.before.record_count-n in
     let made = c.before.before.before.before.before.before.before in
     let shape = made.before.before.before in
     let a = (start shape.before.before.before).args in
     joining-made a.file.now (memory a.dir.now a.pages.now) (none shape.before) _ counted.ensures.0 _
-    shape.shape-in2.ensures _ _ made.fresh.ensures counted.ensures.1
+    shape.shape_in-2.ensures _ _ made.fresh-made.ensures counted.ensures.1
 
-same_length : tie.Need-same-length
+same_length : tie.Need-shape_of-dir
 same_length c = search rules
 
-same-length-2 : tie.Need-same-length-2
+same-length-2 : tie.Need-shape_of-pages
 same-length-2 c = search rules
 
-returns-3 : tie.Need-returns-3
+returns-3 : tie.Need-returns
 unfolding made_answer
 returns-3 c =
     let added = c.before.before.before.before in
@@ -105,8 +105,8 @@ returns-3 c =
     let shape = made.before.before.before in
     let a = (start shape.before.before.before).args in
     promise-joined a.file.now (memory a.dir.now a.pages.now) (none shape.before) _
-    counted.record-count.ensures.0 _ shape.shape-in2.ensures _ _ made.fresh.ensures _
-    added.add-records.ensures
+    counted.record_count-n.ensures.0 _ shape.shape_in-2.ensures _ _ made.fresh-made.ensures _
+    added.add_records-state.ensures
 
 pub load_spec : {M : Type 1} → statement M
 load_spec =

@@ -8,40 +8,40 @@ use Rattle.moves.proofs.MoveLaws.{paste-copied}
 use Rattle.moves.proofs.copy.Statement.{statement}
 use Rattle.moves.proofs.copy.Tie as tie
 
-abbrev invariant-loop : tie.invariant-loop
+abbrev invariant-loop : tie.invariant-loop-k
 invariant-loop source from target₀ to n k₀ target k =
     (k ≤ n) × (length target ≡ length target₀) × (target ≡ paste target₀ to (drop from source) k)
 
-abbrev decreases-loop : tie.decreases-loop
+abbrev decreases-loop : tie.decreases-loop-k
 decreases-loop source from target₀ to n k₀ target k = n - k
 
-loop-holds : tie.Need-loop-init invariant-loop decreases-loop
+loop-holds : tie.Need-loop-k-init invariant-loop decreases-loop
 loop-holds c =
     let a = c.args in
     (omega arith, refl, paste-zero a.target.now a.to (drop a.from a.source.now))
 
-add-target : tie.Need-overflow-add-target invariant-loop decreases-loop
+add-target : tie.Need-overflow_add-target invariant-loop decreases-loop
 add-target c = omega arith
 
-shared-slice-read-target : tie.Need-shared-slice-read-target invariant-loop decreases-loop
+shared-slice-read-target : tie.Need-bounds-source-from invariant-loop decreases-loop
 shared-slice-read-target c = omega arith
 
-add-target-2 : tie.Need-overflow-add-target-2 invariant-loop decreases-loop
+add-target-2 : tie.Need-overflow_add-target-in-loop-k invariant-loop decreases-loop
 add-target-2 c = omega arith
 
-slice-write-target : tie.Need-slice-write-target invariant-loop decreases-loop
+slice-write-target : tie.Need-bounds-target-to invariant-loop decreases-loop
 slice-write-target c = omega arith
 
-add-k : tie.Need-overflow-add-k invariant-loop decreases-loop
+add-k : tie.Need-overflow_add-k invariant-loop decreases-loop
 add-k c = omega arith
 
-loop-less : tie.Need-loop-smaller invariant-loop decreases-loop
+loop-less : tie.Need-loop-k-smaller invariant-loop decreases-loop
 loop-less c = omega arith
 
-loop-again : tie.Need-loop-preserved invariant-loop decreases-loop
+loop-again : tie.Need-loop-k-preserved invariant-loop decreases-loop
 loop-again c =
     let a = c.before.before.before.args in
-    let now = c.before.before.loop in
+    let now = c.before.before.loop-k in
     let k = now.k in (
       omega arith,
       simp length-set now.invariant.1,
@@ -49,14 +49,14 @@ loop-again c =
           ∙ paste-copied a.target.now a.to a.source.now a.from k (omega arith) (omega arith),
     )
 
-same_length : tie.Need-same-length invariant-loop decreases-loop
-same_length c = c.before.loop.invariant.1
+same_length : tie.Need-shape_of-target invariant-loop decreases-loop
+same_length c = c.before.loop-k.invariant.1
 
 returns : tie.Need-returns invariant-loop decreases-loop
 returns c =
     let a = c.before.before.args in
-    let end : c.before.loop.k ≡ a.n = omega arith in
-    c.before.loop.invariant.2 ∙ ap (paste a.target.now a.to (drop a.from a.source.now)) end
+    let end : c.before.loop-k.k ≡ a.n = omega arith in
+    c.before.loop-k.invariant.2 ∙ ap (paste a.target.now a.to (drop a.from a.source.now)) end
 
 pub copy_spec : {M : Type 1} → statement M
 copy_spec =

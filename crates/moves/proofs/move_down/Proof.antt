@@ -8,41 +8,41 @@ use Rattle.moves.proofs.MoveLaws.{paste-moved-down}
 use Rattle.moves.proofs.move_down.Statement.{statement}
 use Rattle.moves.proofs.move_down.Tie as tie
 
-abbrev invariant-loop : tie.invariant-loop
+abbrev invariant-loop : tie.invariant-loop-k
 invariant-loop bytes₀ from to n k₀ bytes k =
     (k ≤ n) × (length bytes ≡ length bytes₀) × (bytes ≡ paste bytes₀ to (drop from bytes₀) k)
 
-abbrev decreases-loop : tie.decreases-loop
+abbrev decreases-loop : tie.decreases-loop-k
 decreases-loop bytes₀ from to n k₀ bytes k = n - k
 
-loop-holds : tie.Need-loop-init invariant-loop decreases-loop
+loop-holds : tie.Need-loop-k-init invariant-loop decreases-loop
 loop-holds c =
     let a = c.args in
     (omega arith, refl, paste-zero a.bytes.now a.to (drop a.from a.bytes.now))
 
-add-bytes : tie.Need-overflow-add-bytes invariant-loop decreases-loop
+add-bytes : tie.Need-overflow_add-bytes invariant-loop decreases-loop
 add-bytes c = omega arith
 
-slice-read-bytes : tie.Need-slice-read-bytes invariant-loop decreases-loop
+slice-read-bytes : tie.Need-bounds-bytes-from invariant-loop decreases-loop
 slice-read-bytes c = omega arith
 
-add-bytes-2 : tie.Need-overflow-add-bytes-2 invariant-loop decreases-loop
+add-bytes-2 : tie.Need-overflow_add-bytes-in-loop-k invariant-loop decreases-loop
 add-bytes-2 c = omega arith
 
-slice-write-bytes : tie.Need-slice-write-bytes invariant-loop decreases-loop
+slice-write-bytes : tie.Need-bounds-bytes-to invariant-loop decreases-loop
 slice-write-bytes c = omega arith
 
-add-k : tie.Need-overflow-add-k invariant-loop decreases-loop
+add-k : tie.Need-overflow_add-k invariant-loop decreases-loop
 add-k c = omega arith
 
-loop-less : tie.Need-loop-smaller invariant-loop decreases-loop
+loop-less : tie.Need-loop-k-smaller invariant-loop decreases-loop
 loop-less c = omega arith
 
-loop-again : tie.Need-loop-preserved invariant-loop decreases-loop
+loop-again : tie.Need-loop-k-preserved invariant-loop decreases-loop
 loop-again c =
     let start = c.before.before.before in
     let a = start.args in
-    let now = c.before.before.loop in
+    let now = c.before.before.loop-k in
     let k = now.k in (
       omega arith,
       simp length-set now.invariant.1,
@@ -51,14 +51,14 @@ loop-again c =
           start.requires.1,
     )
 
-same_length : tie.Need-same-length invariant-loop decreases-loop
-same_length c = c.before.loop.invariant.1
+same_length : tie.Need-shape_of-bytes invariant-loop decreases-loop
+same_length c = c.before.loop-k.invariant.1
 
 returns : tie.Need-returns invariant-loop decreases-loop
 returns c =
     let a = c.before.before.args in
-    let end : c.before.loop.k ≡ a.n = omega arith in
-    c.before.loop.invariant.2 ∙ ap (paste a.bytes.now a.to (drop a.from a.bytes.now)) end
+    let end : c.before.loop-k.k ≡ a.n = omega arith in
+    c.before.loop-k.invariant.2 ∙ ap (paste a.bytes.now a.to (drop a.from a.bytes.now)) end
 
 pub move_down_spec : {M : Type 1} → statement M
 move_down_spec =

@@ -9,42 +9,42 @@ use Rattle.moves.proofs.MoveLaws.{moved_from-none, paste-moved-up}
 use Rattle.moves.proofs.move_up.Statement.{statement}
 use Rattle.moves.proofs.move_up.Tie as tie
 
-abbrev invariant-loop : tie.invariant-loop
+abbrev invariant-loop : tie.invariant-loop-left
 invariant-loop bytes₀ from to n left₀ bytes left =
     (left ≤ n) × (length bytes ≡ length bytes₀) ×
     (bytes ≡ paste bytes₀ (to + left) (drop (from + left) bytes₀) (n - left))
 
-abbrev decreases-loop : tie.decreases-loop
+abbrev decreases-loop : tie.decreases-loop-left
 decreases-loop bytes₀ from to n left₀ bytes left = left
 
-loop-holds : tie.Need-loop-init invariant-loop decreases-loop
+loop-holds : tie.Need-loop-left-init invariant-loop decreases-loop
 loop-holds c =
     let a = c.args in
     (omega arith, refl, moved_from-none a.bytes.now a.from a.to a.n c.requires.0 c.requires.1)
 
-sub-left : tie.Need-overflow-sub-left invariant-loop decreases-loop
+sub-left : tie.Need-overflow_sub-left invariant-loop decreases-loop
 sub-left c = omega arith
 
-add-bytes : tie.Need-overflow-add-bytes invariant-loop decreases-loop
+add-bytes : tie.Need-overflow_add-bytes invariant-loop decreases-loop
 add-bytes c = omega arith
 
-slice-read-bytes : tie.Need-slice-read-bytes invariant-loop decreases-loop
+slice-read-bytes : tie.Need-bounds-bytes-from invariant-loop decreases-loop
 slice-read-bytes c = omega arith
 
-add-bytes-2 : tie.Need-overflow-add-bytes-2 invariant-loop decreases-loop
+add-bytes-2 : tie.Need-overflow_add-bytes-in-loop-left invariant-loop decreases-loop
 add-bytes-2 c = omega arith
 
-slice-write-bytes : tie.Need-slice-write-bytes invariant-loop decreases-loop
+slice-write-bytes : tie.Need-bounds-bytes-to invariant-loop decreases-loop
 slice-write-bytes c = omega arith
 
-loop-less : tie.Need-loop-smaller invariant-loop decreases-loop
+loop-less : tie.Need-loop-left-smaller invariant-loop decreases-loop
 loop-less c = omega arith
 
-loop-again : tie.Need-loop-preserved invariant-loop decreases-loop
+loop-again : tie.Need-loop-left-preserved invariant-loop decreases-loop
 loop-again c =
     let start = c.before.before.before in
     let a = start.args in
-    let now = c.before.before.loop in
+    let now = c.before.before.loop-left in
     let k = now.left in (
       omega arith,
       simp length-set now.invariant.1,
@@ -53,17 +53,17 @@ loop-again c =
           now.invariant.0,
     )
 
-same_length : tie.Need-same-length invariant-loop decreases-loop
-same_length c = c.before.loop.invariant.1
+same_length : tie.Need-shape_of-bytes invariant-loop decreases-loop
+same_length c = c.before.loop-left.invariant.1
 
 returns : tie.Need-returns invariant-loop decreases-loop
 returns c =
     let a = c.before.before.args in
-    let k = c.before.loop.left in
+    let k = c.before.loop-left.left in
     let at-to : a.to + k ≡ a.to = omega arith in
     let at_from : a.from + k ≡ a.from = omega arith in
     let all : a.n - k ≡ a.n = omega arith in
-    c.before.loop.invariant.2 ∙ rw (at-to, at_from, all)
+    c.before.loop-left.invariant.2 ∙ rw (at-to, at_from, all)
 
 pub move_up_spec : {M : Type 1} → statement M
 move_up_spec =

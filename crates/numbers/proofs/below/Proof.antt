@@ -5,11 +5,11 @@ use borrow.Author.Rules.{rules}
 use Rattle.numbers.proofs.below.Statement.{statement}
 use Rattle.numbers.proofs.below.Tie as tie
 
-shl-result : tie.Need-overflow-shl-result
+shl-result : tie.Need-overflow_shl-result
 shl-result c = search rules
 
 returns : tie.Need-returns
 returns c = rw (one_shifted c.args.w (omega (arith, c.requires)))
 
-pub below-spec : {M : Type 1} → statement M
-below-spec = tie.close (tie.spec shl-result returns)
+pub below_spec : {M : Type 1} → statement M
+below_spec = tie.close (tie.spec shl-result returns)

@@ -5,21 +5,21 @@ use borrow.Author.Rules.{rules}
 use Rattle.numbers.proofs.one_of.Statement.{statement}
 use Rattle.numbers.proofs.one_of.Tie as tie
 
-returns : tie.Need-returns
+returns : tie.Need-returns-then-j-eq0
 returns c = search rules
 
-returns-2 : tie.Need-returns-2
+returns-2 : tie.Need-returns-else-j-eq0
 returns-2 c =
-    let e : c.before.before.args.j ≡ 1 = omega (arith, c.before.if1.true, c.if2.false) in rw e
+    let e : c.before.before.args.j ≡ 1 = omega (arith, c.before.if-j-lt2.true, c.if-j-eq0.false) in rw e
 
-returns-3 : tie.Need-returns-3
+returns-3 : tie.Need-returns-then-j-eq2
 returns-3 c = search rules
 
-returns-4 : tie.Need-returns-4
+returns-4 : tie.Need-returns-else-j-eq2
 returns-4 c =
     let e : c.before.before.args.j ≡ 3 =
-    omega (arith, c.before.if1.false, c.if3.false, c.before.before.requires) in
+    omega (arith, c.before.if-j-lt2.false, c.if-j-eq2.false, c.before.before.requires) in
     rw e
 
-pub one-of-spec : {M : Type 1} → statement M
-one-of-spec = tie.close (tie.spec returns returns-2 returns-3 returns-4)
+pub one_of_spec : {M : Type 1} → statement M
+one_of_spec = tie.close (tie.spec returns returns-2 returns-3 returns-4)

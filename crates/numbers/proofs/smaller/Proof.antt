@@ -3,11 +3,11 @@ use native.Mathlib.Omega.{arith}
 use Rattle.numbers.proofs.smaller.Statement.{statement}
 use Rattle.numbers.proofs.smaller.Tie as tie
 
-returns : tie.Need-returns
-returns c = omega (arith, c.if1.true)
+returns : tie.Need-returns-then-a-b
+returns c = omega (arith, c.if-a-b.true)
 
-returns-2 : tie.Need-returns-2
-returns-2 c = omega (arith, c.if1.false)
+returns-2 : tie.Need-returns-else-a-b
+returns-2 c = omega (arith, c.if-a-b.false)
 
-pub smaller-spec : {M : Type 1} → statement M
-smaller-spec = tie.close (tie.spec returns returns-2)
+pub smaller_spec : {M : Type 1} → statement M
+smaller_spec = tie.close (tie.spec returns returns-2)

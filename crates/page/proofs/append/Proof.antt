@@ -4,31 +4,31 @@ use borrow.Author.Rules.{rules}
 use Rattle.page.proofs.append.Statement.{statement}
 use Rattle.page.proofs.append.Tie as tie
 
-mul-copy-records : tie.Need-overflow-mul-copy-records
+mul-copy-records : tie.Need-overflow_mul-n
 mul-copy-records c = search rules
 
-add-copy-records : tie.Need-overflow-add-copy-records
+add-copy-records : tie.Need-overflow_add-n
 add-copy-records c = search rules
 
-copy-records-requires : tie.Need-copy-records-requires
+copy-records-requires : tie.Need-copy_records-requires
 copy-records-requires c κs = search rules
 
-add-write16 : tie.Need-overflow-add-write16
+add-write16 : tie.Need-overflow_add-n-2
 add-write16 c = search rules
 
 write16-requires : tie.Need-write16-requires
 write16-requires c κs = search rules
 
-same_length : tie.Need-same-length
+same_length : tie.Need-shape_of-page
 same_length c = search rules
 
 returns : tie.Need-returns
 unfolding counted_page appended_page
 returns c =
-    rw (c.before.before.write16.ensures, c.before.before.before.before.before.before.copy-records.ensures)
+    rw (c.before.before.write16.ensures, c.before.before.before.before.before.before.copy_records.ensures)
 
-pub append-spec : {M : Type 1} → statement M
-append-spec =
+pub append_spec : {M : Type 1} → statement M
+append_spec =
     tie.close
     (tie.spec
     mul-copy-records

@@ -5,16 +5,16 @@ use borrow.Author.Rules.{rules}
 use Rattle.page.proofs.code_at.Statement.{statement}
 use Rattle.page.proofs.code_at.Tie as tie
 
-key-at-requires : tie.Need-key-at-requires
+key-at-requires : tie.Need-key_at-requires
 key-at-requires c κs = search rules
 
-to-encodings-requires : tie.Need-to-encodings-requires
+to-encodings-requires : tie.Need-to_encodings-requires
 to-encodings-requires c κs = search rules
 
 returns : tie.Need-returns
 returns c =
     let a = c.before.before.before.args in
-    c.to-encodings.ensures ∙ ap (λ k. lane_sum k a.bias) c.before.key-at.ensures
+    c.to_encodings.ensures ∙ ap (λ k. lane_sum k a.bias) c.before.key_at.ensures
 
-pub code-at-spec : {M : Type 1} → statement M
-code-at-spec = tie.close (tie.spec key-at-requires to-encodings-requires returns)
+pub code_at_spec : {M : Type 1} → statement M
+code_at_spec = tie.close (tie.spec key-at-requires to-encodings-requires returns)

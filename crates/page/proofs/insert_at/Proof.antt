@@ -4,34 +4,34 @@ use borrow.Author.Rules.{rules}
 use Rattle.page.proofs.insert_at.Statement.{statement}
 use Rattle.page.proofs.insert_at.Tie as tie
 
-mul-from : tie.Need-overflow-mul-from
+mul-from : tie.Need-overflow_mul-from
 mul-from c = search rules
 
-add-from : tie.Need-overflow-add-from
+add-from : tie.Need-overflow_add-from
 add-from c = search rules
 
-sub-run : tie.Need-overflow-sub-run
+sub-run : tie.Need-overflow_sub-run
 sub-run c = search rules
 
-mul-run : tie.Need-overflow-mul-run
+mul-run : tie.Need-overflow_mul-run
 mul-run c = search rules
 
-add-move-up : tie.Need-overflow-add-move-up
+add-move-up : tie.Need-overflow_add-from-2
 add-move-up c = search rules
 
-move-up-requires : tie.Need-move-up-requires
+move-up-requires : tie.Need-move_up-requires
 move-up-requires c κs = search rules
 
-write-record-requires : tie.Need-write-record-requires
+write-record-requires : tie.Need-write_record-requires
 write-record-requires c κs = search rules
 
-add-write16 : tie.Need-overflow-add-write16
+add-write16 : tie.Need-overflow_add-n
 add-write16 c = search rules
 
 write16-requires : tie.Need-write16-requires
 write16-requires c κs = search rules
 
-same_length : tie.Need-same-length
+same_length : tie.Need-shape_of-page
 same_length c = search rules
 
 returns : tie.Need-returns
@@ -40,12 +40,12 @@ returns c =
     let written = c.before.before.before.before.before.before in
     rw (
       c.before.before.write16.ensures,
-      written.write-record.ensures,
+      written.write_record.ensures,
       written.before.before.before.before.move_up.ensures,
     )
 
-pub insert-at-spec : {M : Type 1} → statement M
-insert-at-spec =
+pub insert_at_spec : {M : Type 1} → statement M
+insert_at_spec =
     tie.close
     (tie.spec
     mul-from

@@ -6,19 +6,19 @@ use borrow.Author.Rules.{rules}
 use Rattle.page.proofs.key_at.Statement.{statement}
 use Rattle.page.proofs.key_at.Tie as tie
 
-mul-read-key : tie.Need-overflow-mul-read-key
+mul-read-key : tie.Need-overflow_mul-i
 mul-read-key c = search rules
 
-add-read-key : tie.Need-overflow-add-read-key
+add-read-key : tie.Need-overflow_add-i
 add-read-key c = search rules
 
-read-key-requires : tie.Need-read-key-requires
+read-key-requires : tie.Need-read_key-requires
 read-key-requires c κs = search rules
 
 returns : tie.Need-returns
 returns c =
     let a = c.before.before.args in
-    c.read-key.ensures ∙ sym (key_in-field a.page.now (record_offset a.i))
+    c.read_key.ensures ∙ sym (key_in-field a.page.now (record_offset a.i))
 
-pub key-at-spec : {M : Type 1} → statement M
-key-at-spec = tie.close (tie.spec mul-read-key add-read-key read-key-requires returns)
+pub key_at_spec : {M : Type 1} → statement M
+key_at_spec = tie.close (tie.spec mul-read-key add-read-key read-key-requires returns)

@@ -6,34 +6,34 @@ use borrow.Author.Rules.{rules}
 use Rattle.page.proofs.remove_at.Statement.{statement}
 use Rattle.page.proofs.remove_at.Tie as tie
 
-mul-to : tie.Need-overflow-mul-to
+mul-to : tie.Need-overflow_mul-to
 mul-to c = search rules
 
-add-to : tie.Need-overflow-add-to
+add-to : tie.Need-overflow_add-to
 add-to c = search rules
 
-sub-run : tie.Need-overflow-sub-run
+sub-run : tie.Need-overflow_sub-run
 sub-run c = search rules
 
-sub-run-2 : tie.Need-overflow-sub-run-2
+sub-run-2 : tie.Need-overflow_sub-run-2
 sub-run-2 c = search rules
 
-mul-run : tie.Need-overflow-mul-run
+mul-run : tie.Need-overflow_mul-run
 mul-run c = search rules
 
-add-move-down : tie.Need-overflow-add-move-down
+add-move-down : tie.Need-overflow_add-to-2
 add-move-down c = search rules
 
-move-down-requires : tie.Need-move-down-requires
+move-down-requires : tie.Need-move_down-requires
 move-down-requires c κs = (omega arith, omega arith, inl (omega arith))
 
-sub-write16 : tie.Need-overflow-sub-write16
+sub-write16 : tie.Need-overflow_sub-n
 sub-write16 c = search rules
 
 write16-requires : tie.Need-write16-requires
 write16-requires c κs = search rules
 
-same_length : tie.Need-same-length
+same_length : tie.Need-shape_of-page
 same_length c = search rules
 
 returns : tie.Need-returns
@@ -41,8 +41,8 @@ unfolding counted_page removed_page
 returns c =
     rw (c.before.before.write16.ensures, c.before.before.before.before.before.before.move_down.ensures)
 
-pub remove-at-spec : {M : Type 1} → statement M
-remove-at-spec =
+pub remove_at_spec : {M : Type 1} → statement M
+remove_at_spec =
     tie.close
     (tie.spec
     mul-to

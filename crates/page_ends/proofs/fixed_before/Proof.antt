@@ -5,18 +5,18 @@ use borrow.Author.Rules.{rules}
 use Rattle.page_ends.proofs.fixed_before.Statement.{statement}
 use Rattle.page_ends.proofs.fixed_before.Tie as tie
 
-free-bits-requires : tie.Need-free-bits-requires
+free-bits-requires : tie.Need-free_bits-requires
 free-bits-requires c κs = search rules
 
-shl-result : tie.Need-overflow-shl-result
+shl-result : tie.Need-overflow_shl-result
 shl-result c = search rules
 
-sub-result : tie.Need-overflow-sub-result
+sub-result : tie.Need-overflow_sub-result
 sub-result c = shifted-one-le _ (omega arith)
 
 returns : tie.Need-returns
 returns c =
-    fixed-value c.before.args.w _ c.free-bits.result c.free-bits.ensures.1 c.free-bits.ensures.0
+    fixed-value c.before.args.w _ c.free_bits.result c.free_bits.ensures.1 c.free_bits.ensures.0
 
-pub fixed-before-spec : {M : Type 1} → statement M
-fixed-before-spec = tie.close (tie.spec free-bits-requires shl-result sub-result returns)
+pub fixed_before_spec : {M : Type 1} → statement M
+fixed_before_spec = tie.close (tie.spec free-bits-requires shl-result sub-result returns)

@@ -8,43 +8,43 @@ use borrow.Author.Rules.{rules}
 use Rattle.page_ends.proofs.fixed_bits.Statement.{statement}
 use Rattle.page_ends.proofs.fixed_bits.Tie as tie
 
-early-place-requires : tie.Need-early-place-requires
+early-place-requires : tie.Need-early_place-near-requires
 early-place-requires c κs = search rules
 
-free-before-requires : tie.Need-free-before-requires
+free-before-requires : tie.Need-free_before-requires
 free-before-requires c κs = search rules
 
-fixed-bits-before-requires : tie.Need-fixed-bits-before-requires
+fixed-bits-before-requires : tie.Need-fixed_bits_before-requires
 fixed-bits-before-requires c κs = search rules
 
-add-if1 : tie.Need-overflow-add-if1
+add-if1 : tie.Need-overflow_add-free_before
 add-if1 c =
     let fit = c.before.before.requires.0 in
     omega (arith, fit 0, fit 1, fit 2, fit 3)
 
-total-of-requires : tie.Need-total-of-requires
+total-of-requires : tie.Need-total_of-requires
 total-of-requires c κs = search rules
 
-returns : tie.Need-returns
+returns : tie.Need-returns-then-free_before-x
 returns c =
     let widths = c.before.before.before.before.before.args.widths in
-    let e = steps-rest _ _ _ _ c.before.before.before.free-before.ensures.0 c.before.if1.true
+    let e = steps-rest _ _ _ _ c.before.before.before.free_before.ensures.0 c.before.if-free_before-x.true
     c.before.before.total_of.ensures.0 in
-    c.fixed-bits-before.ensures ∙ ap (fixed_bits (width_list widths)) e
+    c.fixed_bits_before.ensures ∙ ap (fixed_bits (width_list widths)) e
 
-place-of-requires : tie.Need-place-of-requires
+place-of-requires : tie.Need-place_of-requires
 place-of-requires c κs = search rules
 
-fixed-bits-before-requires-2 : tie.Need-fixed-bits-before-requires-2
+fixed-bits-before-requires-2 : tie.Need-fixed_bits_before-requires-2
 fixed-bits-before-requires-2 c κs = search rules
 
-returns-2 : tie.Need-returns-2
+returns-2 : tie.Need-returns
 returns-2 c =
     let widths = c.before.before.before.before.before.before.args.widths in
-    c.fixed-bits-before2.ensures ∙ ap (fixed_bits (width_list widths)) c.before.place_of.ensures.before
+    c.fixed_bits_before-2.ensures ∙ ap (fixed_bits (width_list widths)) c.before.place_of.ensures.before
 
-pub fixed-bits-spec : {M : Type 1} → statement M
-fixed-bits-spec =
+pub fixed_bits_spec : {M : Type 1} → statement M
+fixed_bits_spec =
     tie.close
     (tie.spec
     early-place-requires

@@ -5,25 +5,25 @@ use borrow.Author.Rules.{rules}
 use Rattle.page_ends.proofs.fixed_bits_before.Statement.{statement}
 use Rattle.page_ends.proofs.fixed_bits_before.Tie as tie
 
-fixed-before-requires : tie.Need-fixed-before-requires
+fixed-before-requires : tie.Need-fixed_before-m0-requires
 fixed-before-requires c κs = (c.requires.0 0, c.requires.1, omega arith)
 
-fixed-before-requires-2 : tie.Need-fixed-before-requires-2
+fixed-before-requires-2 : tie.Need-fixed_before-m1-requires
 fixed-before-requires-2 c κs = let s = c.before in (s.requires.0 1, s.requires.1, omega arith)
 
-fixed-before-requires-3 : tie.Need-fixed-before-requires-3
+fixed-before-requires-3 : tie.Need-fixed_before-m2-requires
 fixed-before-requires-3 c κs = let s = c.before.before in (s.requires.0 2, s.requires.1, omega arith)
 
-fixed-before-requires-4 : tie.Need-fixed-before-requires-4
+fixed-before-requires-4 : tie.Need-fixed_before-m3-requires
 fixed-before-requires-4 c κs = let s = c.before.before.before in (s.requires.0 3, s.requires.1, omega arith)
 
-add-result : tie.Need-overflow-add-result
+add-result : tie.Need-overflow_add-result
 add-result c = search rules
 
-add-result-2 : tie.Need-overflow-add-result-2
+add-result-2 : tie.Need-overflow_add-result-2
 add-result-2 c = search rules
 
-add-result-3 : tie.Need-overflow-add-result-3
+add-result-3 : tie.Need-overflow_add-result-3
 add-result-3 c = search rules
 
 returns : tie.Need-returns
@@ -34,10 +34,10 @@ returns c =
     let s = m0.before in
     let w = s.args.widths in
     fixed_bits-values w.w0 w.w1 w.w2 w.w3 s.args.g _ _ _ _ s.requires.1
-    m0.fixed-before.ensures m1.fixed-before2.ensures m2.fixed-before3.ensures c.fixed-before4.ensures
+    m0.fixed_before-m0.ensures m1.fixed_before-m1.ensures m2.fixed_before-m2.ensures c.fixed_before-m3.ensures
 
-pub fixed-bits-before-spec : {M : Type 1} → statement M
-fixed-bits-before-spec =
+pub fixed_bits_before_spec : {M : Type 1} → statement M
+fixed_bits_before_spec =
     tie.close
     (tie.spec
     fixed-before-requires

@@ -5,25 +5,25 @@ use borrow.Author.Rules.{rules}
 use Rattle.page_ends.proofs.free_before.Statement.{statement}
 use Rattle.page_ends.proofs.free_before.Tie as tie
 
-free-bits-requires : tie.Need-free-bits-requires
+free-bits-requires : tie.Need-free_bits-f0-requires
 free-bits-requires c κs = (c.requires.0 0, c.requires.1, omega arith)
 
-free-bits-requires-2 : tie.Need-free-bits-requires-2
+free-bits-requires-2 : tie.Need-free_bits-f1-requires
 free-bits-requires-2 c κs = let s = c.before in (s.requires.0 1, s.requires.1, omega arith)
 
-free-bits-requires-3 : tie.Need-free-bits-requires-3
+free-bits-requires-3 : tie.Need-free_bits-f2-requires
 free-bits-requires-3 c κs = let s = c.before.before in (s.requires.0 2, s.requires.1, omega arith)
 
-free-bits-requires-4 : tie.Need-free-bits-requires-4
+free-bits-requires-4 : tie.Need-free_bits-f3-requires
 free-bits-requires-4 c κs = let s = c.before.before.before in (s.requires.0 3, s.requires.1, omega arith)
 
-add-result : tie.Need-overflow-add-result
+add-result : tie.Need-overflow_add-result
 add-result c = search rules
 
-add-result-2 : tie.Need-overflow-add-result-2
+add-result-2 : tie.Need-overflow_add-result-2
 add-result-2 c = search rules
 
-add-result-3 : tie.Need-overflow-add-result-3
+add-result-3 : tie.Need-overflow_add-result-3
 add-result-3 c = search rules
 
 returns : tie.Need-returns
@@ -33,14 +33,14 @@ returns c =
     let f0 = f1.before in
     let s = f0.before in
     let w = s.args.widths in (
-      free_all w.w0 w.w1 w.w2 w.w3 s.args.g _ _ _ _ s.requires.1 f0.free-bits.ensures.0
-          f1.free-bits2.ensures.0 f2.free-bits3.ensures.0 c.free-bits4.ensures.0,
-      free-le _ _ _ _ f0.free-bits.ensures.1 f1.free-bits2.ensures.1 f2.free-bits3.ensures.1
-          c.free-bits4.ensures.1,
+      free_all w.w0 w.w1 w.w2 w.w3 s.args.g _ _ _ _ s.requires.1 f0.free_bits-f0.ensures.0
+          f1.free_bits-f1.ensures.0 f2.free_bits-f2.ensures.0 c.free_bits-f3.ensures.0,
+      free-le _ _ _ _ f0.free_bits-f0.ensures.1 f1.free_bits-f1.ensures.1 f2.free_bits-f2.ensures.1
+          c.free_bits-f3.ensures.1,
     )
 
-pub free-before-spec : {M : Type 1} → statement M
-free-before-spec =
+pub free_before_spec : {M : Type 1} → statement M
+free_before_spec =
     tie.close
     (tie.spec
     free-bits-requires

@@ -8,35 +8,35 @@ use borrow.Author.Rules.{rules}
 use Rattle.page_matches.proofs.bits_at.Statement.{statement}
 use Rattle.page_matches.proofs.bits_at.Tie as tie
 
-mul-attribute : tie.Need-overflow-mul-attribute
+mul-attribute : tie.Need-offset_bounds-query-j
 mul-attribute c = search rules
 
-element-copy-out-attribute : tie.Need-element-copy-out-attribute
+element-copy-out-attribute : tie.Need-bounds-query-j
 element-copy-out-attribute c = search rules
 
-enum_told : tie.Need-enum-told
+enum_told : tie.Need-enum_told-1
 enum_told c = search rules
 
-enum-known-wanted : tie.Need-enum-known-wanted
+enum-known-wanted : tie.Need-enum_known-wanted
 enum-known-wanted c = search rules
 
-returns : tie.Need-returns
+returns : tie.Need-returns-in-Free
 returns c =
     let s = c.before.before.before in
     sym
     (ap wanted_field (get_d-wanted_values s.args.t1 s.args.j s.requires)
-    ∙ ap (λ w. wanted_field (wanted_value w)) c.enum_told.given.1)
+    ∙ ap (λ w. wanted_field (wanted_value w)) c.enum_told-1.given.1)
 
-returns-2 : tie.Need-returns-2
+returns-2 : tie.Need-returns-in-Given
 returns-2 c =
     let s = c.before.before.before.before in
-    and_mask c.before.wanted.given.0.0 16
+    and_mask c.before.wanted-1.given.0.0 16
     ∙ sym
     (ap wanted_field (get_d-wanted_values s.args.t1 s.args.j s.requires)
-    ∙ ap (λ w. wanted_field (wanted_value w)) c.before.wanted.given.1)
+    ∙ ap (λ w. wanted_field (wanted_value w)) c.before.wanted-1.given.1)
 
-pub bits-at-spec : {M : Type 1} → statement M
-bits-at-spec =
+pub bits_at_spec : {M : Type 1} → statement M
+bits_at_spec =
     tie.close
     (tie.spec
     mul-attribute

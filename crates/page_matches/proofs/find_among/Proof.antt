@@ -8,53 +8,53 @@ use Rattle.page_matches.proofs.PlaceLaws.{key_place-below-same, key_place-below-
 use Rattle.page_matches.proofs.find_among.Statement.{statement}
 use Rattle.page_matches.proofs.find_among.Tie as tie
 
-abbrev invariant-loop : tie.invariant-loop
+abbrev invariant-loop : tie.invariant-loop-i
 invariant-loop page k key place₀ i₀ place i = (i ≤ k) × (place ≡ key_place key page (k - i) i)
 
-abbrev decreases-loop : tie.decreases-loop
+abbrev decreases-loop : tie.decreases-loop-i
 decreases-loop page k key place₀ i₀ place i = i
 
-loop-holds : tie.Need-loop-init invariant-loop decreases-loop
+loop-holds : tie.Need-loop-i-init invariant-loop decreases-loop
 unfolding key_place
 loop-holds c =
     let a = c.before.args in
     let none : a.k - a.k ≡ 0 = omega arith in
     (omega arith, sym (ap (λ m. key_place a.key a.page.now m a.k) none))
 
-sub-i : tie.Need-overflow-sub-i invariant-loop decreases-loop
+sub-i : tie.Need-overflow_sub-i invariant-loop decreases-loop
 sub-i c = omega arith
 
-key-at-requires : tie.Need-key-at-requires invariant-loop decreases-loop
+key-at-requires : tie.Need-key_at-requires invariant-loop decreases-loop
 key-at-requires c κs = omega arith
 
-loop-less : tie.Need-loop-smaller invariant-loop decreases-loop
+loop-less : tie.Need-loop-i-smaller-then-key_at-key invariant-loop decreases-loop
 loop-less c = omega arith
 
-loop-again : tie.Need-loop-preserved invariant-loop decreases-loop
+loop-again : tie.Need-loop-i-preserved-then-key_at-key invariant-loop decreases-loop
 loop-again c =
-    let loop = c.before.before.before.loop in
+    let loop = c.before.before.before.loop-i in
     let a = c.before.before.before.before.before.args in (
       omega arith,
-      key_place-below-same a.key a.page.now a.k loop.i _ c.before.before.loop-test.true
-          loop.invariant.0 c.before.key-at.ensures c.if1.true,
+      key_place-below-same a.key a.page.now a.k loop.i _ c.before.before.loop-i-test.true
+          loop.invariant.0 c.before.key_at.ensures c.if-key_at-key.true,
     )
 
-loop-less-2 : tie.Need-loop-smaller-2 invariant-loop decreases-loop
+loop-less-2 : tie.Need-loop-i-smaller invariant-loop decreases-loop
 loop-less-2 c = omega arith
 
-loop-again-2 : tie.Need-loop-preserved-2 invariant-loop decreases-loop
+loop-again-2 : tie.Need-loop-i-preserved invariant-loop decreases-loop
 loop-again-2 c =
-    let loop = c.before.before.before.loop in
+    let loop = c.before.before.before.loop-i in
     let a = c.before.before.before.before.before.args in (
       omega arith,
       loop.invariant.1
-          ∙ key_place-below-other a.key a.page.now a.k loop.i _ c.before.before.loop-test.true
-          loop.invariant.0 c.before.key-at.ensures c.if1.false,
+          ∙ key_place-below-other a.key a.page.now a.k loop.i _ c.before.before.loop-i-test.true
+          loop.invariant.0 c.before.key_at.ensures c.if-key_at-key.false,
     )
 
 returns : tie.Need-returns invariant-loop decreases-loop
 returns c =
-    let loop = c.before.loop in
+    let loop = c.before.loop-i in
     let a = c.before.before.before.args in
     let end : loop.i ≡ 0 = omega arith in
     let all : a.k - 0 ≡ a.k = omega arith in
@@ -62,8 +62,8 @@ returns c =
     ∙ (λ j. key_place a.key a.page.now (a.k - end j) (end j))
     ∙ ap (λ k. key_place a.key a.page.now k 0) all
 
-pub find-among-spec : {M : Type 1} → statement M
-find-among-spec =
+pub find_among_spec : {M : Type 1} → statement M
+find_among_spec =
     tie.close
     (tie.spec
     invariant-loop

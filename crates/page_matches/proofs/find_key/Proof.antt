@@ -11,19 +11,19 @@ use borrow.Author.Rules.{rules}
 use Rattle.page_matches.proofs.find_key.Statement.{statement}
 use Rattle.page_matches.proofs.find_key.Tie as tie
 
-find-among-requires : tie.Need-find-among-requires
+find-among-requires : tie.Need-find_among-place-requires
 find-among-requires c κs = search rules
 
-sub-find-among : tie.Need-overflow-sub-find-among
+sub-find-among : tie.Need-overflow_sub-page
 sub-find-among c = search rules
 
-find-among-requires-2 : tie.Need-find-among-requires-2
+find-among-requires-2 : tie.Need-find_among-place-requires-else-page-eq-SIXTEEN_RECORDS
 find-among-requires-2 c κs = search rules
 
 -- of 16 records, or of those that the page has room for
-cut : (c : tie.Joined1)
+cut : (c : tie.Joined-page-eq-SIXTEEN_RECORDS)
     → let a = c.before.before.args in
-    key_place a.key a.page.now a.n 0 ≡ min c.if1.place a.n
+    key_place a.key a.page.now a.n 0 ≡ min c.if-page-eq-SIXTEEN_RECORDS.place a.n
 cut c =
     let s = c.before.before in
     let a = s.args in
@@ -32,14 +32,14 @@ cut c =
     ⊎_elim
     (λ w. key_place-cut a.key page a.n 16 _ (omega (arith, w.0.taken)) (w.2 ∙ w.1.ensures))
     (λ w. key_place-cut a.key page a.n slots _ (omega arith) (w.2 ∙ w.1.ensures))
-    c.if1.branch
+    c.if-page-eq-SIXTEEN_RECORDS.branch
 
-returns : tie.Need-returns
+returns : tie.Need-returns-then-place-n
 returns c = omega (arith, cut c.before)
 
-returns-2 : tie.Need-returns-2
+returns-2 : tie.Need-returns-else-place-n
 returns-2 c = omega (arith, cut c.before)
 
-pub find-key-spec : {M : Type 1} → statement M
-find-key-spec =
+pub find_key_spec : {M : Type 1} → statement M
+find_key_spec =
     tie.close (tie.spec find-among-requires sub-find-among find-among-requires-2 returns returns-2)

@@ -7,5 +7,5 @@ use Rattle.page_matches.proofs.gives_nothing.Tie as tie
 returns : tie.Need-returns
 returns c = gives_nothing-or c.before.args.pattern
 
-pub gives-nothing-spec : {M : Type 1} → statement M
-gives-nothing-spec = tie.close (tie.spec returns)
+pub gives_nothing_spec : {M : Type 1} → statement M
+gives_nothing_spec = tie.close (tie.spec returns)

@@ -10,51 +10,51 @@ use Rattle.page_matches.proofs.MaskLaws.{match_mask-below}
 use Rattle.page_matches.proofs.lie_among.Statement.{statement}
 use Rattle.page_matches.proofs.lie_among.Tie as tie
 
-abbrev invariant-loop : tie.invariant-loop
+abbrev invariant-loop : tie.invariant-loop-i
 invariant-loop page k bias low high mask₀ i₀ mask i = (i ≤ k) × (mask ≡ match_mask (lies_in bias low high) page (k - i) i % 2 ^ 64)
 
-abbrev decreases-loop : tie.decreases-loop
+abbrev decreases-loop : tie.decreases-loop-i
 decreases-loop page k bias low high mask₀ i₀ mask i = i
 
-loop-holds : tie.Need-loop-init invariant-loop decreases-loop
+loop-holds : tie.Need-loop-i-init invariant-loop decreases-loop
 unfolding match_mask
 loop-holds c =
     let a = c.before.args in
     let none : a.k - a.k ≡ 0 = omega arith in
     (omega arith, sym (ap (λ m. match_mask (lies_in a.bias a.low a.high) a.page.now m a.k % 2 ^ 64) none))
 
-sub-i : tie.Need-overflow-sub-i invariant-loop decreases-loop
+sub-i : tie.Need-overflow_sub-i invariant-loop decreases-loop
 sub-i c = omega arith
 
-code-at-requires : tie.Need-code-at-requires invariant-loop decreases-loop
+code-at-requires : tie.Need-code_at-requires invariant-loop decreases-loop
 code-at-requires c κs = omega arith
 
-lies-between-requires : tie.Need-lies-between-requires invariant-loop decreases-loop
+lies-between-requires : tie.Need-lies_between-between-requires invariant-loop decreases-loop
 lies-between-requires c κs = tt
 
-cast-mask : tie.Need-overflow-cast-mask invariant-loop decreases-loop
+cast-mask : tie.Need-overflow_cast-mask invariant-loop decreases-loop
 cast-mask c = tt
 
-loop-less : tie.Need-loop-smaller invariant-loop decreases-loop
+loop-less : tie.Need-loop-i-smaller invariant-loop decreases-loop
 loop-less c = omega arith
 
-loop-again : tie.Need-loop-preserved invariant-loop decreases-loop
+loop-again : tie.Need-loop-i-preserved invariant-loop decreases-loop
 unfolding lies_in
 loop-again c =
-    let loop = c.before.before.before.loop in
+    let loop = c.before.before.before.loop-i in
     let a = c.before.before.before.before.before.args in
     let bias = a.bias in
     let low = a.low in
     let high = a.high in (
       omega arith,
       match_mask-below (lies_in bias low high) a.page.now a.k loop.i loop.mask _
-          c.before.before.loop-test.true loop.invariant.0 loop.invariant.1
-          (c.lies-between.ensures ∙ ap (lies_between low high) c.before.code_at.ensures),
+          c.before.before.loop-i-test.true loop.invariant.0 loop.invariant.1
+          (c.lies_between-between.ensures ∙ ap (lies_between low high) c.before.code_at.ensures),
     )
 
 returns : tie.Need-returns invariant-loop decreases-loop
 returns c =
-    let loop = c.before.loop in
+    let loop = c.before.loop-i in
     let a = c.before.before.before.args in
     let end : loop.i ≡ 0 = omega arith in
     let all : a.k - 0 ≡ a.k = omega arith in
@@ -62,8 +62,8 @@ returns c =
     ∙ (λ j. match_mask (lies_in a.bias a.low a.high) a.page.now (a.k - end j) (end j) % 2 ^ 64)
     ∙ ap (λ k. match_mask (lies_in a.bias a.low a.high) a.page.now k 0 % 2 ^ 64) all
 
-pub lie-among-spec : {M : Type 1} → statement M
-lie-among-spec =
+pub lie_among_spec : {M : Type 1} → statement M
+lie_among_spec =
     tie.close
     (tie.spec
     invariant-loop

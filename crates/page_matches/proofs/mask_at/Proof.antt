@@ -7,33 +7,33 @@ use borrow.Author.Rules.{rules}
 use Rattle.page_matches.proofs.mask_at.Statement.{statement}
 use Rattle.page_matches.proofs.mask_at.Tie as tie
 
-mul-attribute : tie.Need-overflow-mul-attribute
+mul-attribute : tie.Need-offset_bounds-query-j
 mul-attribute c = search rules
 
-element-copy-out-attribute : tie.Need-element-copy-out-attribute
+element-copy-out-attribute : tie.Need-bounds-query-j
 element-copy-out-attribute c = search rules
 
-enum_told : tie.Need-enum-told
+enum_told : tie.Need-enum_told-1
 enum_told c = search rules
 
-enum-told-2 : tie.Need-enum-told-2
+enum-told-2 : tie.Need-enum_told-in-Given
 enum-told-2 c = search rules
 
-returns : tie.Need-returns
+returns : tie.Need-returns-in-Free
 returns c =
     let s = c.before.before.before in
     sym
     (ap wanted_mask (get_d-wanted_values s.args.t1 s.args.j s.requires)
-    ∙ ap (λ w. wanted_mask (wanted_value w)) c.enum_told.given.1)
+    ∙ ap (λ w. wanted_mask (wanted_value w)) c.enum_told-1.given.1)
 
-returns-2 : tie.Need-returns-2
+returns-2 : tie.Need-returns-in-Given
 returns-2 c =
     let s = c.before.before.before in
     sym
     (ap wanted_mask (get_d-wanted_values s.args.t1 s.args.j s.requires)
-    ∙ ap (λ w. wanted_mask (wanted_value w)) c.enum-told2.given.1)
+    ∙ ap (λ w. wanted_mask (wanted_value w)) c.enum_told-in-Given-1.given.1)
 
-pub mask-at-spec : {M : Type 1} → statement M
-mask-at-spec =
+pub mask_at_spec : {M : Type 1} → statement M
+mask_at_spec =
     tie.close
     (tie.spec mul-attribute element-copy-out-attribute enum_told enum-told-2 returns returns-2)

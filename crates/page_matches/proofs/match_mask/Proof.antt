@@ -11,19 +11,19 @@ use borrow.Author.Rules.{rules}
 use Rattle.page_matches.proofs.match_mask.Statement.{statement}
 use Rattle.page_matches.proofs.match_mask.Tie as tie
 
-match-among-requires : tie.Need-match-among-requires
+match-among-requires : tie.Need-match_among-mask-requires
 match-among-requires c κs = search rules
 
-sub-match-among : tie.Need-overflow-sub-match-among
+sub-match-among : tie.Need-overflow_sub-page
 sub-match-among c = search rules
 
-match-among-requires-2 : tie.Need-match-among-requires-2
+match-among-requires-2 : tie.Need-match_among-mask-requires-else-page-eq-SIXTEEN_RECORDS
 match-among-requires-2 c κs = search rules
 
-shl-result : tie.Need-overflow-shl-result
+shl-result : tie.Need-overflow_shl-result
 shl-result c = search rules
 
-sub-result : tie.Need-overflow-sub-result
+sub-result : tie.Need-overflow_sub-result
 sub-result c = one-le-bit _ (omega arith)
 
 -- of 16 records, or of those that the page has room for
@@ -37,10 +37,10 @@ returns c =
     ⊎_elim
     (λ w. match_mask-cut test page a.n 16 _ s.requires.0 (omega (arith, w.0.taken)) (w.2 ∙ w.1.ensures))
     (λ w. match_mask-cut test page a.n slots _ s.requires.0 (omega arith) (w.2 ∙ w.1.ensures))
-    c.before.if1.branch
+    c.before.if-page-eq-SIXTEEN_RECORDS.branch
 
-pub match-mask-spec : {M : Type 1} → statement M
-match-mask-spec =
+pub match_mask_spec : {M : Type 1} → statement M
+match_mask_spec =
     tie.close
     (tie.spec
     match-among-requires

@@ -13,50 +13,50 @@ use Rattle.page_matches.proofs.put_all.Reads as reads
 use Rattle.page_matches.proofs.put_all.Lts as lts
 use Rattle.record_copy.proofs.copy_records.Reads as copy-records-reads
 
-add-result : tie.Need-overflow-add-result
+add-result : tie.Need-overflow_add-result
 add-result c = search rules
 
-returns : tie.Need-returns
+returns : tie.Need-returns-then-room-total
 returns c =
     let start = c.before.before.before in
     let a = start.args in
-    let known = c.before.before.shared-slice-known.given in
+    let known = c.before.before.shared_slice_known-1.given in
     let none = emit-none a.page.now a.out.now a.n a.total (λ i. omega (arith, known i)) start.requires.0 in
-    (refl, sym (none c.if1.true))
+    (refl, sym (none c.if-room-total.true))
 
-sub_fit : tie.Need-overflow-sub-fit
+sub_fit : tie.Need-overflow_sub-fit
 sub_fit c = search rules
 
-mul-copy-records : tie.Need-overflow-mul-copy-records
+mul-copy-records : tie.Need-overflow_mul-total
 mul-copy-records c = search rules
 
 fits : (c : lts.After-copy-records-arg (copy-records-reads.Asked, copy-records-reads.Learnt) reads.Pre reads.Post)
     → let a = c.before.before.before.before.before.args in
-    c.before.if2.fit ≡ min a.n (length a.out.now / record_size - a.total)
-fits c = ⊎_elim (λ w. w.1 ∙ omega arith) (λ w. w.1 ∙ omega arith) c.before.if2.branch
+    c.before.if-n-fit.fit ≡ min a.n (length a.out.now / record_size - a.total)
+fits c = ⊎_elim (λ w. w.1 ∙ omega arith) (λ w. w.1 ∙ omega arith) c.before.if-n-fit.branch
 
-copy-records-requires : tie.Need-copy-records-requires
+copy-records-requires : tie.Need-copy_records-requires
 copy-records-requires c κs = let most = fits c in (omega arith, omega arith)
 
-add-result-2 : tie.Need-overflow-add-result-2
+add-result-2 : tie.Need-overflow_add-result-2
 add-result-2 c = search rules
 
-same_length : tie.Need-same-length
+same_length : tie.Need-shape_of-out
 same_length c = search rules
 
-returns-2 : tie.Need-returns-2
+returns-2 : tie.Need-returns
 returns-2 c =
     let copied = c.before.before in
     let start = copied.before.before.before.before.before.before in
-    let known = copied.before.before.before.before.before.shared-slice-known.given in
+    let known = copied.before.before.before.before.before.shared_slice_known-1.given in
     let a = start.args in (
       refl,
       emit-all a.page.now a.out.now a.n a.total (λ i. omega (arith, known i)) start.requires.0 _
-          (fits copied.before) _ copied.copy-records.ensures,
+          (fits copied.before) _ copied.copy_records.ensures,
     )
 
-pub put-all-spec : {M : Type 1} → statement M
-put-all-spec =
+pub put_all_spec : {M : Type 1} → statement M
+put_all_spec =
     tie.close
     (tie.spec
     add-result

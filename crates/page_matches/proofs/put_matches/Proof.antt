@@ -14,21 +14,21 @@ use borrow.Author.Rules.{rules}
 use Rattle.page_matches.proofs.put_matches.Statement.{statement}
 use Rattle.page_matches.proofs.put_matches.Tie as tie
 
-gives-nothing-requires : tie.Need-gives-nothing-requires
+gives-nothing-requires : tie.Need-gives_nothing-requires
 gives-nothing-requires c κs = search rules
 
-put-all-requires : tie.Need-put-all-requires
+put-all-requires : tie.Need-put_all-requires
 put-all-requires c κs = search rules
 
-same_length : tie.Need-same-length
+same_length : tie.Need-shape_of-out-then-gives_nothing
 same_length c = search rules
 
-returns : tie.Need-returns
+returns : tie.Need-returns-then-gives_nothing
 returns c =
-    let put = c.before.before.put_all_lem.ensures in
+    let put = c.before.before.put_all.ensures in
     let test = c.before.before.before.before in
     let a = test.before.before.before.before.args in
-    let nothing = sym test.before.Gives-nothing.ensures ∙ test.if1.true in
+    let nothing = sym test.before.gives_nothing.ensures ∙ test.if-gives_nothing.true in
     let all = sym (hits-all a.pattern a.n a.page.now nothing) in (
       put.0
           ∙ ap (λ k. a.total + k) (sym (length-fields_from a.n 2 a.page.now))
@@ -36,44 +36,44 @@ returns c =
       put.1 ∙ ap (emit a.out.now a.total) all,
     )
 
-match-mask-requires : tie.Need-match-mask-requires
+match-mask-requires : tie.Need-match_mask-requires
 match-mask-requires c κs = search rules
 
 -- the mask picks the records that match
-picks : (c : tie.After-match-mask)
+picks : (c : tie.After-match_mask)
     → let a = c.before.before.before.before.before.args in
-    picked_by c.match-mask.result a.page.now ≡ hits (passes a.pattern) a.n a.page.now
+    picked_by c.match_mask.result a.page.now ≡ hits (passes a.pattern) a.n a.page.now
 picks c =
     let s = c.before.before.before.before.before in
     let a = s.args in
-    ap (λ m. picked_by m a.page.now) c.match-mask.ensures
+    ap (λ m. picked_by m a.page.now) c.match_mask.ensures
     ∙ picked_by-match_mask (passes a.pattern) a.page.now a.n s.requires.1
 
-put-picked-requires : tie.Need-put-picked-requires
+put-picked-requires : tie.Need-put_picked-requires
 put-picked-requires c κs =
     let s = c.before.before.before.before.before.before in
     let a = s.args in
     let page = a.page.now in
     let few = ap length (picks c.before) in (
-      subst (λ m. m < 2 ^ slots_of page) (sym c.before.match-mask.ensures)
+      subst (λ m. m < 2 ^ slots_of page) (sym c.before.match_mask.ensures)
           (match_mask-lt-slots (passes a.pattern) page a.n s.requires.1),
       omega (arith, few, length-hits-le (passes a.pattern) a.n page),
     )
 
-same-length-2 : tie.Need-same-length-2
+same-length-2 : tie.Need-shape_of-out
 same-length-2 c = search rules
 
-returns-2 : tie.Need-returns-2
+returns-2 : tie.Need-returns
 returns-2 c =
-    let put = c.before.before.put-picked.ensures in
+    let put = c.before.before.put_picked.ensures in
     let mask = c.before.before.before.before in
     let a = mask.before.before.before.before.before.args in (
       put.0 ∙ ap (λ l. a.total + length l) (picks mask),
       put.1 ∙ ap (emit a.out.now a.total) (picks mask),
     )
 
-pub put-matches-spec : {M : Type 1} → statement M
-put-matches-spec =
+pub put_matches_spec : {M : Type 1} → statement M
+put_matches_spec =
     tie.close
     (tie.spec
     gives-nothing-requires

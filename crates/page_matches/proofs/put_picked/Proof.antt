@@ -14,24 +14,24 @@ use Rattle.page_matches.proofs.BitLaws.{picked_none, trailing_lt, picked_next}
 use Rattle.page_matches.proofs.put_picked.Statement.{statement}
 use Rattle.page_matches.proofs.put_picked.Tie as tie
 
-abbrev invariant-loop : tie.invariant-loop
+abbrev invariant-loop : tie.invariant-loop-left
 invariant-loop page mask out₀ total left₀ found₀ out left found =
     (left ≤ mask) × (length out ≡ length out₀)
     × (total + length (picked_by mask page) ≡ found + length (picked_by left page))
     × (emit out₀ total (picked_by mask page) ≡ emit out found (picked_by left page))
 
-abbrev decreases-loop : tie.decreases-loop
+abbrev decreases-loop : tie.decreases-loop-left
 decreases-loop page mask out₀ total left₀ found₀ out left found = left
 
-loop-holds : tie.Need-loop-init invariant-loop decreases-loop
+loop-holds : tie.Need-loop-left-init invariant-loop decreases-loop
 loop-holds c = (omega arith, refl, refl, refl)
 
-cast-put-record : tie.Need-overflow-cast-put-record invariant-loop decreases-loop
-cast-put-record c = record { fits = omega (arith, trailing_le 64 c.before.loop.left) }
+cast-put-record : tie.Need-overflow_cast-left invariant-loop decreases-loop
+cast-put-record c = record { fits = omega (arith, trailing_le 64 c.before.loop-left.left) }
 
-put-record-requires : tie.Need-put-record-requires invariant-loop decreases-loop
+put-record-requires : tie.Need-put_record-requires invariant-loop decreases-loop
 put-record-requires c κs =
-    let loop = c.before.before.loop in
+    let loop = c.before.before.loop-left in
     let s = c.before.before.before.before.before in
     let page = s.args.page.now in
     let some : 0 < loop.left = omega arith in
@@ -41,22 +41,22 @@ put-record-requires c κs =
     let next = ap length (picked_next page (slots_of page) loop.left fits some below) in
     (omega arith, omega arith)
 
-add-found : tie.Need-overflow-add-found invariant-loop decreases-loop
+add-found : tie.Need-overflow_add-found invariant-loop decreases-loop
 add-found c = record { fits = omega arith }
 
-sub-left : tie.Need-overflow-sub-left invariant-loop decreases-loop
+sub-left : tie.Need-overflow_sub-left invariant-loop decreases-loop
 sub-left c = omega arith
 
-loop-less : tie.Need-loop-smaller invariant-loop decreases-loop
+loop-less : tie.Need-loop-left-smaller invariant-loop decreases-loop
 loop-less c =
-    let left = c.before.before.before.before.before.loop.left in
+    let left = c.before.before.before.before.before.loop-left.left in
     omega (arith, and_le_r left (left - 1))
 
-loop-again : tie.Need-loop-preserved invariant-loop decreases-loop
+loop-again : tie.Need-loop-left-preserved invariant-loop decreases-loop
 unfolding emit
 loop-again c =
     let put = c.before.before.put_record in
-    let loop = c.before.before.before.before.before.loop in
+    let loop = c.before.before.before.before.before.loop-left in
     let s = c.before.before.before.before.before.before.before.before in
     let page = s.args.page.now in
     let some : 0 < loop.left = omega arith in
@@ -70,25 +70,25 @@ loop-again c =
       put.auto.1.1.0 ∙ loop.invariant.1,
       loop.invariant.2 ∙ ap (λ l. loop.found + length l) next ∙ count,
       loop.invariant.3
-          ∙ ap (emit loop.out loop.found) next
+          ∙ ap (emit loop.out-1 loop.found) next
           ∙ (λ k. emit (sym put.ensures k) (sym (add-one loop.found) k) rest),
     )
 
-same_length : tie.Need-same-length invariant-loop decreases-loop
-same_length c = c.before.loop.invariant.1
+same_length : tie.Need-shape_of-out invariant-loop decreases-loop
+same_length c = c.before.loop-left.invariant.1
 
 returns : tie.Need-returns invariant-loop decreases-loop
 unfolding emit
 returns c =
-    let loop = c.before.loop in
+    let loop = c.before.loop-left in
     let page = c.before.before.before.before.args.page.now in
-    let none = ap (λ m. picked_by m page) c.loop-test.false ∙ picked_none page (slots_of page) 0 in (
+    let none = ap (λ m. picked_by m page) c.loop-left-test.false ∙ picked_none page (slots_of page) 0 in (
       sym (loop.invariant.2 ∙ ap (λ l. loop.found + length l) none ∙ add-zero loop.found),
-      sym (loop.invariant.3 ∙ ap (emit loop.out loop.found) none),
+      sym (loop.invariant.3 ∙ ap (emit loop.out-1 loop.found) none),
     )
 
-pub put-picked-spec : {M : Type 1} → statement M
-put-picked-spec =
+pub put_picked_spec : {M : Type 1} → statement M
+put_picked_spec =
     tie.close
     (tie.spec
     invariant-loop

@@ -11,83 +11,83 @@ use Rattle.page_place.specs.Find.{order_to}
 use Rattle.page_place.proofs.find.Statement.{statement}
 use Rattle.page_place.proofs.find.Tie as tie
 
-abbrev invariant-loop : tie.invariant-loop
+abbrev invariant-loop : tie.invariant-loop-low
 invariant-loop page n widths bias key low₀ high₀ low high =
     (low ≤ high) × (high ≤ n)
     × ((k : ℕ) → suc k ≡ low → order_to (width_list widths) bias (unpacked_key key) page k ≡ After)
     × (high < n → order_to (width_list widths) bias (unpacked_key key) page high ≡ Before)
 
-abbrev decreases-loop : tie.decreases-loop
+abbrev decreases-loop : tie.decreases-loop-low
 decreases-loop page n widths bias key low₀ high₀ low high = high - low
 
-loop-holds : tie.Need-loop-init invariant-loop decreases-loop
+loop-holds : tie.Need-loop-low-init invariant-loop decreases-loop
 loop-holds c = (omega arith, omega arith, (λ k e. absurd (omega arith)), (λ l. absurd (omega arith)))
 
-sub-mid : tie.Need-overflow-sub-mid invariant-loop decreases-loop
+sub-mid : tie.Need-overflow_sub-mid invariant-loop decreases-loop
 sub-mid c = omega arith
 
-add-mid : tie.Need-overflow-add-mid invariant-loop decreases-loop
+add-mid : tie.Need-overflow_add-mid invariant-loop decreases-loop
 add-mid c = omega arith
 
-code-at-requires : tie.Need-code-at-requires invariant-loop decreases-loop
+code-at-requires : tie.Need-code_at-requires invariant-loop decreases-loop
 code-at-requires c κs = omega arith
 
-compare-requires : tie.Need-compare-requires invariant-loop decreases-loop
+compare-requires : tie.Need-compare-order-requires invariant-loop decreases-loop
 compare-requires c κs = c.before.before.before.before.requires.1
 
-enum_told : tie.Need-enum-told invariant-loop decreases-loop
-enum_told c = c.match.keys1
+enum_told : tie.Need-enum_told-1 invariant-loop decreases-loop
+enum_told c = c.in-Same.keys1
 
-returns : tie.Need-returns invariant-loop decreases-loop
+returns : tie.Need-returns-in-Same invariant-loop decreases-loop
 returns c =
     let call = c.before.before in
     let a = call.before.before.before.before.before.args in
     let read =
     ap (λ k. compared (width_list a.widths) (unpacked_key a.key) (unpacked_key k)) call.before.code_at.ensures in
-    (omega arith, sym read ∙ sym call.compare.ensures ∙ c.enum_told.given.1)
+    (omega arith, sym read ∙ sym call.compare-order.ensures ∙ c.enum_told-1.given.1)
 
-enum-told-2 : tie.Need-enum-told-2 invariant-loop decreases-loop
-enum-told-2 c = c.match.keys2
+enum-told-2 : tie.Need-enum_told-in-Before invariant-loop decreases-loop
+enum-told-2 c = c.in-Same.keys2
 
-loop-less : tie.Need-loop-smaller invariant-loop decreases-loop
+loop-less : tie.Need-loop-low-smaller-in-Before invariant-loop decreases-loop
 loop-less c = omega arith
 
-loop-again : tie.Need-loop-preserved invariant-loop decreases-loop
+loop-again : tie.Need-loop-low-preserved-in-Before invariant-loop decreases-loop
 loop-again c =
     let call = c.before.before in
-    let loop = call.before.before.before.loop in
+    let loop = call.before.before.before.loop-low in
     let a = call.before.before.before.before.before.args in
     let read =
     ap (λ k. compared (width_list a.widths) (unpacked_key a.key) (unpacked_key k)) call.before.code_at.ensures in
-    (omega arith, omega arith, loop.invariant.2, (λ l. sym read ∙ sym call.compare.ensures ∙ c.enum-told2.given.1))
+    (omega arith, omega arith, loop.invariant.2, (λ l. sym read ∙ sym call.compare-order.ensures ∙ c.enum_told-in-Before-1.given.1))
 
-enum-told-3 : tie.Need-enum-told-3 invariant-loop decreases-loop
-enum-told-3 c = c.match.keys3
+enum-told-3 : tie.Need-enum_told-in-After invariant-loop decreases-loop
+enum-told-3 c = c.in-Same.keys3
 
-add_low : tie.Need-overflow-add-low invariant-loop decreases-loop
+add_low : tie.Need-overflow_add-low invariant-loop decreases-loop
 add_low c = omega arith
 
-loop-less-2 : tie.Need-loop-smaller-2 invariant-loop decreases-loop
+loop-less-2 : tie.Need-loop-low-smaller invariant-loop decreases-loop
 loop-less-2 c = omega arith
 
-loop-again-2 : tie.Need-loop-preserved-2 invariant-loop decreases-loop
+loop-again-2 : tie.Need-loop-low-preserved invariant-loop decreases-loop
 loop-again-2 c =
     let call = c.before.before in
-    let loop = call.before.before.before.loop in
+    let loop = call.before.before.before.loop-low in
     let a = call.before.before.before.before.before.args in
     let mid = loop.low + (loop.high - loop.low) / 2 in
     let ws = width_list a.widths in
     let key = unpacked_key a.key in
     let read = ap (λ k. compared ws key (unpacked_key k)) call.before.code_at.ensures in
     let after : order_to ws a.bias key a.page.now mid ≡ After =
-    sym read ∙ sym call.compare.ensures ∙ c.enum-told3.given.1 in
+    sym read ∙ sym call.compare-order.ensures ∙ c.enum_told-in-After-1.given.1 in
     let behind : (k : ℕ) → suc k ≡ mid + 1 → order_to ws a.bias key a.page.now k ≡ After =
     λ k e. subst (λ i. order_to ws a.bias key a.page.now i ≡ After) (let same : mid ≡ k = omega arith in same) after in
     (omega arith, omega arith, behind, loop.invariant.3)
 
-returns-2 : tie.Need-returns-2 invariant-loop decreases-loop
+returns-2 : tie.Need-returns invariant-loop decreases-loop
 returns-2 c =
-    let loop = c.before.loop in
+    let loop = c.before.loop-low in
     let a = c.before.before.before.args in
     let ws = width_list a.widths in
     let met : loop.high ≡ loop.low = omega arith in (

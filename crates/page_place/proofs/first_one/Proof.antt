@@ -9,64 +9,64 @@ use Rattle.page_place.proofs.OneLaws.{first_one-end, first_one-here, first_one-n
 use Rattle.page_place.proofs.first_one.Statement.{statement}
 use Rattle.page_place.proofs.first_one.Tie as tie
 
-abbrev invariant-loop : tie.invariant-loop
+abbrev invariant-loop : tie.invariant-loop-i
 invariant-loop page n widths bias g i₀ i =
     (i ≤ n) × (first_one (width_list widths) bias g page n 0 ≡ first_one (width_list widths) bias g page (n - i) i)
 
-abbrev decreases-loop : tie.decreases-loop
+abbrev decreases-loop : tie.decreases-loop-i
 decreases-loop page n widths bias g i₀ i = n - i
 
-loop-holds : tie.Need-loop-init invariant-loop decreases-loop
+loop-holds : tie.Need-loop-i-init invariant-loop decreases-loop
 loop-holds c =
     let all : c.before.args.n - 0 ≡ c.before.args.n = omega arith in
     (omega arith, rw all)
 
-code-at-requires : tie.Need-code-at-requires invariant-loop decreases-loop
+code-at-requires : tie.Need-code_at-requires invariant-loop decreases-loop
 code-at-requires c κs = omega arith
 
-pair-bit-requires : tie.Need-pair-bit-requires invariant-loop decreases-loop
+pair-bit-requires : tie.Need-pair_bit-requires invariant-loop decreases-loop
 pair-bit-requires c κs =
     let pre = c.before.before.before.before.requires in
     (pre.0.1, pre.1.0, pre.1.1)
 
-returns : tie.Need-returns invariant-loop decreases-loop
+returns : tie.Need-returns-then-pair_bit invariant-loop decreases-loop
 returns c =
     let read = c.before.before in
-    let loop = read.before.before.loop in
+    let loop = read.before.before.loop-i in
     let a = read.before.before.before.before.args in
     sym
     (loop.invariant.1
-    ∙ first_one-here (width_list a.widths) a.bias a.g a.page.now a.n loop.i read.before.loop-test.true
-    read.code_at.result read.code_at.ensures c.before.pair-bit.result c.before.pair-bit.ensures
-    c.if1.true)
+    ∙ first_one-here (width_list a.widths) a.bias a.g a.page.now a.n loop.i read.before.loop-i-test.true
+    read.code_at.result read.code_at.ensures c.before.pair_bit.result c.before.pair_bit.ensures
+    c.if-pair_bit.true)
 
-add-i : tie.Need-overflow-add-i invariant-loop decreases-loop
+add-i : tie.Need-overflow_add-i invariant-loop decreases-loop
 add-i c = omega arith
 
-loop-less : tie.Need-loop-smaller invariant-loop decreases-loop
+loop-less : tie.Need-loop-i-smaller invariant-loop decreases-loop
 loop-less c = omega arith
 
-loop-again : tie.Need-loop-preserved invariant-loop decreases-loop
+loop-again : tie.Need-loop-i-preserved invariant-loop decreases-loop
 loop-again c =
     let read = c.before.before in
-    let loop = read.before.before.loop in
+    let loop = read.before.before.loop-i in
     let a = read.before.before.before.before.args in (
       omega arith,
       loop.invariant.1
           ∙ first_one-next (width_list a.widths) a.bias a.g a.page.now a.n loop.i
-          read.before.loop-test.true
-          read.code_at.result read.code_at.ensures c.before.pair-bit.result c.before.pair-bit.ensures
-          c.if1.false,
+          read.before.loop-i-test.true
+          read.code_at.result read.code_at.ensures c.before.pair_bit.result c.before.pair_bit.ensures
+          c.if-pair_bit.false,
     )
 
-returns-2 : tie.Need-returns-2 invariant-loop decreases-loop
+returns-2 : tie.Need-returns invariant-loop decreases-loop
 returns-2 c =
-    let loop = c.before.loop in
+    let loop = c.before.loop-i in
     let a = c.before.before.before.args in
     sym (loop.invariant.1 ∙ first_one-end (width_list a.widths) a.bias a.g a.page.now a.n loop.i (omega arith))
 
-pub first-one-spec : {M : Type 1} → statement M
-first-one-spec =
+pub first_one_spec : {M : Type 1} → statement M
+first_one_spec =
     tie.close
     (tie.spec
     invariant-loop

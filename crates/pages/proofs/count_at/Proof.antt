@@ -6,22 +6,22 @@ use borrow.Author.Rules.{rules}
 use Rattle.pages.proofs.count_at.Statement.{statement}
 use Rattle.pages.proofs.count_at.Tie as tie
 
-page-start-requires : tie.Need-page-start-requires
+page-start-requires : tie.Need-page_start-start-requires
 page-start-requires c κs = search rules
 
-page-size-requires : tie.Need-page-size-requires
+page-size-requires : tie.Need-page_size-requires
 page-size-requires c κs = search rules
 
-add-end : tie.Need-overflow-add-end
+add-end : tie.Need-overflow_add-end
 add-end c = search rules
 
-sub-count : tie.Need-overflow-sub-count
+sub-count : tie.Need-slice_bounds-count-count
 sub-count c = search rules
 
-part-count-start : tie.Need-slice-bounds-count-start
+part-count-start : tie.Need-slice_bounds-count-start
 part-count-start c = search rules
 
-part-count-end : tie.Need-slice-bounds-count-end
+part-count-end : tie.Need-slice_bounds-count-end
 part-count-end c = search rules
 
 count-requires : tie.Need-count-requires
@@ -31,12 +31,12 @@ returns : tie.Need-returns
 returns c =
     let size = c.before.before in
     let a = size.before.before.before.args in
-    let page = mid_of-page a.capacity a.p _ _ a.pages.now size.before.page-start.ensures
-    size.page-size.ensures in
+    let page = mid_of-page a.capacity a.p _ _ a.pages.now size.before.page_start-start.ensures
+    size.page_size.ensures in
     (c.count.ensures.0 ∙ ap count_of page, c.count.ensures.1)
 
-pub count-at-spec : {M : Type 1} → statement M
-count-at-spec =
+pub count_at_spec : {M : Type 1} → statement M
+count_at_spec =
     tie.close
     (tie.spec
     page-start-requires

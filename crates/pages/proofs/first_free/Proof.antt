@@ -7,14 +7,14 @@ use borrow.Author.Rules.{rules}
 use Rattle.pages.proofs.first_free.Statement.{statement}
 use Rattle.pages.proofs.first_free.Tie as tie
 
-free-from-requires : tie.Need-free-from-requires
+free-from-requires : tie.Need-free_from-requires
 free-from-requires c κs = search rules
 
 returns : tie.Need-returns
 returns c =
     let a = c.before.before.args in
     let all : a.n - 0 ≡ a.n = omega arith in
-    c.free-from.ensures ∙ ap (λ k. first_free a.capacity a.pages.now k 0) all
+    c.free_from.ensures ∙ ap (λ k. first_free a.capacity a.pages.now k 0) all
 
-pub first-free-spec : {M : Type 1} → statement M
-first-free-spec = tie.close (tie.spec free-from-requires returns)
+pub first_free_spec : {M : Type 1} → statement M
+first_free_spec = tie.close (tie.spec free-from-requires returns)

@@ -9,51 +9,51 @@ use Rattle.pages.proofs.FreeLaws.{first_free-end, first_free-here, first_free-ne
 use Rattle.pages.proofs.free_from.Statement.{statement}
 use Rattle.pages.proofs.free_from.Tie as tie
 
-abbrev invariant-loop : tie.invariant-loop
+abbrev invariant-loop : tie.invariant-loop-p
 invariant-loop pages capacity n start p₀ p =
     first_free capacity pages (n - start) start ≡ first_free capacity pages (n - p) p
 
-abbrev decreases-loop : tie.decreases-loop
+abbrev decreases-loop : tie.decreases-loop-p
 decreases-loop pages capacity n start p₀ p = n - p
 
-loop-holds : tie.Need-loop-init invariant-loop decreases-loop
+loop-holds : tie.Need-loop-p-init invariant-loop decreases-loop
 loop-holds c = refl
 
-count-at-requires : tie.Need-count-at-requires invariant-loop decreases-loop
+count-at-requires : tie.Need-count_at-requires invariant-loop decreases-loop
 count-at-requires c κs =
     let a = c.before.before.before.args in
-    let end = page-end-le a.capacity c.before.loop.p a.n c.loop-test.true in
+    let end = page-end-le a.capacity c.before.loop-p.p a.n c.loop-p-test.true in
     record { capacity-le = omega arith; number_lt = omega arith; whole = omega arith }
 
-returns : tie.Need-returns invariant-loop decreases-loop
+returns : tie.Need-returns-then-count_at-eq0 invariant-loop decreases-loop
 returns c =
     let a = c.before.before.before.before.before.args in
-    let loop = c.before.before.before.loop in
-    let free = sym c.before.count_at.ensures.0 ∙ c.if1.true in
+    let loop = c.before.before.before.loop-p in
+    let free = sym c.before.count_at.ensures.0 ∙ c.if-count_at-eq0.true in
     sym (loop.invariant ∙ first_free-here a.capacity a.pages.now a.n loop.p (omega arith) free)
 
-add-p : tie.Need-overflow-add-p invariant-loop decreases-loop
+add-p : tie.Need-overflow_add-p invariant-loop decreases-loop
 add-p c = omega arith
 
-loop-less : tie.Need-loop-smaller invariant-loop decreases-loop
+loop-less : tie.Need-loop-p-smaller invariant-loop decreases-loop
 loop-less c = omega arith
 
-loop-again : tie.Need-loop-preserved invariant-loop decreases-loop
+loop-again : tie.Need-loop-p-preserved invariant-loop decreases-loop
 loop-again c =
     let a = c.before.before.before.before.before.args in
-    let loop = c.before.before.before.loop in
+    let loop = c.before.before.before.loop-p in
     let next = first_free-next a.capacity a.pages.now a.n loop.p (omega arith)
-    (λ z. c.if1.false (c.before.count_at.ensures.0 ∙ z)) in
+    (λ z. c.if-count_at-eq0.false (c.before.count_at.ensures.0 ∙ z)) in
     loop.invariant ∙ next
 
-returns-2 : tie.Need-returns-2 invariant-loop decreases-loop
+returns-2 : tie.Need-returns invariant-loop decreases-loop
 returns-2 c =
     let a = c.before.before.before.args in
-    let loop = c.before.loop in
+    let loop = c.before.loop-p in
     sym (loop.invariant ∙ first_free-end a.capacity a.pages.now a.n loop.p (omega arith))
 
-pub free-from-spec : {M : Type 1} → statement M
-free-from-spec =
+pub free_from_spec : {M : Type 1} → statement M
+free_from_spec =
     tie.close
     (tie.spec
     invariant-loop

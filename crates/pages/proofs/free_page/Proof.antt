@@ -6,25 +6,25 @@ use borrow.Author.Rules.{rules}
 use Rattle.pages.proofs.free_page.Statement.{statement}
 use Rattle.pages.proofs.free_page.Tie as tie
 
-free-from-requires : tie.Need-free-from-requires
+free-from-requires : tie.Need-free_from-p-requires
 free-from-requires c κs = search rules
 
-returns : tie.Need-returns
+returns : tie.Need-returns-then-p-n
 returns c =
     let a = c.before.before.before.args in
-    let e = c.before.free-from.ensures in
-    e ∙ sym (free_page-from a.capacity a.pages.now a.n a.start (subst (λ g. g < a.n) e c.if1.true))
+    let e = c.before.free_from-p.ensures in
+    e ∙ sym (free_page-from a.capacity a.pages.now a.n a.start (subst (λ g. g < a.n) e c.if-p-n.true))
 
-first-free-requires : tie.Need-first-free-requires
+first-free-requires : tie.Need-first_free-requires
 first-free-requires c κs = search rules
 
-returns-2 : tie.Need-returns-2
+returns-2 : tie.Need-returns
 returns-2 c =
     let a = c.before.before.before.before.args in
-    let e = c.before.before.free-from.ensures in
-    c.first-free.ensures
+    let e = c.before.before.free_from-p.ensures in
+    c.first_free.ensures
     ∙ sym (free_page-first a.capacity a.pages.now a.n a.start
-    (subst (λ g. a.n ≤ g) e c.before.if1.false))
+    (subst (λ g. a.n ≤ g) e c.before.if-p-n.false))
 
-pub free-page-spec : {M : Type 1} → statement M
-free-page-spec = tie.close (tie.spec free-from-requires returns first-free-requires returns-2)
+pub free_page_spec : {M : Type 1} → statement M
+free_page_spec = tie.close (tie.spec free-from-requires returns first-free-requires returns-2)

@@ -6,7 +6,7 @@ use borrow.Author.Rules.{rules}
 use Rattle.pairs.proofs.early_place.Statement.{statement}
 use Rattle.pairs.proofs.early_place.Tie as tie
 
-returns : tie.Need-returns
+returns : tie.Need-returns-then-widths-ne0
 returns c =
     let s = c.before.before in
     let p = s.requires in
@@ -15,12 +15,12 @@ returns c =
       steps-four w.w0 w.w1 w.w2 w.w3 s.args.t,
     )
 
-mul-result : tie.Need-overflow-mul-result
+mul-result : tie.Need-overflow_mul-result
 mul-result c =
     let p = c.before.before.before.before.requires in
     record { fits = omega (arith, p.1, p.0 0, p.0 1, p.0 2) }
 
-returns-2 : tie.Need-returns-2
+returns-2 : tie.Need-returns-then-widths-ne0-2
 returns-2 c =
     let s = c.before.before.before.before in
     let p = s.requires in
@@ -30,15 +30,15 @@ returns-2 c =
           (omega (arith, p.1, p.0 0, p.0 1, p.0 2)),
     )
 
-mul-result-2 : tie.Need-overflow-mul-result-2
+mul-result-2 : tie.Need-overflow_mul-result-then-widths-ne0-3
 mul-result-2 c = search rules
 
-add-result : tie.Need-overflow-add-result
+add-result : tie.Need-overflow_add-result
 add-result c =
     let p = c.before.before.before.before.before.before.requires in
     record { fits = omega (arith, p.1, p.0 0, p.0 1) }
 
-returns-3 : tie.Need-returns-3
+returns-3 : tie.Need-returns-then-widths-ne0-3
 returns-3 c =
     let s = c.before.before.before.before.before.before in
     let p = s.requires in
@@ -47,12 +47,12 @@ returns-3 c =
       steps-two w.w0 w.w1 w.w2 w.w3 s.args.t (omega arith) (omega arith),
     )
 
-mul-result-3 : tie.Need-overflow-mul-result-3
+mul-result-3 : tie.Need-overflow_mul-result-2
 mul-result-3 c =
     let p = c.before.before.before.before.before.before.requires in
     record { fits = omega (arith, p.1, p.0 0) }
 
-returns-4 : tie.Need-returns-4
+returns-4 : tie.Need-returns
 returns-4 c =
     let s = c.before.before.before.before.before.before in
     let p = s.requires in
@@ -61,8 +61,8 @@ returns-4 c =
       steps-one w.w0 w.w1 w.w2 w.w3 s.args.t (omega arith) (omega arith) (omega arith),
     )
 
-pub early-place-spec : {M : Type 1} → statement M
-early-place-spec =
+pub early_place_spec : {M : Type 1} → statement M
+early_place_spec =
     tie.close
     (tie.spec
     returns

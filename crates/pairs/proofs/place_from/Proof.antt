@@ -10,46 +10,46 @@ use Rattle.pairs.proofs.PlaceLaws.{steps_before-step, steps_before-skip, steps_b
 use Rattle.pairs.proofs.place_from.Statement.{statement}
 use Rattle.pairs.proofs.place_from.Tie as tie
 
-abbrev invariant-loop : tie.invariant-loop
+abbrev invariant-loop : tie.invariant-loop-before
 invariant-loop widths t start n g₀ before₀ g before = (before ≤ t) × StepsBefore (width_list widths) before g
 
-abbrev decreases-loop : tie.decreases-loop
+abbrev decreases-loop : tie.decreases-loop-before
 decreases-loop widths t start n g₀ before₀ g before = 64 - g
 
 -- a step is left
-next : (c : tie.In-loop invariant-loop decreases-loop) → c.before.loop.g < 64
+next : (c : tie.In-loop-before invariant-loop decreases-loop) → c.before.loop-before.g < 64
 next c =
     let s = c.before.before in
     let w = s.args.widths in
-    let l = c.before.loop in
+    let l = c.before.loop-before in
     steps_before-lt w.w0 w.w1 w.w2 w.w3 l.before l.g s.requires.0
-    (omega (arith, c.loop-test.true, s.requires.1)) l.invariant.1
+    (omega (arith, c.loop-before-test.true, s.requires.1)) l.invariant.1
 
-loop-holds : tie.Need-loop-init invariant-loop decreases-loop
+loop-holds : tie.Need-loop-before-init invariant-loop decreases-loop
 loop-holds c = (c.requires.2, c.requires.3)
 
-width-at-requires : tie.Need-width-at-requires invariant-loop decreases-loop
+width-at-requires : tie.Need-width_at-requires invariant-loop decreases-loop
 width-at-requires c κs = omega arith
 
-add-before : tie.Need-overflow-add-before invariant-loop decreases-loop
+add-before : tie.Need-overflow_add-before invariant-loop decreases-loop
 add-before c =
     let l = c.before.before.before in
-    record { fits = omega (arith, c.before.before.loop-test.true, l.before.ranges.t.fits) }
+    record { fits = omega (arith, c.before.before.loop-before-test.true, l.before.ranges.t.fits) }
 
-add-g : tie.Need-overflow-add-g invariant-loop decreases-loop
+add-g : tie.Need-overflow_add-g invariant-loop decreases-loop
 add-g c = record { fits = omega (arith, next c.before.before) }
 
-loop-less : tie.Need-loop-smaller invariant-loop decreases-loop
+loop-less : tie.Need-loop-before-smaller invariant-loop decreases-loop
 loop-less c = omega (arith, next c.before.before)
 
-loop-again : tie.Need-loop-preserved invariant-loop decreases-loop
+loop-again : tie.Need-loop-before-preserved invariant-loop decreases-loop
 loop-again c =
-    let l = c.before.before.before.loop in
+    let l = c.before.before.before.loop-before in
     let ws = width_list c.before.before.before.before.args.widths in
-    let width = c.before.width-at.ensures in
+    let width = c.before.width_at.ensures in
     ⊎_elim
     (λ w. rw w.1 (
-      omega (arith, c.before.before.loop-test.true),
+      omega (arith, c.before.before.loop-before-test.true),
       steps_before-step ws l.before l.g l.invariant.1
           (next c.before.before) (subst (λ x. l.g / 4 < x) width w.0.taken),
     ))
@@ -58,17 +58,17 @@ loop-again c =
       steps_before-skip ws l.before l.g l.invariant.1
           (next c.before.before) (subst (λ x. x ≤ l.g / 4) width w.0.left),
     ))
-    c.if1.branch
+    c.if-g-width_at.branch
 
 returns : tie.Need-returns invariant-loop decreases-loop
 returns c =
-    let l = c.before.loop in
+    let l = c.before.loop-before in
     let s = c.before.before.args in
-    let e : l.before ≡ s.t = omega (arith, c.loop-test.false, l.invariant.0) in
+    let e : l.before ≡ s.t = omega (arith, c.loop-before-test.false, l.invariant.0) in
     subst (λ n. StepsBefore (width_list s.widths) n l.g) e l.invariant.1
 
-pub place-from-spec : {M : Type 1} → statement M
-place-from-spec =
+pub place_from_spec : {M : Type 1} → statement M
+place_from_spec =
     tie.close
     (tie.spec
     invariant-loop

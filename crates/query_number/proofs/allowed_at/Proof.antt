@@ -11,49 +11,49 @@ use borrow.Author.Rules.{rules}
 use Rattle.query_number.proofs.allowed_at.Statement.{statement}
 use Rattle.query_number.proofs.allowed_at.Tie as tie
 
-cast-if1 : tie.Need-overflow-cast-if1
+cast-if1 : tie.Need-overflow_cast-shape
 cast-if1 c = search rules
 
-returns : tie.Need-returns
+returns : tie.Need-returns-then-j-shape
 returns c =
     let a = c.before.before.args in
     sym (ap (λ b. b || not (is_given (get_or (wanted_values a.t2) a.j none)))
-    (lt-ltb a.j a.shape.attributes c.if1.true))
+    (lt-ltb a.j a.shape.attributes c.if-j-shape.true))
 
-mul-attribute : tie.Need-overflow-mul-attribute
+mul-attribute : tie.Need-offset_bounds-query-j
 mul-attribute c = search rules
 
-element-copy-out-attribute : tie.Need-element-copy-out-attribute
+element-copy-out-attribute : tie.Need-bounds-query-j
 element-copy-out-attribute c = search rules
 
-enum_told : tie.Need-enum-told
+enum_told : tie.Need-enum_told-1
 enum_told c = search rules
 
-enum-told-2 : tie.Need-enum-told-2
+enum-told-2 : tie.Need-enum_told-in-Given
 enum-told-2 c = search rules
 
-returns-2 : tie.Need-returns-2
+returns-2 : tie.Need-returns-in-Free
 returns-2 c =
     let s = c.before.before.before.before.before in
     let a = s.args in
     sym
     (ap (λ b. b || not (is_given (get_or (wanted_values a.t2) a.j none)))
-    (le-ltb a.j a.shape.attributes (omega (arith, c.before.before.before.if1.false)))
+    (le-ltb a.j a.shape.attributes (omega (arith, c.before.before.before.if-j-shape.false)))
     ∙ ap (λ w. not (is_given w)) (get_d-wanted_values a.t2 a.j s.requires)
-    ∙ ap (λ w. not (is_given (wanted_value w))) c.enum_told.given.1)
+    ∙ ap (λ w. not (is_given (wanted_value w))) c.enum_told-1.given.1)
 
-returns-3 : tie.Need-returns-3
+returns-3 : tie.Need-returns-in-Given
 returns-3 c =
     let s = c.before.before.before.before.before in
     let a = s.args in
     sym
     (ap (λ b. b || not (is_given (get_or (wanted_values a.t2) a.j none)))
-    (le-ltb a.j a.shape.attributes (omega (arith, c.before.before.before.if1.false)))
+    (le-ltb a.j a.shape.attributes (omega (arith, c.before.before.before.if-j-shape.false)))
     ∙ ap (λ w. not (is_given w)) (get_d-wanted_values a.t2 a.j s.requires)
-    ∙ ap (λ w. not (is_given (wanted_value w))) c.enum-told2.given.1)
+    ∙ ap (λ w. not (is_given (wanted_value w))) c.enum_told-in-Given-1.given.1)
 
-pub allowed-at-spec : {M : Type 1} → statement M
-allowed-at-spec =
+pub allowed_at_spec : {M : Type 1} → statement M
+allowed_at_spec =
     tie.close
     (tie.spec
     cast-if1

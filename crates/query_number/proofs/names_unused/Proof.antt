@@ -15,51 +15,51 @@ use Rattle.shape.proofs.BoundsLaws.{all_below-suc, all_below-fails}
 use Rattle.query_number.proofs.names_unused.Statement.{statement}
 use Rattle.query_number.proofs.names_unused.Tie as tie
 
-abbrev invariant-loop : tie.invariant-loop
+abbrev invariant-loop : tie.invariant-loop-j
 invariant-loop shape query j₀ j =
     (j ≤ 4) × (all_below j (λ i. ltb i shape.attributes || not (is_given (get_or (wanted_values query) i none))) ≡ true)
 
-abbrev decreases-loop : tie.decreases-loop
+abbrev decreases-loop : tie.decreases-loop-j
 decreases-loop shape query j₀ j = 4 - j
 
-loop-holds : tie.Need-loop-init invariant-loop decreases-loop
+loop-holds : tie.Need-loop-j-init invariant-loop decreases-loop
 loop-holds c = (omega arith, refl)
 
-allowed-at-requires : tie.Need-allowed-at-requires invariant-loop decreases-loop
-allowed-at-requires c κs = c.loop-test.true
+allowed-at-requires : tie.Need-allowed_at-requires invariant-loop decreases-loop
+allowed-at-requires c κs = c.loop-j-test.true
 
-returns : tie.Need-returns invariant-loop decreases-loop
+returns : tie.Need-returns-then-not-allowed_at invariant-loop decreases-loop
 unfolding names_unused
 returns c =
     sym (ap not (all_below-fails (λ i. ltb i c.before.before.before.before.args.shape.attributes
     || not (is_given (get_or (wanted_values c.before.before.before.before.args.query) i none))) 4
-    c.before.before.before.loop.j c.before.before.loop-test.true
-    (sym c.before.allowed_at.ensures ∙ not-true _ c.if1.true)))
+    c.before.before.before.loop-j.j c.before.before.loop-j-test.true
+    (sym c.before.allowed_at.ensures ∙ not-true _ c.if-not-allowed_at.true-raw)))
 
-add-j : tie.Need-overflow-add-j invariant-loop decreases-loop
-add-j c = record { fits = omega (arith, c.before.before.loop-test.true) }
+add-j : tie.Need-overflow_add-j invariant-loop decreases-loop
+add-j c = record { fits = omega (arith, c.before.before.loop-j-test.true) }
 
-loop-less : tie.Need-loop-smaller invariant-loop decreases-loop
-loop-less c = omega (arith, c.before.before.loop-test.true)
+loop-less : tie.Need-loop-j-smaller invariant-loop decreases-loop
+loop-less c = omega (arith, c.before.before.loop-j-test.true)
 
-loop-again : tie.Need-loop-preserved invariant-loop decreases-loop
+loop-again : tie.Need-loop-j-preserved invariant-loop decreases-loop
 loop-again c =
-    let loop = c.before.before.before.loop in
-    let allowed = sym c.before.allowed_at.ensures ∙ not-false _ c.if1.false in (
-      omega (arith, c.before.before.loop-test.true),
+    let loop = c.before.before.before.loop-j in
+    let allowed = sym c.before.allowed_at.ensures ∙ not-false _ c.if-not-allowed_at.false-raw in (
+      omega (arith, c.before.before.loop-j-test.true),
       rw (add-one loop.j)
           (all_below-suc _ loop.j loop.invariant.1 allowed),
     )
 
-returns-2 : tie.Need-returns-2 invariant-loop decreases-loop
+returns-2 : tie.Need-returns invariant-loop decreases-loop
 unfolding names_unused
 returns-2 c =
-    let loop = c.before.loop in
-    let end : loop.j ≡ 4 = omega (arith, loop.invariant.0, c.loop-test.false) in
+    let loop = c.before.loop-j in
+    let end : loop.j ≡ 4 = omega (arith, loop.invariant.0, c.loop-j-test.false) in
     sym (ap not (rw end at loop.invariant.1))
 
-pub names-unused-spec : {M : Type 1} → statement M
-names-unused-spec =
+pub names_unused_spec : {M : Type 1} → statement M
+names_unused_spec =
     tie.close
     (tie.spec
     invariant-loop

@@ -10,28 +10,28 @@ use borrow.Author.Rules.{rules}
 use Rattle.query_number.proofs.query_fits.Statement.{statement}
 use Rattle.query_number.proofs.query_fits.Tie as tie
 
-encode-query-requires : tie.Need-encode-query-requires
+encode-query-requires : tie.Need-encode_query-encoded-requires
 encode-query-requires c κs = search rules
 
-value-at-requires : tie.Need-value-at-requires
+value-at-requires : tie.Need-value_at-i0-requires
 value-at-requires c κs = search rules
 
-value-at-requires-2 : tie.Need-value-at-requires-2
+value-at-requires-2 : tie.Need-value_at-i1-requires
 value-at-requires-2 c κs = search rules
 
-value-at-requires-3 : tie.Need-value-at-requires-3
+value-at-requires-3 : tie.Need-value_at-i2-requires
 value-at-requires-3 c κs = search rules
 
-value-at-requires-4 : tie.Need-value-at-requires-4
+value-at-requires-4 : tie.Need-value_at-i3-requires
 value-at-requires-4 c κs = search rules
 
-widths-of-requires : tie.Need-widths-of-requires
+widths-of-requires : tie.Need-widths_of-requires
 widths-of-requires c κs = search rules
 
-index-fits-requires : tie.Need-index-fits-requires
+index-fits-requires : tie.Need-index_fits-requires
 index-fits-requires c κs =
     let s = c.before.before.before.before.before.before in
-    widths-fit s.args.shape (width_list c.widths-of.result) s.requires c.widths-of.ensures
+    widths-fit s.args.shape (width_list c.widths_of.result) s.requires c.widths_of.ensures
 
 returns : tie.Need-returns
 returns c =
@@ -39,16 +39,16 @@ returns c =
     let v3 = v4.before in
     let v2 = v3.before in
     let v1 = v2.before in
-    let encoded = v1.before.encode-query in
+    let encoded = v1.before.encode_query-encoded in
     let a = v1.before.before.args in
-    c.index-fits.ensures
-    ∙ (λ i. index_fits (c.before.widths-of.ensures i)
-    (v1.value-at.ensures i ∷ v2.value-at2.ensures i ∷ v3.value-at3.ensures i ∷ v4.value-at4.ensures i ∷ []))
+    c.index_fits.ensures
+    ∙ (λ i. index_fits (c.before.widths_of.ensures i)
+    (v1.value_at-i0.ensures i ∷ v2.value_at-i1.ensures i ∷ v3.value_at-i2.ensures i ∷ v4.value_at-i3.ensures i ∷ []))
     ∙ ap (λ q. index_fits (widths_of a.shape) (bits_of q)) encoded.ensures
     ∙ index_fits-query a.shape (wanted_values a.query)
 
-pub query-fits-spec : {M : Type 1} → statement M
-query-fits-spec =
+pub query_fits_spec : {M : Type 1} → statement M
+query_fits_spec =
     tie.close
     (tie.spec
     encode-query-requires

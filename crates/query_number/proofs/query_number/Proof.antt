@@ -8,52 +8,52 @@ use borrow.Author.Rules.{rules}
 use Rattle.query_number.proofs.query_number.Statement.{statement}
 use Rattle.query_number.proofs.query_number.Tie as tie
 
-lent-number-requires : tie.Need-lent-number-requires
+lent-number-requires : tie.Need-lent_number-number-requires
 lent-number-requires c κs = search rules
 
-returns : tie.Need-returns
+returns : tie.Need-returns-then-number-ne0
 returns c =
     let a = c.before.before.args in
-    let n = c.before.lent-number in
+    let n = c.before.lent_number-number in
     n.ensures ∙ query_number_by-lent a.state a.words a.bytes (wanted_values a.query)
-    (λ e. c.if1.true (n.ensures ∙ e))
+    (λ e. c.if-number-ne0.true (n.ensures ∙ e))
 
-names-unused-requires : tie.Need-names-unused-requires
+names-unused-requires : tie.Need-names_unused-requires
 names-unused-requires c κs = search rules
 
-returns-2 : tie.Need-returns-2
+returns-2 : tie.Need-returns-then-names_unused
 returns-2 c =
     let e = c.before.before.before in
     let a = e.before.before.args in
     query_number_by-unused a.state a.words a.bytes (wanted_values a.query)
-    (sym e.before.lent-number.ensures ∙ e.if1.false) (sym c.before.names-unused.ensures ∙ c.if2.true)
+    (sym e.before.lent_number-number.ensures ∙ e.if-number-ne0.false) (sym c.before.names_unused.ensures ∙ c.if-names_unused.true)
 
-query-fits-requires : tie.Need-query-fits-requires
+query-fits-requires : tie.Need-query_fits-requires
 query-fits-requires c κs =
     let e = c.before.before.before in
     let a = e.before.before.args in
-    (memory_lent a.state a.words a.bytes (sym e.before.lent-number.ensures ∙ e.if1.false)).shape
+    (memory_lent a.state a.words a.bytes (sym e.before.lent_number-number.ensures ∙ e.if-number-ne0.false)).shape
 
-returns-3 : tie.Need-returns-3
+returns-3 : tie.Need-returns-then-query_fits
 returns-3 c =
     let u = c.before.before in
     let e = u.before.before.before in
     let a = e.before.before.args in
     query_number_by-fits a.state a.words a.bytes (wanted_values a.query)
-    (sym e.before.lent-number.ensures ∙ e.if1.false) (sym u.before.names-unused.ensures ∙ u.if2.false)
-    (sym c.before.query-fits.ensures ∙ c.if3.true)
+    (sym e.before.lent_number-number.ensures ∙ e.if-number-ne0.false) (sym u.before.names_unused.ensures ∙ u.if-names_unused.false)
+    (sym c.before.query_fits.ensures ∙ c.if-query_fits.true)
 
-returns-4 : tie.Need-returns-4
+returns-4 : tie.Need-returns-else-query_fits
 returns-4 c =
     let u = c.before.before in
     let e = u.before.before.before in
     let a = e.before.before.args in
     query_number_by-out a.state a.words a.bytes (wanted_values a.query)
-    (sym e.before.lent-number.ensures ∙ e.if1.false) (sym u.before.names-unused.ensures ∙ u.if2.false)
-    (sym c.before.query-fits.ensures ∙ c.if3.false)
+    (sym e.before.lent_number-number.ensures ∙ e.if-number-ne0.false) (sym u.before.names_unused.ensures ∙ u.if-names_unused.false)
+    (sym c.before.query_fits.ensures ∙ c.if-query_fits.false)
 
-pub query-number-spec : {M : Type 1} → statement M
-query-number-spec =
+pub query_number_spec : {M : Type 1} → statement M
+query_number_spec =
     tie.close
     (tie.spec
     lent-number-requires

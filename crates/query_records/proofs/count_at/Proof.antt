@@ -8,22 +8,22 @@ use borrow.Author.Rules.{rules}
 use Rattle.query_records.proofs.count_at.Statement.{statement}
 use Rattle.query_records.proofs.count_at.Tie as tie
 
-page-start-requires : tie.Need-page-start-requires
+page-start-requires : tie.Need-page_start-start-requires
 page-start-requires c κs = search rules
 
-page-size-requires : tie.Need-page-size-requires
+page-size-requires : tie.Need-page_size-requires
 page-size-requires c κs = search rules
 
-add-end : tie.Need-overflow-add-end
+add-end : tie.Need-overflow_add-end
 add-end c = search rules
 
-sub-count : tie.Need-overflow-sub-count
+sub-count : tie.Need-slice_bounds-count-count
 sub-count c = search rules
 
-part-count-start : tie.Need-slice-bounds-count-start
+part-count-start : tie.Need-slice_bounds-count-start
 part-count-start c = search rules
 
-part-count-end : tie.Need-slice-bounds-count-end
+part-count-end : tie.Need-slice_bounds-count-end
 part-count-end c = search rules
 
 count-requires : tie.Need-count-requires
@@ -37,12 +37,12 @@ returns c =
     let page = page_at a.capacity a.pages.now a.g in
     let n : c.count.result ≡ count_of page =
     c.count.ensures.0
-    ∙ ap count_of (mid_of-page a.capacity a.g _ _ a.pages.now sized.before.page-start.ensures
-    sized.page-size.ensures) in
+    ∙ ap count_of (mid_of-page a.capacity a.g _ _ a.pages.now sized.before.page_start-start.ensures
+    sized.page_size.ensures) in
     (n ∙ sym (length-fields_from (count_of page) 2 page), omega (arith, n, s.requires.0, s.requires.1.counted))
 
-pub count-at-spec : {M : Type 1} → statement M
-count-at-spec =
+pub count_at_spec : {M : Type 1} → statement M
+count_at_spec =
     tie.close
     (tie.spec
     page-start-requires

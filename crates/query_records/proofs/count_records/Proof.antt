@@ -9,72 +9,72 @@ use Rattle.query_records.proofs.MatchedLaws.{length-page_fields-le}
 use Rattle.query_records.proofs.count_records.Statement.{statement}
 use Rattle.query_records.proofs.count_records.Tie as tie
 
-abbrev invariant-loop : tie.invariant-loop
+abbrev invariant-loop : tie.invariant-loop-i
 invariant-loop pages capacity list n total₀ i₀ total i = (i ≤ n) × CountedTo (page_fields capacity pages) list i total
 
-abbrev decreases-loop : tie.decreases-loop
+abbrev decreases-loop : tie.decreases-loop-i
 decreases-loop pages capacity list n total₀ i₀ total i = n - i
 
-loop-holds : tie.Need-loop-init invariant-loop decreases-loop
+loop-holds : tie.Need-loop-i-init invariant-loop decreases-loop
 loop-holds c =
     let a = c.before.before.args in
     (omega arith, counted_to-none (page_fields a.capacity a.pages.now) a.list.now)
 
-mul-count-at : tie.Need-overflow-mul-count-at invariant-loop decreases-loop
+mul-count-at : tie.Need-offset_bounds-list-i invariant-loop decreases-loop
 mul-count-at c =
     let s = c.before.before.before.before in
-    record { fits = omega (arith, s.requires.few, c.loop-test.true) }
+    record { fits = omega (arith, s.requires.few, c.loop-i-test.true) }
 
-shared-slice-read-count-at : tie.Need-shared-slice-read-count-at invariant-loop decreases-loop
+shared-slice-read-count-at : tie.Need-bounds-list-i invariant-loop decreases-loop
 shared-slice-read-count-at c =
-    omega (arith, c.before.before.before.before.before.requires.within, c.before.loop-test.true)
+    omega (arith, c.before.before.before.before.before.requires.within, c.before.loop-i-test.true)
 
-cast-count-at : tie.Need-overflow-cast-count-at invariant-loop decreases-loop
-cast-count-at c = omega (arith, c.shared-slice-known3.given c.before.before.loop.i)
+cast-count-at : tie.Need-overflow_cast-list invariant-loop decreases-loop
+cast-count-at c = omega (arith, c.shared_slice_known-in-loop-i-1.given c.before.before.loop-i.i)
 
-count-at-requires : tie.Need-count-at-requires invariant-loop decreases-loop
+count-at-requires : tie.Need-count_at-total-requires invariant-loop decreases-loop
 count-at-requires c κs =
     let s = c.before.before.before.before.before in
-    (s.requires.capacity, s.requires.each c.before.before.loop.i c.before.loop-test.true)
+    (s.requires.capacity, s.requires.each c.before.before.loop-i.i c.before.loop-i-test.true)
 
-add_total : tie.Need-overflow-add-total invariant-loop decreases-loop
+add_total : tie.Need-overflow_add-total invariant-loop decreases-loop
 add_total c =
     let s = c.before.before.before.before.before.before in
-    let loop = c.before.before.before.loop in
+    let loop = c.before.before.before.loop-i in
     record {
-      fits = omega (arith, loop.invariant.1.0, c.count_at.ensures.1, s.requires.few, c.before.before.loop-test.true);
+      fits = omega (arith, loop.invariant.1.0, c.count_at-total.ensures.1, s.requires.few, c.before.before.loop-i-test.true);
     }
 
-add-i : tie.Need-overflow-add-i invariant-loop decreases-loop
+add-i : tie.Need-overflow_add-i invariant-loop decreases-loop
 add-i c =
     let s = c.before.before.before.before.before.before in
-    record { fits = omega (arith, s.requires.few, c.before.before.loop-test.true) }
+    record { fits = omega (arith, s.requires.few, c.before.before.loop-i-test.true) }
 
-loop-less : tie.Need-loop-smaller invariant-loop decreases-loop
-loop-less c = let lt = c.before.before.loop-test.true in omega (arith, lt)
+loop-less : tie.Need-loop-i-smaller invariant-loop decreases-loop
+loop-less c = let lt = c.before.before.loop-i-test.true in omega (arith, lt)
 
-loop-again : tie.Need-loop-preserved invariant-loop decreases-loop
+loop-again : tie.Need-loop-i-preserved invariant-loop decreases-loop
 loop-again c =
-    let loop = c.before.before.before.loop in
-    let lt = c.before.before.loop-test.true in
+    let loop = c.before.before.before.loop-i in
+    let lt = c.before.before.loop-i-test.true in
     let s = c.before.before.before.before.before.before in
     let a = s.args in
     let few = length-page_fields-le a.capacity a.pages.now _ s.requires.capacity (s.requires.each loop.i lt) in (
       omega (arith, lt),
       counted_to-next (page_fields a.capacity a.pages.now) a.list.now loop.i loop.total loop.invariant.1
-          (omega (arith, s.requires.within, lt)) few _ (ap (λ k. loop.total + k) c.count_at.ensures.0),
+          (omega (arith, s.requires.within, lt)) few _ (ap (λ k. loop.total + k) c.count_at-total.ensures.0),
     )
 
 returns : tie.Need-returns invariant-loop decreases-loop
 returns c =
     let s = c.before.before.before.before in
     let a = s.args in
-    let loop = c.before.loop in
+    let loop = c.before.loop-i in
     counted_to-all (page_fields a.capacity a.pages.now) a.list.now a.n loop.i loop.total
-    loop.invariant.0 c.loop-test.false s.requires.few loop.invariant.1
+    loop.invariant.0 c.loop-i-test.false s.requires.few loop.invariant.1
 
-pub count-records-spec : {M : Type 1} → statement M
-count-records-spec =
+pub count_records_spec : {M : Type 1} → statement M
+count_records_spec =
     tie.close
     (tie.spec
     invariant-loop

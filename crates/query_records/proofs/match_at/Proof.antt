@@ -17,71 +17,71 @@ use Rattle.query_records.proofs.match_at.Statement.{statement}
 use Rattle.query_records.proofs.match_at.Tie as tie
 
 -- the part is the page
-part : (c : tie.After-page-size)
+part : (c : tie.After-page_size)
     → let a = c.before.before.before.args in
-    let start = c.before.page-start.result in
-    mid_of start (start + c.page-size.result - start) a.pages.now ≡ page_at a.capacity a.pages.now a.g
+    let start = c.before.page_start-start.result in
+    mid_of start (start + c.page_size.result - start) a.pages.now ≡ page_at a.capacity a.pages.now a.g
 part c =
     let a = c.before.before.before.args in
-    mid_of-page a.capacity a.g _ _ a.pages.now c.before.page-start.ensures c.page-size.ensures
+    mid_of-page a.capacity a.g _ _ a.pages.now c.before.page_start-start.ensures c.page_size.ensures
 
-page-start-requires : tie.Need-page-start-requires
+page-start-requires : tie.Need-page_start-start-requires
 page-start-requires c κs = search rules
 
-page-size-requires : tie.Need-page-size-requires
+page-size-requires : tie.Need-page_size-requires
 page-size-requires c κs = search rules
 
-add-end : tie.Need-overflow-add-end
+add-end : tie.Need-overflow_add-end
 add-end c = search rules
 
-sub-count : tie.Need-overflow-sub-count
+sub-count : tie.Need-slice_bounds-count-count
 sub-count c = search rules
 
-part-count-start : tie.Need-slice-bounds-count-start
+part-count-start : tie.Need-slice_bounds-count-start
 part-count-start c = search rules
 
-part-count-end : tie.Need-slice-bounds-count-end
+part-count-end : tie.Need-slice_bounds-count-end
 part-count-end c = search rules
 
-count-requires : tie.Need-count-requires
+count-requires : tie.Need-count-n-requires
 count-requires c κs = search rules
 
-sub-match-mask : tie.Need-overflow-sub-match-mask
+sub-match-mask : tie.Need-slice_bounds-match_mask-count
 sub-match-mask c = search rules
 
-part-match-mask-start : tie.Need-slice-bounds-match-mask-start
+part-match-mask-start : tie.Need-slice_bounds-match_mask-start
 part-match-mask-start c = search rules
 
-part-match-mask-end : tie.Need-slice-bounds-match-mask-end
+part-match-mask-end : tie.Need-slice_bounds-match_mask-end
 part-match-mask-end c = search rules
 
-match-mask-requires : tie.Need-match-mask-requires
+match-mask-requires : tie.Need-match_mask-requires
 match-mask-requires c κs =
     let sized = c.before.before.before in
     let s = sized.before.before.before in
     let a = s.args in
-    let n = c.before.count.ensures.0 ∙ ap count_of (part sized) in
+    let n = c.before.count-n.ensures.0 ∙ ap count_of (part sized) in
     let lent = records-lent a.capacity a.pages.now a.g s.requires.1 in
     rw (part sized, n) (omega (arith, s.requires.0, s.requires.1.counted), lent)
 
 -- the mask is that of the page, below 2 ^ b
-masked : (c : tie.After-match-mask)
+masked : (c : tie.After-match_mask)
     → let a = c.before.before.before.before.before.before.before.args in
-    let mask = c.match-mask.result in
+    let mask = c.match_mask.result in
     (mask ≡ page_mask (passes a.pattern) (page_at a.capacity a.pages.now a.g)) × (mask < 2 ^ a.capacity)
 masked c =
     let sized = c.before.before.before.before in
     let s = sized.before.before.before in
     let a = s.args in
     let page = page_at a.capacity a.pages.now a.g in
-    let n = c.before.before.count.ensures.0 ∙ ap count_of (part sized) in
-    let same : c.match-mask.result ≡ page_mask (passes a.pattern) page =
-    c.match-mask.ensures ∙ (λ i. match_mask (passes a.pattern) (part sized i) (n i) 0) in
+    let n = c.before.before.count-n.ensures.0 ∙ ap count_of (part sized) in
+    let same : c.match_mask.result ≡ page_mask (passes a.pattern) page =
+    c.match_mask.ensures ∙ (λ i. match_mask (passes a.pattern) (part sized i) (n i) 0) in
     let below = lt_of_lt_of_le (match_mask-lt (passes a.pattern) page (count_of page) 0)
     (pow_mono {i = count_of page} {j = a.capacity} s.requires.1.counted) in
     (same, rw same below)
 
-cast-result : tie.Need-overflow-cast-result
+cast-result : tie.Need-overflow_cast-result
 cast-result c =
     let s = c.before.before.before.before.before.before.before in
     let most = pow_mono {i = s.args.capacity} {j = 32} (omega (arith, s.requires.0)) in
@@ -90,8 +90,8 @@ cast-result c =
 returns : tie.Need-returns
 returns c = masked c
 
-pub match-at-spec : {M : Type 1} → statement M
-match-at-spec =
+pub match_at_spec : {M : Type 1} → statement M
+match_at_spec =
     tie.close
     (tie.spec
     page-start-requires

@@ -12,110 +12,110 @@ use Rattle.query_records.proofs.MatchedLaws.{matched_to-all, bool_byte-le}
 use Rattle.query_records.proofs.match_pages.Statement.{statement}
 use Rattle.query_records.proofs.match_pages.Tie as tie
 
-abbrev invariant-loop : tie.invariant-loop
+abbrev invariant-loop : tie.invariant-loop-i
 invariant-loop pages capacity pattern list₀ n m₀ i₀ list m i =
     (i ≤ n) × MatchedTo capacity pages (passes pattern) list₀ i list m
 
-abbrev decreases-loop : tie.decreases-loop
+abbrev decreases-loop : tie.decreases-loop-i
 decreases-loop pages capacity pattern list₀ n m₀ i₀ list m i = n - i
 
-loop-holds : tie.Need-loop-init invariant-loop decreases-loop
+loop-holds : tie.Need-loop-i-init invariant-loop decreases-loop
 loop-holds c =
     let a = c.before.before.args in
     (omega arith, matched_to-none a.capacity a.pages.now (passes a.pattern) a.list.now)
 
-mul-g : tie.Need-overflow-mul-g invariant-loop decreases-loop
+mul-g : tie.Need-offset_bounds-list-i invariant-loop decreases-loop
 mul-g c =
     let s = c.before.before.before.before in
-    record { fits = omega (arith, s.requires.few, c.loop-test.true) }
+    record { fits = omega (arith, s.requires.few, c.loop-i-test.true) }
 
-slice-read-g : tie.Need-slice-read-g invariant-loop decreases-loop
+slice-read-g : tie.Need-bounds-list-i invariant-loop decreases-loop
 slice-read-g c =
     let s = c.before.before.before.before.before in
-    omega (arith, c.before.before.loop.invariant.1.1, s.requires.within, c.before.loop-test.true)
+    omega (arith, c.before.before.loop-i.invariant.1.1, s.requires.within, c.before.loop-i-test.true)
 
-cast-match-at : tie.Need-overflow-cast-match-at invariant-loop decreases-loop
-cast-match-at c = omega (arith, c.slice-known2.given c.before.before.loop.i)
+cast-match-at : tie.Need-overflow_cast-g invariant-loop decreases-loop
+cast-match-at c = omega (arith, c.slice_known-in-loop-i-1.given c.before.before.loop-i.i)
 
-match-at-requires : tie.Need-match-at-requires invariant-loop decreases-loop
+match-at-requires : tie.Need-match_at-mask-requires invariant-loop decreases-loop
 match-at-requires c κs =
     let s = c.before.before.before.before.before in
-    let loop = c.before.before.loop in
+    let loop = c.before.before.loop-i in
     let same = loop.invariant.1.2 loop.i (omega arith) in
-    (s.requires.capacity, rw same (s.requires.each loop.i c.before.loop-test.true))
+    (s.requires.capacity, rw same (s.requires.each loop.i c.before.loop-i-test.true))
 
 -- a page number is below 4,096 and a mask below 2 ^ 16
-small : (c : tie.After-match-at invariant-loop decreases-loop) → c.match-at.result < 2 ^ 16
+small : (c : tie.After-match_at-mask invariant-loop decreases-loop) → c.match_at-mask.result < 2 ^ 16
 small c =
     let s = c.before.before.before.before.before.before in
-    lt_of_lt_of_le c.match-at.ensures.1 (pow_mono {i = s.args.capacity} {j = 16} s.requires.capacity)
+    lt_of_lt_of_le c.match_at-mask.ensures.1 (pow_mono {i = s.args.capacity} {j = 16} s.requires.capacity)
 
-mul-list : tie.Need-overflow-mul-list invariant-loop decreases-loop
+mul-list : tie.Need-overflow_mul-list invariant-loop decreases-loop
 mul-list c = record { fits = omega (arith, small c) }
 
-add-list : tie.Need-overflow-add-list invariant-loop decreases-loop
+add-list : tie.Need-overflow_add-list invariant-loop decreases-loop
 add-list c =
     let s = c.before.before.before.before.before.before in
-    let loop = c.before.before.before.loop in
-    let number = (s.requires.each loop.i c.before.before.loop-test.true).number in
+    let loop = c.before.before.before.loop-i in
+    let number = (s.requires.each loop.i c.before.before.loop-i-test.true).number in
     record { fits = omega (arith, small c, number, loop.invariant.1.2 loop.i (omega arith)) }
 
-mul-list-2 : tie.Need-overflow-mul-list-2 invariant-loop decreases-loop
+mul-list-2 : tie.Need-offset_bounds-list-m invariant-loop decreases-loop
 mul-list-2 c =
     let s = c.before.before.before.before.before.before in
-    let loop = c.before.before.before.loop in
+    let loop = c.before.before.before.loop-i in
     record { fits = omega (arith, s.requires.few, loop.invariant.0, loop.invariant.1.0) }
 
-slice-write-list : tie.Need-slice-write-list invariant-loop decreases-loop
+slice-write-list : tie.Need-bounds-list-m invariant-loop decreases-loop
 slice-write-list c =
     let s = c.before.before.before.before.before.before in
-    let loop = c.before.before.before.loop in
-    omega (arith, loop.invariant.1.0, loop.invariant.1.1, s.requires.within, c.before.before.loop-test.true)
+    let loop = c.before.before.before.loop-i in
+    omega (arith, loop.invariant.1.0, loop.invariant.1.1, s.requires.within, c.before.before.loop-i-test.true)
 
-cast-m : tie.Need-overflow-cast-m invariant-loop decreases-loop
+cast-m : tie.Need-overflow_cast-m invariant-loop decreases-loop
 cast-m c = tt
 
-add-m : tie.Need-overflow-add-m invariant-loop decreases-loop
+add-m : tie.Need-overflow_add-m invariant-loop decreases-loop
 add-m c =
     let s = c.before.before.before.before.before.before in
-    let loop = c.before.before.before.loop in
-    let one = bool_byte-le (not (eqb c.match-at.result 0)) in
+    let loop = c.before.before.before.loop-i in
+    let one = bool_byte-le (not (eqb c.match_at-mask.result 0)) in
     record { fits = omega (arith, s.requires.few, loop.invariant.0, loop.invariant.1.0, one) }
 
-add-i : tie.Need-overflow-add-i invariant-loop decreases-loop
+add-i : tie.Need-overflow_add-i invariant-loop decreases-loop
 add-i c =
     let s = c.before.before.before.before.before.before in
-    record { fits = omega (arith, s.requires.few, c.before.before.loop-test.true) }
+    record { fits = omega (arith, s.requires.few, c.before.before.loop-i-test.true) }
 
-loop-less : tie.Need-loop-smaller invariant-loop decreases-loop
-loop-less c = omega (arith, c.before.before.loop-test.true)
+loop-less : tie.Need-loop-i-smaller invariant-loop decreases-loop
+loop-less c = omega (arith, c.before.before.loop-i-test.true)
 
-loop-again : tie.Need-loop-preserved invariant-loop decreases-loop
+loop-again : tie.Need-loop-i-preserved invariant-loop decreases-loop
 loop-again c =
     let s = c.before.before.before.before.before.before in
     let a = s.args in
-    let loop = c.before.before.before.loop in
-    let lt = c.before.before.loop-test.true in (
+    let loop = c.before.before.before.loop-i in
+    let lt = c.before.before.loop-i-test.true in (
       omega (arith, lt),
       matched_to-next a.capacity a.pages.now (passes a.pattern) a.list.now loop.i loop.m loop.list
-          loop.invariant.1 (omega (arith, s.requires.within, lt)) (s.requires.each loop.i lt) _ c.match-at.ensures.0
-          c.match-at.ensures.1,
+          loop.invariant.1 (omega (arith, s.requires.within, lt)) (s.requires.each loop.i lt) _ c.match_at-mask.ensures.0
+          c.match_at-mask.ensures.1,
     )
 
-same_length : tie.Need-same-length invariant-loop decreases-loop
-same_length c = c.before.loop.invariant.1.1
+same_length : tie.Need-shape_of-list invariant-loop decreases-loop
+same_length c = c.before.loop-i.invariant.1.1
 
 returns : tie.Need-returns invariant-loop decreases-loop
 returns c =
     let s = c.before.before.before.before in
     let a = s.args in
-    let loop = c.before.loop in
+    let loop = c.before.loop-i in
     matched_to-all a.capacity a.pages.now (passes a.pattern) a.list.now a.n loop.i loop.m
     loop.list
-    loop.invariant.0 c.loop-test.false s.requires loop.invariant.1
+    loop.invariant.0 c.loop-i-test.false s.requires loop.invariant.1
 
-pub match-pages-spec : {M : Type 1} → statement M
-match-pages-spec =
+pub match_pages_spec : {M : Type 1} → statement M
+match_pages_spec =
     tie.close
     (tie.spec
     invariant-loop

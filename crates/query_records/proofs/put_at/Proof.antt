@@ -14,70 +14,70 @@ use Rattle.query_records.proofs.put_at.Statement.{statement}
 use Rattle.query_records.proofs.put_at.Tie as tie
 
 -- the part is the page
-part : (c : tie.After-page-size)
+part : (c : tie.After-page_size)
     → let a = c.before.before.before.before.args in
-    let start = c.before.page-start.result in
-    mid_of start (start + c.page-size.result - start) a.pages.now ≡ page_at a.capacity a.pages.now a.g
+    let start = c.before.page_start-start.result in
+    mid_of start (start + c.page_size.result - start) a.pages.now ≡ page_at a.capacity a.pages.now a.g
 part c =
     let a = c.before.before.before.before.args in
-    mid_of-page a.capacity a.g _ _ a.pages.now c.before.page-start.ensures c.page-size.ensures
+    mid_of-page a.capacity a.g _ _ a.pages.now c.before.page_start-start.ensures c.page_size.ensures
 
-page-start-requires : tie.Need-page-start-requires
+page-start-requires : tie.Need-page_start-start-requires
 page-start-requires c κs = search rules
 
-page-size-requires : tie.Need-page-size-requires
+page-size-requires : tie.Need-page_size-requires
 page-size-requires c κs = search rules
 
-add-end : tie.Need-overflow-add-end
+add-end : tie.Need-overflow_add-end
 add-end c = search rules
 
-sub-count : tie.Need-overflow-sub-count
+sub-count : tie.Need-slice_bounds-count-count
 sub-count c = search rules
 
-part-count-start : tie.Need-slice-bounds-count-start
+part-count-start : tie.Need-slice_bounds-count-start
 part-count-start c = search rules
 
-part-count-end : tie.Need-slice-bounds-count-end
+part-count-end : tie.Need-slice_bounds-count-end
 part-count-end c = search rules
 
-count-requires : tie.Need-count-requires
+count-requires : tie.Need-count-n-requires
 count-requires c κs = search rules
 
-sub-put-all : tie.Need-overflow-sub-put-all
+sub-put-all : tie.Need-slice_bounds-put_all-count
 sub-put-all c = search rules
 
-part-put-all-start : tie.Need-slice-bounds-put-all-start
+part-put-all-start : tie.Need-slice_bounds-put_all-start
 part-put-all-start c = search rules
 
-part-put-all-end : tie.Need-slice-bounds-put-all-end
+part-put-all-end : tie.Need-slice_bounds-put_all-end
 part-put-all-end c = search rules
 
-put-all-requires : tie.Need-put-all-requires
+put-all-requires : tie.Need-put_all-requires
 put-all-requires c κs =
     let sized = c.before.before.before.before in
     let s = sized.before.before.before.before in
     let a = s.args in
-    let n = c.before.before.count.ensures.0 ∙ ap count_of (part sized) in
+    let n = c.before.before.count-n.ensures.0 ∙ ap count_of (part sized) in
     let lent = records-lent a.capacity a.pages.now a.g s.requires.page in
     rw (part sized, n) (lent, omega (arith, s.requires.capacity, s.requires.page.counted, s.requires.before))
 
-same_length : tie.Need-same-length
+same_length : tie.Need-shape_of-out
 same_length c = search rules
 
 returns : tie.Need-returns
 returns c =
-    let put = c.before.before.put_all_lem.ensures in
+    let put = c.before.before.put_all.ensures in
     let counted = c.before.before.before.before.before in
     let sized = counted.before.before in
     let a = sized.before.before.before.before.args in
     let page = page_at a.capacity a.pages.now a.g in
-    let n = counted.count.ensures.0 ∙ ap count_of (part sized) in (
+    let n = counted.count-n.ensures.0 ∙ ap count_of (part sized) in (
       put.0 ∙ ap (λ k. a.total + k) (n ∙ sym (length-fields_from (count_of page) 2 page)),
       put.1 ∙ (λ i. emit a.out.now a.total (fields_from (n i) 2 (part sized i))),
     )
 
-pub put-at-spec : {M : Type 1} → statement M
-put-at-spec =
+pub put_at_spec : {M : Type 1} → statement M
+put_at_spec =
     tie.close
     (tie.spec
     page-start-requires

@@ -15,41 +15,41 @@ use Rattle.query_records.proofs.put_matched_page.Statement.{statement}
 use Rattle.query_records.proofs.put_matched_page.Tie as tie
 
 -- the part is the matched page
-part : (c : tie.After-page-size)
+part : (c : tie.After-page_size)
     → let a = c.before.before.before.before.args in
-    let start = c.before.page-start.result in
-    mid_of start (start + c.page-size.result - start) a.pages.now
+    let start = c.before.page_start-start.result in
+    mid_of start (start + c.page_size.result - start) a.pages.now
     ≡ page_at a.capacity a.pages.now (matched_page a.matched)
 part c =
     let a = c.before.before.before.before.args in
-    mid_of-page a.capacity (matched_page a.matched) _ _ a.pages.now c.before.page-start.ensures
-    c.page-size.ensures
+    mid_of-page a.capacity (matched_page a.matched) _ _ a.pages.now c.before.page_start-start.ensures
+    c.page_size.ensures
 
-cast-page-start : tie.Need-overflow-cast-page-start
+cast-page-start : tie.Need-overflow_cast-matched
 cast-page-start c = search rules
 
-page-start-requires : tie.Need-page-start-requires
+page-start-requires : tie.Need-page_start-start-requires
 page-start-requires c κs = search rules
 
-page-size-requires : tie.Need-page-size-requires
+page-size-requires : tie.Need-page_size-requires
 page-size-requires c κs = search rules
 
-add-end : tie.Need-overflow-add-end
+add-end : tie.Need-overflow_add-end
 add-end c = search rules
 
-sub-put-picked : tie.Need-overflow-sub-put-picked
+sub-put-picked : tie.Need-slice_bounds-put_picked-count
 sub-put-picked c = search rules
 
-part-put-picked-start : tie.Need-slice-bounds-put-picked-start
+part-put-picked-start : tie.Need-slice_bounds-put_picked-start
 part-put-picked-start c = search rules
 
-part-put-picked-end : tie.Need-slice-bounds-put-picked-end
+part-put-picked-end : tie.Need-slice_bounds-put_picked-end
 part-put-picked-end c = search rules
 
-cast-put-picked : tie.Need-overflow-cast-put-picked
+cast-put-picked : tie.Need-overflow_cast-matched-2
 cast-put-picked c = search rules
 
-put-picked-requires : tie.Need-put-picked-requires
+put-picked-requires : tie.Need-put_picked-requires
 put-picked-requires c κs =
     let sized = c.before.before in
     let s = sized.before.before.before.before in
@@ -58,12 +58,12 @@ put-picked-requires c κs =
     let below = matched_mask-lt-slots a.capacity a.pages.now a.matched s.requires.page in
     rw (part sized) (below, omega (arith, few, s.requires.before))
 
-same_length : tie.Need-same-length
+same_length : tie.Need-shape_of-out
 same_length c = search rules
 
 returns : tie.Need-returns
 returns c =
-    let put = c.before.before.put-picked.ensures in
+    let put = c.before.before.put_picked.ensures in
     let sized = c.before.before.before.before.before in
     let a = sized.before.before.before.before.args in
     let mask = matched_mask a.matched in (
@@ -71,8 +71,8 @@ returns c =
       put.1 ∙ ap (λ l. emit a.out.now a.total (picked_by mask l)) (part sized),
     )
 
-pub put-matched-page-spec : {M : Type 1} → statement M
-put-matched-page-spec =
+pub put_matched_page_spec : {M : Type 1} → statement M
+put_matched_page_spec =
     tie.close
     (tie.spec
     cast-page-start

@@ -9,48 +9,48 @@ use borrow.Author.Rules.{rules}
 use Rattle.query_records.proofs.put_pages.Statement.{statement}
 use Rattle.query_records.proofs.put_pages.Tie as tie
 
-gives-nothing-requires : tie.Need-gives-nothing-requires
+gives-nothing-requires : tie.Need-gives_nothing-requires
 gives-nothing-requires c κs = search rules
 
-put-whole-requires : tie.Need-put-whole-requires
+put-whole-requires : tie.Need-put_whole-requires
 put-whole-requires c κs = search rules
 
-same_length : tie.Need-same-length
+same_length : tie.Need-shape_of-list-then-gives_nothing
 same_length c = search rules
 
-same-length-2 : tie.Need-same-length-2
+same-length-2 : tie.Need-shape_of-out-then-gives_nothing
 same-length-2 c = search rules
 
-returns : tie.Need-returns
+returns : tie.Need-returns-then-gives_nothing
 returns c =
     let test = c.before.before.before.before.before in
     let a = test.before.before.before.before.before.args in
-    let nothing = sym test.before.Gives-nothing.ensures ∙ test.if1.true in
+    let nothing = sym test.before.gives_nothing.ensures ∙ test.if-gives_nothing.true in
     emitted-as (page_fields a.capacity a.pages.now) (take a.n a.list.now) a.out.now _ _ _
     c.before.before.put_whole.ensures
     (list_hits-all a.capacity a.pages.now a.pattern nothing (take a.n a.list.now))
 
-match-pages-requires : tie.Need-match-pages-requires
+match-pages-requires : tie.Need-match_pages-m-requires
 match-pages-requires c κs = search rules
 
-put-matched-requires : tie.Need-put-matched-requires
+put-matched-requires : tie.Need-put_matched-requires
 put-matched-requires c κs = search rules
 
-same-length-3 : tie.Need-same-length-3
+same-length-3 : tie.Need-shape_of-list
 same-length-3 c = search rules
 
-same-length-4 : tie.Need-same-length-4
+same-length-4 : tie.Need-shape_of-out
 same-length-4 c = search rules
 
-returns-2 : tie.Need-returns-2
+returns-2 : tie.Need-returns
 returns-2 c =
     let matched = c.before.before.before.before.before.before.before in
     let a = matched.before.before.before.before.before.before.before.args in
     emitted-as (matched_fields a.capacity a.pages.now) _ a.out.now _ _ _
-    c.before.before.put-matched.ensures matched.match-pages.ensures.1
+    c.before.before.put_matched.ensures matched.match_pages-m.ensures.1
 
-pub put-pages-spec : {M : Type 1} → statement M
-put-pages-spec =
+pub put_pages_spec : {M : Type 1} → statement M
+put_pages_spec =
     tie.close
     (tie.spec
     gives-nothing-requires

@@ -10,32 +10,32 @@ use borrow.Author.Rules.{rules}
 use Rattle.query_rows.proofs.address_by.Statement.{statement}
 use Rattle.query_rows.proofs.address_by.Tie as tie
 
-mul_low : tie.Need-overflow-mul-low
+mul_low : tie.Need-offset_bounds-rows-at
 mul_low c = search rules
 
-element-copy-out-low : tie.Need-element-copy-out-low
+element-copy-out-low : tie.Need-bounds-rows-at
 element-copy-out-low c = search rules
 
-mul-low-2 : tie.Need-overflow-mul-low-2
+mul-low-2 : tie.Need-overflow_mul-low
 mul-low-2 c =
     let a = c.before.args in
     let half = and_mask a.index 32 in
     record { fits = half-product-lt _ _ (omega arith) c.before.requires.low }
 
-add-high : tie.Need-overflow-add-high
+add-high : tie.Need-overflow_add-high
 add-high c = search rules
 
-mul-high : tie.Need-overflow-mul-high
+mul-high : tie.Need-offset_bounds-rows-at-2
 mul-high c = search rules
 
-element-copy-out-high : tie.Need-element-copy-out-high
+element-copy-out-high : tie.Need-bounds-rows-at-2
 element-copy-out-high c = search rules
 
-mul-high-2 : tie.Need-overflow-mul-high-2
+mul-high-2 : tie.Need-overflow_mul-high
 mul-high-2 c = record { fits = half-product-lt _ _ (omega arith) c.before.before.requires.high }
 
 -- the two halves
-halves : (c : tie.After-high)
+halves : (c : tie.After-high-1)
     → let a = c.before.before.args in
     let rows = a.rows.now in
     (bit_and (bit_and a.index 4294967295 * get_or rows a.at 0 / 65536) 65535
@@ -50,15 +50,15 @@ halves c =
       and_mask (a.index / 4294967296 * get_or rows (a.at + 1) 0 / 65536) 16,
     )
 
-add-result : tie.Need-overflow-add-result
+add-result : tie.Need-overflow_add-result
 add-result c = record { fits = omega (arith, halves c) }
 
 returns : tie.Need-returns
 unfolding row_address
 returns c = λ i. (halves c).0 i + (halves c).1 i
 
-pub address-by-spec : {M : Type 1} → statement M
-address-by-spec =
+pub address_by_spec : {M : Type 1} → statement M
+address_by_spec =
     tie.close
     (tie.spec
     mul_low

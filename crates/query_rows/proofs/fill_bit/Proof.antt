@@ -14,12 +14,12 @@ use Rattle.query_rows.proofs.FilledLaws.{filled-done, filled-skip, fixed-fits, l
 use Rattle.query_rows.proofs.fill_bit.Statement.{statement}
 use Rattle.query_rows.proofs.fill_bit.Tie as tie
 
-abbrev invariant-loop : tie.invariant-loop
+abbrev invariant-loop : tie.invariant-loop-z
 invariant-loop widths query t bit rows₀ before x₀ z₀ rows x z =
     (z ≤ 4) × (length rows ≡ length rows₀)
     × RowsFilled (width_list widths) (wanted_at (width_list widths) (wanted_values query)) t (4 * bit + z) x rows
 
-abbrev decreases-loop : tie.decreases-loop
+abbrev decreases-loop : tie.decreases-loop-z
 decreases-loop widths query t bit rows₀ before x₀ z₀ rows x z = 4 - z
 
 -- the pair of bit and attribute z, by its place
@@ -36,7 +36,7 @@ module _ (bit z : ℕ) (h : z < 4) where
   past : (ws : List ℕ) (w : ℕ) → w ≡ get_or ws z 0 → w ≤ bit → get_or ws ((4 * bit + z) % 4) 0 ≤ (4 * bit + z) / 4
   past ws w e l = rw (place-bit, place-attribute) (subst (λ n. n ≤ bit) e l)
 
-loop-holds : tie.Need-loop-init invariant-loop decreases-loop
+loop-holds : tie.Need-loop-z-init invariant-loop decreases-loop
 loop-holds c =
     let a = c.args in
     let first : 4 * a.bit ≡ 4 * a.bit + 0 = omega arith in (
@@ -47,63 +47,63 @@ loop-holds c =
           a.before a.rows.now) first c.requires.filled,
     )
 
-width-at-requires : tie.Need-width-at-requires invariant-loop decreases-loop
-width-at-requires c κs = omega (arith, c.before.loop-test.true)
+width-at-requires : tie.Need-width_at-requires invariant-loop decreases-loop
+width-at-requires c κs = omega (arith, c.before.loop-z-test.true)
 
-mul-put-row : tie.Need-overflow-mul-put-row invariant-loop decreases-loop
+mul-put-row : tie.Need-overflow_mul-x invariant-loop decreases-loop
 mul-put-row c =
     let test = c.before.before.before in
-    omega (arith, test.if1.true, test.before.before.before.requires.deep)
+    omega (arith, test.if-x-t.true, test.before.before.before.requires.deep)
 
-mul-row-at : tie.Need-overflow-mul-row-at invariant-loop decreases-loop
+mul-row-at : tie.Need-overflow_mul-bit invariant-loop decreases-loop
 mul-row-at c = omega (arith, c.before.before.before.before.before.before.requires.low)
 
-add-row-at : tie.Need-overflow-add-row-at invariant-loop decreases-loop
+add-row-at : tie.Need-overflow_add-bit invariant-loop decreases-loop
 add-row-at c =
     let loop = c.before.before.before.before in
-    omega (arith, loop.before.before.requires.low, loop.loop-test.true)
+    omega (arith, loop.before.before.requires.low, loop.loop-z-test.true)
 
-row-at-requires : tie.Need-row-at-requires invariant-loop decreases-loop
+row-at-requires : tie.Need-row_at-requires invariant-loop decreases-loop
 row-at-requires c κs =
     let s = c.before.before.before.before.before.before in
     let test = c.before.before.before in
-    let z = test.before.loop-test.true in
-    let counted = test.before.before.loop.invariant.2.counted test.if1.true in record {
+    let z = test.before.loop-z-test.true in
+    let counted = test.before.before.loop-z.invariant.2.counted test.if-x-t.true in record {
       fit = s.requires.fit;
       low = omega (arith, s.requires.low, z);
-      live = live s.args.bit _ z (width_list s.args.widths) _ c.before.before.width-at.ensures
-          c.before.if2.true;
-      deep = omega (arith, counted, test.if1.true, s.requires.deep);
+      live = live s.args.bit _ z (width_list s.args.widths) _ c.before.before.width_at.ensures
+          c.before.if-bit-width_at.true;
+      deep = omega (arith, counted, test.if-x-t.true, s.requires.deep);
     }
 
-put-row-requires : tie.Need-put-row-requires invariant-loop decreases-loop
+put-row-requires : tie.Need-put_row-requires invariant-loop decreases-loop
 put-row-requires c κs =
     let test = c.before.before.before.before in
     let loop = test.before.before in
     let s = loop.before in (
-      omega (arith, test.if1.true, s.requires.deep),
-      fixed-fits _ _ _ _ _ _ loop.loop.invariant.2 test.if1.true s.requires.fit
-          (live s.args.bit _ test.before.loop-test.true (width_list s.args.widths) _
-          c.before.before.before.width-at.ensures c.before.before.if2.true) _ c.row_at.ensures,
+      omega (arith, test.if-x-t.true, s.requires.deep),
+      fixed-fits _ _ _ _ _ _ loop.loop-z.invariant.2 test.if-x-t.true s.requires.fit
+          (live s.args.bit _ test.before.loop-z-test.true (width_list s.args.widths) _
+          c.before.before.before.width_at.ensures c.before.before.if-bit-width_at.true) _ c.row_at.ensures,
     )
 
-add-x : tie.Need-overflow-add-x invariant-loop decreases-loop
+add-x : tie.Need-overflow_add-x invariant-loop decreases-loop
 add-x c =
     let test = c.before.before.before.before.before in
-    omega (arith, test.if1.true, test.before.before.before.requires.deep)
+    omega (arith, test.if-x-t.true, test.before.before.before.requires.deep)
 
-add-z : tie.Need-overflow-add-z invariant-loop decreases-loop
-add-z c = omega (arith, c.before.loop-test.true)
+add-z : tie.Need-overflow_add-z invariant-loop decreases-loop
+add-z c = omega (arith, c.before.loop-z-test.true)
 
-loop-less : tie.Need-loop-smaller invariant-loop decreases-loop
-loop-less c = omega (arith, c.before.loop-test.true)
+loop-less : tie.Need-loop-z-smaller invariant-loop decreases-loop
+loop-less c = omega (arith, c.before.loop-z-test.true)
 
-loop-again : tie.Need-loop-preserved invariant-loop decreases-loop
+loop-again : tie.Need-loop-z-preserved invariant-loop decreases-loop
 loop-again c =
     let s = c.before.before.before in
     let a = s.args in
-    let l = c.before.before.loop in
-    let z = c.before.loop-test.true in
+    let l = c.before.before.loop-z in
+    let z = c.before.loop-z-test.true in
     let ws = width_list a.widths in
     let low : 4 * a.bit + l.z < 64 = omega (arith, s.requires.low, z) in
     let next : 4 * a.bit + l.z + 1 ≡ 4 * a.bit + (l.z + 1) = omega arith in
@@ -115,8 +115,8 @@ loop-again c =
           (λ w. length-stored _ _ _ _ _ _ here w.0.taken s.requires.fit (live_here _ w.1.ensures w.2.taken) _
           w.4.ensures _ (w.6 ∙ w.5.ensures)
           ∙ l.invariant.1)
-          (⊎_elim (λ w. ap length w.3 ∙ l.invariant.1) (λ w. ap length w.1 ∙ l.invariant.1)) c.if1.branch,
-      subst (λ g. RowsFilled ws (wanted_at ws (wanted_values a.query)) a.t g c.if1.x c.if1.rows) next
+          (⊎_elim (λ w. ap length w.3 ∙ l.invariant.1) (λ w. ap length w.1 ∙ l.invariant.1)) c.if-x-t.branch,
+      subst (λ g. RowsFilled ws (wanted_at ws (wanted_values a.query)) a.t g c.if-x-t.x c.if-x-t.rows) next
           (⊎_elim
           (λ w. filled-step _ _ _ _ _ _ here w.0.taken s.requires.fit
           (live_here _ w.1.ensures w.2.taken) _ w.4.ensures low s.requires.deep lent _ _
@@ -125,20 +125,20 @@ loop-again c =
           (λ w. filled-skip _ _ _ _ _ _ here w.0.taken low
           (past a.bit l.z z ws _ w.1.ensures w.2.left) _ _ w.3 w.4)
           (λ w. filled-done _ _ _ _ _ _ here w.0.left low _ _ w.1 w.2))
-          c.if1.branch),
+          c.if-x-t.branch),
     )
 
 returns : tie.Need-returns invariant-loop decreases-loop
 returns c =
     let a = c.before.before.args in
-    let l = c.before.loop in
+    let l = c.before.loop-z in
     let ws = width_list a.widths in
-    let all : 4 * a.bit + l.z ≡ 4 * a.bit + 4 = omega (arith, c.loop-test.false, l.invariant.0) in
+    let all : 4 * a.bit + l.z ≡ 4 * a.bit + 4 = omega (arith, c.loop-z-test.false, l.invariant.0) in
     let q = wanted_at ws (wanted_values a.query) in
     (l.invariant.1, subst (λ g. RowsFilled ws q a.t g l.x l.rows) all l.invariant.2)
 
-pub fill-bit-spec : {M : Type 1} → statement M
-fill-bit-spec =
+pub fill_bit_spec : {M : Type 1} → statement M
+fill_bit_spec =
     tie.close
     (tie.spec
     invariant-loop

@@ -15,53 +15,53 @@ use Rattle.query_rows.proofs.TableLaws.{rows-filled, fit-steps}
 use Rattle.query_rows.proofs.fill_rows.Statement.{statement}
 use Rattle.query_rows.proofs.fill_rows.Tie as tie
 
-abbrev invariant-loop : tie.invariant-loop
+abbrev invariant-loop : tie.invariant-loop-x
 invariant-loop query t rows₀ widths x₀ bit₀ rows x bit =
     (length rows ≡ length rows₀)
     × RowsFilled (width_list widths) (wanted_at (width_list widths) (wanted_values query)) t (4 * bit) x rows
 
-abbrev decreases-loop : tie.decreases-loop
+abbrev decreases-loop : tie.decreases-loop-x
 decreases-loop query t rows₀ widths x₀ bit₀ rows x bit = 16 - bit
 
-widths-of-requires : tie.Need-widths-of-requires invariant-loop decreases-loop
+widths-of-requires : tie.Need-widths_of-widths-requires invariant-loop decreases-loop
 widths-of-requires c κs = tt
 
 -- the widths fit and have t steps
-fits : (c : tie.After-widths-of invariant-loop decreases-loop) → let ws = width_list c.widths-of.result in
+fits : (c : tie.After-widths_of-widths invariant-loop decreases-loop) → let ws = width_list c.widths_of-widths.result in
     (Fit ws) × (c.before.args.t ≤ length (steps ws))
 fits c =
     let s = c.before in
-    let w = c.widths-of.result in
-    fit-steps s.args.shape w.w0 w.w1 w.w2 w.w3 s.args.t s.requires.shape c.widths-of.ensures
+    let w = c.widths_of-widths.result in
+    fit-steps s.args.shape w.w0 w.w1 w.w2 w.w3 s.args.t s.requires.shape c.widths_of-widths.ensures
     s.requires.bits
 
-fixed-bits-before-requires : tie.Need-fixed-bits-before-requires invariant-loop decreases-loop
+fixed-bits-before-requires : tie.Need-fixed_bits_before-requires invariant-loop decreases-loop
 fixed-bits-before-requires c κs = ((fits c).0, omega arith)
 
-element-write-rows : tie.Need-element-write-rows invariant-loop decreases-loop
+element-write-rows : tie.Need-bounds-rows-5 invariant-loop decreases-loop
 element-write-rows c = omega arith
 
-loop-holds : tie.Need-loop-init invariant-loop decreases-loop
+loop-holds : tie.Need-loop-x-init invariant-loop decreases-loop
 unfolding steps_below
 loop-holds c =
     let s = c.before.before in
     let five : 5 < length s.args.rows.now = omega (arith, s.requires.table-lent) in (
       refl,
-      filled_zero _ _ _ _ (get_or-set_same s.args.rows.now 5 _ 0 five ∙ c.fixed-bits-before.ensures),
+      filled_zero _ _ _ _ (get_or-set_same s.args.rows.now 5 _ 0 five ∙ c.fixed_bits_before.ensures),
     )
 
-live : (c : tie.In-loop invariant-loop decreases-loop) → c.before.loop.bit < 16
+live : (c : tie.In-loop-x invariant-loop decreases-loop) → c.before.loop-x.bit < 16
 live c =
     omega (
       arith,
-      filled_live _ _ _ _ _ _ c.before.loop.invariant.1 c.loop-test.true (fits c.before.before.before).1,
+      filled_live _ _ _ _ _ _ c.before.loop-x.invariant.1 c.loop-x-test.true (fits c.before.before.before).1,
     )
 
-fill-bit-requires : tie.Need-fill-bit-requires invariant-loop decreases-loop
+fill-bit-requires : tie.Need-fill_bit-x-requires invariant-loop decreases-loop
 fill-bit-requires c κs =
     let test = c.before in
     let s = test.before.before.before.before in
-    let loop = test.before.loop in
+    let loop = test.before.loop-x in
     let lent = loop.invariant.0 ∙ length-set s.args.rows.now 5 _ in
     record {
       fit = (fits test.before.before.before).0;
@@ -71,37 +71,37 @@ fill-bit-requires c κs =
       filled = loop.invariant.1;
     }
 
-add-bit : tie.Need-overflow-add-bit invariant-loop decreases-loop
+add-bit : tie.Need-overflow_add-bit invariant-loop decreases-loop
 add-bit c = omega (arith, live c.before.before)
 
-loop-less : tie.Need-loop-smaller invariant-loop decreases-loop
+loop-less : tie.Need-loop-x-smaller invariant-loop decreases-loop
 loop-less c = omega (arith, live c.before.before)
 
-loop-again : tie.Need-loop-preserved invariant-loop decreases-loop
+loop-again : tie.Need-loop-x-preserved invariant-loop decreases-loop
 loop-again c =
     let a = c.before.before.before.before.before.before.args in
-    let ws = width_list c.before.before.before.before.before.widths-of.result in
-    let l = c.before.before.before.loop in
+    let ws = width_list c.before.before.before.before.before.widths_of-widths.result in
+    let l = c.before.before.before.loop-x in
     let next : 4 * l.bit + 4 ≡ 4 * (l.bit + 1) = omega arith in (
-      c.fill-bit.ensures.0 ∙ l.invariant.0,
-      subst (λ g. RowsFilled ws (wanted_at ws (wanted_values a.query)) a.t g c.fill-bit.result
-          c.fill-bit.new.1.1.1.1.0) next c.fill-bit.ensures.1,
+      c.fill_bit-x.ensures.0 ∙ l.invariant.0,
+      subst (λ g. RowsFilled ws (wanted_at ws (wanted_values a.query)) a.t g c.fill_bit-x.result
+          c.fill_bit-x.new.1.1.1.1.0) next c.fill_bit-x.ensures.1,
     )
 
 returns : tie.Need-returns invariant-loop decreases-loop
 returns c =
     let a = c.before.before.before.before.args in
-    let l = c.before.loop in
+    let l = c.before.loop-x in
     let wanted = wanted_values a.query in (
       l.invariant.0 ∙ length-set a.rows.now 5 _,
       rows-filled _ _ a.t (4 * l.bit) l.x l.rows
           (subst (λ ws. RowsFilled ws (wanted_at ws wanted) a.t (4 * l.bit) l.x l.rows)
-          c.before.before.before.widths-of.ensures l.invariant.1)
-          c.loop-test.false,
+          c.before.before.before.widths_of-widths.ensures l.invariant.1)
+          c.loop-x-test.false,
     )
 
-pub fill-rows-spec : {M : Type 1} → statement M
-fill-rows-spec =
+pub fill_rows_spec : {M : Type 1} → statement M
+fill_rows_spec =
     tie.close
     (tie.spec
     invariant-loop

@@ -5,30 +5,30 @@ use borrow.Author.Rules.{rules}
 use Rattle.query_rows.proofs.free_mark.Statement.{statement}
 use Rattle.query_rows.proofs.free_mark.Tie as tie
 
-mul-attribute : tie.Need-overflow-mul-attribute
+mul-attribute : tie.Need-offset_bounds-query-j
 mul-attribute c = search rules
 
-element-copy-out-attribute : tie.Need-element-copy-out-attribute
+element-copy-out-attribute : tie.Need-bounds-query-j
 element-copy-out-attribute c = search rules
 
-enum_told : tie.Need-enum-told
+enum_told : tie.Need-enum_told-1
 enum_told c = search rules
 
-enum-told-2 : tie.Need-enum-told-2
+enum-told-2 : tie.Need-enum_told-in-Given
 enum-told-2 c = search rules
 
-returns : tie.Need-returns
+returns : tie.Need-returns-in-Free
 returns c =
     let s = c.before.before.before in
-    ((wanted-free s.args.t1 s.args.j s.requires c.enum_told.given.1).1, omega arith)
+    ((wanted-free s.args.t1 s.args.j s.requires c.enum_told-1.given.1).1, omega arith)
 
-returns-2 : tie.Need-returns-2
+returns-2 : tie.Need-returns-in-Given
 returns-2 c =
     let s = c.before.before.before in
-    ((wanted-given s.args.t1 s.args.j s.requires _ c.enum-told2.given.1).1, omega arith)
+    ((wanted-given s.args.t1 s.args.j s.requires _ c.enum_told-in-Given-1.given.1).1, omega arith)
 
-pub free-mark-spec : {M : Type 1} → statement M
-free-mark-spec =
+pub free_mark_spec : {M : Type 1} → statement M
+free_mark_spec =
     tie.close
     (tie.spec
     mul-attribute

@@ -8,5 +8,5 @@ returns : tie.Need-returns
 unfolding wanted_values
 returns c = refl
 
-pub free-query-spec : {M : Type 1} → statement M
-free-query-spec = tie.close (tie.spec returns)
+pub free_query_spec : {M : Type 1} → statement M
+free_query_spec = tie.close (tie.spec returns)

@@ -4,33 +4,33 @@ use borrow.Author.Rules.{rules}
 use Rattle.query_rows.proofs.given_value.Statement.{statement}
 use Rattle.query_rows.proofs.given_value.Tie as tie
 
-mul-attribute : tie.Need-overflow-mul-attribute
+mul-attribute : tie.Need-offset_bounds-query-j
 mul-attribute c = search rules
 
-element-copy-out-attribute : tie.Need-element-copy-out-attribute
+element-copy-out-attribute : tie.Need-bounds-query-j
 element-copy-out-attribute c = search rules
 
-enum_told : tie.Need-enum-told
+enum_told : tie.Need-enum_told-1
 enum_told c = search rules
 
-enum-known-wanted : tie.Need-enum-known-wanted
+enum-known-wanted : tie.Need-enum_known-wanted
 enum-known-wanted c = search rules
 
-cast-result : tie.Need-overflow-cast-result
+cast-result : tie.Need-overflow_cast-result
 cast-result c = search rules
 
-returns : tie.Need-returns
+returns : tie.Need-returns-in-Free
 returns c =
     let s = c.before.before.before in
-    (wanted-free s.args.t1 s.args.j s.requires c.enum_told.given.1).0
+    (wanted-free s.args.t1 s.args.j s.requires c.enum_told-1.given.1).0
 
-returns-2 : tie.Need-returns-2
+returns-2 : tie.Need-returns-in-Given
 returns-2 c =
     let s = c.before.before.before.before in
-    (wanted-given s.args.t1 s.args.j s.requires _ c.before.wanted.given.1).0
+    (wanted-given s.args.t1 s.args.j s.requires _ c.before.wanted-1.given.1).0
 
-pub given-value-spec : {M : Type 1} → statement M
-given-value-spec =
+pub given_value_spec : {M : Type 1} → statement M
+given_value_spec =
     tie.close
     (tie.spec
     mul-attribute

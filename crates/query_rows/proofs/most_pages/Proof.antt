@@ -9,81 +9,81 @@ use Rattle.query_rows.proofs.MostLaws.{most_pages-le, counted-free, counted-give
 use Rattle.query_rows.proofs.most_pages.Statement.{statement}
 use Rattle.query_rows.proofs.most_pages.Tie as tie
 
-abbrev invariant-loop : tie.invariant-loop
+abbrev invariant-loop : tie.invariant-loop-x
 invariant-loop rows t most₀ x₀ most x = (x ≤ t) × (most ≡ most_pages rows (t - x) x)
 
-abbrev decreases-loop : tie.decreases-loop
+abbrev decreases-loop : tie.decreases-loop-x
 decreases-loop rows t most₀ x₀ most x = x
 
-loop-holds : tie.Need-loop-init invariant-loop decreases-loop
+loop-holds : tie.Need-loop-x-init invariant-loop decreases-loop
 unfolding most_pages
 loop-holds c =
     let none : c.args.t - c.args.t ≡ 0 = omega arith in
     (omega arith, sym (ap (λ f. most_pages c.args.rows.now f c.args.t) none))
 
-sub-x : tie.Need-overflow-sub-x invariant-loop decreases-loop
-sub-x c = omega (arith, c.loop-test.true)
+sub-x : tie.Need-overflow_sub-x invariant-loop decreases-loop
+sub-x c = omega (arith, c.loop-x-test.true)
 
 -- the row lies in the table
-row-lent : (c : tie.In-loop invariant-loop decreases-loop) → (c.before.loop.x - 1) * 6 + 6 ≤ 72
-row-lent c = omega (arith, c.loop-test.true, c.before.loop.invariant.0, c.before.before.requires)
+row-lent : (c : tie.In-loop-x invariant-loop decreases-loop) → (c.before.loop-x.x - 1) * 6 + 6 ≤ 72
+row-lent c = omega (arith, c.loop-x-test.true, c.before.loop-x.invariant.0, c.before.before.requires)
 
-mul-if1 : tie.Need-overflow-mul-if1 invariant-loop decreases-loop
+mul-if1 : tie.Need-overflow_mul-x invariant-loop decreases-loop
 mul-if1 c = omega (arith, row-lent c)
 
-add-if1 : tie.Need-overflow-add-if1 invariant-loop decreases-loop
+add-if1 : tie.Need-overflow_add-x invariant-loop decreases-loop
 add-if1 c = omega (arith, row-lent c)
 
-mul-if1-2 : tie.Need-overflow-mul-if1-2 invariant-loop decreases-loop
+mul-if1-2 : tie.Need-offset_bounds-rows-x invariant-loop decreases-loop
 mul-if1-2 c = omega (arith, row-lent c)
 
-element-copy-out-if1 : tie.Need-element-copy-out-if1 invariant-loop decreases-loop
+element-copy-out-if1 : tie.Need-bounds-rows-x invariant-loop decreases-loop
 element-copy-out-if1 c = omega (arith, row-lent c)
 
-mul_most : tie.Need-overflow-mul-most invariant-loop decreases-loop
+mul_most : tie.Need-overflow_mul-most invariant-loop decreases-loop
 mul_most c =
     let s = c.before.before.before.before in
-    let loop = c.before.before.before.loop in
+    let loop = c.before.before.before.loop-x in
     let left = s.args.t - loop.x in
     let few : 2 ^ left ≤ 2 ^ 12 = pow_mono {i = left} {j = 12} (omega (arith, s.requires)) in
     omega (arith, loop.invariant.1, most_pages-le s.args.rows.now left loop.x, few)
 
-loop-less : tie.Need-loop-smaller invariant-loop decreases-loop
-loop-less c = omega (arith, c.before.before.loop-test.true)
+loop-less : tie.Need-loop-x-smaller-then-rows-x-gt1 invariant-loop decreases-loop
+loop-less c = omega (arith, c.before.before.loop-x-test.true)
 
-loop-again : tie.Need-loop-preserved invariant-loop decreases-loop
+loop-again : tie.Need-loop-x-preserved-then-rows-x-gt1 invariant-loop decreases-loop
 loop-again c =
     let a = c.before.before.before.before.args in
-    let loop = c.before.before.before.loop in (
+    let loop = c.before.before.before.loop-x in (
       omega (arith, loop.invariant.0),
-      counted-free a.rows.now a.t loop.x loop.most c.before.before.loop-test.true loop.invariant.0
-          loop.invariant.1 c.if1.true,
+      counted-free a.rows.now a.t loop.x loop.most c.before.before.loop-x-test.true loop.invariant.0
+          loop.invariant.1 c.if-rows-x-gt1.true,
     )
 
-loop-less-2 : tie.Need-loop-smaller-2 invariant-loop decreases-loop
-loop-less-2 c = omega (arith, c.before.before.loop-test.true)
+loop-less-2 : tie.Need-loop-x-smaller invariant-loop decreases-loop
+loop-less-2 c = omega (arith, c.before.before.loop-x-test.true)
 
-loop-again-2 : tie.Need-loop-preserved-2 invariant-loop decreases-loop
+loop-again-2 : tie.Need-loop-x-preserved invariant-loop decreases-loop
 loop-again-2 c =
     let a = c.before.before.before.before.args in
-    let loop = c.before.before.before.loop in (
+    let loop = c.before.before.before.loop-x in (
       omega (arith, loop.invariant.0),
-      counted-given a.rows.now a.t loop.x loop.most c.before.before.loop-test.true loop.invariant.0
-          loop.invariant.1 c.if1.false,
+      counted-given a.rows.now a.t loop.x loop.most c.before.before.loop-x-test.true loop.invariant.0
+          loop.invariant.1 c.if-rows-x-gt1.false,
     )
 
 returns : tie.Need-returns invariant-loop decreases-loop
 returns c =
     let a = c.before.before.args in
-    let loop = c.before.loop in
-    let none : loop.x ≡ 0 = omega (arith, c.loop-test.false) in
+    let loop = c.before.loop-x in
+    let none : loop.x ≡ 0 = omega (arith, c.loop-x-test.false) in
     let all : a.t - loop.x ≡ a.t = omega (arith, none) in
     loop.invariant.1
     ∙ ap (λ f. most_pages a.rows.now f loop.x) all
     ∙ ap (λ y. most_pages a.rows.now a.t y) none
 
-pub most-pages-spec : {M : Type 1} → statement M
-most-pages-spec =
+pub most_pages_spec : {M : Type 1} → statement M
+most_pages_spec =
     tie.close
     (tie.spec
     invariant-loop

@@ -9,10 +9,10 @@ use borrow.Author.Rules.{rules}
 use Rattle.query_rows.proofs.multiplier_of.Statement.{statement}
 use Rattle.query_rows.proofs.multiplier_of.Tie as tie
 
-shl-result : tie.Need-overflow-shl-result
+shl-result : tie.Need-overflow_shl-result
 shl-result c = search rules
 
-shl-result-2 : tie.Need-overflow-shl-result-2
+shl-result-2 : tie.Need-overflow_shl-result-2
 shl-result-2 c = search rules
 
 -- the two terms
@@ -23,12 +23,12 @@ terms c = (
   one_shifted c.args.r (omega (arith, c.requires.1)),
 )
 
-add-result : tie.Need-overflow-add-result
+add-result : tie.Need-overflow_add-result
 add-result c =
     record { fits = omega (arith, terms c, multiplier_lt c.args.s c.args.r c.requires.0 c.requires.1) }
 
 returns : tie.Need-returns
 returns c = omega (arith, terms c)
 
-pub multiplier-of-spec : {M : Type 1} → statement M
-multiplier-of-spec = tie.close (tie.spec shl-result shl-result-2 add-result returns)
+pub multiplier_of_spec : {M : Type 1} → statement M
+multiplier_of_spec = tie.close (tie.spec shl-result shl-result-2 add-result returns)

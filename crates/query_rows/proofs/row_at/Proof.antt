@@ -8,97 +8,97 @@ use borrow.Author.Rules.{rules}
 use Rattle.query_rows.proofs.row_at.Statement.{statement}
 use Rattle.query_rows.proofs.row_at.Tie as tie
 
-other-depth-requires : tie.Need-other-depth-requires
+other-depth-requires : tie.Need-other_depth-h0-requires
 other-depth-requires c κs =
     let s = c in
     record { low = s.requires.low; attribute = omega arith; width = s.requires.fit 0 }
 
-other-depth-requires-2 : tie.Need-other-depth-requires-2
+other-depth-requires-2 : tie.Need-other_depth-h1-requires
 other-depth-requires-2 c κs =
     let s = c.before in
     record { low = s.requires.low; attribute = omega arith; width = s.requires.fit 1 }
 
-other-depth-requires-3 : tie.Need-other-depth-requires-3
+other-depth-requires-3 : tie.Need-other_depth-h2-requires
 other-depth-requires-3 c κs =
     let s = c.before.before in
     record { low = s.requires.low; attribute = omega arith; width = s.requires.fit 2 }
 
-other-depth-requires-4 : tie.Need-other-depth-requires-4
+other-depth-requires-4 : tie.Need-other_depth-h3-requires
 other-depth-requires-4 c κs =
     let s = c.before.before.before in
     record { low = s.requires.low; attribute = omega arith; width = s.requires.fit 3 }
 
-add-all : tie.Need-overflow-add-all
+add-all : tie.Need-overflow_add-all
 add-all c = search rules
 
-add-all-2 : tie.Need-overflow-add-all-2
+add-all-2 : tie.Need-overflow_add-all-2
 add-all-2 c = search rules
 
-add-all-3 : tie.Need-overflow-add-all-3
+add-all-3 : tie.Need-overflow_add-all-3
 add-all-3 c = search rules
 
-width-at-requires : tie.Need-width-at-requires
+width-at-requires : tie.Need-width_at-width-requires
 width-at-requires c κs = search rules
 
 -- the step's bit is one of its attribute's
-width-live : (c : tie.After-width-at) → c.before.before.before.before.before.args.g / 4 < c.width-at.result
+width-live : (c : tie.After-width_at-width) → c.before.before.before.before.before.args.g / 4 < c.width_at-width.result
 width-live c =
     let s = c.before.before.before.before.before in
-    subst (λ w. s.args.g / 4 < w) (sym c.width-at.ensures) s.requires.live
+    subst (λ w. s.args.g / 4 < w) (sym c.width_at-width.ensures) s.requires.live
 
-add-shift-of : tie.Need-overflow-add-shift-of
+add-shift-of : tie.Need-overflow_add-h1
 add-shift-of c = search rules
 
-add-shift-of-2 : tie.Need-overflow-add-shift-of-2
+add-shift-of-2 : tie.Need-overflow_add-h1-2
 add-shift-of-2 c = search rules
 
-shift-of-requires : tie.Need-shift-of-requires
+shift-of-requires : tie.Need-shift_of-s0-requires
 shift-of-requires c κs = search rules
 
-add-shift-of-3 : tie.Need-overflow-add-shift-of-3
+add-shift-of-3 : tie.Need-overflow_add-h2
 add-shift-of-3 c = search rules
 
-shift-of-requires-2 : tie.Need-shift-of-requires-2
+shift-of-requires-2 : tie.Need-shift_of-s1-requires
 shift-of-requires-2 c κs = search rules
 
-shift-of-requires-3 : tie.Need-shift-of-requires-3
+shift-of-requires-3 : tie.Need-shift_of-s2-requires
 shift-of-requires-3 c κs = search rules
 
-shift-of-requires-4 : tie.Need-shift-of-requires-4
+shift-of-requires-4 : tie.Need-shift_of-s3-requires
 shift-of-requires-4 c κs = search rules
 
 -- no shift passes 12
-small : (c : tie.After-shift-of4) → (c.before.before.before.Shift-of.result ≤ 12)
-    × (c.before.before.shift-of2.result ≤ 12)
-    × (c.before.shift-of3.result ≤ 12)
-    × (c.shift-of4.result ≤ 12)
+small : (c : tie.After-shift_of-s3) → (c.before.before.before.shift_of-s0.result ≤ 12)
+    × (c.before.before.shift_of-s1.result ≤ 12)
+    × (c.before.shift_of-s2.result ≤ 12)
+    × (c.shift_of-s3.result ≤ 12)
 small c =
     let h4 = c.before.before.before.before.before in
     let s = h4.before.before.before.before in
     let w = s.args.widths in
     shifts-le w.w0 w.w1 w.w2 w.w3 s.requires.fit s.args.g s.requires.low s.requires.live s.requires.deep
     _ _ _ _ _ _ _ _
-    h4.before.before.before.other-depth.ensures.0 h4.before.before.other-depth2.ensures.0
-    h4.before.other-depth3.ensures.0 h4.other-depth4.ensures.0
-    c.before.before.before.Shift-of.ensures c.before.before.shift-of2.ensures
-    c.before.shift-of3.ensures c.shift-of4.ensures
+    h4.before.before.before.other_depth-h0.ensures.0 h4.before.before.other_depth-h1.ensures.0
+    h4.before.other_depth-h2.ensures.0 h4.other_depth-h3.ensures.0
+    c.before.before.before.shift_of-s0.ensures c.before.before.shift_of-s1.ensures
+    c.before.shift_of-s2.ensures c.shift_of-s3.ensures
 
-multiplier-of-requires : tie.Need-multiplier-of-requires
+multiplier-of-requires : tie.Need-multiplier_of-requires
 multiplier-of-requires c κs = ((small c).0, (small c).1)
 
-multiplier-of-requires-2 : tie.Need-multiplier-of-requires-2
+multiplier-of-requires-2 : tie.Need-multiplier_of-requires-2
 multiplier-of-requires-2 c κs = ((small c.before).2, (small c.before).3)
 
-mul-t18 : tie.Need-overflow-mul-t18
+mul-t18 : tie.Need-overflow_mul-result
 mul-t18 c = search rules
 
-add-t19 : tie.Need-overflow-add-t19
+add-t19 : tie.Need-overflow_add-result
 add-t19 c = search rules
 
-shl-t20 : tie.Need-overflow-shl-t20
+shl-t20 : tie.Need-overflow_shl-result
 shl-t20 c = search rules
 
-wanted-bit-requires : tie.Need-wanted-bit-requires
+wanted-bit-requires : tie.Need-wanted_bit-requires
 wanted-bit-requires c κs =
     let measured = c.before.before.before.before.before.before in
     let s = measured.before.before.before.before.before in
@@ -106,29 +106,29 @@ wanted-bit-requires c κs =
     record {
       attribute = omega arith;
       bit = live;
-      width = omega (arith, measured.width-at.ensures, s.requires.fit (s.args.g % 4));
+      width = omega (arith, measured.width_at-width.ensures, s.requires.fit (s.args.g % 4));
     }
 
-mul-t23 : tie.Need-overflow-mul-t23
+mul-t23 : tie.Need-overflow_mul-result-2
 mul-t23 c = search rules
 
-sub-t24 : tie.Need-overflow-sub-t24
+sub-t24 : tie.Need-overflow_sub-result
 sub-t24 c = search rules
 
-sub-t25 : tie.Need-overflow-sub-t25
+sub-t25 : tie.Need-overflow_sub-result-2
 sub-t25 c = search rules
 
-add-t26 : tie.Need-overflow-add-t26
+add-t26 : tie.Need-overflow_add-result-2
 add-t26 c =
     let measured = c.before.before.before.before.before.before.before in
     let s = measured.before.before.before.before.before in
-    omega (arith, width-live measured, measured.width-at.ensures, s.requires.fit (s.args.g % 4))
+    omega (arith, width-live measured, measured.width_at-width.ensures, s.requires.fit (s.args.g % 4))
 
-shl-t27 : tie.Need-overflow-shl-t27
+shl-t27 : tie.Need-overflow_shl-result-2
 shl-t27 c =
     let measured = c.before.before.before.before.before.before.before in
     let s = measured.before.before.before.before.before in
-    omega (arith, width-live measured, measured.width-at.ensures, s.requires.fit (s.args.g % 4))
+    omega (arith, width-live measured, measured.width_at-width.ensures, s.requires.fit (s.args.g % 4))
 
 returns : tie.Need-returns
 returns c =
@@ -139,15 +139,15 @@ returns c =
     let w = start.args.widths in
     step_row-pair w.w0 w.w1 w.w2 w.w3 start.requires.fit start.args.g start.requires.low start.requires.live
     (wanted_values start.args.query) _ _ _ _ _ _ _ _ _ _ _ _
-    h4.before.before.before.other-depth.ensures.0 h4.before.before.other-depth2.ensures.0
-    h4.before.other-depth3.ensures.0 h4.other-depth4.ensures.0
-    s4.before.before.before.Shift-of.ensures s4.before.before.shift-of2.ensures
-    s4.before.shift-of3.ensures s4.shift-of4.ensures
-    c.before.before.multiplier-of.ensures c.before.multiplier-of2.ensures
-    measured.width-at.ensures c.wanted-bit.ensures
+    h4.before.before.before.other_depth-h0.ensures.0 h4.before.before.other_depth-h1.ensures.0
+    h4.before.other_depth-h2.ensures.0 h4.other_depth-h3.ensures.0
+    s4.before.before.before.shift_of-s0.ensures s4.before.before.shift_of-s1.ensures
+    s4.before.shift_of-s2.ensures s4.shift_of-s3.ensures
+    c.before.before.multiplier_of.ensures c.before.multiplier_of-2.ensures
+    measured.width_at-width.ensures c.wanted_bit.ensures
 
-pub row-at-spec : {M : Type 1} → statement M
-row-at-spec =
+pub row_at_spec : {M : Type 1} → statement M
+row_at_spec =
     tie.close
     (tie.spec
     other-depth-requires

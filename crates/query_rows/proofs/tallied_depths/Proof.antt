@@ -10,56 +10,56 @@ use Rattle.query_rows.proofs.DepthLaws.{tallied_depths-before}
 use Rattle.query_rows.proofs.tallied_depths.Statement.{statement}
 use Rattle.query_rows.proofs.tallied_depths.Tie as tie
 
-abbrev invariant-loop : tie.invariant-loop
+abbrev invariant-loop : tie.invariant-loop-x
 invariant-loop tally depths₀ x₀ depths x = (x ≤ 13) × (depths ≡ tallied_depths (drop x tally.leaves))
 
-abbrev decreases-loop : tie.decreases-loop
+abbrev decreases-loop : tie.decreases-loop-x
 decreases-loop tally depths₀ x₀ depths x = x
 
 -- the tally's list
 thirteen : (c : tie.Start invariant-loop decreases-loop) → length c.args.t1.leaves ≡ 13
 thirteen c = sym (length-map c.args.t1.leaves (λ v. v)) ∙ c.well-formed.0.1.1.0.1.0.1
 
-loop-holds : tie.Need-loop-init invariant-loop decreases-loop
+loop-holds : tie.Need-loop-x-init invariant-loop decreases-loop
 unfolding tallied_depths
 loop-holds c =
     let end : drop 13 c.args.t1.leaves ≡ [] =
     drop_of_length-le c.args.t1.leaves {i = 13} (omega (arith, thirteen c)) in
     (omega arith, sym (ap tallied_depths end))
 
-sub-x : tie.Need-overflow-sub-x invariant-loop decreases-loop
+sub-x : tie.Need-overflow_sub-x invariant-loop decreases-loop
 sub-x c = omega arith
 
-mul-depths : tie.Need-overflow-mul-depths invariant-loop decreases-loop
+mul-depths : tie.Need-offset_bounds-tally-x invariant-loop decreases-loop
 mul-depths c = omega arith
 
-element-copy-out-depths : tie.Need-element-copy-out-depths invariant-loop decreases-loop
+element-copy-out-depths : tie.Need-bounds-tally-x invariant-loop decreases-loop
 element-copy-out-depths c = omega arith
 
-cast-depths : tie.Need-overflow-cast-depths invariant-loop decreases-loop
+cast-depths : tie.Need-overflow_cast-depths invariant-loop decreases-loop
 cast-depths c = tt
 
-loop-less : tie.Need-loop-smaller invariant-loop decreases-loop
+loop-less : tie.Need-loop-x-smaller invariant-loop decreases-loop
 loop-less c = omega arith
 
-loop-again : tie.Need-loop-preserved invariant-loop decreases-loop
+loop-again : tie.Need-loop-x-preserved invariant-loop decreases-loop
 loop-again c =
     let s = c.before.before.before in
-    let l = c.before.before.loop in
+    let l = c.before.before.loop-x in
     let lent = thirteen s in (
       omega arith,
-      tallied_depths-before s.args.t1.leaves l.x l.depths c.before.loop-test.true
+      tallied_depths-before s.args.t1.leaves l.x l.depths-1 c.before.loop-x-test.true
           (omega (arith, l.invariant.0)) (omega arith) l.invariant.1,
     )
 
 returns : tie.Need-returns invariant-loop decreases-loop
 returns c =
-    let l = c.before.loop in
-    let none : l.x ≡ 0 = omega (arith, c.loop-test.false) in
+    let l = c.before.loop-x in
+    let none : l.x ≡ 0 = omega (arith, c.loop-x-test.false) in
     l.invariant.1 ∙ ap (λ x. tallied_depths (drop x c.before.before.args.t1.leaves)) none
 
-pub tallied-depths-spec : {M : Type 1} → statement M
-tallied-depths-spec =
+pub tallied_depths_spec : {M : Type 1} → statement M
+tallied_depths_spec =
     tie.close
     (tie.spec
     invariant-loop

@@ -12,29 +12,29 @@ use borrow.Author.Rules.{rules}
 use Rattle.query_rows.proofs.wanted_bit.Statement.{statement}
 use Rattle.query_rows.proofs.wanted_bit.Tie as tie
 
-given-value-requires : tie.Need-given-value-requires
+given-value-requires : tie.Need-given_value-value-requires
 given-value-requires c κs = search rules
 
-sub-result : tie.Need-overflow-sub-result
+sub-result : tie.Need-overflow_sub-result
 sub-result c = search rules
 
-sub-result-2 : tie.Need-overflow-sub-result-2
+sub-result-2 : tie.Need-overflow_sub-result-2
 sub-result-2 c = search rules
 
-shr-result : tie.Need-overflow-shr-result
+shr-result : tie.Need-overflow_shr-result
 shr-result c = search rules
 
-free-mark-requires : tie.Need-free-mark-requires
+free-mark-requires : tie.Need-free_mark-requires
 free-mark-requires c κs = search rules
 
-add-result : tie.Need-overflow-add-result
+add-result : tie.Need-overflow_add-result
 add-result c =
     let a = c.before.before.args in
     record {
       fits = omega (
         arith,
-        c.free-mark.ensures.1,
-        and_mask (c.before.given-value.result / 2 ^ (a.width - 1 - a.bit)) 1,
+        c.free_mark.ensures.1,
+        and_mask (c.before.given_value-value.result / 2 ^ (a.width - 1 - a.bit)) 1,
       );
     }
 
@@ -42,11 +42,11 @@ returns : tie.Need-returns
 returns c =
     let a = c.before.before.args in
     let o = get_or (wanted_values a.query) a.j none in
-    (λ i. bit_and (c.before.given-value.ensures i / 2 ^ (a.width - 1 - a.bit)) 1 + c.free-mark.ensures.0 i)
+    (λ i. bit_and (c.before.given_value-value.ensures i / 2 ^ (a.width - 1 - a.bit)) 1 + c.free_mark.ensures.0 i)
     ∙ wanted_number-sum a.width a.bit o
 
-pub wanted-bit-spec : {M : Type 1} → statement M
-wanted-bit-spec =
+pub wanted_bit_spec : {M : Type 1} → statement M
+wanted_bit_spec =
     tie.close
     (tie.spec
     given-value-requires

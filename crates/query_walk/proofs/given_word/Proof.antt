@@ -3,11 +3,11 @@ use borrow.Author.Tests.{eq-eqb, ne_eqb}
 use Rattle.query_walk.proofs.given_word.Statement.{statement}
 use Rattle.query_walk.proofs.given_word.Tie as tie
 
-returns : tie.Need-returns
-returns c = rw (eq-eqb _ _ c.if1.true)
+returns : tie.Need-returns-then-wanted-eq0
+returns c = rw (eq-eqb _ _ c.if-wanted-eq0.true)
 
-returns-2 : tie.Need-returns-2
-returns-2 c = rw (ne_eqb _ _ c.if1.false)
+returns-2 : tie.Need-returns-else-wanted-eq0
+returns-2 c = rw (ne_eqb _ _ c.if-wanted-eq0.false)
 
-pub given-word-spec : {M : Type 1} → statement M
-given-word-spec = tie.close (tie.spec returns returns-2)
+pub given_word_spec : {M : Type 1} → statement M
+given_word_spec = tie.close (tie.spec returns returns-2)

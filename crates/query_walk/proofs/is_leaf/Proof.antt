@@ -5,14 +5,14 @@ use borrow.Author.Rules.{rules}
 use Rattle.query_walk.proofs.is_leaf.Statement.{statement}
 use Rattle.query_walk.proofs.is_leaf.Tie as tie
 
-depth-of-requires : tie.Need-depth-of-requires
+depth-of-requires : tie.Need-depth_of-depth-requires
 depth-of-requires c κs = search rules
 
-cast-depth : tie.Need-overflow-cast-depth
+cast-depth : tie.Need-overflow_cast-depth
 cast-depth c = search rules
 
 returns : tie.Need-returns
-returns c = ap (λ d. eqb d c.before.args.x) c.depth-of.ensures.0
+returns c = ap (λ d. eqb d c.before.args.x) c.depth_of-depth.ensures.0
 
-pub is-leaf-spec : {M : Type 1} → statement M
-is-leaf-spec = tie.close (tie.spec depth-of-requires cast-depth returns)
+pub is_leaf_spec : {M : Type 1} → statement M
+is_leaf_spec = tie.close (tie.spec depth-of-requires cast-depth returns)

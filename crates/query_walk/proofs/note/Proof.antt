@@ -15,101 +15,101 @@ use Rattle.query_walk.proofs.note.Statement.{statement}
 use Rattle.query_walk.proofs.note.Tie as tie
 
 -- its depth is one that the tally has
-told : (c : tie.Else1)
+told : (c : tie.Else-depths-x-eq0)
     → let a = c.before.before.before.before.args in
     has_depth (tallied_in a.rows.now) a.x ≡ true
 told c =
     let a = c.before.before.before.before.args in
-    has_depth-some (tallied_in a.rows.now) a.x c.if1.false
+    has_depth-some (tallied_in a.rows.now) a.x c.if-depths-x-eq0.false
 
 -- which pages may be read
 abbrev fair : tie.Start → ℕ → Bool
 fair s = page_fair s.args.rows.now s.args.pages.now s.args.x s.args.corner
 
-element-copy-out-depths : tie.Need-element-copy-out-depths
+element-copy-out-depths : tie.Need-bounds-rows-81
 element-copy-out-depths c = search rules
 
-shr-if1 : tie.Need-overflow-shr-if1
+shr-if1 : tie.Need-overflow_shr-depths
 shr-if1 c = search rules
 
-returns : tie.Need-returns
+returns : tie.Need-returns-then-depths-x-eq0
 returns c =
     let s = c.before.before.before.before in
     let a = s.args in
     Wrote-noted-untold a.list.now a.n (pages_in a.rows.now) _ (fair s) a.word
-    (has_depth-none (tallied_in a.rows.now) a.x c.if1.true)
+    (has_depth-none (tallied_in a.rows.now) a.x c.if-depths-x-eq0.true)
 
-field-of-requires : tie.Need-field-of-requires
+field-of-requires : tie.Need-field_of-field-requires
 field-of-requires c κs = search rules
 
-cast-field : tie.Need-overflow-cast-field
+cast-field : tie.Need-overflow_cast-field
 cast-field c = search rules
 
-returns-2 : tie.Need-returns-2
+returns-2 : tie.Need-returns-then-field-eq0
 returns-2 c =
     let test = c.before.before in
     let s = test.before.before.before.before in
     let a = s.args in
     Wrote-noted-none a.list.now a.n (pages_in a.rows.now) _ (fair s) a.word _ (told test)
-    c.before.field_of.ensures.0 c.if2.true
+    c.before.field_of-field.ensures.0 c.if-field-eq0.true
 
-element-copy-out-p : tie.Need-element-copy-out-p
+element-copy-out-p : tie.Need-bounds-rows-78
 element-copy-out-p c = search rules
 
-returns-3 : tie.Need-returns-3
+returns-3 : tie.Need-returns-then-p-field
 returns-3 c =
     let test = c.before.before.before.before in
     let s = test.before.before.before.before in
     let a = s.args in
     Wrote-noted-past a.list.now a.n (pages_in a.rows.now) _ (fair s) a.word _ (told test)
-    c.before.before.before.field_of.ensures.0 c.if3.true
+    c.before.before.before.field_of-field.ensures.0 c.if-p-field.true
 
-sub-page : tie.Need-overflow-sub-page
+sub-page : tie.Need-overflow_sub-page
 sub-page c = search rules
 
-page-fair-requires : tie.Need-page-fair-requires
+page-fair-requires : tie.Need-page_fair-requires
 page-fair-requires c κs =
     let s = c.before.before.before.before.before.before.before.before in
-    let field = c.before.before.if2.false in
-    record { deep = s.requires.deep; lent = s.requires.lent; named = omega (arith, c.if3.false, field) }
+    let field = c.before.before.if-field-eq0.false in
+    record { deep = s.requires.deep; lent = s.requires.lent; named = omega (arith, c.if-p-field.false, field) }
 
-returns-4 : tie.Need-returns-4
+returns-4 : tie.Need-returns-then-not-page_fair
 returns-4 c =
     let test3 = c.before.before in
     let test = test3.before.before.before.before in
     let s = test.before.before.before.before in
     let a = s.args in
     Wrote-noted-unfair a.list.now a.n (pages_in a.rows.now) _ (fair s) a.word _ (told test)
-    test3.before.before.before.field_of.ensures.0 test3.before.before.if2.false test3.if3.false
-    (sym c.before.page-fair.ensures ∙ not-true _ c.if4.true)
+    test3.before.before.before.field_of-field.ensures.0 test3.before.before.if-field-eq0.false test3.if-p-field.false
+    (sym c.before.page_fair.ensures ∙ not-true _ c.if-not-page_fair.true-raw)
 
-cast-list : tie.Need-overflow-cast-list
+cast-list : tie.Need-overflow_cast-list
 cast-list c = search rules
 
-mul-list : tie.Need-overflow-mul-list
+mul-list : tie.Need-offset_bounds-list-n
 mul-list c = search rules
 
-slice-write-list : tie.Need-slice-write-list
+slice-write-list : tie.Need-bounds-list-n
 slice-write-list c = search rules
 
-add-result : tie.Need-overflow-add-result
+add-result : tie.Need-overflow_add-result
 add-result c = search rules
 
-same_length : tie.Need-same-length
+same_length : tie.Need-shape_of-list
 same_length c = search rules
 
-returns-5 : tie.Need-returns-5
+returns-5 : tie.Need-returns
 returns-5 c =
     let test3 = c.before.before in
     let test = test3.before.before.before.before in
     let s = test.before.before.before.before in
     let a = s.args in
     Wrote-noted-fair a.list.now a.n (pages_in a.rows.now) _ (fair s) a.word _ (told test)
-    test3.before.before.before.field_of.ensures.0 test3.before.before.if2.false test3.if3.false
-    (sym c.before.page-fair.ensures ∙ not-false _ c.if4.false)
+    test3.before.before.before.field_of-field.ensures.0 test3.before.before.if-field-eq0.false test3.if-p-field.false
+    (sym c.before.page_fair.ensures ∙ not-false _ c.if-not-page_fair.false-raw)
 
-pub note-spec : {M : Type 1} → statement M
-note-spec =
+pub note_spec : {M : Type 1} → statement M
+note_spec =
     tie.close
     (tie.spec
     element-copy-out-depths

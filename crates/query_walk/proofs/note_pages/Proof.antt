@@ -26,16 +26,16 @@ turn s =
     (length s.args.list.now) s.requires
 
 -- where the call began
-abbrev start : tie.Joined1 → tie.Start
+abbrev start : tie.Joined-is_leaf → tie.Start
 start c = c.before.before.before.before.before.before
 
 -- what was noted, by one leaf or by the walk
-wrote : (c : tie.Joined1)
+wrote : (c : tie.Joined-is_leaf)
     → let a = (start c).args in
     Wrote a.list.now 0
     (by_rows a.state a.rows.now a.dir.now a.pages.now (length a.list.now) (start c).requires
     (deepest_in a.rows.now))
-    c.if1.count c.if1.list
+    c.if-is_leaf.count c.if-is_leaf.list-1
 wrote c =
     let a = (start c).args in
     ⊎_elim
@@ -44,63 +44,63 @@ wrote c =
     (get_or a.dir.now 0 0) a.list.now 0 _ _
     (eqb-true _ _ (sym c.before.is_Is_leaf.ensures ∙ w.0.taken)) w.2.ensures))
     (λ w. Wrote-same w.6 w.5 w.2.ensures)
-    c.if1.branch
+    c.if-is_leaf.branch
 
-same : (c : tie.Joined1) → length c.if1.list ≡ length (start c).args.list.now
+same : (c : tie.Joined-is_leaf) → length c.if-is_leaf.list-1 ≡ length (start c).args.list.now
 same c =
     ⊎_elim (λ w. ap length w.5 ∙ w.2.kept.1.1.0) (λ w. ap length w.5 ∙ w.2.kept.1.1.1.0)
-    c.if1.branch
+    c.if-is_leaf.branch
 
-shared-slice-read-word : tie.Need-shared-slice-read-word
+shared-slice-read-word : tie.Need-bounds-dir-0
 shared-slice-read-word c =
     let s = c.before.before.before.before in
     omega (arith, s.requires.words-lent, pow_pos s.args.state.deepest)
 
-is-leaf-requires : tie.Need-is-leaf-requires
+is-leaf-requires : tie.Need-is_leaf-requires
 is-leaf-requires c κs = tt
 
-note-requires : tie.Need-note-requires
+note-requires : tie.Need-note-count-requires
 note-requires c κs = leaf-asked (turn c.before.before.before.before.before.before.before)
 
-walk-requires : tie.Need-walk-requires
+walk-requires : tie.Need-walk-count-requires
 walk-requires c κs = (
   turn c.before.before.before.before.before.before.before,
-  eqb-false _ _ (sym c.before.before.is_Is_leaf.ensures ∙ c.before.if1.false),
+  eqb-false _ _ (sym c.before.before.is_Is_leaf.ensures ∙ c.before.if-is_leaf.false),
 )
 
-same_length : tie.Need-same-length
+same_length : tie.Need-shape_of-list-then-count-gt-MOST_PAGES
 same_length c = same c.before
 
 -- for each query whose table this is
-seen-wrote : (c : tie.Joined1) (q : ℕ → QueryBit)
+seen-wrote : (c : tie.Joined-is_leaf) (q : ℕ → QueryBit)
     → let a = (start c).args in
     Table a.state q a.rows.now
-    → Wrote a.list.now 0 (walk_seen a.state a.dir.now a.pages.now q) c.if1.count c.if1.list
+    → Wrote a.list.now 0 (walk_seen a.state a.dir.now a.pages.now q) c.if-is_leaf.count c.if-is_leaf.list-1
 seen-wrote c q table =
     let s = start c in
     let a = s.args in
-    subst (λ u. Wrote a.list.now 0 u c.if1.count c.if1.list)
+    subst (λ u. Wrote a.list.now 0 u c.if-is_leaf.count c.if-is_leaf.list-1)
     (by_rows-walk_seen a.state a.rows.now a.dir.now a.pages.now (length a.list.now) s.pre q table)
     (wrote c)
 
-returns : tie.Need-returns
+returns : tie.Need-returns-then-count-gt-MOST_PAGES
 returns c =
     let s = start c.before in
     let a = s.args in λ q table.
     Put-damaged a.list.now _ _ _ (seen-wrote c.before q table)
     (length-walk_seen-le a.state a.rows.now a.dir.now a.pages.now (length a.list.now) s.pre q table
     ).1
-    c.if2.true
+    c.if-count-gt-MOST_PAGES.true
 
-same-length-2 : tie.Need-same-length-2
+same-length-2 : tie.Need-shape_of-list
 same-length-2 c = same c.before
 
-returns-2 : tie.Need-returns-2
+returns-2 : tie.Need-returns
 returns-2 c = λ q table.
-    Put-pages (start c.before).args.list.now _ _ _ (seen-wrote c.before q table) c.if2.false
+    Put-pages (start c.before).args.list.now _ _ _ (seen-wrote c.before q table) c.if-count-gt-MOST_PAGES.false
 
-pub note-pages-spec : {M : Type 1} → statement M
-note-pages-spec =
+pub note_pages_spec : {M : Type 1} → statement M
+note_pages_spec =
     tie.close
     (tie.spec
     shared-slice-read-word

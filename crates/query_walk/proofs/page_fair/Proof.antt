@@ -22,67 +22,67 @@ ends s =
     le_trans (page-end-le (capacity_in a.rows.now) a.page (pages_in a.rows.now) s.requires.named)
     s.requires.lent.pages-lent
 
-element-copy-out-b : tie.Need-element-copy-out-b
+element-copy-out-b : tie.Need-bounds-rows-79
 element-copy-out-b c = omega arith
 
-mul-fixed : tie.Need-overflow-mul-fixed
+mul-fixed : tie.Need-overflow_mul-fixed
 mul-fixed c = omega (arith, c.before.before.requires.deep)
 
-add-fixed : tie.Need-overflow-add-fixed
+add-fixed : tie.Need-overflow_add-fixed
 add-fixed c = omega (arith, c.before.before.requires.deep)
 
-mul-fixed-2 : tie.Need-overflow-mul-fixed-2
+mul-fixed-2 : tie.Need-offset_bounds-rows-x
 mul-fixed-2 c = omega (arith, c.before.before.requires.deep)
 
-element-copy-out-fixed : tie.Need-element-copy-out-fixed
+element-copy-out-fixed : tie.Need-bounds-rows-x
 element-copy-out-fixed c = omega (arith, c.before.before.requires.deep)
 
-element-copy-out-bias : tie.Need-element-copy-out-bias
+element-copy-out-bias : tie.Need-bounds-rows-82
 element-copy-out-bias c = omega arith
 
-page-start-requires : tie.Need-page-start-requires
+page-start-requires : tie.Need-page_start-start-requires
 page-start-requires c κs =
     let h = c.before.before.before.before.requires in
     (omega (arith, h.lent.capacity), omega (arith, h.named, h.lent.most-pages))
 
-page-size-requires : tie.Need-page-size-requires
+page-size-requires : tie.Need-page_size-requires
 page-size-requires c κs = omega (arith, c.before.before.before.before.before.requires.lent.capacity)
 
-add-end : tie.Need-overflow-add-end
+add-end : tie.Need-overflow_add-end
 add-end c =
     let s = c.before.before.before.before.before.before in
     omega (
       arith,
       ends s,
-      c.before.page-start.ensures,
-      c.page-size.ensures,
+      c.before.page_start-start.ensures,
+      c.page_size.ensures,
       s.well-formed,
     )
 
-sub-fair-count : tie.Need-overflow-sub-fair-count
+sub-fair-count : tie.Need-slice_bounds-fair_count-count
 sub-fair-count c = search rules
 
-part-fair-count-start : tie.Need-slice-bounds-fair-count-start
+part-fair-count-start : tie.Need-slice_bounds-fair_count-start
 part-fair-count-start c = search rules
 
-part-fair-count-end : tie.Need-slice-bounds-fair-count-end
+part-fair-count-end : tie.Need-slice_bounds-fair_count-end
 part-fair-count-end c =
     let s = c.before.before.before.before.before.before in
-    omega (arith, ends s, c.before.page-start.ensures, c.page-size.ensures)
+    omega (arith, ends s, c.before.page_start-start.ensures, c.page_size.ensures)
 
 -- the part is the page
-part : (c : tie.After-page-size)
+part : (c : tie.After-page_size)
     → let s = c.before.before.before.before.before.before in
-    let start = c.before.page-start.result in
-    let size = c.page-size.result in
+    let start = c.before.page_start-start.result in
+    let size = c.page_size.result in
     let b = capacity_in s.args.rows.now in
     mid_of start (start + size - start) s.args.pages.now ≡ page_at b s.args.pages.now s.args.page
 part c =
     let s = c.before.before.before.before.before.before in
     mid_of-page (capacity_in s.args.rows.now) s.args.page _ _ s.args.pages.now
-    c.before.page-start.ensures c.page-size.ensures
+    c.before.page_start-start.ensures c.page_size.ensures
 
-fair-count-requires : tie.Need-fair-count-requires
+fair-count-requires : tie.Need-fair_count-requires
 fair-count-requires c κs =
     let s = c.before.before.before.before.before.before.before in
     let b = capacity_in s.args.rows.now in (
@@ -94,28 +94,28 @@ fair-count-requires c κs =
       ),
     )
 
-returns : tie.Need-returns
+returns : tie.Need-returns-then-fair_count-eq0
 returns c =
     let s = c.before.before.before.before.before.before.before.before.before in
     let rows = s.args.rows.now in
     fair_by-zero (capacity_in rows) (bias_in rows) (fixed_in rows s.args.x) s.args.corner _ _
-    c.before.fair-count.ensures
-    c.if1.true
+    c.before.fair_count.ensures
+    c.if-fair_count-eq0.true
     ∙ ap (fair_by (capacity_in rows) (bias_in rows) (fixed_in rows s.args.x) s.args.corner)
     (part c.before.before.before)
 
-returns-2 : tie.Need-returns-2
+returns-2 : tie.Need-returns
 returns-2 c =
     let s = c.before.before.before.before.before.before.before.before.before in
     let rows = s.args.rows.now in
     fair_by-some (capacity_in rows) (bias_in rows) (fixed_in rows s.args.x) s.args.corner _ _
-    c.before.fair-count.ensures
-    c.if1.false
+    c.before.fair_count.ensures
+    c.if-fair_count-eq0.false
     ∙ ap (fair_by (capacity_in rows) (bias_in rows) (fixed_in rows s.args.x) s.args.corner)
     (part c.before.before.before)
 
-pub page-fair-spec : {M : Type 1} → statement M
-page-fair-spec =
+pub page_fair_spec : {M : Type 1} → statement M
+page_fair_spec =
     tie.close
     (tie.spec
     element-copy-out-b

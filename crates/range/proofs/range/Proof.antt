@@ -18,65 +18,65 @@ use borrow.Author.Rules.{rules}
 use Rattle.range.proofs.range.Statement.{statement}
 use Rattle.range.proofs.range.Tie as tie
 
-range-number-requires : tie.Need-range-number-requires
+range-number-requires : tie.Need-range_number-number-requires
 range-number-requires c κs = search rules
 
-refuse-list-requires : tie.Need-refuse-list-requires
+refuse-list-requires : tie.Need-refuse_list-requires
 refuse-list-requires c κs = search rules
 
-returns : tie.Need-returns
+returns : tie.Need-returns-then-number-ne0
 returns c =
     let e = c.before in
     let a = e.before.before.before.before.before.args in
-    rw c.refuse-list.ensures
+    rw c.refuse_list.ensures
     (promise-early a.state a.dir.now a.pages.now (range_intervals a.range) a.out.now _
-    e.before.range-number.ensures e.if1.true)
+    e.before.range_number-number.ensures e.if-number-ne0.true)
 
-limits-hold-requires : tie.Need-limits-hold-requires
+limits-hold-requires : tie.Need-limits_hold-requires
 limits-hold-requires c κs =
     let a = c.before.before.before.before.before.args in
     shape-of-none a.state a.dir.now a.pages.now (range_intervals a.range)
-    (sym c.before.range-number.ensures ∙ c.if1.false)
+    (sym c.before.range_number-number.ensures ∙ c.if-number-ne0.false)
 
-returns-2 : tie.Need-returns-2
+returns-2 : tie.Need-returns-then-not-limits_hold
 unfolding listed_answer
 returns-2 c =
     let a = c.before.before.before.before.before.before.before.args in
     nine-limits a.state a.dir.now a.pages.now (range_intervals a.range)
-    (sym c.before.before.before.range-number.ensures ∙ c.before.before.if1.false) a.out.now
-    (sym c.before.limits-hold.ensures ∙ not-true _ c.if2.true)
+    (sym c.before.before.before.range_number-number.ensures ∙ c.before.before.if-number-ne0.false) a.out.now
+    (sym c.before.limits_hold.ensures ∙ not-true _ c.if-not-limits_hold.true-raw)
 
 -- past the tests: nothing is refused, and the limits hold
-none : (c : tie.Else2)
+none : (c : tie.Else-not-limits_hold)
     → let a = c.before.before.before.before.before.before.before.args in
     range_number_by a.state (length a.dir.now) (length a.pages.now) (range_intervals a.range) ≡ 0
-none c = sym c.before.before.before.range-number.ensures ∙ c.before.before.if1.false
+none c = sym c.before.before.before.range_number-number.ensures ∙ c.before.before.if-number-ne0.false
 
-can : (c : tie.Else2) → limits_hold c.before.before.before.before.before.before.before.args.state ≡ true
-can c = sym c.before.limits-hold.ensures ∙ not-false _ c.if2.false
+can : (c : tie.Else-not-limits_hold) → limits_hold c.before.before.before.before.before.before.before.args.state ≡ true
+can c = sym c.before.limits_hold.ensures ∙ not-false _ c.if-not-limits_hold.false-raw
 
-limits : (c : tie.Else2)
+limits : (c : tie.Else-not-limits_hold)
     → let a = c.before.before.before.before.before.before.before.args in
     LimitsLent a.state (length a.dir.now) (length a.pages.now)
 limits c =
     let a = c.before.before.before.before.before.before.before.args in
     limits-lent a.state a.dir.now a.pages.now (range_intervals a.range) (none c) (can c)
 
-cast-depth : tie.Need-overflow-cast-depth
+cast-depth : tie.Need-overflow_cast-depth
 cast-depth c = search rules
 
-free-query-requires : tie.Need-free-query-requires
+free-query-requires : tie.Need-free_query-requires
 free-query-requires c κs = search rules
 
-fill-rows-requires : tie.Need-fill-rows-requires
+fill-rows-requires : tie.Need-fill_rows-requires
 fill-rows-requires c κs =
     let l = limits c.before.before.before in
     record { shape = l.shape; deep = l.depth-twelve; bits = l.depth-bits; table-lent = omega arith }
 
 -- the rows are those of a query, and the list has the room
-tested : (c : tie.After-fill-rows) (room : ℕ)
+tested : (c : tie.After-fill_rows) (room : ℕ)
     → let a = c.before.before.before.before.before.before.before.before.before.before.before.args in
-    let rows = c.fill-rows.new.1.1.1.0 in (2 ^ a.state.deepest ≤ room
+    let rows = c.fill_rows.new.1.1.1.0 in (2 ^ a.state.deepest ≤ room
     → Tested a.state (range_intervals a.range) rows (length a.dir.now) (length a.pages.now) room)
 tested c room l =
     let w = c.before.before.before.before in
@@ -84,69 +84,69 @@ tested c room l =
       none = none w;
       can = can w;
       query = _;
-      table = c.fill-rows.ensures.1;
-      rows-lent = omega (arith, c.fill-rows.ensures.0);
+      table = c.fill_rows.ensures.1;
+      rows-lent = omega (arith, c.fill_rows.ensures.0);
       room-left = l;
     }
 
-slice-aggregate-read-pages : tie.Need-slice-aggregate-read-pages
+slice-aggregate-read-pages : tie.Need-slice_bounds-read_pages-end
 slice-aggregate-read-pages c = search rules
 
-read-pages-requires : tie.Need-read-pages-requires
+read-pages-requires : tie.Need-read_pages-requires
 read-pages-requires c κs =
     let filled = c.before.before.before.before in
-    tested filled _ (pow_mono {j = 4} c.before.before.before.if3.true)
+    tested filled _ (pow_mono {j = 4} c.before.before.before.if-depth-le4.true)
 
-same_length : tie.Need-same-length
+same_length : tie.Need-shape_of-out-then-depth-le4
 same_length c = search rules
 
-returns-3 : tie.Need-returns-3
+returns-3 : tie.Need-returns-then-depth-le4
 returns-3 c = search rules
 
-slice-aggregate-read-pages-2 : tie.Need-slice-aggregate-read-pages-2
+slice-aggregate-read-pages-2 : tie.Need-slice_bounds-read_pages-end-then-depth-le6
 slice-aggregate-read-pages-2 c = search rules
 
-read-pages-requires-2 : tie.Need-read-pages-requires-2
+read-pages-requires-2 : tie.Need-read_pages-requires-then-depth-le6
 read-pages-requires-2 c κs =
     let filled = c.before.before.before.before.before in
-    tested filled _ (pow_mono {j = 6} c.before.before.before.if4.true)
+    tested filled _ (pow_mono {j = 6} c.before.before.before.if-depth-le6.true)
 
-same-length-2 : tie.Need-same-length-2
+same-length-2 : tie.Need-shape_of-out-then-depth-le6
 same-length-2 c = search rules
 
-returns-4 : tie.Need-returns-4
+returns-4 : tie.Need-returns-then-depth-le6
 returns-4 c = search rules
 
-slice-aggregate-read-pages-3 : tie.Need-slice-aggregate-read-pages-3
+slice-aggregate-read-pages-3 : tie.Need-slice_bounds-read_pages-end-then-depth-le8
 slice-aggregate-read-pages-3 c = search rules
 
-read-pages-requires-3 : tie.Need-read-pages-requires-3
+read-pages-requires-3 : tie.Need-read_pages-requires-then-depth-le8
 read-pages-requires-3 c κs =
     let filled = c.before.before.before.before.before.before in
-    tested filled _ (pow_mono {j = 8} c.before.before.before.if5.true)
+    tested filled _ (pow_mono {j = 8} c.before.before.before.if-depth-le8.true)
 
-same-length-3 : tie.Need-same-length-3
+same-length-3 : tie.Need-shape_of-out-then-depth-le8
 same-length-3 c = search rules
 
-returns-5 : tie.Need-returns-5
+returns-5 : tie.Need-returns-then-depth-le8
 returns-5 c = search rules
 
-slice-aggregate-read-pages-4 : tie.Need-slice-aggregate-read-pages-4
+slice-aggregate-read-pages-4 : tie.Need-slice_bounds-read_pages-end-2
 slice-aggregate-read-pages-4 c = search rules
 
-read-pages-requires-4 : tie.Need-read-pages-requires-4
+read-pages-requires-4 : tie.Need-read_pages-requires-2
 read-pages-requires-4 c κs =
     let filled = c.before.before.before.before.before.before in
     tested filled _ (pow_mono {j = 12} (limits filled.before.before.before.before).depth-twelve)
 
-same-length-4 : tie.Need-same-length-4
+same-length-4 : tie.Need-shape_of-out
 same-length-4 c = search rules
 
-returns-6 : tie.Need-returns-6
+returns-6 : tie.Need-returns
 returns-6 c = search rules
 
-pub range-spec : {M : Type 1} → statement M
-range-spec =
+pub range_spec : {M : Type 1} → statement M
+range_spec =
     tie.close
     (tie.spec
     range-number-requires

@@ -19,7 +19,7 @@ use borrow.Author.Rules.{rules}
 use Rattle.range.proofs.read_pages.Statement.{statement}
 use Rattle.range.proofs.read_pages.Tie as tie
 
-low-key-requires : tie.Need-low-key-requires
+low-key-requires : tie.Need-low_key-low-requires
 low-key-requires c κs =
     let s = c.before.before.before.before in
     let a = s.args in (
@@ -27,7 +27,7 @@ low-key-requires c κs =
       low-of-none a.state a.dir.now a.pages.now (range_intervals a.range) s.requires.none,
     )
 
-high-key-requires : tie.Need-high-key-requires
+high-key-requires : tie.Need-high_key-high-requires
 high-key-requires c κs =
     let s = c.before.before.before.before.before in
     let a = s.args in (
@@ -35,25 +35,25 @@ high-key-requires c κs =
       high-of-none a.state a.dir.now a.pages.now (range_intervals a.range) s.requires.none,
     )
 
-fill-limits-requires : tie.Need-fill-limits-requires
+fill-limits-requires : tie.Need-fill_limits-requires
 fill-limits-requires c κs =
     let s = c.before.before.before.before.before.before.before in
     let a = s.args in
     shape-of-none a.state a.dir.now a.pages.now (range_intervals a.range) s.requires.none
 
 -- the table, once the limits are put behind the rows
-tabled : (c : tie.After-fill-limits)
+tabled : (c : tie.After-fill_limits)
     → let s = c.before.before.before.before.before.before.before.before in
-    Table s.args.state s.requires.query c.fill-limits.new.1.0
+    Table s.args.state s.requires.query c.fill_limits.new.1.0
 tabled c =
     let s = c.before.before.before.before.before.before.before.before in
     let a = s.args in
     let r = range_intervals a.range in
     let deep = (limits-lent a.state a.dir.now a.pages.now r s.requires.none s.requires.can).depth-twelve in
-    rw c.fill-limits.ensures
+    rw c.fill_limits.ensures
     (Table-limited a.state a.rows.now deep s.requires.query s.requires.table s.requires.rows-lent)
 
-note-met-requires : tie.Need-note-met-requires
+note-met-requires : tie.Need-note_met-noted-requires
 note-met-requires c κs =
     let filled = c.before.before in
     let s = filled.before.before.before.before.before.before.before.before in
@@ -64,49 +64,49 @@ note-met-requires c κs =
     )
 
 -- the walk was by the range's packed ends
-met : (c : tie.After-note-met)
+met : (c : tie.After-note_met-noted)
     → let a = c.before.before.before.before.before.before.before.before.before.before.before.args in
     let r = range_intervals a.range in
     Meeting a.state (low_key a.state.shape r) (high_key a.state.shape r) a.dir.now a.pages.now
-    a.list.now c.note-met.result c.note-met.new.1.1.1.1.1.1.0
+    a.list.now c.note_met-noted.result c.note_met-noted.new.1.1.1.1.1.1.0
 met c =
     let high = c.before.before.before.before.before in
     let low = high.before in
     let a = low.before.before.before.before.before.args in
     let r = range_intervals a.range in
-    let later = c.note-met.new.1.1.1.1.1.1.0 in
+    let later = c.note_met-noted.new.1.1.1.1.1.1.0 in
     subst
     (λ k. Meeting a.state k (high_key a.state.shape r) a.dir.now a.pages.now a.list.now
-    c.note-met.result later)
-    low.low-key.ensures
+    c.note_met-noted.result later)
+    low.low_key-low.ensures
     (subst
-    (λ k. Meeting a.state low.low-key.result k a.dir.now a.pages.now a.list.now c.note-met.result
+    (λ k. Meeting a.state low.low_key-low.result k a.dir.now a.pages.now a.list.now c.note_met-noted.result
     later)
-    high.high-key.ensures
-    c.note-met.ensures)
+    high.high_key-high.ensures
+    c.note_met-noted.ensures)
 
-enum-known-noted : tie.Need-enum-known-noted
+enum-known-noted : tie.Need-enum_known-noted
 enum-known-noted c = search rules
 
-enum_told : tie.Need-enum-told
+enum_told : tie.Need-enum_told-1
 enum_told c = search rules
 
-same_length : tie.Need-same-length
+same_length : tie.Need-shape_of-list-in_default
 same_length c = search rules
 
-returns : tie.Need-returns
+returns : tie.Need-returns-in_default
 unfolding listed_answer
 returns c =
     let walk = c.before.before.before.before in
     let s = walk.before.before.before.before.before.before.before.before.before.before.before in
     let a = s.args in
     nine-damaged a.state a.dir.now a.pages.now (range_intervals a.range) s.requires.none s.requires.can
-    a.list.now _ _ (met walk) a.out.now c.enum_told.given.1
+    a.list.now _ _ (met walk) a.out.now c.enum_told-1.given.1
 
-cast-put-within : tie.Need-overflow-cast-put-within
+cast-put-within : tie.Need-overflow_cast-shape
 cast-put-within c = search rules
 
-bias-key-requires : tie.Need-bias-key-requires
+bias-key-requires : tie.Need-bias_key-requires
 bias-key-requires c κs =
     let noted-at = c.before.before.before in
     let walk = noted-at.before.before.before.before in
@@ -114,54 +114,54 @@ bias-key-requires c κs =
     let a = s.args in
     shape-of-none a.state a.dir.now a.pages.now (range_intervals a.range) s.requires.none
 
-put-within-requires : tie.Need-put-within-requires
+put-within-requires : tie.Need-put_within-total-requires
 put-within-requires c κs =
     let noted-at = c.before.before.before.before.before.before in
     let walk = noted-at.before.before.before.before in
     let s = walk.before.before.before.before.before.before.before.before.before.before.before in
     let a = s.args in
     pages-within a.state a.dir.now a.pages.now (range_intervals a.range) s.requires.none s.requires.can
-    a.list.now _ _ (met walk) walk.note-met.auto.1.1.1.1.1.1.0 s.requires.room-left _
-    noted-at.noted.given.1
+    a.list.now _ _ (met walk) walk.note_met-noted.auto.1.1.1.1.1.1.0 s.requires.room-left _
+    noted-at.noted-1.given.1
 
-smaller-length-requires : tie.Need-smaller-length-requires
+smaller-length-requires : tie.Need-smaller_length-requires
 smaller-length-requires c κs = search rules
 
-same-length-2 : tie.Need-same-length-2
+same-length-2 : tie.Need-shape_of-list
 same-length-2 c = search rules
 
-same-length-3 : tie.Need-same-length-3
+same-length-3 : tie.Need-shape_of-out
 same-length-3 c = search rules
 
-returns-2 : tie.Need-returns-2
+returns-2 : tie.Need-returns
 unfolding listed_answer
 returns-2 c =
     let put-at = c.before.before.before in
-    let put = put-at.put-within in
+    let put = put-at.put_within-total in
     let bias = put-at.before.before.before in
     let noted-at = bias.before.before.before.before in
-    let found = noted-at.noted.given in
+    let found = noted-at.noted-1.given in
     let walk = noted-at.before.before.before.before in
     let high = walk.before.before.before.before.before in
     let low = high.before in
     let s = low.before.before.before.before.before in
     let a = s.args in
-    let known = low.before.before.before.shared-slice-known2.given in
-    let noted = take found.0.0 walk.note-met.new.1.1.1.1.1.1.0 in
+    let known = low.before.before.before.shared_slice_known-2-1.given in
+    let noted = take found.0.0 walk.note_met-noted.new.1.1.1.1.1.1.0 in
     promise-of-pages a.state a.dir.now a.pages.now (range_intervals a.range) s.requires.none s.requires.can
-    a.list.now _ _ (met walk) walk.note-met.auto.1.1.1.1.1.1.0 s.requires.room-left _ found.1
+    a.list.now _ _ (met walk) walk.note_met-noted.auto.1.1.1.1.1.1.0 s.requires.room-left _ found.1
     (λ i. omega (arith, known i)) a.out.now _ _ _
     (put.ensures.0.0
-    ∙ (λ i. length (list_hits (lies_in (bias.bias-key.ensures i) (low.low-key.ensures i) (high.high-key.ensures i)) a.state.shape.capacity
+    ∙ (λ i. length (list_hits (lies_in (bias.bias_key.ensures i) (low.low_key-low.ensures i) (high.high_key-high.ensures i)) a.state.shape.capacity
     a.pages.now noted)))
-    (c.smaller-length.ensures ∙ ap (λ k. min put.result (k / record_size)) put.auto.1.1.1.1.1.1.1.0)
+    (c.smaller_length.ensures ∙ ap (λ k. min put.result (k / record_size)) put.auto.1.1.1.1.1.1.1.0)
     (put.ensures.1
     ∙ (λ i. emit a.out.now 0
-    (list_hits (lies_in (bias.bias-key.ensures i) (low.low-key.ensures i) (high.high-key.ensures i)) a.state.shape.capacity
+    (list_hits (lies_in (bias.bias_key.ensures i) (low.low_key-low.ensures i) (high.high_key-high.ensures i)) a.state.shape.capacity
     a.pages.now noted)))
 
-pub read-pages-spec : {M : Type 1} → statement M
-read-pages-spec =
+pub read_pages_spec : {M : Type 1} → statement M
+read_pages_spec =
     tie.close
     (tie.spec
     low-key-requires

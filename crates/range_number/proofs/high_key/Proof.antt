@@ -10,24 +10,24 @@ use borrow.Author.Rules.{rules}
 use Rattle.range_number.proofs.high_key.Statement.{statement}
 use Rattle.range_number.proofs.high_key.Tie as tie
 
-high-ends-requires : tie.Need-high-ends-requires
+high-ends-requires : tie.Need-high_ends-requires
 high-ends-requires c κs = search rules
 
-encode-query-requires : tie.Need-encode-query-requires
+encode-query-requires : tie.Need-encode_query-requires
 encode-query-requires c κs = c.before.requires.0
 
 -- what the query gives
-given : (c : tie.After-encode-query)
+given : (c : tie.After-encode_query)
     → let a = c.before.before.args in
-    wanted_values c.encode-query.result ≡ encoded_wanted a.shape (high_ends (range_intervals a.range))
-given c = c.encode-query.ensures ∙ ap (encoded_wanted c.before.before.args.shape) c.before.high-ends.ensures
+    wanted_values c.encode_query.result ≡ encoded_wanted a.shape (high_ends (range_intervals a.range))
+given c = c.encode_query.ensures ∙ ap (encoded_wanted c.before.before.args.shape) c.before.high_ends.ensures
 
-key-or-requires : tie.Need-key-or-requires
+key-or-requires : tie.Need-key_or-requires
 key-or-requires c κs = (subst (λ q. GivenSixteenBits q) (sym (given c)) c.before.before.requires.1, omega arith)
 
 returns : tie.Need-returns
 unfolding high_key
-returns c = c.key-or.ensures ∙ ap (λ q. packed_key (values_or 65535 q)) (given c.before)
+returns c = c.key_or.ensures ∙ ap (λ q. packed_key (values_or 65535 q)) (given c.before)
 
-pub high-key-spec : {M : Type 1} → statement M
-high-key-spec = tie.close (tie.spec high-ends-requires encode-query-requires key-or-requires returns)
+pub high_key_spec : {M : Type 1} → statement M
+high_key_spec = tie.close (tie.spec high-ends-requires encode-query-requires key-or-requires returns)

@@ -8,24 +8,24 @@ use borrow.Author.Rules.{rules}
 use Rattle.range_number.proofs.key_or.Statement.{statement}
 use Rattle.range_number.proofs.key_or.Tie as tie
 
-value-or-requires : tie.Need-value-or-requires
+value-or-requires : tie.Need-value_or-v0-requires
 value-or-requires c κs = search rules
 
-value-or-requires-2 : tie.Need-value-or-requires-2
+value-or-requires-2 : tie.Need-value_or-v1-requires
 value-or-requires-2 c κs = search rules
 
-value-or-requires-3 : tie.Need-value-or-requires-3
+value-or-requires-3 : tie.Need-value_or-v2-requires
 value-or-requires-3 c κs = search rules
 
-value-or-requires-4 : tie.Need-value-or-requires-4
+value-or-requires-4 : tie.Need-value_or-v3-requires
 value-or-requires-4 c κs = search rules
 
-pack-key-requires : tie.Need-pack-key-requires
+pack-key-requires : tie.Need-pack_key-requires
 pack-key-requires c κs =
-    let d0 = c.before.before.before.value-or.ensures in
-    let d1 = c.before.before.value-or2.ensures in
-    let d2 = c.before.value-or3.ensures in
-    let d3 = c.value-or4.ensures in
+    let d0 = c.before.before.before.value_or-v0.ensures in
+    let d1 = c.before.before.value_or-v1.ensures in
+    let d2 = c.before.value_or-v2.ensures in
+    let d3 = c.value_or-v3.ensures in
     let s = c.before.before.before.before in
     subst SixteenBits (sym (λ i. d0 i ∷ d1 i ∷ d2 i ∷ d3 i ∷ []))
     (values_or-lt s.args.free (wanted_values s.args.query) s.requires.1 s.requires.0)
@@ -33,14 +33,14 @@ pack-key-requires c κs =
 returns : tie.Need-returns
 returns c =
     let b = c.before in
-    let d0 = b.before.before.before.value-or.ensures in
-    let d1 = b.before.before.value-or2.ensures in
-    let d2 = b.before.value-or3.ensures in
-    let d3 = b.value-or4.ensures in
-    c.pack-key.ensures ∙ ap packed_key (λ i. d0 i ∷ d1 i ∷ d2 i ∷ d3 i ∷ [])
+    let d0 = b.before.before.before.value_or-v0.ensures in
+    let d1 = b.before.before.value_or-v1.ensures in
+    let d2 = b.before.value_or-v2.ensures in
+    let d3 = b.value_or-v3.ensures in
+    c.pack_key.ensures ∙ ap packed_key (λ i. d0 i ∷ d1 i ∷ d2 i ∷ d3 i ∷ [])
 
-pub key-or-spec : {M : Type 1} → statement M
-key-or-spec =
+pub key_or_spec : {M : Type 1} → statement M
+key_or_spec =
     tie.close
     (tie.spec
     value-or-requires

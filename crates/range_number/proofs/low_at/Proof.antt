@@ -7,33 +7,33 @@ use borrow.Author.Rules.{rules}
 use Rattle.range_number.proofs.low_at.Statement.{statement}
 use Rattle.range_number.proofs.low_at.Tie as tie
 
-mul-attribute : tie.Need-overflow-mul-attribute
+mul-attribute : tie.Need-offset_bounds-range-j
 mul-attribute c = search rules
 
-element-copy-out-attribute : tie.Need-element-copy-out-attribute
+element-copy-out-attribute : tie.Need-bounds-range-j
 element-copy-out-attribute c = search rules
 
-enum_told : tie.Need-enum-told
+enum_told : tie.Need-enum_told-1
 enum_told c = search rules
 
-enum-known-span : tie.Need-enum-known-span
+enum-known-span : tie.Need-enum_known-span
 enum-known-span c = search rules
 
-returns : tie.Need-returns
+returns : tie.Need-returns-in-Free
 returns c =
     let s = c.before.before.before in
     sym
     (ap low_end (get_d-range_intervals s.args.t1 s.args.j s.requires)
-    ∙ ap (λ x. low_end (span_interval x)) c.enum_told.given.1)
+    ∙ ap (λ x. low_end (span_interval x)) c.enum_told-1.given.1)
 
-returns-2 : tie.Need-returns-2
+returns-2 : tie.Need-returns-in-Within
 returns-2 c =
     let s = c.before.before.before.before in
     sym
     (ap low_end (get_d-range_intervals s.args.t1 s.args.j s.requires)
-    ∙ ap (λ x. low_end (span_interval x)) c.before.span.given.1)
+    ∙ ap (λ x. low_end (span_interval x)) c.before.span-1.given.1)
 
-pub low-at-spec : {M : Type 1} → statement M
-low-at-spec =
+pub low_at_spec : {M : Type 1} → statement M
+low_at_spec =
     tie.close
     (tie.spec mul-attribute element-copy-out-attribute enum_told enum-known-span returns returns-2)

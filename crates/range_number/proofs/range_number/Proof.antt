@@ -17,66 +17,66 @@ use borrow.Author.Rules.{rules}
 use Rattle.range_number.proofs.range_number.Statement.{statement}
 use Rattle.range_number.proofs.range_number.Tie as tie
 
-low-ends-requires : tie.Need-low-ends-requires
+low-ends-requires : tie.Need-low_ends-lows-requires
 low-ends-requires c κs = search rules
 
-query-number-requires : tie.Need-query-number-requires
+query-number-requires : tie.Need-query_number-number-requires
 query-number-requires c κs = search rules
 
 -- the number of the low ends
-low-number : (c : tie.After-query-number)
+low-number : (c : tie.After-query_number-number)
     → let a = c.before.before.args in
-    c.query-number.result ≡ query_number_by a.state a.words a.bytes (low_ends (range_intervals a.range))
+    c.query_number-number.result ≡ query_number_by a.state a.words a.bytes (low_ends (range_intervals a.range))
 low-number c =
     let a = c.before.before.args in
-    c.query-number.ensures
-    ∙ ap (λ q. query_number_by a.state a.words a.bytes q) c.before.low-ends.ensures
+    c.query_number-number.ensures
+    ∙ ap (λ q. query_number_by a.state a.words a.bytes q) c.before.low_ends-lows.ensures
 
-returns : tie.Need-returns
+returns : tie.Need-returns-then-number-ne0
 returns c =
     let n = low-number c.before in
     let a = c.before.before.before.args in
-    n ∙ range_number_by-low a.state a.words a.bytes (range_intervals a.range) (λ e. c.if1.true (n ∙ e))
+    n ∙ range_number_by-low a.state a.words a.bytes (range_intervals a.range) (λ e. c.if-number-ne0.true (n ∙ e))
 
 -- it is none
-low-none : (c : tie.Else1)
+low-none : (c : tie.Else-number-ne0)
     → let a = c.before.before.before.args in
     query_number_by a.state a.words a.bytes (low_ends (range_intervals a.range)) ≡ 0
-low-none c = sym (low-number c.before) ∙ c.if1.false
+low-none c = sym (low-number c.before) ∙ c.if-number-ne0.false
 
-shaped : (c : tie.Else1) → shape_number c.before.before.before.args.state.shape ≡ 0
+shaped : (c : tie.Else-number-ne0) → shape_number c.before.before.before.args.state.shape ≡ 0
 shaped c =
     let a = c.before.before.before.args in
     (parts-of-query_number_by a.state a.words a.bytes (low_ends (range_intervals a.range)) (low-none c)).0.shape
 
-high-ends-requires : tie.Need-high-ends-requires
+high-ends-requires : tie.Need-high_ends-highs-requires
 high-ends-requires c κs = search rules
 
-query-fits-requires : tie.Need-query-fits-requires
+query-fits-requires : tie.Need-query_fits-requires
 query-fits-requires c κs = shaped c.before
 
 -- whether the high ends fit
-high-fit : (c : tie.After-query-fits)
+high-fit : (c : tie.After-query_fits)
     → let a = c.before.before.before.before.before.args in
-    c.query-fits.result ≡ query_fits a.state.shape (high_ends (range_intervals a.range))
+    c.query_fits.result ≡ query_fits a.state.shape (high_ends (range_intervals a.range))
 high-fit c =
     let a = c.before.before.before.before.before.args in
-    c.query-fits.ensures ∙ ap (λ q. query_fits a.state.shape q) c.before.high-ends.ensures
+    c.query_fits.ensures ∙ ap (λ q. query_fits a.state.shape q) c.before.high_ends-highs.ensures
 
-returns-2 : tie.Need-returns-2
+returns-2 : tie.Need-returns-then-not-query_fits
 returns-2 c =
     let low = c.before.before.before in
     let a = low.before.before.before.args in
     range_number_by-out a.state a.words a.bytes (range_intervals a.range) (low-none low)
-    (sym (high-fit c.before) ∙ not-true _ c.if2.true)
+    (sym (high-fit c.before) ∙ not-true _ c.if-not-query_fits.true-raw)
 
 -- both fit, so they have 16 bits
-high_fits : (c : tie.Else2)
+high_fits : (c : tie.Else-not-query_fits)
     → let a = c.before.before.before.before.before.before.args in
     query_fits a.state.shape (high_ends (range_intervals a.range)) ≡ true
-high_fits c = sym (high-fit c.before) ∙ not-false _ c.if2.false
+high_fits c = sym (high-fit c.before) ∙ not-false _ c.if-not-query_fits.false-raw
 
-sixteen-low : (c : tie.Else2)
+sixteen-low : (c : tie.Else-not-query_fits)
     → let a = c.before.before.before.before.before.before.args in
     GivenSixteenBits (encoded_wanted a.state.shape (low_ends (range_intervals a.range)))
 sixteen-low c =
@@ -86,7 +86,7 @@ sixteen-low c =
     sixteen-of-fits a.state.shape (shaped low) q
     (parts-of-query_number_by a.state a.words a.bytes q (low-none low)).1
 
-sixteen-high : (c : tie.Else2)
+sixteen-high : (c : tie.Else-not-query_fits)
     → let a = c.before.before.before.before.before.before.args in
     GivenSixteenBits (encoded_wanted a.state.shape (high_ends (range_intervals a.range)))
 sixteen-high c =
@@ -94,47 +94,47 @@ sixteen-high c =
     let a = low.before.before.before.args in
     sixteen-of-fits a.state.shape (shaped low) (high_ends (range_intervals a.range)) (high_fits c)
 
-low-key-requires : tie.Need-low-key-requires
+low-key-requires : tie.Need-low_key-low-requires
 low-key-requires c κs = (shaped c.before.before.before, sixteen-low c)
 
-high-key-requires : tie.Need-high-key-requires
+high-key-requires : tie.Need-high_key-requires
 high-key-requires c κs = (shaped c.before.before.before.before, sixteen-high c.before)
 
-lies-between-requires : tie.Need-lies-between-requires
+lies-between-requires : tie.Need-lies_between-requires
 lies-between-requires c κs = search rules
 
 -- whether the ends rise
-rising : (c : tie.After-lies-between)
+rising : (c : tie.After-lies_between)
     → let a = c.before.before.before.before.before.before.before.before.before.args in
-    c.lies-between.result ≡ range_rises a.state.shape (range_intervals a.range)
+    c.lies_between.result ≡ range_rises a.state.shape (range_intervals a.range)
 rising c =
     let keyed = c.before.before in
-    let low = keyed.low-key.ensures in
-    let high = c.before.high-key.ensures in
+    let low = keyed.low_key-low.ensures in
+    let high = c.before.high_key.ensures in
     let fit = keyed.before in
     let a = fit.before.before.before.before.before.before.args in
-    c.lies-between.ensures
+    c.lies_between.ensures
     ∙ (λ i. lies_between (low i) (high i) (low i))
     ∙ range_rises-ends a.state.shape (range_intervals a.range) (sixteen-low fit) (sixteen-high fit)
 
-returns-3 : tie.Need-returns-3
+returns-3 : tie.Need-returns-then-lies_between
 returns-3 c =
     let fit = c.before.before.before.before in
     let low = fit.before.before.before in
     let a = low.before.before.before.args in
     range_number_by-rises a.state a.words a.bytes (range_intervals a.range) (low-none low) (high_fits fit)
-    (sym (rising c.before) ∙ c.if3.true)
+    (sym (rising c.before) ∙ c.if-lies_between.true)
 
-returns-4 : tie.Need-returns-4
+returns-4 : tie.Need-returns-else-lies_between
 returns-4 c =
     let fit = c.before.before.before.before in
     let low = fit.before.before.before in
     let a = low.before.before.before.args in
     range_number_by-falls a.state a.words a.bytes (range_intervals a.range) (low-none low) (high_fits fit)
-    (sym (rising c.before) ∙ c.if3.false)
+    (sym (rising c.before) ∙ c.if-lies_between.false)
 
-pub range-number-spec : {M : Type 1} → statement M
-range-number-spec =
+pub range_number_spec : {M : Type 1} → statement M
+range_number_spec =
     tie.close
     (tie.spec
     low-ends-requires

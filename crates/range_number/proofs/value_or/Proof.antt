@@ -7,34 +7,34 @@ use borrow.Author.Rules.{rules}
 use Rattle.range_number.proofs.value_or.Statement.{statement}
 use Rattle.range_number.proofs.value_or.Tie as tie
 
-mul-attribute : tie.Need-overflow-mul-attribute
+mul-attribute : tie.Need-offset_bounds-query-j
 mul-attribute c = search rules
 
-element-copy-out-attribute : tie.Need-element-copy-out-attribute
+element-copy-out-attribute : tie.Need-bounds-query-j
 element-copy-out-attribute c = search rules
 
-enum_told : tie.Need-enum-told
+enum_told : tie.Need-enum_told-1
 enum_told c = search rules
 
-enum-known-wanted : tie.Need-enum-known-wanted
+enum-known-wanted : tie.Need-enum_known-wanted
 enum-known-wanted c = search rules
 
-returns : tie.Need-returns
+returns : tie.Need-returns-in-Free
 returns c =
     let s = c.before.before.before in
     sym
     (ap (value_or s.args.free) (get_d-wanted_values s.args.t1 s.args.j s.requires)
-    ∙ ap (λ w. value_or s.args.free (wanted_value w)) c.enum_told.given.1)
+    ∙ ap (λ w. value_or s.args.free (wanted_value w)) c.enum_told-1.given.1)
 
-returns-2 : tie.Need-returns-2
+returns-2 : tie.Need-returns-in-Given
 returns-2 c =
     let s = c.before.before.before.before in
     sym
     (ap (value_or s.args.free) (get_d-wanted_values s.args.t1 s.args.j s.requires)
-    ∙ ap (λ w. value_or s.args.free (wanted_value w)) c.before.wanted.given.1)
+    ∙ ap (λ w. value_or s.args.free (wanted_value w)) c.before.wanted-1.given.1)
 
-pub value-or-spec : {M : Type 1} → statement M
-value-or-spec =
+pub value_or_spec : {M : Type 1} → statement M
+value_or_spec =
     tie.close
     (tie.spec
     mul-attribute

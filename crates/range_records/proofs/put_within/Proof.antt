@@ -17,55 +17,55 @@ use Rattle.range_records.proofs.put_within.Tie as tie
 abbrev between : ℕ → ℕ → ℕ → ℕ → List ℕ → ℕ → List (List ℕ)
 between bias low high capacity pages g = page_hits (lies_in bias low high) (page_at capacity pages g)
 
-abbrev invariant-loop : tie.invariant-loop
+abbrev invariant-loop : tie.invariant-loop-i
 invariant-loop pages capacity bias low high list n out₀ total₀ i₀ out total i =
     (i ≤ n) × EmittedTo (between bias low high capacity pages) list out₀ i out total
 
-abbrev decreases-loop : tie.decreases-loop
+abbrev decreases-loop : tie.decreases-loop-i
 decreases-loop pages capacity bias low high list n out₀ total₀ i₀ out total i = n - i
 
-loop-holds : tie.Need-loop-init invariant-loop decreases-loop
+loop-holds : tie.Need-loop-i-init invariant-loop decreases-loop
 loop-holds c =
     let a = c.before.before.before.args in
     let f = between a.bias a.low a.high a.capacity a.pages.now in
     (omega arith, emitted_to-none f a.list.now a.out.now)
 
-mul-put-within-page : tie.Need-overflow-mul-put-within-page invariant-loop decreases-loop
+mul-put-within-page : tie.Need-offset_bounds-list-i invariant-loop decreases-loop
 mul-put-within-page c =
     let s = c.before.before.before.before.before in
-    record { fits = omega (arith, s.requires.few, c.loop-test.true) }
+    record { fits = omega (arith, s.requires.few, c.loop-i-test.true) }
 
-shared-slice-read-put-within-page : tie.Need-shared-slice-read-put-within-page invariant-loop decreases-loop
+shared-slice-read-put-within-page : tie.Need-bounds-list-i invariant-loop decreases-loop
 shared-slice-read-put-within-page c =
-    omega (arith, c.before.before.before.before.before.before.requires.within, c.before.loop-test.true)
+    omega (arith, c.before.before.before.before.before.before.requires.within, c.before.loop-i-test.true)
 
-cast-put-within-page : tie.Need-overflow-cast-put-within-page invariant-loop decreases-loop
-cast-put-within-page c = omega (arith, c.shared-slice-known3.given c.before.before.loop.i)
+cast-put-within-page : tie.Need-overflow_cast-list invariant-loop decreases-loop
+cast-put-within-page c = omega (arith, c.shared_slice_known-in-loop-i-1.given c.before.before.loop-i.i)
 
-put-within-page-requires : tie.Need-put-within-page-requires invariant-loop decreases-loop
+put-within-page-requires : tie.Need-put_within_page-total-requires invariant-loop decreases-loop
 put-within-page-requires c κs =
     let s = c.before.before.before.before.before.before.before in
-    let loop = c.before.before.before.loop in
-    let lt = c.before.before.loop-test.true in
+    let loop = c.before.before.before.loop-i in
+    let lt = c.before.before.loop-i-test.true in
     record {
       capacity = s.requires.capacity;
       page = s.requires.each loop.i lt;
       before = omega (arith, loop.invariant.1, s.requires.few, lt);
     }
 
-add-i : tie.Need-overflow-add-i invariant-loop decreases-loop
+add-i : tie.Need-overflow_add-i invariant-loop decreases-loop
 add-i c =
     let s = c.before.before.before.before.before.before.before.before.before.before in
-    record { fits = omega (arith, s.requires.few, c.before.before.before.before.before.loop-test.true) }
+    record { fits = omega (arith, s.requires.few, c.before.before.before.before.before.loop-i-test.true) }
 
-loop-less : tie.Need-loop-smaller invariant-loop decreases-loop
-loop-less c = let lt = c.before.before.before.before.before.loop-test.true in omega (arith, lt)
+loop-less : tie.Need-loop-i-smaller invariant-loop decreases-loop
+loop-less c = let lt = c.before.before.before.before.before.loop-i-test.true in omega (arith, lt)
 
-loop-again : tie.Need-loop-preserved invariant-loop decreases-loop
+loop-again : tie.Need-loop-i-preserved invariant-loop decreases-loop
 loop-again c =
-    let put = c.before.before.put-within-page in
-    let loop = c.before.before.before.before.before.before.loop in
-    let lt = c.before.before.before.before.before.loop-test.true in
+    let put = c.before.before.put_within_page-total in
+    let loop = c.before.before.before.before.before.before.loop-i in
+    let lt = c.before.before.before.before.before.loop-i-test.true in
     let s = c.before.before.before.before.before.before.before.before.before.before in
     let a = s.args in
     let f = between a.bias a.low a.high a.capacity a.pages.now in
@@ -73,27 +73,27 @@ loop-again c =
     let few = length-page_hits-le a.capacity a.pages.now (lies_in a.bias a.low a.high) _
     s.requires.capacity page in (
       omega (arith, lt),
-      emitted_to-next f a.list.now a.out.now loop.i loop.total loop.out loop.invariant.1
+      emitted_to-next f a.list.now a.out.now loop.i loop.total loop.out-1 loop.invariant.1
           (omega (arith, s.requires.within, lt)) few _ put.ensures.0 _ put.ensures.1 put.auto.1.1.1.1.1.1.0,
     )
 
-same_length : tie.Need-same-length invariant-loop decreases-loop
-same_length c = c.before.loop.invariant.1.1
+same_length : tie.Need-shape_of-out invariant-loop decreases-loop
+same_length c = c.before.loop-i.invariant.1.1
 
 returns : tie.Need-returns invariant-loop decreases-loop
 unfolding list_hits
 returns c =
     let s = c.before.before.before.before.before in
     let a = s.args in
-    let loop = c.before.loop in
+    let loop = c.before.loop-i in
     let f = between a.bias a.low a.high a.capacity a.pages.now in
     emitted-as f (take a.n a.list.now) a.out.now _ _ _
-    (emitted_to-all f a.list.now a.out.now a.n loop.i loop.total loop.out loop.invariant.0
-    c.loop-test.false s.requires.few loop.invariant.1)
+    (emitted_to-all f a.list.now a.out.now a.n loop.i loop.total loop.out-1 loop.invariant.0
+    c.loop-i-test.false s.requires.few loop.invariant.1)
     refl
 
-pub put-within-spec : {M : Type 1} → statement M
-put-within-spec =
+pub put_within_spec : {M : Type 1} → statement M
+put_within_spec =
     tie.close
     (tie.spec
     invariant-loop

@@ -20,57 +20,57 @@ use Rattle.range_records.proofs.put_within_page.Statement.{statement}
 use Rattle.range_records.proofs.put_within_page.Tie as tie
 
 -- the part is the page
-part : (c : tie.After-page-size)
+part : (c : tie.After-page_size)
     → let a = c.before.before.before.before.args in
-    let start = c.before.page-start.result in
-    mid_of start (start + c.page-size.result - start) a.pages.now ≡ page_at a.capacity a.pages.now a.g
+    let start = c.before.page_start-start.result in
+    mid_of start (start + c.page_size.result - start) a.pages.now ≡ page_at a.capacity a.pages.now a.g
 part c =
     let a = c.before.before.before.before.args in
-    mid_of-page a.capacity a.g _ _ a.pages.now c.before.page-start.ensures c.page-size.ensures
+    mid_of-page a.capacity a.g _ _ a.pages.now c.before.page_start-start.ensures c.page_size.ensures
 
-page-start-requires : tie.Need-page-start-requires
+page-start-requires : tie.Need-page_start-start-requires
 page-start-requires c κs = search rules
 
-page-size-requires : tie.Need-page-size-requires
+page-size-requires : tie.Need-page_size-requires
 page-size-requires c κs = search rules
 
-add-end : tie.Need-overflow-add-end
+add-end : tie.Need-overflow_add-end
 add-end c = search rules
 
-sub-count : tie.Need-overflow-sub-count
+sub-count : tie.Need-slice_bounds-count-count
 sub-count c = search rules
 
-part-count-start : tie.Need-slice-bounds-count-start
+part-count-start : tie.Need-slice_bounds-count-start
 part-count-start c = search rules
 
-part-count-end : tie.Need-slice-bounds-count-end
+part-count-end : tie.Need-slice_bounds-count-end
 part-count-end c = search rules
 
-count-requires : tie.Need-count-requires
+count-requires : tie.Need-count-n-requires
 count-requires c κs = search rules
 
-sub-within-mask : tie.Need-overflow-sub-within-mask
+sub-within-mask : tie.Need-slice_bounds-within_mask-count
 sub-within-mask c = search rules
 
-part-within-mask-start : tie.Need-slice-bounds-within-mask-start
+part-within-mask-start : tie.Need-slice_bounds-within_mask-start
 part-within-mask-start c = search rules
 
-part-within-mask-end : tie.Need-slice-bounds-within-mask-end
+part-within-mask-end : tie.Need-slice_bounds-within_mask-end
 part-within-mask-end c = search rules
 
 -- its count
-counted : (c : tie.After-count)
+counted : (c : tie.After-count-n)
     → let sized = c.before.before in
     let a = sized.before.before.before.before.args in
-    c.count.result ≡ count_of (page_at a.capacity a.pages.now a.g)
-counted c = c.count.ensures.0 ∙ ap count_of (part c.before.before)
+    c.count-n.result ≡ count_of (page_at a.capacity a.pages.now a.g)
+counted c = c.count-n.ensures.0 ∙ ap count_of (part c.before.before)
 
-few : (c : tie.After-count) → c.count.result < 64
+few : (c : tie.After-count-n) → c.count-n.result < 64
 few c =
     let s = c.before.before.before.before.before.before in
     omega (arith, counted c, s.requires.capacity, s.requires.page.counted)
 
-within-mask-requires : tie.Need-within-mask-requires
+within-mask-requires : tie.Need-within_mask-mask-requires
 within-mask-requires c κs =
     let sized = c.before.before.before in
     let s = sized.before.before.before.before in
@@ -78,27 +78,27 @@ within-mask-requires c κs =
     let lent = records-lent a.capacity a.pages.now a.g s.requires.page in
     rw (part sized, counted c.before) (omega (arith, s.requires.capacity, s.requires.page.counted), lent)
 
-shl-if1 : tie.Need-overflow-shl-if1
+shl-if1 : tie.Need-overflow_shl-n
 shl-if1 c = few c.before.before
 
-sub-if1 : tie.Need-overflow-sub-if1
+sub-if1 : tie.Need-overflow_sub-n
 sub-if1 c = one-le-bit _ (few c.before.before)
 
 -- the mask is that of the page
-masked : (c : tie.After-within-mask)
+masked : (c : tie.After-within_mask-mask)
     → let a = c.before.before.before.before.before.before.before.before.args in
-    c.within-mask.result ≡ page_mask (lies_in a.bias a.low a.high) (page_at a.capacity a.pages.now a.g)
+    c.within_mask-mask.result ≡ page_mask (lies_in a.bias a.low a.high) (page_at a.capacity a.pages.now a.g)
 masked c =
     let sized = c.before.before.before.before in
     let a = sized.before.before.before.before.args in
-    c.within-mask.ensures
+    c.within_mask-mask.ensures
     ∙ (λ i. match_mask (lies_in a.bias a.low a.high) (part sized i) (counted c.before.before i) 0)
 
 -- it picks the records that lie between
-picks : (c : tie.After-within-mask)
+picks : (c : tie.After-within_mask-mask)
     → let a = c.before.before.before.before.before.before.before.before.args in
     let page = page_at a.capacity a.pages.now a.g in
-    picked_by c.within-mask.result page ≡ page_hits (lies_in a.bias a.low a.high) page
+    picked_by c.within_mask-mask.result page ≡ page_hits (lies_in a.bias a.low a.high) page
 picks c =
     let s = c.before.before.before.before.before.before.before.before in
     let a = s.args in
@@ -107,11 +107,11 @@ picks c =
 -- ---- all of them
 
 -- a mask of all records: they are all that lie between
-all-between : (c : tie.Then1)
+all-between : (c : tie.Then-mask-n)
     → let sized = c.before.before.before.before.before in
     let a = sized.before.before.before.before.args in
     let page = page_at a.capacity a.pages.now a.g in
-    fields_from c.before.before.before.count.result 2 page ≡ page_hits (lies_in a.bias a.low a.high) page
+    fields_from c.before.before.before.count-n.result 2 page ≡ page_hits (lies_in a.bias a.low a.high) page
 all-between c =
     let mask = c.before in
     let at_count = mask.before.before in
@@ -120,21 +120,21 @@ all-between c =
     let page = page_at a.capacity a.pages.now a.g in
     let lent = records-lent a.capacity a.pages.now a.g s.requires.page in
     let full : page_mask (lies_in a.bias a.low a.high) page ≡ 2 ^ count_of page - 1 =
-    sym (masked mask) ∙ c.if1.true ∙ ap (λ x. x - 1) (one_shifted _ (few at_count))
+    sym (masked mask) ∙ c.if-mask-n.true ∙ ap (λ x. x - 1) (one_shifted _ (few at_count))
     ∙ ap (λ n. 2 ^ n - 1) (counted at_count) in
     ap (λ n. fields_from n 2 page) (counted at_count)
     ∙ sym (hits-full (lies_in a.bias a.low a.high) page (count_of page) lent full)
 
-sub-put-all : tie.Need-overflow-sub-put-all
+sub-put-all : tie.Need-slice_bounds-put_all-count
 sub-put-all c = search rules
 
-part-put-all-start : tie.Need-slice-bounds-put-all-start
+part-put-all-start : tie.Need-slice_bounds-put_all-start
 part-put-all-start c = search rules
 
-part-put-all-end : tie.Need-slice-bounds-put-all-end
+part-put-all-end : tie.Need-slice_bounds-put_all-end
 part-put-all-end c = search rules
 
-put-all-requires : tie.Need-put-all-requires
+put-all-requires : tie.Need-put_all-requires
 put-all-requires c κs =
     let at_count = c.before.before.before.before.before in
     let sized = at_count.before.before in
@@ -143,17 +143,17 @@ put-all-requires c κs =
     let lent = records-lent a.capacity a.pages.now a.g s.requires.page in
     rw (part sized, counted at_count) (lent, omega (arith, s.requires.capacity, s.requires.page.counted, s.requires.before))
 
-same_length : tie.Need-same-length
+same_length : tie.Need-shape_of-out-then-mask-n
 same_length c = search rules
 
-returns : tie.Need-returns
+returns : tie.Need-returns-then-mask-n
 returns c =
     let then = c.before.before.before.before.before in
-    let put = c.before.before.put_all_lem.ensures in
+    let put = c.before.before.put_all.ensures in
     let at_count = then.before.before.before in
     let sized = at_count.before.before in
     let a = sized.before.before.before.before.args in
-    let n = at_count.count.result in
+    let n = at_count.count-n.result in
     let found = ap (fields_from n 2) (part sized) ∙ all-between then in (
       put.0 ∙ ap (λ k. a.total + k) (sym (length-fields_from n 2 _) ∙ ap length (all-between then)),
       put.1 ∙ ap (emit a.out.now a.total) found,
@@ -161,16 +161,16 @@ returns c =
 
 -- ---- some of them
 
-sub-put-picked : tie.Need-overflow-sub-put-picked
+sub-put-picked : tie.Need-slice_bounds-put_picked-count
 sub-put-picked c = search rules
 
-part-put-picked-start : tie.Need-slice-bounds-put-picked-start
+part-put-picked-start : tie.Need-slice_bounds-put_picked-start
 part-put-picked-start c = search rules
 
-part-put-picked-end : tie.Need-slice-bounds-put-picked-end
+part-put-picked-end : tie.Need-slice_bounds-put_picked-end
 part-put-picked-end c = search rules
 
-put-picked-requires : tie.Need-put-picked-requires
+put-picked-requires : tie.Need-put_picked-requires
 put-picked-requires c κs =
     let mask = c.before.before.before in
     let sized = mask.before.before.before.before in
@@ -181,22 +181,22 @@ put-picked-requires c κs =
     let few = length-page_hits-le a.capacity a.pages.now test a.g s.requires.capacity s.requires.page in
     rw (part sized) (below, omega (arith, ap length (picks mask), few, s.requires.before))
 
-same-length-2 : tie.Need-same-length-2
+same-length-2 : tie.Need-shape_of-out
 same-length-2 c = search rules
 
-returns-2 : tie.Need-returns-2
+returns-2 : tie.Need-returns
 returns-2 c =
-    let put = c.before.before.put-picked.ensures in
+    let put = c.before.before.put_picked.ensures in
     let mask = c.before.before.before.before.before.before in
     let sized = mask.before.before.before.before in
     let a = sized.before.before.before.before.args in
-    let found = ap (picked_by mask.within-mask.result) (part sized) ∙ picks mask in (
+    let found = ap (picked_by mask.within_mask-mask.result) (part sized) ∙ picks mask in (
       put.0 ∙ ap (λ l. a.total + length l) found,
       put.1 ∙ ap (emit a.out.now a.total) found,
     )
 
-pub put-within-page-spec : {M : Type 1} → statement M
-put-within-page-spec =
+pub put_within_page_spec : {M : Type 1} → statement M
+put_within_page_spec =
     tie.close
     (tie.spec
     page-start-requires

@@ -5,13 +5,13 @@ use borrow.Author.Rules.{rules}
 use Rattle.record.proofs.read_content.Statement.{statement}
 use Rattle.record.proofs.read_content.Tie as tie
 
-add-read32 : tie.Need-overflow-add-read32
+add-read32 : tie.Need-overflow_add-at
 add-read32 c = search rules
 
 read32-requires : tie.Need-read32-requires
 read32-requires c κs = search rules
 
-cast-t5 : tie.Need-overflow-cast-t5
+cast-t5 : tie.Need-overflow_cast-result
 cast-t5 c = search rules
 
 returns : tie.Need-returns
@@ -19,5 +19,5 @@ returns c =
     let a = c.before.before.args in
     ap (λ n. record { payload = n }) c.read32.ensures.0 ∙ sym (content_in-field a.bytes.now a.at)
 
-pub read-content-spec : {M : Type 1} → statement M
-read-content-spec = tie.close (tie.spec add-read32 read32-requires cast-t5 returns)
+pub read_content_spec : {M : Type 1} → statement M
+read_content_spec = tie.close (tie.spec add-read32 read32-requires cast-t5 returns)

@@ -5,42 +5,42 @@ use borrow.Author.Rules.{rules}
 use Rattle.record.proofs.unpack_key.Statement.{statement}
 use Rattle.record.proofs.unpack_key.Tie as tie
 
-value-at-requires : tie.Need-value-at-requires
+value-at-requires : tie.Need-value_at-v0-requires
 value-at-requires c κs = search rules
 
-cast-v0 : tie.Need-overflow-cast-v0
-cast-v0 c = omega (arith, c.value-at.ensures)
+cast-v0 : tie.Need-overflow_cast-v0
+cast-v0 c = omega (arith, c.value_at-v0.ensures)
 
-value-at-requires-2 : tie.Need-value-at-requires-2
+value-at-requires-2 : tie.Need-value_at-v1-requires
 value-at-requires-2 c κs = search rules
 
-cast-v1 : tie.Need-overflow-cast-v1
-cast-v1 c = omega (arith, c.value-at2.ensures)
+cast-v1 : tie.Need-overflow_cast-v1
+cast-v1 c = omega (arith, c.value_at-v1.ensures)
 
-value-at-requires-3 : tie.Need-value-at-requires-3
+value-at-requires-3 : tie.Need-value_at-v2-requires
 value-at-requires-3 c κs = search rules
 
-cast-v2 : tie.Need-overflow-cast-v2
-cast-v2 c = omega (arith, c.value-at3.ensures)
+cast-v2 : tie.Need-overflow_cast-v2
+cast-v2 c = omega (arith, c.value_at-v2.ensures)
 
-value-at-requires-4 : tie.Need-value-at-requires-4
+value-at-requires-4 : tie.Need-value_at-v3-requires
 value-at-requires-4 c κs = search rules
 
-cast-v3 : tie.Need-overflow-cast-v3
-cast-v3 c = omega (arith, c.value-at4.ensures)
+cast-v3 : tie.Need-overflow_cast-v3
+cast-v3 c = omega (arith, c.value_at-v3.ensures)
 
 returns : tie.Need-returns
 unfolding unpacked_key
 returns c =
     rw (
-      c.before.before.before.value-at.ensures,
-      c.before.before.value-at2.ensures,
-      c.before.value-at3.ensures,
-      c.value-at4.ensures,
+      c.before.before.before.value_at-v0.ensures,
+      c.before.before.value_at-v1.ensures,
+      c.before.value_at-v2.ensures,
+      c.value_at-v3.ensures,
     )
 
-pub unpack-key-spec : {M : Type 1} → statement M
-unpack-key-spec =
+pub unpack_key_spec : {M : Type 1} → statement M
+unpack_key_spec =
     tie.close
     (tie.spec
     value-at-requires

@@ -5,14 +5,14 @@ use borrow.Author.Rules.{rules}
 use Rattle.record.proofs.value_at.Statement.{statement}
 use Rattle.record.proofs.value_at.Tie as tie
 
-mul-result : tie.Need-overflow-mul-result
+mul-result : tie.Need-overflow_mul-result
 mul-result c = search rules
 
-shr-result : tie.Need-overflow-shr-result
+shr-result : tie.Need-overflow_shr-result
 shr-result c = search rules
 
 returns : tie.Need-returns
 returns c = and_mask (c.args.key / 2 ^ (16 * c.args.j)) 16
 
-pub value-at-spec : {M : Type 1} → statement M
-value-at-spec = tie.close (tie.spec mul-result shr-result returns)
+pub value_at_spec : {M : Type 1} → statement M
+value_at_spec = tie.close (tie.spec mul-result shr-result returns)

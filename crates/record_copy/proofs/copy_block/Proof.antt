@@ -4,28 +4,28 @@ use borrow.Author.Rules.{rules}
 use Rattle.record_copy.proofs.copy_block.Statement.{statement}
 use Rattle.record_copy.proofs.copy_block.Tie as tie
 
-copy-sixteen-requires : tie.Need-copy-sixteen-requires
+copy-sixteen-requires : tie.Need-copy_sixteen-requires
 copy-sixteen-requires c κs = search rules
 
-add-copy-sixteen : tie.Need-overflow-add-copy-sixteen
+add-copy-sixteen : tie.Need-overflow_add-from
 add-copy-sixteen c = search rules
 
-add-copy-sixteen-2 : tie.Need-overflow-add-copy-sixteen-2
+add-copy-sixteen-2 : tie.Need-overflow_add-to
 add-copy-sixteen-2 c = search rules
 
-copy-sixteen-requires-2 : tie.Need-copy-sixteen-requires-2
+copy-sixteen-requires-2 : tie.Need-copy_sixteen-requires-2
 copy-sixteen-requires-2 c κs = search rules
 
-add-copy-sixteen-3 : tie.Need-overflow-add-copy-sixteen-3
+add-copy-sixteen-3 : tie.Need-overflow_add-from-2
 add-copy-sixteen-3 c = search rules
 
-add-copy-sixteen-4 : tie.Need-overflow-add-copy-sixteen-4
+add-copy-sixteen-4 : tie.Need-overflow_add-to-2
 add-copy-sixteen-4 c = search rules
 
-copy-sixteen-requires-3 : tie.Need-copy-sixteen-requires-3
+copy-sixteen-requires-3 : tie.Need-copy_sixteen-requires-3
 copy-sixteen-requires-3 c κs = search rules
 
-same_length : tie.Need-same-length
+same_length : tie.Need-shape_of-target
 same_length c = search rules
 
 returns : tie.Need-returns
@@ -36,10 +36,10 @@ returns c =
     let start = c1.before.before.before.before in
     let a = start.args in
     paste-sixteens a.source.now a.target.now a.from a.to start.requires.0 start.requires.1 _ _ _
-    c1.copy-sixteen.ensures c2.copy-sixteen2.ensures c3.copy-sixteen3.ensures
+    c1.copy_sixteen.ensures c2.copy_sixteen-2.ensures c3.copy_sixteen-3.ensures
 
-pub copy-block-spec : {M : Type 1} → statement M
-copy-block-spec =
+pub copy_block_spec : {M : Type 1} → statement M
+copy_block_spec =
     tie.close
     (tie.spec
     copy-sixteen-requires

@@ -10,82 +10,82 @@ use Rattle.record_copy.proofs.CopyLaws.{paste-part}
 use Rattle.record_copy.proofs.copy_few.Statement.{statement}
 use Rattle.record_copy.proofs.copy_few.Tie as tie
 
-abbrev invariant-loop : tie.invariant-loop
+abbrev invariant-loop : tie.invariant-loop-k
 invariant-loop source from target₀ to n last k₀ target k =
     (k < record_size * n) × (length target ≡ length target₀) × (target ≡ paste target₀ to (drop from source) k)
 
-abbrev decreases-loop : tie.decreases-loop
+abbrev decreases-loop : tie.decreases-loop-k
 decreases-loop source from target₀ to n last k₀ target k = record_size * n - k
 
-returns : tie.Need-returns invariant-loop decreases-loop
+returns : tie.Need-returns-then-n-eq0 invariant-loop decreases-loop
 returns c =
     let a = c.before.before.before.args in
     let none : record_size * a.n ≡ 0 = omega arith in
     paste-zero a.target.now a.to (drop a.from a.source.now)
     ∙ ap (paste a.target.now a.to (drop a.from a.source.now)) (sym none)
 
-mul-last : tie.Need-overflow-mul-last invariant-loop decreases-loop
+mul-last : tie.Need-overflow_mul-last invariant-loop decreases-loop
 mul-last c = omega arith
 
-sub-last : tie.Need-overflow-sub-last invariant-loop decreases-loop
+sub-last : tie.Need-overflow_sub-last invariant-loop decreases-loop
 sub-last c = omega arith
 
-loop-holds : tie.Need-loop-init invariant-loop decreases-loop
+loop-holds : tie.Need-loop-k-init invariant-loop decreases-loop
 loop-holds c =
     let a = c.before.before.before.args in
     (omega arith, refl, paste-zero a.target.now a.to (drop a.from a.source.now))
 
-add-copy-eight : tie.Need-overflow-add-copy-eight invariant-loop decreases-loop
+add-copy-eight : tie.Need-overflow_add-from invariant-loop decreases-loop
 add-copy-eight c = omega arith
 
-add-copy-eight-2 : tie.Need-overflow-add-copy-eight-2 invariant-loop decreases-loop
+add-copy-eight-2 : tie.Need-overflow_add-to invariant-loop decreases-loop
 add-copy-eight-2 c = omega arith
 
-copy-eight-requires : tie.Need-copy-eight-requires invariant-loop decreases-loop
+copy-eight-requires : tie.Need-copy_eight-requires invariant-loop decreases-loop
 copy-eight-requires c κs = (omega arith, omega arith)
 
-add-k : tie.Need-overflow-add-k invariant-loop decreases-loop
+add-k : tie.Need-overflow_add-k invariant-loop decreases-loop
 add-k c = omega arith
 
-loop-less : tie.Need-loop-smaller invariant-loop decreases-loop
+loop-less : tie.Need-loop-k-smaller invariant-loop decreases-loop
 loop-less c = omega arith
 
-loop-again : tie.Need-loop-preserved invariant-loop decreases-loop
+loop-again : tie.Need-loop-k-preserved invariant-loop decreases-loop
 loop-again c =
-    let eight = c.before.before.copy-eight in
-    let loop = c.before.before.before.before.before.loop in
+    let eight = c.before.before.copy_eight in
+    let loop = c.before.before.before.before.before.loop-k in
     let a = c.before.before.before.before.before.before.before.before.before.args in (
       omega arith,
       eight.auto.1.1.0 ∙ loop.invariant.1,
       paste-part 8 a.source.now a.target.now a.from a.to loop.k loop.k (omega arith) (omega arith)
-          (omega arith) (omega arith) loop.target _ loop.invariant.2 eight.ensures,
+          (omega arith) (omega arith) loop.target-1 _ loop.invariant.2 eight.ensures,
     )
 
-add-copy-eight-3 : tie.Need-overflow-add-copy-eight-3 invariant-loop decreases-loop
+add-copy-eight-3 : tie.Need-overflow_add-from-2 invariant-loop decreases-loop
 add-copy-eight-3 c = omega arith
 
-add-copy-eight-4 : tie.Need-overflow-add-copy-eight-4 invariant-loop decreases-loop
+add-copy-eight-4 : tie.Need-overflow_add-to-2 invariant-loop decreases-loop
 add-copy-eight-4 c = omega arith
 
-copy-eight-requires-2 : tie.Need-copy-eight-requires-2 invariant-loop decreases-loop
+copy-eight-requires-2 : tie.Need-copy_eight-requires-2 invariant-loop decreases-loop
 copy-eight-requires-2 c κs = (omega arith, omega arith)
 
-same_length : tie.Need-same-length invariant-loop decreases-loop
-same_length c = c.before.before.copy-eight2.auto.1.1.0 ∙ c.before.before.before.before.before.loop.invariant.1
+same_length : tie.Need-shape_of-target invariant-loop decreases-loop
+same_length c = c.before.before.copy_eight-2.auto.1.1.0 ∙ c.before.before.before.before.before.loop-k.invariant.1
 
-returns-2 : tie.Need-returns-2 invariant-loop decreases-loop
+returns-2 : tie.Need-returns invariant-loop decreases-loop
 returns-2 c =
-    let eight = c.before.before.copy-eight2 in
-    let loop = c.before.before.before.before.before.loop in
+    let eight = c.before.before.copy_eight-2 in
+    let loop = c.before.before.before.before.before.loop-k in
     let a = c.before.before.before.before.before.before.before.before.before.args in
     let last = record_size * a.n - 8 in
     let whole : last + 8 ≡ record_size * a.n = omega arith in
     paste-part 8 a.source.now a.target.now a.from a.to loop.k last (omega arith) (omega arith)
-    (omega arith) (omega arith) loop.target _ loop.invariant.2 eight.ensures
+    (omega arith) (omega arith) loop.target-1 _ loop.invariant.2 eight.ensures
     ∙ ap (paste a.target.now a.to (drop a.from a.source.now)) whole
 
-pub copy-few-spec : {M : Type 1} → statement M
-copy-few-spec =
+pub copy_few_spec : {M : Type 1} → statement M
+copy_few_spec =
     tie.close
     (tie.spec
     invariant-loop

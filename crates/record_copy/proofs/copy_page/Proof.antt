@@ -10,52 +10,52 @@ use borrow.Author.Rules.{rules}
 use Rattle.record_copy.proofs.copy_page.Statement.{statement}
 use Rattle.record_copy.proofs.copy_page.Tie as tie
 
-mul-last : tie.Need-mul-last
+mul-last : tie.Need-overflow_mul-last
 mul-last c = search rules
 
-sub-last : tie.Need-sub-last
+sub-last : tie.Need-overflow_sub-last
 sub-last c = search rules
 
-smaller-length-requires : tie.Need-smaller-length-requires
+smaller-length-requires : tie.Need-smaller_length-second-requires
 smaller-length-requires c κs = search rules
 
-add-smaller-length : tie.Need-add-smaller-length
+add-smaller-length : tie.Need-overflow_add-smaller_length
 add-smaller-length c = search rules
 
-smaller-length-requires-2 : tie.Need-smaller-length-requires-2
+smaller-length-requires-2 : tie.Need-smaller_length-third-requires
 smaller-length-requires-2 c κs = search rules
 
-copy-block-requires : tie.Need-copy-block-requires
+copy-block-requires : tie.Need-copy_block-requires
 copy-block-requires c κs = search rules
 
-add-copy-block : tie.Need-add-copy-block
+add-copy-block : tie.Need-overflow_add-from
 add-copy-block c = search rules
 
-add-copy-block-2 : tie.Need-add-copy-block-2
+add-copy-block-2 : tie.Need-overflow_add-to
 add-copy-block-2 c = search rules
 
-copy-block-requires-2 : tie.Need-copy-block-requires-2
+copy-block-requires-2 : tie.Need-copy_block-requires-2
 copy-block-requires-2 c κs = search rules
 
-add-copy-block-3 : tie.Need-add-copy-block-3
+add-copy-block-3 : tie.Need-overflow_add-from-2
 add-copy-block-3 c = search rules
 
-add-copy-block-4 : tie.Need-add-copy-block-4
+add-copy-block-4 : tie.Need-overflow_add-to-2
 add-copy-block-4 c = search rules
 
-copy-block-requires-3 : tie.Need-copy-block-requires-3
+copy-block-requires-3 : tie.Need-copy_block-requires-3
 copy-block-requires-3 c κs = search rules
 
-add-copy-block-5 : tie.Need-add-copy-block-5
+add-copy-block-5 : tie.Need-overflow_add-from-3
 add-copy-block-5 c = search rules
 
-add-copy-block-6 : tie.Need-add-copy-block-6
+add-copy-block-6 : tie.Need-overflow_add-to-3
 add-copy-block-6 c = search rules
 
-copy-block-requires-4 : tie.Need-copy-block-requires-4
+copy-block-requires-4 : tie.Need-copy_block-requires-4
 copy-block-requires-4 c κs = search rules
 
-same_length : tie.Need-same-length
+same_length : tie.Need-shape_of-target
 same_length c = search rules
 
 returns : tie.Need-returns
@@ -71,13 +71,13 @@ returns c =
     let last = record_size * a.n - 48 in
     let whole : last + 48 ≡ record_size * a.n = omega (arith, start.pre.0) in
     paste-four a.source.now a.target.now a.from a.to last (omega (arith, start.pre.1))
-    (omega (arith, whole, start.pre.2)) (omega (arith, whole, start.pre.3)) _ _ second.smaller-length.ensures
-    third.smaller-length2.ensures _ _ _ _ c1.copy-block.ensures c2.copy-block2.ensures
-    c3.copy-block3.ensures c4.copy-block4.ensures
+    (omega (arith, whole, start.pre.2)) (omega (arith, whole, start.pre.3)) _ _ second.smaller_length-second.ensures
+    third.smaller_length-third.ensures _ _ _ _ c1.copy_block.ensures c2.copy_block-2.ensures
+    c3.copy_block-3.ensures c4.copy_block-4.ensures
     ∙ ap (paste a.target.now a.to (drop a.from a.source.now)) whole
 
-pub copy-page-spec : {M : Type 1} → statement M
-copy-page-spec =
+pub copy_page_spec : {M : Type 1} → statement M
+copy_page_spec =
     tie.close
     (tie.spec
     mul-last

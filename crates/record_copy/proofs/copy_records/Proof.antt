@@ -10,91 +10,91 @@ use Rattle.record_copy.proofs.CopyLaws.{paste-part}
 use Rattle.record_copy.proofs.copy_records.Statement.{statement}
 use Rattle.record_copy.proofs.copy_records.Tie as tie
 
-abbrev invariant-loop : tie.invariant-loop
+abbrev invariant-loop : tie.invariant-loop-k
 invariant-loop source from target₀ to n size last k₀ target k =
     (k < record_size * n) × (length target ≡ length target₀) × (target ≡ paste target₀ to (drop from source) k)
 
-abbrev decreases-loop : tie.decreases-loop
+abbrev decreases-loop : tie.decreases-loop-k
 decreases-loop source from target₀ to n size last k₀ target k = record_size * n - k
 
-mul-size : tie.Need-overflow-mul-size invariant-loop decreases-loop
+mul-size : tie.Need-overflow_mul-size invariant-loop decreases-loop
 mul-size c = omega arith
 
-copy-few-requires : tie.Need-copy-few-requires invariant-loop decreases-loop
+copy-few-requires : tie.Need-copy_few-requires invariant-loop decreases-loop
 copy-few-requires c κs = (omega arith, omega arith)
 
-same_length : tie.Need-same-length invariant-loop decreases-loop
-same_length c = c.before.before.copy-few.auto.1.1.0
+same_length : tie.Need-shape_of-target-then-size-lt-BLOCK invariant-loop decreases-loop
+same_length c = c.before.before.copy_few.auto.1.1.0
 
-returns : tie.Need-returns invariant-loop decreases-loop
-returns c = c.before.before.copy-few.ensures
+returns : tie.Need-returns-then-size-lt-BLOCK invariant-loop decreases-loop
+returns c = c.before.before.copy_few.ensures
 
-copy-page-requires : tie.Need-copy-page-requires invariant-loop decreases-loop
+copy-page-requires : tie.Need-copy_page-requires invariant-loop decreases-loop
 copy-page-requires c κs = (omega arith, omega arith, omega arith, omega arith)
 
-same-length-2 : tie.Need-same-length-2 invariant-loop decreases-loop
-same-length-2 c = c.before.before.copy-page.auto.1.1.0
+same-length-2 : tie.Need-shape_of-target-then-n-le16 invariant-loop decreases-loop
+same-length-2 c = c.before.before.copy_page.auto.1.1.0
 
-returns-2 : tie.Need-returns-2 invariant-loop decreases-loop
-returns-2 c = c.before.before.copy-page.ensures
+returns-2 : tie.Need-returns-then-n-le16 invariant-loop decreases-loop
+returns-2 c = c.before.before.copy_page.ensures
 
-loop-holds : tie.Need-loop-init invariant-loop decreases-loop
+loop-holds : tie.Need-loop-k-init invariant-loop decreases-loop
 loop-holds c =
     let a = c.before.before.before.before.args in
     (omega arith, refl, paste-zero a.target.now a.to (drop a.from a.source.now))
 
-add-copy-block : tie.Need-overflow-add-copy-block invariant-loop decreases-loop
+add-copy-block : tie.Need-overflow_add-from invariant-loop decreases-loop
 add-copy-block c = omega arith
 
-add-copy-block-2 : tie.Need-overflow-add-copy-block-2 invariant-loop decreases-loop
+add-copy-block-2 : tie.Need-overflow_add-to invariant-loop decreases-loop
 add-copy-block-2 c = omega arith
 
-copy-block-requires : tie.Need-copy-block-requires invariant-loop decreases-loop
+copy-block-requires : tie.Need-copy_block-requires invariant-loop decreases-loop
 copy-block-requires c κs = (omega arith, omega arith)
 
-add-k : tie.Need-overflow-add-k invariant-loop decreases-loop
+add-k : tie.Need-overflow_add-k invariant-loop decreases-loop
 add-k c = omega arith
 
-loop-less : tie.Need-loop-smaller invariant-loop decreases-loop
+loop-less : tie.Need-loop-k-smaller invariant-loop decreases-loop
 loop-less c = omega arith
 
-loop-again : tie.Need-loop-preserved invariant-loop decreases-loop
+loop-again : tie.Need-loop-k-preserved invariant-loop decreases-loop
 loop-again c =
-    let block = c.before.before.copy-block in
-    let loop = c.before.before.before.before.before.loop in
+    let block = c.before.before.copy_block in
+    let loop = c.before.before.before.before.before.loop-k in
     let a = c.before.before.before.before.before.before.before.before.before.before.args in (
       omega arith,
       block.auto.1.1.0 ∙ loop.invariant.1,
       paste-part 48 a.source.now a.target.now a.from a.to loop.k loop.k (omega arith)
-          (omega arith) (omega arith) (omega arith) loop.target _ loop.invariant.2 block.ensures,
+          (omega arith) (omega arith) (omega arith) loop.target-1 _ loop.invariant.2 block.ensures,
     )
 
-add-copy-block-3 : tie.Need-overflow-add-copy-block-3 invariant-loop decreases-loop
+add-copy-block-3 : tie.Need-overflow_add-from-2 invariant-loop decreases-loop
 add-copy-block-3 c = omega arith
 
-add-copy-block-4 : tie.Need-overflow-add-copy-block-4 invariant-loop decreases-loop
+add-copy-block-4 : tie.Need-overflow_add-to-2 invariant-loop decreases-loop
 add-copy-block-4 c = omega arith
 
-copy-block-requires-2 : tie.Need-copy-block-requires-2 invariant-loop decreases-loop
+copy-block-requires-2 : tie.Need-copy_block-requires-2 invariant-loop decreases-loop
 copy-block-requires-2 c κs = (omega arith, omega arith)
 
-same-length-3 : tie.Need-same-length-3 invariant-loop decreases-loop
+same-length-3 : tie.Need-shape_of-target invariant-loop decreases-loop
 same-length-3 c =
-    c.before.before.copy-block2.auto.1.1.0 ∙ c.before.before.before.before.before.loop.invariant.1
+    c.before.before.copy_block-2.auto.1.1.0 ∙ c.before.before.before.before.before.loop-k.invariant.1
 
-returns-3 : tie.Need-returns-3 invariant-loop decreases-loop
+returns-3 : tie.Need-returns invariant-loop decreases-loop
 returns-3 c =
-    let block = c.before.before.copy-block2 in
-    let loop = c.before.before.before.before.before.loop in
+    let block = c.before.before.copy_block-2 in
+    let loop = c.before.before.before.before.before.loop-k in
     let a = c.before.before.before.before.before.before.before.before.before.before.args in
     let last = record_size * a.n - 48 in
     let whole : last + 48 ≡ record_size * a.n = omega arith in
     paste-part 48 a.source.now a.target.now a.from a.to loop.k last (omega arith)
-    (omega arith) (omega arith) (omega arith) loop.target _ loop.invariant.2 block.ensures
+    (omega arith) (omega arith) (omega arith) loop.target-1 _ loop.invariant.2 block.ensures
     ∙ ap (paste a.target.now a.to (drop a.from a.source.now)) whole
 
-pub copy-records-spec : {M : Type 1} → statement M
-copy-records-spec =
+pub copy_records_spec : {M : Type 1} → statement M
+copy_records_spec =
     tie.close
     (tie.spec
     invariant-loop

@@ -7,25 +7,25 @@ use borrow.Author.Rules.{rules}
 use Rattle.record_copy.proofs.copy_sixteen.Statement.{statement}
 use Rattle.record_copy.proofs.copy_sixteen.Tie as tie
 
-read64-requires : tie.Need-read64-requires
+read64-requires : tie.Need-read64-low-requires
 read64-requires c κs = search rules
 
-add-read64 : tie.Need-overflow-add-read64
+add-read64 : tie.Need-overflow_add-from
 add-read64 c = search rules
 
-read64-requires-2 : tie.Need-read64-requires-2
+read64-requires-2 : tie.Need-read64-high-requires
 read64-requires-2 c κs = search rules
 
 write64-requires : tie.Need-write64-requires
 write64-requires c κs = search rules
 
-add-write64 : tie.Need-overflow-add-write64
+add-write64 : tie.Need-overflow_add-to
 add-write64 c = search rules
 
 write64-requires-2 : tie.Need-write64-requires-2
 write64-requires-2 c κs = search rules
 
-same_length : tie.Need-same-length
+same_length : tie.Need-shape_of-target
 same_length c = search rules
 
 returns : tie.Need-returns
@@ -36,17 +36,17 @@ returns c =
     let low = high.before in
     let start = low.before.before.before in
     let a = start.args in
-    let bytes = low.before.before.shared-slice-known.given in
+    let bytes = low.before.before.shared_slice_known-1.given in
     let are : AreBytes a.source.now = λ i. omega (arith, bytes i) in
     paste-part 8 a.source.now a.target.now a.from a.to 8 8 (omega arith) (omega arith)
     start.requires.0 start.requires.1 _ _
-    (paste-number a.source.now a.target.now a.from a.to _ are (omega arith) low.read64.ensures _
+    (paste-number a.source.now a.target.now a.from a.to _ are (omega arith) low.read64-low.ensures _
     first.write64.ensures)
-    (paste-number a.source.now _ (a.from + 8) (a.to + 8) _ are (omega arith) high.read642.ensures _
-    second.write642.ensures)
+    (paste-number a.source.now _ (a.from + 8) (a.to + 8) _ are (omega arith) high.read64-high.ensures _
+    second.write64-2.ensures)
 
-pub copy-sixteen-spec : {M : Type 1} → statement M
-copy-sixteen-spec =
+pub copy_sixteen_spec : {M : Type 1} → statement M
+copy_sixteen_spec =
     tie.close
     (tie.spec
     read64-requires

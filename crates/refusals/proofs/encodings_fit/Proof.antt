@@ -15,61 +15,61 @@ use Rattle.refusals.proofs.encodings_fit.Tie as tie
 four : (c : tie.Start) → length c.args.encoded.values ≡ 4
 four c = sym (length-map c.args.encoded.values (λ v. v)) ∙ c.well-formed.1.0.1.1.0.1.0.1
 
-fit : (c : tie.After-widths-of) → Fit (width_list c.widths-of.result)
+fit : (c : tie.After-widths_of-widths) → Fit (width_list c.widths_of-widths.result)
 fit c =
     let s = c.before.before in
-    widths-fit s.args.shape (width_list c.widths-of.result) s.requires c.widths-of.ensures
+    widths-fit s.args.shape (width_list c.widths_of-widths.result) s.requires c.widths_of-widths.ensures
 
-widths-of-requires : tie.Need-widths-of-requires
+widths-of-requires : tie.Need-widths_of-widths-requires
 widths-of-requires c κs = search rules
 
-array-read-low : tie.Need-array-read-low
+array-read-low : tie.Need-bounds-values-0
 array-read-low c = search rules
 
-cast-low : tie.Need-overflow-cast-low
+cast-low : tie.Need-overflow_cast-low
 cast-low c = search rules
 
-shr-low : tie.Need-overflow-shr-low
+shr-low : tie.Need-overflow_shr-low
 shr-low c = omega (arith, fit c.before 0)
 
-array-read-low-2 : tie.Need-array-read-low-2
+array-read-low-2 : tie.Need-bounds-values-1
 array-read-low-2 c = search rules
 
-cast-low-2 : tie.Need-overflow-cast-low-2
+cast-low-2 : tie.Need-overflow_cast-low-2
 cast-low-2 c = search rules
 
-shr-low-2 : tie.Need-overflow-shr-low-2
+shr-low-2 : tie.Need-overflow_shr-low-2
 shr-low-2 c = omega (arith, fit c.before.before 1)
 
-array-read-high : tie.Need-array-read-high
+array-read-high : tie.Need-bounds-values-2
 array-read-high c = search rules
 
-cast-high : tie.Need-overflow-cast-high
+cast-high : tie.Need-overflow_cast-high
 cast-high c = search rules
 
-shr_high : tie.Need-overflow-shr-high
+shr_high : tie.Need-overflow_shr-high
 shr_high c = omega (arith, fit c.before.before.before 2)
 
-array-read-high-2 : tie.Need-array-read-high-2
+array-read-high-2 : tie.Need-bounds-values-3
 array-read-high-2 c = search rules
 
-cast-high-2 : tie.Need-overflow-cast-high-2
+cast-high-2 : tie.Need-overflow_cast-high-2
 cast-high-2 c =
     let s = c.before.before.before.before.before in
     elem_fits_field w32 w64 s.args.encoded.values _ 3 s.well-formed.1.0.1.1.0.1.1 tt
 
-shr-high-2 : tie.Need-overflow-shr-high-2
+shr-high-2 : tie.Need-overflow_shr-high-2
 shr-high-2 c = omega (arith, fit c.before.before.before.before 3)
 
 returns : tie.Need-returns
 returns c =
     let w = c.before.before.before.before in
     let a = w.before.before.args in
-    index_fits-past a.shape a.encoded.values (four w.before.before) (width_list w.widths-of.result)
-    w.widths-of.ensures
+    index_fits-past a.shape a.encoded.values (four w.before.before) (width_list w.widths_of-widths.result)
+    w.widths_of-widths.ensures
 
-pub encodings-fit-spec : {M : Type 1} → statement M
-encodings-fit-spec =
+pub encodings_fit_spec : {M : Type 1} → statement M
+encodings_fit_spec =
     tie.close
     (tie.spec
     widths-of-requires

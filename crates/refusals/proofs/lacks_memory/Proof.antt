@@ -12,49 +12,49 @@ use Rattle.shape.proofs.ShapeLaws.{capacity-bounds}
 use Rattle.refusals.proofs.lacks_memory.Statement.{statement}
 use Rattle.refusals.proofs.lacks_memory.Tie as tie
 
-returns : tie.Need-returns
+returns : tie.Need-returns-then-limits-gt63
 returns c =
     let s = c.before.before.before in
     let depth = s.args.state.limits.depth in
-    let more : 2 ^ 64 ≤ 2 ^ depth = pow_mono {i = 64} c.if1.true in
+    let more : 2 ^ 64 ≤ 2 ^ depth = pow_mono {i = 64} c.if-limits-gt63.true in
     rw (lt-ltb s.args.words (2 ^ depth) (le_trans s.ranges.words.fits more)) refl
 
-cast-if2 : tie.Need-overflow-cast-if2
+cast-if2 : tie.Need-overflow_cast-limits
 cast-if2 c = search rules
 
-shl-if2 : tie.Need-overflow-shl-if2
+shl-if2 : tie.Need-overflow_shl-limits
 shl-if2 c = search rules
 
-returns-2 : tie.Need-returns-2
+returns-2 : tie.Need-returns-then-words-limits
 returns-2 c =
     let s = c.before.before.before.before.before in
     let depth = s.args.state.limits.depth in
     let few : s.args.words < 2 ^ depth =
-    rw (one_shifted depth (omega (arith, c.before.before.if1.false))) at c.if2.true in
+    rw (one_shifted depth (omega (arith, c.before.before.if-limits-gt63.false))) at c.if-words-limits.true in
     rw (lt-ltb s.args.words (2 ^ depth) few) refl
 
-cast-page-start : tie.Need-overflow-cast-page-start
+cast-page-start : tie.Need-overflow_cast-shape
 cast-page-start c = search rules
 
-cast-page-start-2 : tie.Need-overflow-cast-page-start-2
+cast-page-start-2 : tie.Need-overflow_cast-limits-2
 cast-page-start-2 c = search rules
 
-page-start-requires : tie.Need-page-start-requires
+page-start-requires : tie.Need-page_start-requires
 page-start-requires c κs =
     let s = c.before.before.before.before.before.before.before.before in
     (omega (arith, (capacity-bounds s.args.state.shape s.requires).1), omega arith)
 
-returns-3 : tie.Need-returns-3
+returns-3 : tie.Need-returns
 returns-3 c =
     let left = c.before.before.before.before in
     let s = left.before.before.before.before.before in
     let depth = s.args.state.limits.depth in
     let enough : 2 ^ depth ≤ s.args.words =
-    rw (one_shifted depth (omega (arith, left.before.before.if1.false))) at left.if2.false in
-    rw (c.page-start.ensures, le-ltb s.args.words (2 ^ depth) enough) refl
+    rw (one_shifted depth (omega (arith, left.before.before.if-limits-gt63.false))) at left.if-words-limits.false in
+    rw (c.page_start.ensures, le-ltb s.args.words (2 ^ depth) enough) refl
 
-pub lacks-memory-spec : {M : Type 1} → statement M
-lacks-memory-spec =
+pub lacks_memory_spec : {M : Type 1} → statement M
+lacks_memory_spec =
     tie.close
     (tie.spec
     returns

@@ -11,47 +11,47 @@ use Rattle.refusals.proofs.limits_hold.Statement.{statement}
 use Rattle.refusals.proofs.limits_hold.Tie as tie
 
 -- what is computed is W
-bits : (c : tie.After-total-of)
+bits : (c : tie.After-total_of)
     → c.total_of.result
     ≡ total (widths_of c.before.before.before.before.before.before.before.before.before.args.state.shape)
-bits c = c.total_of.ensures.0 ∙ ap total c.before.widths-of.ensures
+bits c = c.total_of.ensures.0 ∙ ap total c.before.widths_of.ensures
 
-returns : tie.Need-returns
-returns c = limits_hold-no-page c.before.before.before.args.state c.if1.true
+returns : tie.Need-returns-then-limits-lt1
+returns c = limits_hold-no-page c.before.before.before.args.state c.if-limits-lt1.true
 
-returns-2 : tie.Need-returns-2
-returns-2 c = limits_hold-pages c.before.before.before.before.before.args.state c.if2.true
+returns-2 : tie.Need-returns-then-limits-gt4096
+returns-2 c = limits_hold-pages c.before.before.before.before.before.args.state c.if-limits-gt4096.true
 
-returns-3 : tie.Need-returns-3
+returns-3 : tie.Need-returns-then-limits-gt12
 returns-3 c =
     let st = c.before.before.before.before.before.before.before.args.state in
-    limits_hold-deep st (omega arith) (omega arith) c.if3.true
+    limits_hold-deep st (omega arith) (omega arith) c.if-limits-gt12.true
 
-widths-of-requires : tie.Need-widths-of-requires
+widths-of-requires : tie.Need-widths_of-requires
 widths-of-requires c κs = search rules
 
-total-of-requires : tie.Need-total-of-requires
+total-of-requires : tie.Need-total_of-requires
 total-of-requires c κs =
     let s = c.before.before.before.before.before.before.before.before in
-    widths-fit s.args.state.shape (width_list c.widths-of.result) s.requires c.widths-of.ensures
+    widths-fit s.args.state.shape (width_list c.widths_of.result) s.requires c.widths_of.ensures
 
-cast-if4 : tie.Need-overflow-cast-if4
+cast-if4 : tie.Need-overflow_cast-limits
 cast-if4 c = search rules
 
-returns-4 : tie.Need-returns-4
+returns-4 : tie.Need-returns-then-total_of-limits
 returns-4 c =
     let t = c.before.before in
     let st = t.before.before.before.before.before.before.before.before.before.args.state in
     limits_hold-bits st (omega arith) (omega arith) (omega arith) (omega (arith, bits t))
 
-returns-5 : tie.Need-returns-5
+returns-5 : tie.Need-returns
 returns-5 c =
     let t = c.before.before.before.before in
     let st = t.before.before.before.before.before.before.before.before.before.args.state in
     limits_hold-depth st (omega arith) (omega arith) (omega arith) (omega (arith, bits t))
 
-pub limits-hold-spec : {M : Type 1} → statement M
-limits-hold-spec =
+pub limits_hold_spec : {M : Type 1} → statement M
+limits_hold_spec =
     tie.close
     (tie.spec
     returns

@@ -8,42 +8,42 @@ use borrow.Author.Rules.{rules}
 use Rattle.replay.proofs.replay.Statement.{statement}
 use Rattle.replay.proofs.replay.Tie as tie
 
-fresh-requires : tie.Need-fresh-requires
+fresh-requires : tie.Need-fresh-made-requires
 fresh-requires c κs = search rules
 
-enum_told : tie.Need-enum-told
+enum_told : tie.Need-enum_told-1
 enum_told c = search rules
 
-same_length : tie.Need-same-length
+same_length : tie.Need-shape_of-dir-in_default
 same_length c = search rules
 
-same-length-2 : tie.Need-same-length-2
+same-length-2 : tie.Need-shape_of-pages-in_default
 same-length-2 c = search rules
 
-returns : tie.Need-returns
+returns : tie.Need-returns-in_default
 returns c =
     let call = c.before.before.before.before.before in
     let a = call.before.before.before.before.before.before.before.before.args in
     replayed-refused a.shape (memory a.dir.now a.pages.now) a.calls.now a.answers.now a.out.now
-    (made_answer call.fresh.result.answer) _ (refused-of-tag call.fresh.result.answer c.match.keys2)
-    call.fresh.ensures
+    (made_answer call.fresh-made.result.answer) _ (refused-of-tag call.fresh-made.result.answer c.in-Done.keys2)
+    call.fresh-made.ensures
 
-run-calls-requires : tie.Need-run-calls-requires
+run-calls-requires : tie.Need-run_calls-state-requires
 run-calls-requires c κs = search rules
 
-same-length-3 : tie.Need-same-length-3
+same-length-3 : tie.Need-shape_of-dir
 same-length-3 c = search rules
 
-same-length-4 : tie.Need-same-length-4
+same-length-4 : tie.Need-shape_of-pages
 same-length-4 c = search rules
 
-same-length-5 : tie.Need-same-length-5
+same-length-5 : tie.Need-shape_of-answers
 same-length-5 c = search rules
 
-same-length-6 : tie.Need-same-length-6
+same-length-6 : tie.Need-shape_of-out
 same-length-6 c = search rules
 
-returns-2 : tie.Need-returns-2
+returns-2 : tie.Need-returns
 unfolding made_answer
 returns-2 c =
     let ran = c.before.before.before.before.before.before.before.before in
@@ -51,11 +51,11 @@ returns-2 c =
     let call = told.before.before.before.before.before.before in
     let a = call.before.before.before.before.before.before.before.before.args in
     replayed-accepted a.shape (memory a.dir.now a.pages.now) a.calls.now a.answers.now a.out.now
-    (made_answer call.fresh.result.answer) _ _ _ _ (ap made_answer told.enum_told.given.1)
-    call.fresh.ensures ran.run-calls.ensures
+    (made_answer call.fresh-made.result.answer) _ _ _ _ (ap made_answer told.enum_told-1.given.1)
+    call.fresh-made.ensures ran.run_calls-state.ensures
 
-pub replay-spec : {M : Type 1} → statement M
-replay-spec =
+pub replay_spec : {M : Type 1} → statement M
+replay_spec =
     tie.close
     (tie.spec
     fresh-requires

@@ -4,11 +4,11 @@ use borrow.Author.Rules.{rules}
 use Rattle.replay_encoding.proofs.attribute_of.Statement.{statement}
 use Rattle.replay_encoding.proofs.attribute_of.Tie as tie
 
-returns : tie.Need-returns
+returns : tie.Need-returns-then-given-eq0
 returns c = search rules
 
-returns-2 : tie.Need-returns-2
-returns-2 c = value_if-given c.before.args.given c.before.args.value c.if1.false
+returns-2 : tie.Need-returns
+returns-2 c = value_if-given c.before.args.given c.before.args.value c.if-given-eq0.false
 
-pub attribute-of-spec : {M : Type 1} → statement M
-attribute-of-spec = tie.close (tie.spec returns returns-2)
+pub attribute_of_spec : {M : Type 1} → statement M
+attribute_of_spec = tie.close (tie.spec returns returns-2)

@@ -6,48 +6,48 @@ use borrow.Author.Rules.{rules}
 use Rattle.replay_encoding.proofs.changed_words.Statement.{statement}
 use Rattle.replay_encoding.proofs.changed_words.Tie as tie
 
-enum-known-answer : tie.Need-enum-known-answer
+enum-known-answer : tie.Need-enum_known-answer
 enum-known-answer c = search rules
 
-cast-t7 : tie.Need-overflow-cast-t7
+cast-t7 : tie.Need-overflow_cast-result
 cast-t7 c = search rules
 
-enum-known-answer-2 : tie.Need-enum-known-answer-2
+enum-known-answer-2 : tie.Need-enum_known-answer-in-Absent-1
 enum-known-answer-2 c = search rules
 
-cast-t8 : tie.Need-overflow-cast-t8
+cast-t8 : tie.Need-overflow_cast-result-in-Absent
 cast-t8 c = search rules
 
-enum-known-answer-3 : tie.Need-enum-known-answer-3
+enum-known-answer-3 : tie.Need-enum_known-answer-in-Refused-1
 enum-known-answer-3 c = search rules
 
-cast-t9 : tie.Need-overflow-cast-t9
+cast-t9 : tie.Need-overflow_cast-result-in-Refused
 cast-t9 c = search rules
 
-enum-known-answer-4 : tie.Need-enum-known-answer-4
+enum-known-answer-4 : tie.Need-enum_known-answer-in-Width-1
 enum-known-answer-4 c = search rules
 
-cast-t10 : tie.Need-overflow-cast-t10
+cast-t10 : tie.Need-overflow_cast-result-in-Width
 cast-t10 c = search rules
 
-returns : tie.Need-returns
+returns : tie.Need-returns-in-Done
 unfolding answer_words changed_answer
-returns c = ap (λ a. answer_words (changed_answer a)) (sym c.before.answer.given.1)
+returns c = ap (λ a. answer_words (changed_answer a)) (sym c.before.answer-1.given.1)
 
-returns-2 : tie.Need-returns-2
+returns-2 : tie.Need-returns-in-Absent
 unfolding answer_words changed_answer
-returns-2 c = ap (λ a. answer_words (changed_answer a)) (sym c.before.answer2.given.1)
+returns-2 c = ap (λ a. answer_words (changed_answer a)) (sym c.before.answer-in-Absent-1.given.1)
 
-returns-3 : tie.Need-returns-3
+returns-3 : tie.Need-returns-in-Refused
 unfolding answer_words changed_answer
-returns-3 c = ap (λ a. answer_words (changed_answer a)) (sym c.before.answer3.given.1)
+returns-3 c = ap (λ a. answer_words (changed_answer a)) (sym c.before.answer-in-Refused-1.given.1)
 
-returns-4 : tie.Need-returns-4
+returns-4 : tie.Need-returns-in-Width
 unfolding answer_words changed_answer
-returns-4 c = ap (λ a. answer_words (changed_answer a)) (sym c.before.answer4.given.1)
+returns-4 c = ap (λ a. answer_words (changed_answer a)) (sym c.before.answer-in-Width-1.given.1)
 
-pub changed-words-spec : {M : Type 1} → statement M
-changed-words-spec =
+pub changed_words_spec : {M : Type 1} → statement M
+changed_words_spec =
     tie.close
     (tie.spec enum-known-answer cast-t7 enum-known-answer-2 cast-t8 enum-known-answer-3 cast-t9 enum-known-answer-4
     cast-t10 returns returns-2 returns-3 returns-4)

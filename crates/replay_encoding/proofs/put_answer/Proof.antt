@@ -7,62 +7,62 @@ use borrow.Author.Rules.{rules}
 use Rattle.replay_encoding.proofs.put_answer.Statement.{statement}
 use Rattle.replay_encoding.proofs.put_answer.Tie as tie
 
-mul_at : tie.Need-overflow-mul-at
+mul_at : tie.Need-overflow_mul-at
 mul_at c = search rules
 
-array-read-answers : tie.Need-array-read-answers
+array-read-answers : tie.Need-bounds-words-0
 array-read-answers c = search rules
 
-mul-answers : tie.Need-overflow-mul-answers
+mul-answers : tie.Need-offset_bounds-answers-at
 mul-answers c = search rules
 
-slice-write-answers : tie.Need-slice-write-answers
+slice-write-answers : tie.Need-bounds-answers-at
 slice-write-answers c = search rules
 
-array-read-answers-2 : tie.Need-array-read-answers-2
+array-read-answers-2 : tie.Need-bounds-words-1
 array-read-answers-2 c = search rules
 
-add-answers : tie.Need-overflow-add-answers
+add-answers : tie.Need-overflow_add-answers
 add-answers c = search rules
 
-mul-answers-2 : tie.Need-overflow-mul-answers-2
+mul-answers-2 : tie.Need-offset_bounds-answers-at-2
 mul-answers-2 c = search rules
 
-slice-write-answers-2 : tie.Need-slice-write-answers-2
+slice-write-answers-2 : tie.Need-bounds-answers-at-2
 slice-write-answers-2 c = simp length-set (omega (arith, c.requires))
 
-array-read-answers-3 : tie.Need-array-read-answers-3
+array-read-answers-3 : tie.Need-bounds-words-2
 array-read-answers-3 c = search rules
 
-add-answers-2 : tie.Need-overflow-add-answers-2
+add-answers-2 : tie.Need-overflow_add-answers-2
 add-answers-2 c = search rules
 
-mul-answers-3 : tie.Need-overflow-mul-answers-3
+mul-answers-3 : tie.Need-offset_bounds-answers-at-3
 mul-answers-3 c = search rules
 
-slice-write-answers-3 : tie.Need-slice-write-answers-3
+slice-write-answers-3 : tie.Need-bounds-answers-at-3
 slice-write-answers-3 c = simp length-set (omega (arith, c.requires))
 
-array-read-answers-4 : tie.Need-array-read-answers-4
+array-read-answers-4 : tie.Need-bounds-words-3
 array-read-answers-4 c = search rules
 
-add-answers-3 : tie.Need-overflow-add-answers-3
+add-answers-3 : tie.Need-overflow_add-answers-3
 add-answers-3 c = search rules
 
-mul-answers-4 : tie.Need-overflow-mul-answers-4
+mul-answers-4 : tie.Need-offset_bounds-answers-at-4
 mul-answers-4 c = search rules
 
-slice-write-answers-4 : tie.Need-slice-write-answers-4
+slice-write-answers-4 : tie.Need-bounds-answers-at-4
 slice-write-answers-4 c = simp length-set (omega (arith, c.requires))
 
-same_length : tie.Need-same-length
+same_length : tie.Need-shape_of-answers
 same_length c = search rules
 
 returns : tie.Need-returns
 returns c = four-sets c.args.answers.now c.args.t3 (4 * c.args.i) c.requires
 
-pub put-answer-spec : {M : Type 1} → statement M
-put-answer-spec =
+pub put_answer_spec : {M : Type 1} → statement M
+put_answer_spec =
     tie.close
     (tie.spec
     mul_at

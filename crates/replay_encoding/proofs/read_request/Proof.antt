@@ -4,49 +4,49 @@ use borrow.Author.Rules.{rules}
 use Rattle.replay_encoding.proofs.read_request.Statement.{statement}
 use Rattle.replay_encoding.proofs.read_request.Tie as tie
 
-mul_at : tie.Need-overflow-mul-at
+mul_at : tie.Need-overflow_mul-at
 mul_at c = search rules
 
-mul-t4 : tie.Need-overflow-mul-t4
+mul-t4 : tie.Need-offset_bounds-calls-at
 mul-t4 c = search rules
 
-shared-slice-read-t6 : tie.Need-shared-slice-read-t6
+shared-slice-read-t6 : tie.Need-bounds-calls-at
 shared-slice-read-t6 c = search rules
 
-add-four-words : tie.Need-overflow-add-four-words
+add-four-words : tie.Need-overflow_add-at
 add-four-words c = search rules
 
-four-words-requires : tie.Need-four-words-requires
+four-words-requires : tie.Need-four_words-requires
 four-words-requires c κs = search rules
 
-add-four-words-2 : tie.Need-overflow-add-four-words-2
+add-four-words-2 : tie.Need-overflow_add-at-2
 add-four-words-2 c = search rules
 
-four-words-requires-2 : tie.Need-four-words-requires-2
+four-words-requires-2 : tie.Need-four_words-requires-2
 four-words-requires-2 c κs = search rules
 
-add-t11 : tie.Need-overflow-add-t11
+add-t11 : tie.Need-overflow_add-result
 add-t11 c = search rules
 
-mul-t12 : tie.Need-overflow-mul-t12
+mul-t12 : tie.Need-offset_bounds-calls-at-2
 mul-t12 c = search rules
 
-shared-slice-read-t14 : tie.Need-shared-slice-read-t14
+shared-slice-read-t14 : tie.Need-bounds-calls-at-2
 shared-slice-read-t14 c = search rules
 
-add-t15 : tie.Need-overflow-add-t15
+add-t15 : tie.Need-overflow_add-result-2
 add-t15 c = search rules
 
-mul-t16 : tie.Need-overflow-mul-t16
+mul-t16 : tie.Need-offset_bounds-calls-at-3
 mul-t16 c = search rules
 
-shared-slice-read-t18 : tie.Need-shared-slice-read-t18
+shared-slice-read-t18 : tie.Need-bounds-calls-at-3
 shared-slice-read-t18 c = search rules
 
-add-four-words-3 : tie.Need-overflow-add-four-words-3
+add-four-words-3 : tie.Need-overflow_add-at-3
 add-four-words-3 c = search rules
 
-four-words-requires-3 : tie.Need-four-words-requires-3
+four-words-requires-3 : tie.Need-four_words-requires-3
 four-words-requires-3 c κs = search rules
 
 returns : tie.Need-returns
@@ -54,11 +54,11 @@ returns c =
     let given = c.before.before.before in
     let values = given.before in
     let a = values.before.before.before.args in
-    request_at-read a.calls.now _ _ _ a.i values.four-words.ensures given.four-words2.ensures
-    c.four-words3.ensures
+    request_at-read a.calls.now _ _ _ a.i values.four_words.ensures given.four_words-2.ensures
+    c.four_words-3.ensures
 
-pub read-request-spec : {M : Type 1} → statement M
-read-request-spec =
+pub read_request_spec : {M : Type 1} → statement M
+read_request_spec =
     tie.close
     (tie.spec
     mul_at

@@ -7,24 +7,24 @@ use borrow.Author.Rules.{rules}
 use Rattle.replay_encoding.proofs.request_size.Statement.{statement}
 use Rattle.replay_encoding.proofs.request_size.Tie as tie
 
-returns : tie.Need-returns
+returns : tie.Need-returns-then-request-lt3
 returns c =
     let a = c.before.before.args in
-    (sym (request_size-none a.request a.room c.if1.taken), omega arith)
+    (sym (request_size-none a.request a.room c.if-request-lt3.taken), omega arith)
 
-cast-smaller-length : tie.Need-cast-smaller-length
+cast-smaller-length : tie.Need-overflow_cast-request
 cast-smaller-length c = search rules
 
-smaller-length-requires : tie.Need-smaller-length-requires
+smaller-length-requires : tie.Need-smaller_length-requires
 smaller-length-requires c κs = search rules
 
-returns-2 : tie.Need-returns-2
+returns-2 : tie.Need-returns
 returns-2 c =
     let a = c.before.before.before.before.args in
-    let listed : a.request.kind < 3 → ⊥ = λ h. omega (arith, h, c.before.before.if1.left) in (
-      c.smaller-length.ensures ∙ sym (request_size-listed a.request a.room listed),
-      omega (arith, c.smaller-length.ensures),
+    let listed : a.request.kind < 3 → ⊥ = λ h. omega (arith, h, c.before.before.if-request-lt3.left) in (
+      c.smaller_length.ensures ∙ sym (request_size-listed a.request a.room listed),
+      omega (arith, c.smaller_length.ensures),
     )
 
-pub request-size-spec : {M : Type 1} → statement M
-request-size-spec = tie.close (tie.spec returns cast-smaller-length smaller-length-requires returns-2)
+pub request_size_spec : {M : Type 1} → statement M
+request_size_spec = tie.close (tie.spec returns cast-smaller-length smaller-length-requires returns-2)

@@ -13,37 +13,37 @@ use Rattle.save.proofs.note_all.Statement.{statement}
 use Rattle.save.proofs.note_all.Tie as tie
 
 -- the table, once the limits are put behind the rows
-tabled : (c : tie.After-fill-limits)
+tabled : (c : tie.After-fill_limits)
     → Table c.before.before.before.before.before.before.before.before.before.args.state free_bits
-    c.fill-limits.new.1.0
+    c.fill_limits.new.1.0
 tabled c =
     let filled = c.before.before in
-    let free = filled.before.before.before.free-query in
+    let free = filled.before.before.before.free_query in
     let s = filled.before.before.before.before.before.before.before in
     let st = s.args.state in
     let ws = widths_of st.shape in
-    let rows = filled.fill-rows.new.1.1.1.0 in
-    rw c.fill-limits.ensures
+    let rows = filled.fill_rows.new.1.1.1.0 in
+    rw c.fill_limits.ensures
     (Table-limited st rows s.requires.0.depth-twelve free_bits
     (rows-free ws st.deepest rows
-    (subst (λ v. Rows ws (wanted_at ws v) st.deepest rows) free.ensures filled.fill-rows.ensures.1))
-    (omega (arith, filled.fill-rows.ensures.0)))
+    (subst (λ v. Rows ws (wanted_at ws v) st.deepest rows) free.ensures filled.fill_rows.ensures.1))
+    (omega (arith, filled.fill_rows.ensures.0)))
 
-free-query-requires : tie.Need-free-query-requires
+free-query-requires : tie.Need-free_query-requires
 free-query-requires c κs = search rules
 
-cast-fill-rows : tie.Need-overflow-cast-fill-rows
+cast-fill-rows : tie.Need-overflow_cast-state
 cast-fill-rows c = search rules
 
-fill-rows-requires : tie.Need-fill-rows-requires
+fill-rows-requires : tie.Need-fill_rows-requires
 fill-rows-requires c κs = search rules
 
-fill-limits-requires : tie.Need-fill-limits-requires
+fill-limits-requires : tie.Need-fill_limits-requires
 fill-limits-requires c κs =
     let s = c.before.before.before.before.before.before.before.before in
     shape_number-true s.args.state.shape s.requires.0.shape
 
-note-pages-requires : tie.Need-note-pages-requires
+note-pages-requires : tie.Need-note_pages-requires
 note-pages-requires c κs =
     let limited = c.before.before in
     let s = limited.before.before.before.before.before.before.before.before.before in
@@ -51,16 +51,16 @@ note-pages-requires c κs =
     walkable-free a.state (length a.dir.now) (length a.pages.now) s.requires.0 _ (length a.list.now)
     (tabled limited) s.requires.1
 
-same_length : tie.Need-same-length
+same_length : tie.Need-shape_of-list
 same_length c = search rules
 
 returns : tie.Need-returns
 returns c =
     let walk = c.before.before in
-    walk.note-pages.ensures free_bits (tabled walk.before.before.before)
+    walk.note_pages.ensures free_bits (tabled walk.before.before.before)
 
-pub note-all-spec : {M : Type 1} → statement M
-note-all-spec =
+pub note_all_spec : {M : Type 1} → statement M
+note_all_spec =
     tie.close
     (tie.spec
     free-query-requires

@@ -9,43 +9,43 @@ use borrow.Author.Rules.{rules}
 use Rattle.save.proofs.write_file.Statement.{statement}
 use Rattle.save.proofs.write_file.Tie as tie
 
-cast-capacity : tie.Need-overflow-cast-capacity
+cast-capacity : tie.Need-overflow_cast-capacity
 cast-capacity c = search rules
 
-count-records-requires : tie.Need-count-records-requires
+count-records-requires : tie.Need-count_records-total-requires
 count-records-requires c κs = search rules
 
-mul-end : tie.Need-overflow-mul-end
+mul-end : tie.Need-overflow_mul-end
 mul-end c = search rules
 
-add-size : tie.Need-overflow-add-size
+add-size : tie.Need-overflow_add-size
 add-size c = search rules
 
-returns : tie.Need-returns
+returns : tie.Need-returns-then-out-size
 unfolding saved_answer
 returns c =
     let counted = c.before in
     let a = counted.before.before.before.before.before.args in
     filed-short a.shape (flat_map (page_fields a.shape.capacity a.pages.now) (take a.n a.list.now))
-    a.out.now _ counted.count-records.ensures.0 counted.count-records.ensures.1
-    (omega (arith, c.if1.true))
+    a.out.now _ counted.count_records-total.ensures.0 counted.count_records-total.ensures.1
+    (omega (arith, c.if-out-size.true))
 
-put-whole-requires : tie.Need-put-whole-requires
+put-whole-requires : tie.Need-put_whole-requires
 put-whole-requires c κs = search rules
 
 -- the whole file fits
-put-end-requires : tie.Need-put-end-requires
+put-end-requires : tie.Need-put_end-requires
 put-end-requires c κs =
     let put = c.before.before.before in
     let test = put.before.before in
     let counted = test.before in
     let s = counted.before.before.before.before.before in
-    (s.requires.0, counted.count-records.ensures.1, omega (arith, test.if1.false, put.put_whole.auto.1.1.1.1.0))
+    (s.requires.0, counted.count_records-total.ensures.1, omega (arith, test.if-out-size.false, put.put_whole.auto.1.1.1.1.0))
 
-same_length : tie.Need-same-length
+same_length : tie.Need-shape_of-out
 same_length c = search rules
 
-returns-2 : tie.Need-returns-2
+returns-2 : tie.Need-returns
 unfolding saved_answer
 returns-2 c =
     let ended = c.before.before in
@@ -54,12 +54,12 @@ returns-2 c =
     let counted = test.before in
     let a = counted.before.before.before.before.before.args in
     filed-fits a.shape (flat_map (page_fields a.shape.capacity a.pages.now) (take a.n a.list.now))
-    a.out.now _ counted.count-records.ensures.0 counted.count-records.ensures.1
-    (omega (arith, test.if1.false)) _
-    put.put_whole.ensures.bytes _ ended.put-end.ensures
+    a.out.now _ counted.count_records-total.ensures.0 counted.count_records-total.ensures.1
+    (omega (arith, test.if-out-size.false)) _
+    put.put_whole.ensures.bytes _ ended.put_end.ensures
 
-pub write-file-spec : {M : Type 1} → statement M
-write-file-spec =
+pub write_file_spec : {M : Type 1} → statement M
+write_file_spec =
     tie.close
     (tie.spec
     cast-capacity

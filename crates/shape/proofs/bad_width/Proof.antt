@@ -11,48 +11,48 @@ use Rattle.shape.proofs.BoundsLaws.{below_suc}
 use Rattle.shape.proofs.bad_width.Statement.{statement}
 use Rattle.shape.proofs.bad_width.Tie as tie
 
-abbrev invariant-loop : tie.invariant-loop
+abbrev invariant-loop : tie.invariant-loop-j
 invariant-loop shape j₀ j = (j ≤ 4) × ((i : ℕ) → i < j → bad_width shape i ≡ false)
 
-abbrev decreases-loop : tie.decreases-loop
+abbrev decreases-loop : tie.decreases-loop-j
 decreases-loop shape j₀ j = 4 - j
 
-loop-holds : tie.Need-loop-init invariant-loop decreases-loop
+loop-holds : tie.Need-loop-j-init invariant-loop decreases-loop
 loop-holds c = (omega arith, λ i l. absurd (omega arith))
 
-is-bad-requires : tie.Need-is-bad-requires invariant-loop decreases-loop
+is-bad-requires : tie.Need-is_bad-requires invariant-loop decreases-loop
 is-bad-requires c κs = search rules
 
-cast-result : tie.Need-overflow-cast-result invariant-loop decreases-loop
+cast-result : tie.Need-overflow_cast-result invariant-loop decreases-loop
 cast-result c = search rules
 
-returns : tie.Need-returns invariant-loop decreases-loop
+returns : tie.Need-returns-then-is_bad invariant-loop decreases-loop
 returns c =
     let at = c.before.before.before in
-    sym (lowest_bad-found at.before.args.shape at.loop.j (omega arith)
-    (sym c.before.is-bad.ensures ∙ c.if1.true) at.loop.invariant.1)
+    sym (lowest_bad-found at.before.args.shape at.loop-j.j (omega arith)
+    (sym c.before.is_bad.ensures ∙ c.if-is_bad.true) at.loop-j.invariant.1)
 
-add-j : tie.Need-overflow-add-j invariant-loop decreases-loop
+add-j : tie.Need-overflow_add-j invariant-loop decreases-loop
 add-j c = search rules
 
-loop-less : tie.Need-loop-smaller invariant-loop decreases-loop
+loop-less : tie.Need-loop-j-smaller invariant-loop decreases-loop
 loop-less c = search rules
 
-loop-again : tie.Need-loop-preserved invariant-loop decreases-loop
+loop-again : tie.Need-loop-j-preserved invariant-loop decreases-loop
 loop-again c =
     let at = c.before.before.before in
-    let last = sym c.before.is-bad.ensures ∙ c.if1.false in (
+    let last = sym c.before.is_bad.ensures ∙ c.if-is_bad.false in (
       omega arith,
-      rw (add-one at.loop.j) (below_suc (bad_width at.before.args.shape) at.loop.j at.loop.invariant.1 last),
+      rw (add-one at.loop-j.j) (below_suc (bad_width at.before.args.shape) at.loop-j.j at.loop-j.invariant.1 last),
     )
 
-returns-2 : tie.Need-returns-2 invariant-loop decreases-loop
+returns-2 : tie.Need-returns invariant-loop decreases-loop
 returns-2 c =
-    let loop = c.before.loop in
+    let loop = c.before.loop-j in
     sym (lowest_bad-four c.before.before.args.shape (λ i l. loop.invariant.1 i (omega arith)))
 
-pub bad-width-spec : {M : Type 1} → statement M
-bad-width-spec =
+pub bad_width_spec : {M : Type 1} → statement M
+bad_width_spec =
     tie.close
     (tie.spec
     invariant-loop

@@ -3,11 +3,11 @@ use borrow.Author.Tests.{le-leb, lt-leb}
 use Rattle.shape.proofs.in_range.Statement.{statement}
 use Rattle.shape.proofs.in_range.Tie as tie
 
-returns : tie.Need-returns
-returns c = simp (lt-leb _ _ c.if1.true)
+returns : tie.Need-returns-then-x-lo
+returns c = simp (lt-leb _ _ c.if-x-lo.true)
 
-returns-2 : tie.Need-returns-2
-returns-2 c = simp (le-leb _ _ c.if1.false)
+returns-2 : tie.Need-returns
+returns-2 c = simp (le-leb _ _ c.if-x-lo.false)
 
-pub in-range-spec : {M : Type 1} → statement M
-in-range-spec = tie.close (tie.spec returns returns-2)
+pub in_range_spec : {M : Type 1} → statement M
+in_range_spec = tie.close (tie.spec returns returns-2)

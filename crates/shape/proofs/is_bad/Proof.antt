@@ -6,29 +6,29 @@ use Rattle.shape.proofs.AmissLaws.{bad_width-used, bad_width-unused}
 use Rattle.shape.proofs.is_bad.Statement.{statement}
 use Rattle.shape.proofs.is_bad.Tie as tie
 
-cast-d : tie.Need-overflow-cast-d
+cast-d : tie.Need-overflow_cast-d
 cast-d c = search rules
 
-returns : tie.Need-returns
+returns : tie.Need-returns-then-d-j
 returns c =
     let args = c.before.before.before.args in
-    sym (bad_width-unused args.shape args.j c.if1.true)
+    sym (bad_width-unused args.shape args.j c.if-d-j.true)
 
-mul-in-range : tie.Need-overflow-mul-in-range
+mul-in-range : tie.Need-offset_bounds-widths-j
 mul-in-range c = search rules
 
-array-read-in-range : tie.Need-array-read-in-range
+array-read-in-range : tie.Need-bounds-widths-j
 array-read-in-range c = search rules
 
-in-range-requires : tie.Need-in-range-requires
+in-range-requires : tie.Need-in_range-requires
 in-range-requires c κs = search rules
 
-returns-2 : tie.Need-returns-2
+returns-2 : tie.Need-returns
 returns-2 c =
     let args = c.before.before.before.before.args in
-    sym (bad_width-used args.shape args.j (omega arith) _ (sym c.in-range.ensures))
+    sym (bad_width-used args.shape args.j (omega arith) _ (sym c.in_range.ensures))
 
-pub is-bad-spec : {M : Type 1} → statement M
-is-bad-spec =
+pub is_bad_spec : {M : Type 1} → statement M
+is_bad_spec =
     tie.close
     (tie.spec cast-d returns mul-in-range array-read-in-range in-range-requires returns-2)

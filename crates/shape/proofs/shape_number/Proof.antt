@@ -9,42 +9,42 @@ use Rattle.shape.proofs.BoundsLaws.{within-le}
 use Rattle.shape.proofs.shape_number.Statement.{statement}
 use Rattle.shape.proofs.shape_number.Tie as tie
 
-count-fits : (c : tie.Else1) → count_fits c.before.before.args.shape ≡ true
-count-fits c = sym c.before.in-range.ensures ∙ not-false _ c.if1.false
+count-fits : (c : tie.Else-not-in_range) → count_fits c.before.before.args.shape ≡ true
+count-fits c = sym c.before.in_range.ensures ∙ not-false _ c.if-not-in_range.false-raw
 
-in-range-requires : tie.Need-in-range-requires
+in-range-requires : tie.Need-in_range-requires
 in-range-requires c κs = search rules
 
-returns : tie.Need-returns
-returns c = sym (shape_number-count _ (sym c.before.in-range.ensures ∙ not-true _ c.if1.true))
+returns : tie.Need-returns-then-not-in_range
+returns c = sym (shape_number-count _ (sym c.before.in_range.ensures ∙ not-true _ c.if-not-in_range.true-raw))
 
-widths-fit-requires : tie.Need-widths-fit-requires
+widths-fit-requires : tie.Need-widths_fit-requires
 widths-fit-requires c κs = within-le 1 4 _ (count-fits c)
 
-returns-2 : tie.Need-returns-2
+returns-2 : tie.Need-returns-then-not-widths_fit
 returns-2 c =
     let fit = c.before in
-    sym (shape_number-width _ (count-fits fit.before) (sym fit.widths-fit.ensures ∙ not-true _ c.if2.true))
+    sym (shape_number-width _ (count-fits fit.before) (sym fit.widths_fit.ensures ∙ not-true _ c.if-not-widths_fit.true-raw))
 
-in-range-requires-2 : tie.Need-in-range-requires-2
+in-range-requires-2 : tie.Need-in_range-requires-2
 in-range-requires-2 c κs = search rules
 
-returns-3 : tie.Need-returns-3
+returns-3 : tie.Need-returns-then-in_range
 returns-3 c =
     let fit = c.before.before.before in
     sym (shape_number-capacity _ (count-fits fit.before)
-    (sym fit.widths-fit.ensures ∙ not-false _ c.before.before.if2.false) _
-    (sym c.before.in-range2.ensures ∙ c.if3.true))
+    (sym fit.widths_fit.ensures ∙ not-false _ c.before.before.if-not-widths_fit.false-raw) _
+    (sym c.before.in_range-2.ensures ∙ c.if-in_range.true))
 
-returns-4 : tie.Need-returns-4
+returns-4 : tie.Need-returns-else-in_range
 returns-4 c =
     let fit = c.before.before.before in
     sym (shape_number-capacity _ (count-fits fit.before)
-    (sym fit.widths-fit.ensures ∙ not-false _ c.before.before.if2.false) _
-    (sym c.before.in-range2.ensures ∙ c.if3.false))
+    (sym fit.widths_fit.ensures ∙ not-false _ c.before.before.if-not-widths_fit.false-raw) _
+    (sym c.before.in_range-2.ensures ∙ c.if-in_range.false))
 
-pub shape-number-spec : {M : Type 1} → statement M
-shape-number-spec =
+pub shape_number_spec : {M : Type 1} → statement M
+shape_number_spec =
     tie.close
     (tie.spec
     in-range-requires

@@ -3,15 +3,15 @@ use native.Mathlib.Omega.{arith}
 use Rattle.shape.proofs.total_of.Statement.{statement}
 use Rattle.shape.proofs.total_of.Tie as tie
 
-add-result : tie.Need-overflow-add-result
+add-result : tie.Need-overflow_add-result
 add-result c = record { fits = omega (arith, c.before.requires 0, c.before.requires 1) }
 
-add-result-2 : tie.Need-overflow-add-result-2
+add-result-2 : tie.Need-overflow_add-result-2
 add-result-2 c =
     let p = c.before.before.requires in
     record { fits = omega (arith, p 0, p 1, p 2) }
 
-add-result-3 : tie.Need-overflow-add-result-3
+add-result-3 : tie.Need-overflow_add-result-3
 add-result-3 c =
     let p = c.before.before.before.requires in
     record { fits = omega (arith, p 0, p 1, p 2, p 3) }
@@ -21,5 +21,5 @@ returns c =
     let p = c.before.before.before.requires in
     (omega arith, omega (arith, p 0, p 1, p 2, p 3))
 
-pub total-of-spec : {M : Type 1} → statement M
-total-of-spec = tie.close (tie.spec add-result add-result-2 add-result-3 returns)
+pub total_of_spec : {M : Type 1} → statement M
+total_of_spec = tie.close (tie.spec add-result add-result-2 add-result-3 returns)

@@ -5,24 +5,24 @@ use Rattle.shape.proofs.ShapeLaws.{width_of-used, width_of-unused}
 use Rattle.shape.proofs.width_of.Statement.{statement}
 use Rattle.shape.proofs.width_of.Tie as tie
 
-cast-if1 : tie.Need-overflow-cast-if1
+cast-if1 : tie.Need-overflow_cast-shape
 cast-if1 c = search rules
 
-mul-result : tie.Need-overflow-mul-result
+mul-result : tie.Need-offset_bounds-widths-j
 mul-result c = search rules
 
-array-read-result : tie.Need-array-read-result
+array-read-result : tie.Need-bounds-widths-j
 array-read-result c = search rules
 
-cast-result : tie.Need-overflow-cast-result
+cast-result : tie.Need-overflow_cast-result
 cast-result c = search rules
 
-returns : tie.Need-returns
-returns c = let args = c.before.before.before.args in sym (width_of-used args.shape args.j c.if1.true)
+returns : tie.Need-returns-then-j-shape
+returns c = let args = c.before.before.before.args in sym (width_of-used args.shape args.j c.if-j-shape.true)
 
-returns-2 : tie.Need-returns-2
-returns-2 c = let args = c.before.before.before.args in sym (width_of-unused args.shape args.j c.if1.false)
+returns-2 : tie.Need-returns
+returns-2 c = let args = c.before.before.before.args in sym (width_of-unused args.shape args.j c.if-j-shape.false)
 
-pub width-of-spec : {M : Type 1} → statement M
-width-of-spec =
+pub width_of_spec : {M : Type 1} → statement M
+width_of_spec =
     tie.close (tie.spec cast-if1 mul-result array-read-result cast-result returns returns-2)

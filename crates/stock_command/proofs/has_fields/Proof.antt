@@ -3,11 +3,11 @@ use borrow.Author.Tests.{not-true, not-false}
 use Rattle.stock_command.proofs.has_fields.Statement.{statement}
 use Rattle.stock_command.proofs.has_fields.Tie as tie
 
-returns : tie.Need-returns
-returns c = rw (not-true c.before.args.begun c.if1.true)
+returns : tie.Need-returns-then-not-begun
+returns c = rw (not-true c.before.args.begun c.if-not-begun.true-raw)
 
-returns-2 : tie.Need-returns-2
-returns-2 c = rw (not-false c.before.before.args.begun c.before.if1.false)
+returns-2 : tie.Need-returns
+returns-2 c = rw (not-false c.before.before.args.begun c.before.if-not-begun.false-raw)
 
-pub has-fields-spec : {M : Type 1} → statement M
-has-fields-spec = tie.close (tie.spec returns returns-2)
+pub has_fields_spec : {M : Type 1} → statement M
+has_fields_spec = tie.close (tie.spec returns returns-2)

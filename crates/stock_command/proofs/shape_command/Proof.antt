@@ -10,63 +10,63 @@ use borrow.Author.Rules.{rules}
 use Rattle.stock_command.proofs.shape_command.Statement.{statement}
 use Rattle.stock_command.proofs.shape_command.Tie as tie
 
-returns : tie.Need-returns
-returns c = λ d. asked_shape-star c.before.args.line c.if1.true
+returns : tie.Need-returns-then-line
+returns c = λ d. asked_shape-star c.before.args.line c.if-line.true
 
-returns-2 : tie.Need-returns-2
+returns-2 : tie.Need-returns-then-line-eq0
 returns-2 c =
-    λ d. asked_shape-none c.before.before.before.args.line c.before.before.if1.false c.if2.true
+    λ d. asked_shape-none c.before.before.before.args.line c.before.before.if-line.false c.if-line-eq0.true
 
-number-at-requires : tie.Need-number-at-requires
+number-at-requires : tie.Need-number_at-d-requires
 number-at-requires c κs = search rules
 
-returns-3 : tie.Need-returns-3
+returns-3 : tie.Need-returns-then-d-lt1
 returns-3 c =
-    let n = c.before.number_at in
+    let n = c.before.number_at-d in
     let two = c.before.before in
     let line = two.before.before.before.args.line in
-    let low : number_at line 0 < 1 = omega (arith, n.ensures, c.if3.true) in
-    λ d. asked_shape-low line two.before.before.if1.false two.if2.false low
+    let low : number_at line 0 < 1 = omega (arith, n.ensures, c.if-d-lt1.true) in
+    λ d. asked_shape-low line two.before.before.if-line.false two.if-line-eq0.false low
 
-returns-4 : tie.Need-returns-4
+returns-4 : tie.Need-returns-then-d-gt4
 returns-4 c =
-    let n = c.before.before.number_at in
+    let n = c.before.before.number_at-d in
     let two = c.before.before.before in
     let line = two.before.before.before.args.line in
-    let low : 1 ≤ number_at line 0 = omega (arith, n.ensures, c.before.if3.false) in
-    let high : 4 < number_at line 0 = omega (arith, n.ensures, c.if4.true) in
-    λ d. asked_shape-high line two.before.before.if1.false two.if2.false low high
+    let low : 1 ≤ number_at line 0 = omega (arith, n.ensures, c.before.if-d-lt1.false) in
+    let high : 4 < number_at line 0 = omega (arith, n.ensures, c.if-d-gt4.true) in
+    λ d. asked_shape-high line two.before.before.if-line.false two.if-line-eq0.false low high
 
-cast-if5 : tie.Need-overflow-cast-if5
+cast-if5 : tie.Need-overflow_cast-d
 cast-if5 c = search rules
 
-add-if5 : tie.Need-overflow-add-if5
+add-if5 : tie.Need-overflow_add-d
 add-if5 c = search rules
 
-returns-5 : tie.Need-returns-5
+returns-5 : tie.Need-returns-then-line-d
 returns-5 c =
     let four = c.before.before in
-    let n = four.before.before.number_at in
+    let n = four.before.before.number_at-d in
     let two = four.before.before.before in
     let line = two.before.before.before.args.line in
-    let low : 1 ≤ number_at line 0 = omega (arith, n.ensures, four.before.if3.false) in
-    let high : number_at line 0 ≤ 4 = omega (arith, n.ensures, four.if4.false) in
-    λ d. asked_shape-new line two.before.before.if1.false two.if2.false low high
-    (c.if5.true ∙ ap (λ v. v + 2) n.ensures)
+    let low : 1 ≤ number_at line 0 = omega (arith, n.ensures, four.before.if-d-lt1.false) in
+    let high : number_at line 0 ≤ 4 = omega (arith, n.ensures, four.if-d-gt4.false) in
+    λ d. asked_shape-new line two.before.before.if-line.false two.if-line-eq0.false low high
+    (c.if-line-d.true ∙ ap (λ v. v + 2) n.ensures)
 
-returns-6 : tie.Need-returns-6
+returns-6 : tie.Need-returns
 returns-6 c =
     let four = c.before.before in
-    let n = four.before.before.number_at in
+    let n = four.before.before.number_at-d in
     let two = four.before.before.before in
     let line = two.before.before.before.args.line in
-    let low : 1 ≤ number_at line 0 = omega (arith, n.ensures, four.before.if3.false) in
-    let high : number_at line 0 ≤ 4 = omega (arith, n.ensures, four.if4.false) in
-    λ d. asked_shape-other line two.before.before.if1.false two.if2.false low high
-    (λ e. c.if5.false (e ∙ ap (λ v. v + 2) (sym n.ensures)))
+    let low : 1 ≤ number_at line 0 = omega (arith, n.ensures, four.before.if-d-lt1.false) in
+    let high : number_at line 0 ≤ 4 = omega (arith, n.ensures, four.if-d-gt4.false) in
+    λ d. asked_shape-other line two.before.before.if-line.false two.if-line-eq0.false low high
+    (λ e. c.if-line-d.false (e ∙ ap (λ v. v + 2) (sym n.ensures)))
 
-pub shape-command-spec : {M : Type 1} → statement M
-shape-command-spec =
+pub shape_command_spec : {M : Type 1} → statement M
+shape_command_spec =
     tie.close
     (tie.spec
     returns

@@ -6,29 +6,29 @@ use borrow.Author.Rules.{rules}
 use Rattle.stock_console.proofs.reply_list.Statement.{statement}
 use Rattle.stock_console.proofs.reply_list.Tie as tie
 
-cast-d : tie.Need-overflow-cast-d
+cast-d : tie.Need-overflow_cast-d
 cast-d c = search rules
 
-query-of-requires : tie.Need-query-of-requires
+query-of-requires : tie.Need-query_of-requires
 query-of-requires c κs = search rules
 
-query-requires : tie.Need-query-requires
+query-requires : tie.Need-query-listed-requires
 query-requires c κs = search rules
 
-put-listed-requires : tie.Need-put-listed-requires
+put-listed-requires : tie.Need-put_listed-end-requires
 put-listed-requires c κs =
     let between = c.before.before.before.before.before.before.before.before.before.before.before in
     let s = between.before.before.before in
     let a = s.args in (
       omega (arith, s.requires.0),
       printable a.session.state a.dir.now a.pages.now _ a.out.now _ s.requires.1 _
-          c.before.before.before.before.query.ensures,
+          c.before.before.before.before.query-listed.ensures,
     )
 
-same_length : tie.Need-same-length
+same_length : tie.Need-shape_of-out
 same_length c = search rules
 
-same-length-2 : tie.Need-same-length-2
+same-length-2 : tie.Need-shape_of-text
 same-length-2 c = search rules
 
 returns : tie.Need-returns
@@ -36,12 +36,12 @@ returns c =
     let call = c.before.before.before.before.before.before.before in
     let at-args = call.before.before.before.before.before.before.before.before.before.before in
     let a = at-args.args in
-    reply-list a.session a.line _ _ _ _ _ _ _ _ _ _ call.before.before.query-of.ensures
-    call.query.ensures
-    c.before.before.put-listed.ensures
+    reply-list a.session a.line _ _ _ _ _ _ _ _ _ _ call.before.before.query_of.ensures
+    call.query-listed.ensures
+    c.before.before.put_listed-end.ensures
 
-pub reply-list-spec : {M : Type 1} → statement M
-reply-list-spec =
+pub reply_list_spec : {M : Type 1} → statement M
+reply_list_spec =
     tie.close
     (tie.spec
     cast-d

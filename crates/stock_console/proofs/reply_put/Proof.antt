@@ -4,28 +4,28 @@ use borrow.Author.Rules.{rules}
 use Rattle.stock_console.proofs.reply_put.Statement.{statement}
 use Rattle.stock_console.proofs.reply_put.Tie as tie
 
-cast-d : tie.Need-overflow-cast-d
+cast-d : tie.Need-overflow_cast-d
 cast-d c = search rules
 
-key-of-requires : tie.Need-key-of-requires
+key-of-requires : tie.Need-key_of-key-requires
 key-of-requires c κs = search rules
 
-content-of-requires : tie.Need-content-of-requires
+content-of-requires : tie.Need-content_of-content-requires
 content-of-requires c κs = search rules
 
-insert-requires : tie.Need-insert-requires
+insert-requires : tie.Need-insert-change-requires
 insert-requires c κs = search rules
 
-put-changed-requires : tie.Need-put-changed-requires
+put-changed-requires : tie.Need-put_changed-end-requires
 put-changed-requires c κs = search rules
 
-same_length : tie.Need-same-length
+same_length : tie.Need-shape_of-dir
 same_length c = search rules
 
-same-length-2 : tie.Need-same-length-2
+same-length-2 : tie.Need-shape_of-pages
 same-length-2 c = search rules
 
-same-length-3 : tie.Need-same-length-3
+same-length-3 : tie.Need-shape_of-text
 same-length-3 c = search rules
 
 returns : tie.Need-returns
@@ -34,11 +34,11 @@ returns c =
     let at-args = call.before.before.before.before.before.before.before.before.before.before.before in
     let a = at-args.args in
     let content = call.before.before.before in
-    reply-put a.session a.line _ _ _ _ _ _ _ _ _ _ _ content.before.key_of.ensures
-    c.before.before.before.put-changed.ensures _ content.content-of.ensures call.insert.ensures
+    reply-put a.session a.line _ _ _ _ _ _ _ _ _ _ _ content.before.key_of-key.ensures
+    c.before.before.before.put_changed-end.ensures _ content.content_of-content.ensures call.insert-change.ensures
 
-pub reply-put-spec : {M : Type 1} → statement M
-reply-put-spec =
+pub reply_put_spec : {M : Type 1} → statement M
+reply_put_spec =
     tie.close
     (tie.spec
     cast-d

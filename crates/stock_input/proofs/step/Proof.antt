@@ -9,25 +9,25 @@ use Rattle.stock_input.proofs.step.Tie as tie
 end-requires : tie.Need-end-requires
 end-requires c κs = search rules
 
-reply-requires : tie.Need-reply-requires
+reply-requires : tie.Need-reply-next-requires
 reply-requires c κs = search rules
 
-begin-requires : tie.Need-begin-requires
+begin-requires : tie.Need-begin-nothing-requires
 begin-requires c κs = search rules
 
-same_length : tie.Need-same-length
+same_length : tie.Need-shape_of-dir-then-byte-eq-NEWLINE
 same_length c = search rules
 
-same-length-2 : tie.Need-same-length-2
+same-length-2 : tie.Need-shape_of-pages-then-byte-eq-NEWLINE
 same-length-2 c = search rules
 
-same-length-3 : tie.Need-same-length-3
+same-length-3 : tie.Need-shape_of-out-then-byte-eq-NEWLINE
 same-length-3 c = search rules
 
-same-length-4 : tie.Need-same-length-4
+same-length-4 : tie.Need-shape_of-text-then-byte-eq-NEWLINE
 same-length-4 c = search rules
 
-returns : tie.Need-returns
+returns : tie.Need-returns-then-byte-eq-NEWLINE
 returns c =
     let call = c.before.before.before.before.before.before.before.before.before.before in
     let between = call.before.before.before.before.before.before.before.before.before.before.before in
@@ -35,23 +35,23 @@ returns c =
     let line = call.before.before.before.before.before in
     let p = s.args.progress in (
       inl (
-        line.before.if1.true,
-        line-ended p _ _ _ _ _ _ _ line.end.ensures c.begin.ensures
-            call.reply.ensures,
+        line.before.if-byte-eq-NEWLINE.true,
+        line-ended p _ _ _ _ _ _ _ line.end.ensures c.begin-nothing.ensures
+            call.reply-next.ensures,
       ),
-      line-stands p _ _ _ _ _ _ _ line.end.ensures c.begin.ensures call.reply.ensures
+      line-stands p _ _ _ _ _ _ _ line.end.ensures c.begin-nothing.ensures call.reply-next.ensures
           (omega (arith, s.requires.1)),
     )
 
-feed-requires : tie.Need-feed-requires
+feed-requires : tie.Need-feed-more-requires
 feed-requires c κs = search rules
 
-returns-2 : tie.Need-returns-2
+returns-2 : tie.Need-returns
 returns-2 c =
     let s = c.before.before.before.before.before.before.before.before in
     let p = s.args.progress in (
-      inr (c.before.if1.false, byte-read p _ _ _ _ c.feed.ensures),
-      byte-stands p _ _ _ c.feed.ensures s.requires.0 (omega (arith, s.requires.1)),
+      inr (c.before.if-byte-eq-NEWLINE.false, byte-read p _ _ _ _ c.feed-more.ensures),
+      byte-stands p _ _ _ c.feed-more.ensures s.requires.0 (omega (arith, s.requires.1)),
     )
 
 pub step_spec : {M : Type 1} → statement M

@@ -5,47 +5,47 @@ use Rattle.stock_line.specs.LineBytes.{closed}
 use Rattle.stock_line.proofs.close.Statement.{statement}
 use Rattle.stock_line.proofs.close.Tie as tie
 
-returns : tie.Need-returns
+returns : tie.Need-returns-then-reading-eq0
 unfolding closed
-returns c = rw (eq-eqb _ _ c.if1.true)
+returns c = rw (eq-eqb _ _ c.if-reading-eq0.true)
 
-kept-word-requires : tie.Need-kept-word-requires
+kept-word-requires : tie.Need-kept_word-word-requires
 kept-word-requires c κs = search rules
 
-is-any-requires : tie.Need-is-any-requires
+is-any-requires : tie.Need-is_any-star-requires
 is-any-requires c κs = search rules
 
-sub-codes : tie.Need-overflow-sub-codes
+sub-codes : tie.Need-overflow_sub-codes
 sub-codes c = search rules
 
-mul-codes : tie.Need-overflow-mul-codes
+mul-codes : tie.Need-offset_bounds-codes-reading
 mul-codes c = search rules
 
-array-write-codes : tie.Need-array-write-codes
+array-write-codes : tie.Need-bounds-codes-reading
 array-write-codes c = search rules
 
-returns-2 : tie.Need-returns-2
+returns-2 : tie.Need-returns-then-reading-lt7
 unfolding closed
 returns-2 c =
     let k = c.before.before.before.before in
     rw (
-      ne_eqb _ _ k.before.before.if1.false,
-      k.before.kept_word.ensures,
-      k.is_any.ensures,
+      ne_eqb _ _ k.before.before.if-reading-eq0.false,
+      k.before.kept_word-word.ensures,
+      k.is_any-star.ensures,
       lt-ltb _ _
-          c.before.if2.true,
+          c.before.if-reading-lt7.true,
     )
 
-returns-3 : tie.Need-returns-3
+returns-3 : tie.Need-returns-else-reading-lt7
 unfolding closed
 returns-3 c =
     let k = c.before.before.before in
     rw (
-      ne_eqb _ _ k.before.before.if1.false,
-      k.before.kept_word.ensures,
-      k.is_any.ensures,
+      ne_eqb _ _ k.before.before.if-reading-eq0.false,
+      k.before.kept_word-word.ensures,
+      k.is_any-star.ensures,
       le-ltb _ _
-          c.if2.false,
+          c.if-reading-lt7.false,
     )
 
 pub close_spec : {M : Type 1} → statement M

@@ -3,13 +3,13 @@ use Rattle.stock_line.specs.LineBytes.{star_with}
 use Rattle.stock_line.proofs.is_any.Statement.{statement}
 use Rattle.stock_line.proofs.is_any.Tie as tie
 
-returns : tie.Need-returns
+returns : tie.Need-returns-then-star
 unfolding star_with
-returns c = rw c.if1.true
+returns c = rw c.if-star.true
 
-returns-2 : tie.Need-returns-2
+returns-2 : tie.Need-returns
 unfolding star_with
-returns-2 c = rw c.if1.false
+returns-2 c = rw c.if-star.false
 
-pub is-any-spec : {M : Type 1} → statement M
-is-any-spec = tie.close (tie.spec returns returns-2)
+pub is_any_spec : {M : Type 1} → statement M
+is_any_spec = tie.close (tie.spec returns returns-2)

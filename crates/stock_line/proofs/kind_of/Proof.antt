@@ -4,27 +4,27 @@ use Rattle.stock_line.specs.LineBytes.{kind_of}
 use Rattle.stock_line.proofs.kind_of.Statement.{statement}
 use Rattle.stock_line.proofs.kind_of.Tie as tie
 
-returns : tie.Need-returns
+returns : tie.Need-returns-in-1595184083045
 unfolding kind_of
-returns c = rw c.match.keys1
+returns c = rw c.in-1595184083045.keys1
 
-returns-2 : tie.Need-returns-2
+returns-2 : tie.Need-returns-in-24147316
 unfolding kind_of
-returns-2 c = rw c.match.keys2
+returns-2 c = rw c.in-1595184083045.keys2
 
-returns-3 : tie.Need-returns-3
+returns-3 : tie.Need-returns-in-23295348
 unfolding kind_of
-returns-3 c = rw c.match.keys3
+returns-3 c = rw c.in-1595184083045.keys3
 
-returns-4 : tie.Need-returns-4
+returns-4 : tie.Need-returns-in-6113817460
 unfolding kind_of
-returns-4 c = rw c.match.keys4
+returns-4 c = rw c.in-1595184083045.keys4
 
-returns-5 : tie.Need-returns-5
+returns-5 : tie.Need-returns-in_default
 unfolding kind_of
 returns-5 c =
-    let m = c.match.rest in
+    let m = c.in-1595184083045.rest in
     rw (ne_eqb _ _ m.0.0.0.1, ne_eqb _ _ m.0.0.1, ne_eqb _ _ m.0.1, ne_eqb _ _ m.1)
 
-pub kind-of-spec : {M : Type 1} → statement M
-kind-of-spec = tie.close (tie.spec returns returns-2 returns-3 returns-4 returns-5)
+pub kind_of_spec : {M : Type 1} → statement M
+kind_of_spec = tie.close (tie.spec returns returns-2 returns-3 returns-4 returns-5)

@@ -4,19 +4,19 @@ use borrow.Author.Rules.{rules}
 use Rattle.stock_replies.proofs.put_found.Statement.{statement}
 use Rattle.stock_replies.proofs.put_found.Tie as tie
 
-put-records-requires : tie.Need-put-records-requires
+put-records-requires : tie.Need-put_records-end-requires
 put-records-requires c κs = search rules
 
-put-sum-requires : tie.Need-put-sum-requires
+put-sum-requires : tie.Need-put_sum-requires
 put-sum-requires c κs = search rules
 
-same_length : tie.Need-same-length
+same_length : tie.Need-shape_of-text
 same_length c = search rules
 
 returns : tie.Need-returns
 returns c =
     let at-put-records = c.before.before.before.before.before.before in
-    Grown-then _ _ _ _ _ _ _ _ at-put-records.put-records.ensures.0 c.before.before.put-sum.ensures
+    Grown-then _ _ _ _ _ _ _ _ at-put-records.put_records-end.ensures.0 c.before.before.put_sum.ensures
 
-pub put-found-spec : {M : Type 1} → statement M
-put-found-spec = tie.close (tie.spec put-records-requires put-sum-requires same_length returns)
+pub put_found_spec : {M : Type 1} → statement M
+put_found_spec = tie.close (tie.spec put-records-requires put-sum-requires same_length returns)

@@ -4,49 +4,49 @@ use borrow.Author.Rules.{rules}
 use Rattle.stock_replies.proofs.put_made.Statement.{statement}
 use Rattle.stock_replies.proofs.put_made.Tie as tie
 
-enum_told : tie.Need-enum-told
+enum_told : tie.Need-enum_told-1
 enum_told c = search rules
 
-put-ok-requires : tie.Need-put-ok-requires
+put-ok-requires : tie.Need-put_ok-requires
 put-ok-requires c κs = search rules
 
-enum-known-answer : tie.Need-enum-known-answer
+enum-known-answer : tie.Need-enum_known-answer
 enum-known-answer c = search rules
 
-put-refused-requires : tie.Need-put-refused-requires
+put-refused-requires : tie.Need-put_refused-requires
 put-refused-requires c κs = search rules
 
-enum-told-2 : tie.Need-enum-told-2
+enum-told-2 : tie.Need-enum_told-in-Width
 enum-told-2 c = search rules
 
-put-refused-requires-2 : tie.Need-put-refused-requires-2
+put-refused-requires-2 : tie.Need-put_refused-requires-in-Width
 put-refused-requires-2 c κs = search rules
 
-same_length : tie.Need-same-length
+same_length : tie.Need-shape_of-text-in-Done
 same_length c = search rules
 
-returns : tie.Need-returns
+returns : tie.Need-returns-in-Done
 unfolding made_answer
-returns c = rw c.before.before.before.before.enum_told.given.1 c.before.before.put-ok.ensures
+returns c = rw c.before.before.before.before.enum_told-1.given.1 c.before.before.put_ok.ensures
 
-same-length-2 : tie.Need-same-length-2
+same-length-2 : tie.Need-shape_of-text-in-Refused
 same-length-2 c = search rules
 
-returns-2 : tie.Need-returns-2
+returns-2 : tie.Need-returns-in-Refused
 unfolding made_answer
 returns-2 c =
     let at-answer = c.before.before.before.before.before in
-    rw at-answer.answer.given.1 c.before.before.Put-refused.ensures
+    rw at-answer.answer-1.given.1 c.before.before.put_refused.ensures
 
-same-length-3 : tie.Need-same-length-3
+same-length-3 : tie.Need-shape_of-text-in-Width
 same-length-3 c = search rules
 
-returns-3 : tie.Need-returns-3
+returns-3 : tie.Need-returns-in-Width
 unfolding made_answer
-returns-3 c = rw c.before.before.before.before.enum-told2.given.1 c.before.before.put-refused2.ensures
+returns-3 c = rw c.before.before.before.before.enum_told-in-Width-1.given.1 c.before.before.put_refused-in-Width.ensures
 
-pub put-made-spec : {M : Type 1} → statement M
-put-made-spec =
+pub put_made_spec : {M : Type 1} → statement M
+put_made_spec =
     tie.close
     (tie.spec
     enum_told

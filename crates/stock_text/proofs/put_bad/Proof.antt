@@ -7,15 +7,15 @@ use Rattle.stock_text.proofs.put_bad.Tie as tie
 slice-aggregate-put-bytes : tie.Need-slice-aggregate-put-bytes
 slice-aggregate-put-bytes c = search rules
 
-put-bytes-requires : tie.Need-put-bytes-requires
+put-bytes-requires : tie.Need-put_bytes-requires
 put-bytes-requires c κs = search rules
 
-same_length : tie.Need-same-length
+same_length : tie.Need-shape_of-text
 same_length c = search rules
 
 returns : tie.Need-returns
 unfolding bad_text
-returns c = c.before.before.put-bytes.ensures
+returns c = c.before.before.put_bytes.ensures
 
-pub put-bad-spec : {M : Type 1} → statement M
-put-bad-spec = tie.close (tie.spec slice-aggregate-put-bytes put-bytes-requires same_length returns)
+pub put_bad_spec : {M : Type 1} → statement M
+put_bad_spec = tie.close (tie.spec slice-aggregate-put-bytes put-bytes-requires same_length returns)

@@ -7,10 +7,10 @@ use Rattle.stock_text.proofs.put_bytes.Tie as tie
 copy-requires : tie.Need-copy-requires
 copy-requires c κs = search rules
 
-add-result : tie.Need-overflow-add-result
+add-result : tie.Need-overflow_add-result
 add-result c = search rules
 
-same_length : tie.Need-same-length
+same_length : tie.Need-shape_of-text
 same_length c = search rules
 
 returns : tie.Need-returns
@@ -19,5 +19,5 @@ returns c =
     let a = start.args in
     Grown-paste a.text.now a.at a.bytes.now _ start.requires c.before.before.copy.ensures
 
-pub put-bytes-spec : {M : Type 1} → statement M
-put-bytes-spec = tie.close (tie.spec copy-requires add-result same_length returns)
+pub put_bytes_spec : {M : Type 1} → statement M
+put_bytes_spec = tie.close (tie.spec copy-requires add-result same_length returns)

@@ -12,16 +12,16 @@ use Rattle.stock_text.proofs.put_field.Tie as tie
 most : (s : tie.Start) → length (decimal s.args.n) ≤ 20
 most s = length-decimal-le 19 s.args.n (omega (arith, s.ranges.n.fits))
 
-put-decimal-requires : tie.Need-put-decimal-requires
+put-decimal-requires : tie.Need-put_decimal-end-requires
 put-decimal-requires c κs = search rules
 
-put-byte-requires : tie.Need-put-byte-requires
+put-byte-requires : tie.Need-put_byte-requires
 put-byte-requires c κs =
     let s = c.before.before.before.before.before.before in
-    let number = c.before.before.before.put-decimal.ensures in
+    let number = c.before.before.before.put_decimal-end.ensures in
     omega (arith, s.requires, number.end_is, number.length-is, most s)
 
-same_length : tie.Need-same-length
+same_length : tie.Need-shape_of-text
 same_length c = search rules
 
 returns : tie.Need-returns
@@ -30,9 +30,9 @@ returns c =
     let call = c.before.before in
     let number = call.before.before.before.before in
     let s = number.before.before.before in (
-      Grown-then _ _ _ _ _ _ _ _ number.put-decimal.ensures call.put_byte.ensures,
-      omega (arith, number.put-decimal.ensures.end_is, call.put_byte.ensures.end_is, most s),
+      Grown-then _ _ _ _ _ _ _ _ number.put_decimal-end.ensures call.put_byte.ensures,
+      omega (arith, number.put_decimal-end.ensures.end_is, call.put_byte.ensures.end_is, most s),
     )
 
-pub put-field-spec : {M : Type 1} → statement M
-put-field-spec = tie.close (tie.spec put-decimal-requires put-byte-requires same_length returns)
+pub put_field_spec : {M : Type 1} → statement M
+put_field_spec = tie.close (tie.spec put-decimal-requires put-byte-requires same_length returns)

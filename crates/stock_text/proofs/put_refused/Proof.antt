@@ -8,22 +8,22 @@ use Rattle.stock_text.proofs.put_refused.Tie as tie
 slice-aggregate-put-bytes : tie.Need-slice-aggregate-put-bytes
 slice-aggregate-put-bytes c = search rules
 
-put-bytes-requires : tie.Need-put-bytes-requires
+put-bytes-requires : tie.Need-put_bytes-end-requires
 put-bytes-requires c κs = search rules
 
-put-field-requires : tie.Need-put-field-requires
+put-field-requires : tie.Need-put_field-requires
 put-field-requires c κs = search rules
 
-same_length : tie.Need-same-length
+same_length : tie.Need-shape_of-text
 same_length c = search rules
 
 returns : tie.Need-returns
 unfolding refused_text
 returns c =
     let call = c.before.before in
-    Grown-then _ _ _ _ _ _ _ _ call.before.before.before.before.put-bytes.ensures call.put-field.ensures.0
+    Grown-then _ _ _ _ _ _ _ _ call.before.before.before.before.put_bytes-end.ensures call.put_field.ensures.0
 
-pub put-refused-spec : {M : Type 1} → statement M
-put-refused-spec =
+pub put_refused_spec : {M : Type 1} → statement M
+put_refused_spec =
     tie.close
     (tie.spec slice-aggregate-put-bytes put-bytes-requires put-field-requires same_length returns)

@@ -8,16 +8,16 @@ use Rattle.stock_text.proofs.put_sum.Tie as tie
 slice-aggregate-put-bytes : tie.Need-slice-aggregate-put-bytes
 slice-aggregate-put-bytes c = search rules
 
-put-bytes-requires : tie.Need-put-bytes-requires
+put-bytes-requires : tie.Need-put_bytes-start-requires
 put-bytes-requires c κs = search rules
 
-put-field-requires : tie.Need-put-field-requires
+put-field-requires : tie.Need-put_field-end-requires
 put-field-requires c κs = search rules
 
-put-field-requires-2 : tie.Need-put-field-requires-2
+put-field-requires-2 : tie.Need-put_field-requires
 put-field-requires-2 c κs = search rules
 
-same_length : tie.Need-same-length
+same_length : tie.Need-shape_of-text
 same_length c = search rules
 
 returns : tie.Need-returns
@@ -26,11 +26,11 @@ returns c =
     let reads = c.before.before in
     let total = reads.before.before.before.before in
     let first = total.before.before.before.before in
-    Grown-then _ _ _ _ _ _ _ _ first.put-bytes.ensures
-    (Grown-then _ _ _ _ _ _ _ _ total.put-field.ensures.0 reads.put-field2.ensures.0)
+    Grown-then _ _ _ _ _ _ _ _ first.put_bytes-start.ensures
+    (Grown-then _ _ _ _ _ _ _ _ total.put_field-end.ensures.0 reads.put_field.ensures.0)
 
-pub put-sum-spec : {M : Type 1} → statement M
-put-sum-spec =
+pub put_sum_spec : {M : Type 1} → statement M
+put_sum_spec =
     tie.close
     (tie.spec
     slice-aggregate-put-bytes

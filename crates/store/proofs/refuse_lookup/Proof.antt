@@ -7,19 +7,19 @@ use Rattle.store.specs.Answers.{found_answer}
 use Rattle.store.proofs.refuse_lookup.Statement.{statement}
 use Rattle.store.proofs.refuse_lookup.Tie as tie
 
-bad-width-requires : tie.Need-bad-width-requires
+bad-width-requires : tie.Need-bad_width-requires
 bad-width-requires c κs = search rules
 
-returns : tie.Need-returns
+returns : tie.Need-returns-then-number-eq14
 unfolding found_answer
 returns c =
     let args = c.before.before.args in
-    ap (refused_with 14) c.bad-width.ensures
-    ∙ sym (refused_for-width args.shape args.number c.before.if1.true)
+    ap (refused_with 14) c.bad_width.ensures
+    ∙ sym (refused_for-width args.shape args.number c.before.if-number-eq14.true)
 
-returns-2 : tie.Need-returns-2
+returns-2 : tie.Need-returns
 unfolding found_answer
-returns-2 c = let args = c.before.args in sym (refused_for-other args.shape args.number c.if1.false)
+returns-2 c = let args = c.before.args in sym (refused_for-other args.shape args.number c.if-number-eq14.false)
 
-pub refuse-lookup-spec : {M : Type 1} → statement M
-refuse-lookup-spec = tie.close (tie.spec bad-width-requires returns returns-2)
+pub refuse_lookup_spec : {M : Type 1} → statement M
+refuse_lookup_spec = tie.close (tie.spec bad-width-requires returns returns-2)

@@ -10,29 +10,29 @@ use Rattle.tally.proofs.CountLaws.{small-of-tally_holds, get_d-divided_once-past
 use Rattle.tally.proofs.divide.Statement.{statement}
 use Rattle.tally.proofs.divide.Tie as tie
 
-abbrev invariant-loop : tie.invariant-loop
+abbrev invariant-loop : tie.invariant-loop-i
 invariant-loop x n divided₀ i₀ divided i =
     (i ≤ n)
     × (divided_tally (x + i) (n - i) divided.leaves ≡ divided_tally x n divided₀.leaves)
     × ((y : ℕ) → x + i < y → get_or divided.leaves y 0 ≡ get_or divided₀.leaves y 0)
 
-abbrev decreases-loop : tie.decreases-loop
+abbrev decreases-loop : tie.decreases-loop-i
 decreases-loop x n divided₀ i₀ divided i = n - i
 
-loop-holds : tie.Need-loop-init invariant-loop decreases-loop
+loop-holds : tie.Need-loop-i-init invariant-loop decreases-loop
 loop-holds c =
     let x = c.args.x in
     let n = c.args.n in
     (omega arith, rw (add-zero x, sub-zero n) refl, λ y l. refl)
 
-add-divide-once : tie.Need-overflow-add-divide-once invariant-loop decreases-loop
-add-divide-once c = omega (arith, c.loop-test.true, c.before.before.requires.0)
+add-divide-once : tie.Need-overflow_add-x invariant-loop decreases-loop
+add-divide-once c = omega (arith, c.loop-i-test.true, c.before.before.requires.0)
 
-divide-once-requires : tie.Need-divide-once-requires invariant-loop decreases-loop
+divide-once-requires : tie.Need-divide_once-divided-requires invariant-loop decreases-loop
 divide-once-requires c κs =
     let s = c.before.before in
-    let l = c.before.loop in
-    let deep : s.args.x + l.i < 12 = omega (arith, c.loop-test.true, s.requires.0) in
+    let l = c.before.loop-i in
+    let deep : s.args.x + l.i < 12 = omega (arith, c.loop-i-test.true, s.requires.0) in
     let next = s.args.x + l.i + 1 in (
       deep,
       omega (
@@ -42,19 +42,19 @@ divide-once-requires c κs =
       ),
     )
 
-add-i : tie.Need-overflow-add-i invariant-loop decreases-loop
-add-i c = omega (arith, c.before.loop-test.true, c.before.before.before.requires.0)
+add-i : tie.Need-overflow_add-i invariant-loop decreases-loop
+add-i c = omega (arith, c.before.loop-i-test.true, c.before.before.before.requires.0)
 
-loop-less : tie.Need-loop-smaller invariant-loop decreases-loop
-loop-less c = omega (arith, c.before.loop-test.true)
+loop-less : tie.Need-loop-i-smaller invariant-loop decreases-loop
+loop-less c = omega (arith, c.before.loop-i-test.true)
 
-loop-again : tie.Need-loop-preserved invariant-loop decreases-loop
+loop-again : tie.Need-loop-i-preserved invariant-loop decreases-loop
 loop-again c =
     let s = c.before.before.before.args in
-    let l = c.before.before.loop in
+    let l = c.before.before.loop-i in
     let leaves = l.divided.leaves in
-    let once = c.divide-once.ensures in
-    let more : l.i < s.n = c.before.loop-test.true in (
+    let once = c.divide_once-divided.ensures in
+    let more : l.i < s.n = c.before.loop-i-test.true in (
       omega arith,
       ap (divided_tally (s.x + (l.i + 1)) (s.n - (l.i + 1))) once
           ∙ divided_tally-next leaves s.x s.n l.i more
@@ -68,12 +68,12 @@ returns : tie.Need-returns invariant-loop decreases-loop
 unfolding divided_tally
 returns c =
     let n = c.before.before.args.n in
-    let l = c.before.loop in
-    let end : n - l.i ≡ 0 = omega (arith, c.loop-test.false) in
+    let l = c.before.loop-i in
+    let end : n - l.i ≡ 0 = omega (arith, c.loop-i-test.false) in
     rw end at l.invariant.1
 
-pub divide-spec : {M : Type 1} → statement M
-divide-spec =
+pub divide_spec : {M : Type 1} → statement M
+divide_spec =
     tie.close
     (tie.spec
     invariant-loop

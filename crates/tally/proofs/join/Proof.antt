@@ -9,54 +9,54 @@ use Rattle.tally.proofs.CountLaws.{small-of-tally_holds, joined_tally-next}
 use Rattle.tally.proofs.join.Statement.{statement}
 use Rattle.tally.proofs.join.Tie as tie
 
-abbrev invariant-loop : tie.invariant-loop
+abbrev invariant-loop : tie.invariant-loop-y
 invariant-loop x n joined₀ y₀ joined y =
     (x ≤ y) × (y ≤ x + n) × (joined.leaves ≡ joined_tally y (x + n - y) joined₀.leaves)
 
-abbrev decreases-loop : tie.decreases-loop
+abbrev decreases-loop : tie.decreases-loop-y
 decreases-loop x n joined₀ y₀ joined y = y
 
-add-y : tie.Need-overflow-add-y invariant-loop decreases-loop
+add-y : tie.Need-overflow_add-y invariant-loop decreases-loop
 add-y c = omega (arith, c.requires.0)
 
-loop-holds : tie.Need-loop-init invariant-loop decreases-loop
+loop-holds : tie.Need-loop-y-init invariant-loop decreases-loop
 unfolding joined_tally
 loop-holds c =
     let none : c.args.x + c.args.n - (c.args.x + c.args.n) ≡ 0 = omega arith in
     (omega arith, omega arith, rw none refl)
 
-sub-y : tie.Need-overflow-sub-y invariant-loop decreases-loop
-sub-y c = omega (arith, c.loop-test.true)
+sub-y : tie.Need-overflow_sub-y invariant-loop decreases-loop
+sub-y c = omega (arith, c.loop-y-test.true)
 
-join-once-requires : tie.Need-join-once-requires invariant-loop decreases-loop
+join-once-requires : tie.Need-join_once-joined-requires invariant-loop decreases-loop
 join-once-requires c κs =
     let s = c.before.before in
-    let l = c.before.loop in
+    let l = c.before.loop-y in
     let y = l.y - 1 in
     let leaves = s.args.tally.leaves in
-    let deep : y < 12 = omega (arith, c.loop-test.true, l.invariant.1, s.requires.0) in (
+    let deep : y < 12 = omega (arith, c.loop-y-test.true, l.invariant.1, s.requires.0) in (
       deep,
       omega (
         arith,
         ap (λ ys. get_or ys y 0) l.invariant.2,
-        get_d-joined_tally-above l.y (s.args.x + s.args.n - l.y) leaves y (omega (arith, c.loop-test.true)),
+        get_d-joined_tally-above l.y (s.args.x + s.args.n - l.y) leaves y (omega (arith, c.loop-y-test.true)),
         small-of-tally_holds leaves s.requires.1 y (omega arith),
       ),
     )
 
-loop-less : tie.Need-loop-smaller invariant-loop decreases-loop
-loop-less c = omega (arith, c.before.loop-test.true)
+loop-less : tie.Need-loop-y-smaller invariant-loop decreases-loop
+loop-less c = omega (arith, c.before.loop-y-test.true)
 
-loop-again : tie.Need-loop-preserved invariant-loop decreases-loop
+loop-again : tie.Need-loop-y-preserved invariant-loop decreases-loop
 loop-again c =
     let s = c.before.before.before.args in
-    let l = c.before.before.loop in
+    let l = c.before.before.loop-y in
     let y = l.y - 1 in
-    let above : s.x < l.y = c.before.loop-test.true in
+    let above : s.x < l.y = c.before.loop-y-test.true in
     let lower : suc y ≡ l.y = omega arith in (
       omega arith,
       omega (arith, l.invariant.1),
-      c.join-once.ensures
+      c.join_once-joined.ensures
           ∙ ap (joined_once y) (l.invariant.2 ∙ rw lower refl)
           ∙ joined_tally-next s.tally.leaves s.x s.n y (omega (arith, l.invariant.1)),
     )
@@ -64,13 +64,13 @@ loop-again c =
 returns : tie.Need-returns invariant-loop decreases-loop
 returns c =
     let s = c.before.before.args in
-    let l = c.before.loop in
-    let end : l.y ≡ s.x = omega (arith, c.loop-test.false, l.invariant.0) in
+    let l = c.before.loop-y in
+    let end : l.y ≡ s.x = omega (arith, c.loop-y-test.false, l.invariant.0) in
     let all : s.x + s.n - s.x ≡ s.n = omega arith in
     l.invariant.2 ∙ rw (end, all) refl
 
-pub join-spec : {M : Type 1} → statement M
-join-spec =
+pub join_spec : {M : Type 1} → statement M
+join_spec =
     tie.close
     (tie.spec
     invariant-loop

@@ -15,63 +15,63 @@ use Rattle.tally.proofs.CountLaws.{within}
 use Rattle.tally.proofs.tally_holds.Statement.{statement}
 use Rattle.tally.proofs.tally_holds.Tie as tie
 
-abbrev invariant-loop : tie.invariant-loop
+abbrev invariant-loop : tie.invariant-loop-x
 invariant-loop leaves x₀ x = (x ≤ 13) × (all_below x (within leaves) ≡ true)
 
-abbrev decreases-loop : tie.decreases-loop
+abbrev decreases-loop : tie.decreases-loop-x
 decreases-loop leaves x₀ x = 13 - x
 
-loop-holds : tie.Need-loop-init invariant-loop decreases-loop
+loop-holds : tie.Need-loop-x-init invariant-loop decreases-loop
 loop-holds c = (omega arith, refl)
 
-shl-if1 : tie.Need-overflow-shl-if1 invariant-loop decreases-loop
-shl-if1 c = omega (arith, c.loop-test.true)
+shl-if1 : tie.Need-overflow_shl-x invariant-loop decreases-loop
+shl-if1 c = omega (arith, c.loop-x-test.true)
 
-mul-if1 : tie.Need-overflow-mul-if1 invariant-loop decreases-loop
-mul-if1 c = omega (arith, c.loop-test.true)
+mul-if1 : tie.Need-offset_bounds-leaves-x invariant-loop decreases-loop
+mul-if1 c = omega (arith, c.loop-x-test.true)
 
-array-read-if1 : tie.Need-array-read-if1 invariant-loop decreases-loop
-array-read-if1 c = omega (arith, c.loop-test.true)
+array-read-if1 : tie.Need-bounds-leaves-x invariant-loop decreases-loop
+array-read-if1 c = omega (arith, c.loop-x-test.true)
 
-cast-if1 : tie.Need-overflow-cast-if1 invariant-loop decreases-loop
+cast-if1 : tie.Need-overflow_cast-leaves invariant-loop decreases-loop
 cast-if1 c = search rules
 
-returns : tie.Need-returns invariant-loop decreases-loop
+returns : tie.Need-returns-then-x-leaves invariant-loop decreases-loop
 unfolding tally_holds
 returns c =
     let leaves = c.before.before.before.before.args.tally.leaves in
-    let x = c.before.before.loop.x in
-    let short : x < 13 = omega (arith, c.before.loop-test.true) in
-    let over : 2 ^ x < get_or leaves x 0 = omega (arith, c.if1.true, one_shifted x (omega arith)) in
+    let x = c.before.before.loop-x.x in
+    let short : x < 13 = omega (arith, c.before.loop-x-test.true) in
+    let over : 2 ^ x < get_or leaves x 0 = omega (arith, c.if-x-leaves.true, one_shifted x (omega arith)) in
     sym (all_below-fails (within leaves) 13 x short (lt-leb (get_or leaves x 0) (2 ^ x) over))
 
-add-x : tie.Need-overflow-add-x invariant-loop decreases-loop
-add-x c = omega (arith, c.before.loop-test.true)
+add-x : tie.Need-overflow_add-x invariant-loop decreases-loop
+add-x c = omega (arith, c.before.loop-x-test.true)
 
-loop-less : tie.Need-loop-smaller invariant-loop decreases-loop
-loop-less c = omega (arith, c.before.loop-test.true)
+loop-less : tie.Need-loop-x-smaller invariant-loop decreases-loop
+loop-less c = omega (arith, c.before.loop-x-test.true)
 
-loop-again : tie.Need-loop-preserved invariant-loop decreases-loop
+loop-again : tie.Need-loop-x-preserved invariant-loop decreases-loop
 loop-again c =
     let leaves = c.before.before.before.before.args.tally.leaves in
-    let l = c.before.before.loop in
+    let l = c.before.before.loop-x in
     let x = l.x in
-    let short : x < 13 = omega (arith, c.before.loop-test.true) in
-    let not-over : get_or leaves x 0 ≤ 2 ^ x = omega (arith, c.if1.false, one_shifted x (omega arith)) in (
+    let short : x < 13 = omega (arith, c.before.loop-x-test.true) in
+    let not-over : get_or leaves x 0 ≤ 2 ^ x = omega (arith, c.if-x-leaves.false, one_shifted x (omega arith)) in (
       omega arith,
       ap (λ n. all_below n (within leaves)) (add-one x)
           ∙ all_below-suc (within leaves) x l.invariant.1 (le-leb (get_or leaves x 0) (2 ^ x) not-over),
     )
 
-returns-2 : tie.Need-returns-2 invariant-loop decreases-loop
+returns-2 : tie.Need-returns invariant-loop decreases-loop
 unfolding tally_holds
 returns-2 c =
-    let l = c.before.loop in
-    let end : l.x ≡ 13 = omega (arith, c.loop-test.false, l.invariant.0) in
+    let l = c.before.loop-x in
+    let end : l.x ≡ 13 = omega (arith, c.loop-x-test.false, l.invariant.0) in
     sym (rw end at l.invariant.1)
 
-pub tally-holds-spec : {M : Type 1} → statement M
-tally-holds-spec =
+pub tally_holds_spec : {M : Type 1} → statement M
+tally_holds_spec =
     tie.close
     (tie.spec
     invariant-loop

@@ -13,7 +13,7 @@ use Rattle.tally_lent.specs.contracts.divide.Key.{name as #tally-lent·divide}
 use Rattle.tally_lent.proofs.divide.Statement.{statement}
 use Rattle.tally_lent.proofs.divide.Code as code
 
-pub divide-spec : {M : Type 1} → statement M
+pub divide_spec : {M : Type 1} → statement M
 unfolding code.routine tables_of
 divide-spec 𝓤 𝓛 𝓜 𝓡 =
     let known = cited 𝓤 𝓛.H (ByValue 𝓤 divided_tally 𝓛) 𝓜 𝓡 code.env #tally·divide callee.routine

@@ -13,7 +13,7 @@ use Rattle.tally_lent.specs.contracts.divided.Key.{name as #tally-lent·divided}
 use Rattle.tally_lent.proofs.divided.Statement.{statement}
 use Rattle.tally_lent.proofs.divided.Code as code
 
-pub divided-spec : {M : Type 1} → statement M
+pub divided_spec : {M : Type 1} → statement M
 unfolding code.routine tables_of
 divided-spec 𝓤 𝓛 𝓜 𝓡 =
     let known = cited 𝓤 𝓛.H (Lent 𝓤 divided_tally 𝓛) 𝓜 𝓡 code.env #tally-lent·divide callee.routine

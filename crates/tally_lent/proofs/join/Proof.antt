@@ -13,7 +13,7 @@ use Rattle.tally_lent.specs.contracts.join.Key.{name as #tally-lent·join}
 use Rattle.tally_lent.proofs.join.Statement.{statement}
 use Rattle.tally_lent.proofs.join.Code as code
 
-pub join-spec : {M : Type 1} → statement M
+pub join_spec : {M : Type 1} → statement M
 unfolding code.routine tables_of
 join-spec 𝓤 𝓛 𝓜 𝓡 =
     let known = cited 𝓤 𝓛.H (ByValue 𝓤 joined_tally 𝓛) 𝓜 𝓡 code.env #tally·join callee.routine

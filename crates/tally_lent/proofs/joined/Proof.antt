@@ -13,7 +13,7 @@ use Rattle.tally_lent.specs.contracts.joined.Key.{name as #tally-lent·joined}
 use Rattle.tally_lent.proofs.joined.Statement.{statement}
 use Rattle.tally_lent.proofs.joined.Code as code
 
-pub joined-spec : {M : Type 1} → statement M
+pub joined_spec : {M : Type 1} → statement M
 unfolding code.routine tables_of
 joined-spec 𝓤 𝓛 𝓜 𝓡 =
     let known = cited 𝓤 𝓛.H (Lent 𝓤 joined_tally 𝓛) 𝓜 𝓡 code.env #tally-lent·join callee.routine

@@ -8,7 +8,7 @@ use borrow.Author.Rules.{rules}
 use Rattle.check_page.proofs.codes.begins.Statement.{statement}
 use Rattle.check_page.proofs.codes.begins.Tie as tie
 
-first-bits-requires : tie.Need-first-bits-requires
+first-bits-requires : tie.Need-first_bits-requires
 first-bits-requires c κs = search rules
 
 returns : tie.Need-returns
@@ -16,7 +16,7 @@ returns c =
     let s = c.before in
     let a = s.args in
     ap (λ n. eqb n a.string)
-    (c.first-bits.ensures ∙ sym (key_code-begins (width_list a.widths) (unpacked_key a.key) a.x s.requires.1))
+    (c.first_bits.ensures ∙ sym (key_code-begins (width_list a.widths) (unpacked_key a.key) a.x s.requires.1))
 
-pub begins-spec : {M : Type 1} → statement M
-begins-spec = tie.close (tie.spec first-bits-requires returns)
+pub begins_spec : {M : Type 1} → statement M
+begins_spec = tie.close (tie.spec first-bits-requires returns)

@@ -15,81 +15,81 @@ use Rattle.check_page.proofs.CodeLaws.{Coded, coded-zero, coded-skip, coded-step
 use Rattle.check_page.proofs.codes.first_bits.Statement.{statement}
 use Rattle.check_page.proofs.codes.first_bits.Tie as tie
 
-abbrev invariant-loop : tie.invariant-loop
+abbrev invariant-loop : tie.invariant-loop-n
 invariant-loop widths key x code₀ n₀ g₀ code n g = Coded (width_list widths) (unpacked_key key) x code n g
 
-abbrev decreases-loop : tie.decreases-loop
+abbrev decreases-loop : tie.decreases-loop-n
 decreases-loop widths key x code₀ n₀ g₀ code n g = 64 - g
 
 few : (c : tie.Start invariant-loop decreases-loop) → c.args.x ≤ 64
 few c = omega (arith, c.requires.1, total-le (width_list c.args.widths) refl c.requires.0)
 
 -- a step is left
-next : (c : tie.In-loop invariant-loop decreases-loop) → c.before.loop.g < 64
+next : (c : tie.In-loop-n invariant-loop decreases-loop) → c.before.loop-n.g < 64
 next c =
     let s = c.before.before in
     let w = s.args.widths in
-    let l = c.before.loop in
+    let l = c.before.loop-n in
     steps_before-lt w.w0 w.w1 w.w2 w.w3 l.n l.g s.requires.0
-    (omega (arith, c.loop-test.true, s.requires.1)) l.invariant.place
+    (omega (arith, c.loop-n-test.true, s.requires.1)) l.invariant.place
 
-loop-holds : tie.Need-loop-init invariant-loop decreases-loop
+loop-holds : tie.Need-loop-n-init invariant-loop decreases-loop
 loop-holds c = coded-zero (width_list c.args.widths) (unpacked_key c.args.key) c.args.x
 
-width-at-requires : tie.Need-width-at-requires invariant-loop decreases-loop
+width-at-requires : tie.Need-width_at-w-requires invariant-loop decreases-loop
 width-at-requires c κs = omega arith
 
-value-at-requires : tie.Need-value-at-requires invariant-loop decreases-loop
+value-at-requires : tie.Need-value_at-requires invariant-loop decreases-loop
 value-at-requires c κs = omega arith
 
-bit-of-requires : tie.Need-bit-of-requires invariant-loop decreases-loop
+bit-of-requires : tie.Need-bit_of-requires invariant-loop decreases-loop
 bit-of-requires c κs =
     let e = c.before in
-    let g = e.before.before.before.loop.g in
-    (e.if1.true, omega (arith, e.before.width-at.ensures, e.before.before.before.before.requires.0 (g % 4)))
+    let g = e.before.before.before.loop-n.g in
+    (e.if-g-w.true, omega (arith, e.before.width_at-w.ensures, e.before.before.before.before.requires.0 (g % 4)))
 
-add-n : tie.Need-overflow-add-n invariant-loop decreases-loop
+add-n : tie.Need-overflow_add-n invariant-loop decreases-loop
 add-n c =
     let turn = c.before.before.before.before in
-    record { fits = omega (arith, turn.loop-test.true, few turn.before.before) }
+    record { fits = omega (arith, turn.loop-n-test.true, few turn.before.before) }
 
-add-g : tie.Need-overflow-add-g invariant-loop decreases-loop
+add-g : tie.Need-overflow_add-g invariant-loop decreases-loop
 add-g c = record { fits = omega (arith, next c.before.before) }
 
-loop-less : tie.Need-loop-smaller invariant-loop decreases-loop
+loop-less : tie.Need-loop-n-smaller invariant-loop decreases-loop
 loop-less c = omega (arith, next c.before.before)
 
-loop-again : tie.Need-loop-preserved invariant-loop decreases-loop
+loop-again : tie.Need-loop-n-preserved invariant-loop decreases-loop
 loop-again c =
     let turn = c.before.before in
     let s = turn.before.before in
-    let l = turn.before.loop in
+    let l = turn.before.loop-n in
     let ws = width_list s.args.widths in
     let key = unpacked_key s.args.key in
-    let width = c.before.width-at.ensures in
+    let width = c.before.width_at-w.ensures in
     let j : l.g % 4 < 4 = omega arith in
     ⊎_elim
     (λ w.
     let value = w.1.ensures ∙ sym (get_d-unpacked_key s.args.key (l.g % 4) j) in
     rw (w.3, w.4)
     (coded-step ws key s.requires.0 s.args.x l.code l.n l.g l.invariant (next turn)
-    (subst (λ x. l.g / 4 < x) width w.0.taken) (few s) turn.loop-test.true _
+    (subst (λ x. l.g / 4 < x) width w.0.taken) (few s) turn.loop-n-test.true _
     (w.2.ensures ∙ (λ i. bit_value (bit_of (width i) (value i) (l.g / 4))))))
     (λ w.
     rw (w.1, w.2)
     (coded-skip ws key s.requires.0 s.args.x l.code l.n l.g l.invariant (next turn)
     (subst (λ x. x ≤ l.g / 4) width w.0.left)))
-    c.if1.branch
+    c.if-g-w.branch
 
 returns : tie.Need-returns invariant-loop decreases-loop
 returns c =
     let a = c.before.before.args in
-    let l = c.before.loop in
+    let l = c.before.loop-n in
     coded-end (width_list a.widths) (unpacked_key a.key) a.x l.code l.n l.g l.invariant
-    c.loop-test.false
+    c.loop-n-test.false
 
-pub first-bits-spec : {M : Type 1} → statement M
-first-bits-spec =
+pub first_bits_spec : {M : Type 1} → statement M
+first_bits_spec =
     tie.close
     (tie.spec
     invariant-loop

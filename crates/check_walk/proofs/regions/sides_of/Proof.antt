@@ -13,31 +13,31 @@ use Rattle.check_walk.proofs.regions.sides_of.Tie as tie
 few : (c : tie.Start) → c.args.region.depth < 64
 few c = omega (arith, c.requires.1, total-le (width_list c.args.widths) refl c.requires.0)
 
-step-from-requires : tie.Need-step-from-requires
+step-from-requires : tie.Need-step_from-step-requires
 step-from-requires c κs = search rules
 
-with-bit-requires : tie.Need-with-bit-requires
+with-bit-requires : tie.Need-with_bit-set-requires
 with-bit-requires c κs =
     let s = c.before.before in
-    let pair = c.step_from.ensures in
+    let pair = c.step_from-step.ensures in
     (pair.low, region-small _ _ s.requires.2 s.requires.0 _ pair)
 
-add-t9 : tie.Need-overflow-add-t9
+add-t9 : tie.Need-overflow_add-lower
 add-t9 c = search rules
 
-add-t10 : tie.Need-overflow-add-t10
+add-t10 : tie.Need-overflow_add-lower-2
 add-t10 c = record { fits = omega (arith, few c.before.before.before.before.before) }
 
 locate-requires : tie.Need-locate-requires
 locate-requires c κs =
     let step = c.before.before.before in
     let s = step.before.before in
-    upper-in_box _ _ s.requires.2 s.requires.0 _ step.step_from.ensures _ c.before.before.with-bit.ensures
+    upper-in_box _ _ s.requires.2 s.requires.0 _ step.step_from-step.ensures _ c.before.before.with_bit-set.ensures
 
-add-t10-2 : tie.Need-overflow-add-t10-2
+add-t10-2 : tie.Need-overflow_add-upper
 add-t10-2 c = search rules
 
-add-t11 : tie.Need-overflow-add-t11
+add-t11 : tie.Need-overflow_add-upper-2
 add-t11 c = record { fits = omega (arith, few c.before.before.before.before.before.before.before) }
 
 returns : tie.Need-returns
@@ -45,12 +45,12 @@ returns c =
     let set = c.before.before.before.before in
     let s = set.before.before.before in
     let low = string-lt _ _ s.requires.2 in
-    sides_of-parts _ s.args.region s.requires.2 s.requires.0 _ set.before.step_from.ensures _ refl refl refl refl
-    (string-lower _ _ low (few s)) (string-upper _ _ low (few s)) refl set.with-bit.ensures refl
+    sides_of-parts _ s.args.region s.requires.2 s.requires.0 _ set.before.step_from-step.ensures _ refl refl refl refl
+    (string-lower _ _ low (few s)) (string-upper _ _ low (few s)) refl set.with_bit-set.ensures refl
     c.before.locate.ensures
 
-pub sides-of-spec : {M : Type 1} → statement M
-sides-of-spec =
+pub sides_of_spec : {M : Type 1} → statement M
+sides_of_spec =
     tie.close
     (tie.spec
     step-from-requires

@@ -8,5 +8,5 @@ returns : tie.Need-returns
 unfolding whole_region
 returns c = refl
 
-pub whole-region-spec : {M : Type 1} → statement M
-whole-region-spec = tie.close (tie.spec returns)
+pub whole_region_spec : {M : Type 1} → statement M
+whole_region_spec = tie.close (tie.spec returns)

@@ -15,10 +15,10 @@ use Rattle.directory_tests.proofs.FoldLaws.{fold_told-yes, fold_told-no}
 use Rattle.directory_tests.proofs.halving.folds.Statement.{statement}
 use Rattle.directory_tests.proofs.halving.folds.Tie as tie
 
-abbrev invariant-loop : tie.invariant-loop
+abbrev invariant-loop : tie.invariant-loop-s
 invariant-loop widths key u t dir s₀ s = FoldedFrom (width_list widths) u t (split_bit (width_list widths) key) dir s
 
-abbrev decreases-loop : tie.decreases-loop
+abbrev decreases-loop : tie.decreases-loop-s
 decreases-loop widths key u t dir s₀ s = t - s
 
 abbrev ws : tie.Start invariant-loop decreases-loop → List ℕ
@@ -27,18 +27,18 @@ ws s = width_list s.args.widths
 deep : (s : tie.Start invariant-loop decreases-loop) → s.args.t ≤ length (steps (ws s))
 deep s = let w = s.args.widths in fits-steps w.w0 w.w1 w.w2 w.w3 _ _ s.requires.0
 
-loop-holds : tie.Need-loop-init invariant-loop decreases-loop
+loop-holds : tie.Need-loop-s-init invariant-loop decreases-loop
 loop-holds c = folded_from-start _ _ _ _ _ c.before.requires.1
 
-locate-cell-requires : tie.Need-locate-cell-requires invariant-loop decreases-loop
+locate-cell-requires : tie.Need-locate_cell-own-requires invariant-loop decreases-loop
 locate-cell-requires c κs =
     let f = c.before.before.before.requires.0 in
-    (f.fit, omega (arith, f.deep, c.loop-test.true))
+    (f.fit, omega (arith, f.deep, c.loop-s-test.true))
 
-step-folds-requires : tie.Need-step-folds-requires invariant-loop decreases-loop
+step-folds-requires : tie.Need-step_folds-requires invariant-loop decreases-loop
 step-folds-requires c κs =
     let f = c.before.before.before.before.requires.0 in
-    let l = c.before.loop-test.true in
+    let l = c.before.loop-s-test.true in
     record {
       fit = f.fit;
       deep = omega (arith, f.deep, l);
@@ -46,35 +46,35 @@ step-folds-requires c κs =
       room = le_trans (pow_mono l) f.room;
     }
 
-returns : tie.Need-returns invariant-loop decreases-loop
+returns : tie.Need-returns-then-not-step_folds invariant-loop decreases-loop
 returns c =
     let found = c.before.before in
     let turn = found.before in
     let s = turn.before.before.before in
-    fold_told-no (ws s) _ _ _ _ _ turn.before.loop.invariant s.requires.0.fit turn.loop-test.true (deep s) _
-    found.locate-cell.ensures _ c.before.step-folds.ensures (not-true _ c.if1.true)
+    fold_told-no (ws s) _ _ _ _ _ turn.before.loop-s.invariant s.requires.0.fit turn.loop-s-test.true (deep s) _
+    found.locate_cell-own.ensures _ c.before.step_folds.ensures (not-true _ c.if-not-step_folds.true-raw)
 
-add-s : tie.Need-overflow-add-s invariant-loop decreases-loop
+add-s : tie.Need-overflow_add-s invariant-loop decreases-loop
 add-s c =
     let turn = c.before.before.before in
-    record { fits = omega (arith, turn.loop-test.true, turn.before.before.before.requires.0.short) }
+    record { fits = omega (arith, turn.loop-s-test.true, turn.before.before.before.requires.0.short) }
 
-loop-less : tie.Need-loop-smaller invariant-loop decreases-loop
-loop-less c = omega (arith, c.before.before.before.loop-test.true)
+loop-less : tie.Need-loop-s-smaller invariant-loop decreases-loop
+loop-less c = omega (arith, c.before.before.before.loop-s-test.true)
 
-loop-again : tie.Need-loop-preserved invariant-loop decreases-loop
+loop-again : tie.Need-loop-s-preserved invariant-loop decreases-loop
 loop-again c =
     let found = c.before.before in
     let turn = found.before in
     let s = turn.before.before.before in
-    folded_from-suc (ws s) _ _ _ _ _ turn.before.loop.invariant s.requires.0.fit turn.loop-test.true (deep s) _
-    found.locate-cell.ensures _ c.before.step-folds.ensures (not-false _ c.if1.false)
+    folded_from-suc (ws s) _ _ _ _ _ turn.before.loop-s.invariant s.requires.0.fit turn.loop-s-test.true (deep s) _
+    found.locate_cell-own.ensures _ c.before.step_folds.ensures (not-false _ c.if-not-step_folds.false-raw)
 
-returns-2 : tie.Need-returns-2 invariant-loop decreases-loop
-returns-2 c = fold_told-yes _ _ _ _ _ _ c.before.loop.invariant c.loop-test.false
+returns-2 : tie.Need-returns invariant-loop decreases-loop
+returns-2 c = fold_told-yes _ _ _ _ _ _ c.before.loop-s.invariant c.loop-s-test.false
 
-pub folds-spec : {M : Type 1} → statement M
-folds-spec =
+pub folds_spec : {M : Type 1} → statement M
+folds_spec =
     tie.close
     (tie.spec
     invariant-loop

@@ -6,27 +6,27 @@ use borrow.Author.Tests.{eqb-true, eqb-false}
 use Rattle.directory_tests.proofs.halving.pair_folds.Statement.{statement}
 use Rattle.directory_tests.proofs.halving.pair_folds.Tie as tie
 
-returns : tie.Need-returns
-returns c = record { yes = λ e n. absurd (n c.if1.true); no = λ e. absurd (false≢true (sym e)) }
+returns : tie.Need-returns-then-whole-own
+returns c = record { yes = λ e n. absurd (n c.if-whole-own.true); no = λ e. absurd (false≢true (sym e)) }
 
-mul-result : tie.Need-overflow-mul-result
+mul-result : tie.Need-offset_bounds-dir-a
 mul-result c = search rules
 
-shared-slice-read-result : tie.Need-shared-slice-read-result
+shared-slice-read-result : tie.Need-bounds-dir-a
 shared-slice-read-result c = search rules
 
-mul-result-2 : tie.Need-overflow-mul-result-2
+mul-result-2 : tie.Need-offset_bounds-dir-whole
 mul-result-2 c = search rules
 
-shared-slice-read-result-2 : tie.Need-shared-slice-read-result-2
+shared-slice-read-result-2 : tie.Need-bounds-dir-whole
 shared-slice-read-result-2 c = search rules
 
-returns-2 : tie.Need-returns-2
+returns-2 : tie.Need-returns
 returns-2 c =
-    record { yes = λ e n. eqb-true _ _ e; no = λ e. (c.before.before.if1.false, eqb-false _ _ e) }
+    record { yes = λ e n. eqb-true _ _ e; no = λ e. (c.before.before.if-whole-own.false, eqb-false _ _ e) }
 
-pub pair-folds-spec : {M : Type 1} → statement M
-pair-folds-spec =
+pub pair_folds_spec : {M : Type 1} → statement M
+pair_folds_spec =
     tie.close
     (tie.spec
     returns

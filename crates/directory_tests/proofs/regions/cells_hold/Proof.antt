@@ -24,53 +24,53 @@ ws s = width_list s.args.widths
 deep : (s : tie.Start) → s.args.t ≤ length (steps (ws s))
 deep s = let w = s.args.widths in fits-steps w.w0 w.w1 w.w2 w.w3 _ _ s.requires.fits
 
-low : (c : tie.After-locate) → c.locate.result < 2 ^ c.before.before.args.t
+low : (c : tie.After-locate-own) → c.locate-own.result < 2 ^ c.before.before.args.t
 unfolding cell_address
 low c =
     let s = c.before.before in
-    let own : cell_address (ws s) s.args.x s.requires.string.0 ≡ c.locate.result =
-    ap (address (ws s)) s.requires.string.1 ∙ sym c.locate.ensures in
+    let own : cell_address (ws s) s.args.x s.requires.string.0 ≡ c.locate-own.result =
+    ap (address (ws s)) s.requires.string.1 ∙ sym c.locate-own.ensures in
     subst (λ a. a < 2 ^ s.args.t) own
     (own-lt (ws s) s.requires.fits.fit s.args.x s.args.t s.requires.within (deep s) s.requires.string.0)
 
 -- the word at the region's own address
-at : (c : tie.After-locate) → let s = c.before.before in
+at : (c : tie.After-locate-own) → let s = c.before.before in
     get_or s.args.dir.now (address (ws s) (index_list s.args.index)) 0
-    ≡ get_or s.args.dir.now c.locate.result 0
-at c = ap (λ a. get_or c.before.before.args.dir.now a 0) (sym c.locate.ensures)
+    ≡ get_or s.args.dir.now c.locate-own.result 0
+at c = ap (λ a. get_or c.before.before.args.dir.now a 0) (sym c.locate-own.ensures)
 
-locate-requires : tie.Need-locate-requires
+locate-requires : tie.Need-locate-own-requires
 locate-requires c κs =
     let s = c.before in
     subst (InBox (ws s)) s.requires.string.1 (in_box-cell (ws s) s.requires.fits.fit s.args.x s.requires.string.0)
 
-mul-if1 : tie.Need-overflow-mul-if1
+mul-if1 : tie.Need-offset_bounds-dir-own
 mul-if1 c =
     let s = c.before.before in
     let top : 2 ^ s.args.t ≤ 2 ^ 12 = pow_mono s.requires.fits.short in
     record { fits = omega (arith, low c) }
 
-shared-slice-read-if1 : tie.Need-shared-slice-read-if1
+shared-slice-read-if1 : tie.Need-bounds-dir-own
 shared-slice-read-if1 c = omega (arith, low c.before, c.before.before.before.requires.fits.room)
 
-returns : tie.Need-returns
+returns : tie.Need-returns-then-dir-own
 returns c =
     let l = c.before.before in
     let s = l.before.before in
-    cells_told-own (ws s) s.requires.fits.fit _ _ s.requires.within (deep s) _ _ _ (λ e. c.if1.true (sym (at l) ∙ e))
+    cells_told-own (ws s) s.requires.fits.fit _ _ s.requires.within (deep s) _ _ _ (λ e. c.if-dir-own.true (sym (at l) ∙ e))
 
-blocks-hold-requires : tie.Need-blocks-hold-requires
+blocks-hold-requires : tie.Need-blocks_hold-requires
 blocks-hold-requires c κs = search rules
 
-returns-2 : tie.Need-returns-2
+returns-2 : tie.Need-returns
 returns-2 c =
     let l = c.before.before.before in
     let s = l.before.before in
-    cells_told-blocks (ws s) s.requires.fits.fit _ _ s.requires.within (deep s) _ _ _ _ (at l ∙ c.before.if1.false)
-    c.blocks-hold.ensures
+    cells_told-blocks (ws s) s.requires.fits.fit _ _ s.requires.within (deep s) _ _ _ _ (at l ∙ c.before.if-dir-own.false)
+    c.blocks_hold.ensures
 
-pub cells-hold-spec : {M : Type 1} → statement M
-cells-hold-spec =
+pub cells_hold_spec : {M : Type 1} → statement M
+cells_hold_spec =
     tie.close
     (tie.spec
     locate-requires

@@ -8,67 +8,67 @@ use Rattle.directory_tests.proofs.HeldLaws.{HeldFrom, held_from-mask, held_from-
 use Rattle.directory_tests.proofs.regions.mask_holds.Statement.{statement}
 use Rattle.directory_tests.proofs.regions.mask_holds.Tie as tie
 
-abbrev invariant-loop : tie.invariant-loop
+abbrev invariant-loop : tie.invariant-loop-v
 invariant-loop base mask word dir v₀ v = HeldFrom base mask word v dir
 
-abbrev decreases-loop : tie.decreases-loop
+abbrev decreases-loop : tie.decreases-loop-v
 decreases-loop base mask word dir v₀ v = v
 
-add-if1 : tie.Need-overflow-add-if1 invariant-loop decreases-loop
+add-if1 : tie.Need-overflow_add-base invariant-loop decreases-loop
 add-if1 c = record { fits = omega (arith, c.requires.1) }
 
-mul-if1 : tie.Need-overflow-mul-if1 invariant-loop decreases-loop
+mul-if1 : tie.Need-offset_bounds-dir-base invariant-loop decreases-loop
 mul-if1 c = record { fits = omega (arith, c.requires.1) }
 
-shared-slice-read-if1 : tie.Need-shared-slice-read-if1 invariant-loop decreases-loop
+shared-slice-read-if1 : tie.Need-bounds-dir-base invariant-loop decreases-loop
 shared-slice-read-if1 c = c.before.requires.0
 
-returns : tie.Need-returns invariant-loop decreases-loop
+returns : tie.Need-returns-then-dir-base invariant-loop decreases-loop
 returns c =
     let a = c.before.before.args in
-    mask_told-no a.base a.mask a.word _ a.mask (and_self a.mask) c.if1.true
+    mask_told-no a.base a.mask a.word _ a.mask (and_self a.mask) c.if-dir-base.true
 
-loop-holds : tie.Need-loop-init invariant-loop decreases-loop
-loop-holds c = held_from-mask _ _ _ _ c.if1.false
+loop-holds : tie.Need-loop-v-init invariant-loop decreases-loop
+loop-holds c = held_from-mask _ _ _ _ c.if-dir-base.false
 
-sub-v : tie.Need-overflow-sub-v invariant-loop decreases-loop
-sub-v c = omega (arith, c.loop-test.true)
+sub-v : tie.Need-overflow_sub-v invariant-loop decreases-loop
+sub-v c = omega (arith, c.loop-v-test.true)
 
-add-if2 : tie.Need-overflow-add-if2 invariant-loop decreases-loop
+add-if2 : tie.Need-overflow_add-base-in-loop-v invariant-loop decreases-loop
 add-if2 c =
     let s = c.before.before.before.before in
-    record { fits = omega (arith, s.requires.1, and_le_r (c.before.loop.v - 1) s.args.mask) }
+    record { fits = omega (arith, s.requires.1, and_le_r (c.before.loop-v.v - 1) s.args.mask) }
 
-mul-if2 : tie.Need-overflow-mul-if2 invariant-loop decreases-loop
+mul-if2 : tie.Need-offset_bounds-dir-base-in-loop-v invariant-loop decreases-loop
 mul-if2 c =
     let s = c.before.before.before.before in
-    record { fits = omega (arith, s.requires.1, and_le_r (c.before.loop.v - 1) s.args.mask) }
+    record { fits = omega (arith, s.requires.1, and_le_r (c.before.loop-v.v - 1) s.args.mask) }
 
-shared-slice-read-if2 : tie.Need-shared-slice-read-if2 invariant-loop decreases-loop
+shared-slice-read-if2 : tie.Need-bounds-dir-base-in-loop-v invariant-loop decreases-loop
 shared-slice-read-if2 c =
     let s = c.before.before.before.before.before in
-    omega (arith, s.requires.0, and_le_r (c.before.before.loop.v - 1) s.args.mask)
+    omega (arith, s.requires.0, and_le_r (c.before.before.loop-v.v - 1) s.args.mask)
 
-returns-2 : tie.Need-returns-2 invariant-loop decreases-loop
+returns-2 : tie.Need-returns-then-dir-base-2 invariant-loop decreases-loop
 returns-2 c =
     let a = c.before.before.before.before.before.before.args in
-    mask_told-no a.base a.mask a.word _ _ (among-and (c.before.before.before.loop.v - 1) a.mask)
-    c.if2.true
+    mask_told-no a.base a.mask a.word _ _ (among-and (c.before.before.before.loop-v.v - 1) a.mask)
+    c.if-dir-base-2.true
 
-loop-less : tie.Need-loop-smaller invariant-loop decreases-loop
+loop-less : tie.Need-loop-v-smaller invariant-loop decreases-loop
 loop-less c =
-    let l = c.before.before.before.loop in
+    let l = c.before.before.before.loop-v in
     let a = c.before.before.before.before.before.before.args in
-    omega (arith, c.before.before.loop-test.true, and_le_l (l.v - 1) a.mask)
+    omega (arith, c.before.before.loop-v-test.true, and_le_l (l.v - 1) a.mask)
 
-loop-again : tie.Need-loop-preserved invariant-loop decreases-loop
-loop-again c = held_from-next _ _ _ _ _ c.before.before.before.loop.invariant c.if2.false
+loop-again : tie.Need-loop-v-preserved invariant-loop decreases-loop
+loop-again c = held_from-next _ _ _ _ _ c.before.before.before.loop-v.invariant c.if-dir-base-2.false
 
-returns-3 : tie.Need-returns-3 invariant-loop decreases-loop
-returns-3 c = mask_told-yes _ _ _ _ _ c.loop-test.false c.before.loop.invariant
+returns-3 : tie.Need-returns invariant-loop decreases-loop
+returns-3 c = mask_told-yes _ _ _ _ _ c.loop-v-test.false c.before.loop-v.invariant
 
-pub mask-holds-spec : {M : Type 1} → statement M
-mask-holds-spec =
+pub mask_holds_spec : {M : Type 1} → statement M
+mask_holds_spec =
     tie.close
     (tie.spec
     invariant-loop

@@ -18,30 +18,30 @@ ws s = width_list s.args.widths
 abbrev string : tie.Start → ℕ → Bool
 string s = split_bit (ws s) s.args.key
 
-named : (c : tie.After-cell-before) → let s = c.before.before.before in
-    cell (ws s) s.args.x (string s) ≡ index_list c.cell-before.result
+named : (c : tie.After-cell_before-index) → let s = c.before.before.before in
+    cell (ws s) s.args.x (string s) ≡ index_list c.cell_before-index.result
 named c =
     let s = c.before.before.before in
-    ap (λ n. cell (ws s) n (string s)) (sym c.before.place_of.ensures.before) ∙ sym c.cell-before.ensures
+    ap (λ n. cell (ws s) n (string s)) (sym c.before.place_of-start.ensures.before) ∙ sym c.cell_before-index.ensures
 
-place-of-requires : tie.Need-place-of-requires
+place-of-requires : tie.Need-place_of-start-requires
 place-of-requires c κs = search rules
 
-cell-before-requires : tie.Need-cell-before-requires
+cell-before-requires : tie.Need-cell_before-index-requires
 cell-before-requires c κs = search rules
 
-cells-hold-requires : tie.Need-cells-hold-requires
+cells-hold-requires : tie.Need-cells_hold-requires
 cells-hold-requires c κs =
     let s = c.before.before.before in
     record {
       string = (string s, named c);
-      place = c.before.place_of.ensures;
+      place = c.before.place_of-start.ensures;
       within = s.requires.1;
       fits = s.requires.0;
     }
 
 returns : tie.Need-returns
-returns c = c.cells-hold.ensures (string c.before.before.before.before) (named c.before)
+returns c = c.cells_hold.ensures (string c.before.before.before.before) (named c.before)
 
-pub region-holds-spec : {M : Type 1} → statement M
-region-holds-spec = tie.close (tie.spec place-of-requires cell-before-requires cells-hold-requires returns)
+pub region_holds_spec : {M : Type 1} → statement M
+region_holds_spec = tie.close (tie.spec place-of-requires cell-before-requires cells-hold-requires returns)

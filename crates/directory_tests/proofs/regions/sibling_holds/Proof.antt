@@ -31,117 +31,117 @@ string s = split_bit (ws s) s.args.key
 abbrev other : tie.Start → ℕ → Bool
 other s = sibling (string s) s.args.z
 
-abbrev start : tie.After-cell-before → tie.Start
+abbrev start : tie.After-cell_before-index → tie.Start
 start c = c.before.before.before
 
 -- the vector is the cell of the key's first z bits
-named : (c : tie.After-cell-before) → let s = start c in
-    cell (ws s) s.args.z (string s) ≡ index_list c.cell-before.result
+named : (c : tie.After-cell_before-index) → let s = start c in
+    cell (ws s) s.args.z (string s) ≡ index_list c.cell_before-index.result
 named c =
     let s = start c in
-    ap (λ n. cell (ws s) n (string s)) (sym c.before.step-place.ensures.before) ∙ sym c.cell-before.ensures
+    ap (λ n. cell (ws s) n (string s)) (sym c.before.step_place-g.ensures.before) ∙ sym c.cell_before-index.ensures
 
 -- the bit is that of step z
-bit_is : (c : tie.After-bit-at) → let s = start c.before in string s s.args.z ≡ c.bit_at.result
+bit_is : (c : tie.After-bit_at) → let s = start c.before in string s s.args.z ≡ c.bit_at.result
 bit_is c =
     let s = start c.before in
-    ap (string s) (sym c.before.before.step-place.ensures.before) ∙ sym c.bit_at.ensures
+    ap (string s) (sym c.before.before.step_place-g.ensures.before) ∙ sym c.bit_at.ensures
 
 -- with bit 1 the sibling's vector is that one
-zero-half : (c : tie.Then1) → let at = c.before.before in let s = start at in
-    cell (ws s) (s.args.z + 1) (other s) ≡ index_list at.cell-before.result
+zero-half : (c : tie.Then-bit_at) → let at = c.before.before in let s = start at in
+    cell (ws s) (s.args.z + 1) (other s) ≡ index_list at.cell_before-index.result
 zero-half c =
     let s = start c.before.before in
     ap (λ n. cell (ws s) n (other s)) (add-one s.args.z)
-    ∙ cell-sibling-zero (ws s) s.pre.0.fit _ _ c.before.before.before.step-place.ensures (string s)
-    (bit_is c.before ∙ c.if1.true)
+    ∙ cell-sibling-zero (ws s) s.pre.0.fit _ _ c.before.before.before.step_place-g.ensures (string s)
+    (bit_is c.before ∙ c.if-bit_at.true)
     ∙ named c.before.before
 
 -- with bit 0 it has the step's bit set
-one-half : (c : tie.After-with-bit) → let s = start c.before.before.before in
-    cell (ws s) (s.args.z + 1) (other s) ≡ index_list c.with-bit.result
+one-half : (c : tie.After-with_bit-other) → let s = start c.before.before.before in
+    cell (ws s) (s.args.z + 1) (other s) ≡ index_list c.with_bit-other.result
 one-half c =
     let at = c.before.before.before in
     let s = start at in
-    let g = at.before.step-place.result in
+    let g = at.before.step_place-g.result in
     ap (λ n. cell (ws s) n (other s)) (add-one s.args.z)
-    ∙ cell-sibling-one (ws s) s.pre.0.fit _ g at.before.step-place.ensures (string s)
-    (bit_is c.before.before ∙ c.before.if1.false)
+    ∙ cell-sibling-one (ws s) s.pre.0.fit _ g at.before.step_place-g.ensures (string s)
+    (bit_is c.before.before ∙ c.before.if-bit_at.false)
     ∙ ap (bit_set g) (named at)
-    ∙ sym c.with-bit.ensures
+    ∙ sym c.with_bit-other.ensures
 
-step-place-requires : tie.Need-step-place-requires
+step-place-requires : tie.Need-step_place-g-requires
 step-place-requires c κs =
     let s = c.before in
     (s.requires.0.fit, omega (arith, s.requires.0.deep, s.requires.1))
 
-cell-before-requires : tie.Need-cell-before-requires
+cell-before-requires : tie.Need-cell_before-index-requires
 cell-before-requires c κs = search rules
 
-bit-at-requires : tie.Need-bit-at-requires
+bit-at-requires : tie.Need-bit_at-requires
 bit-at-requires c κs = search rules
 
-add-cells-hold : tie.Need-overflow-add-cells-hold
-add-cells-hold c = record { fits = omega (arith, c.before.before.before.step-place.ensures.low) }
+add-cells-hold : tie.Need-overflow_add-g
+add-cells-hold c = record { fits = omega (arith, c.before.before.before.step_place-g.ensures.low) }
 
-add-cells-hold-2 : tie.Need-overflow-add-cells-hold-2
+add-cells-hold-2 : tie.Need-overflow_add-z
 add-cells-hold-2 c =
     let s = start c.before.before in
     record { fits = omega (arith, s.pre.0.short, s.pre.1) }
 
-cells-hold-requires : tie.Need-cells-hold-requires
+cells-hold-requires : tie.Need-cells_hold-requires
 cells-hold-requires c κs =
     let s = start c.before.before in
     record {
       string = (other s, zero-half c);
-      place = steps_before-pair (ws s) _ _ c.before.before.before.step-place.ensures;
+      place = steps_before-pair (ws s) _ _ c.before.before.before.step_place-g.ensures;
       within = omega (arith, s.pre.1);
       fits = s.pre.0;
     }
 
-returns : tie.Need-returns
+returns : tie.Need-returns-then-bit_at
 returns c =
     let s = start c.before.before.before in
-    subst (λ n. RegionTold (ws s) s.args.t n (other s) s.args.word s.args.dir.now c.cells-hold.result)
-    (add-one s.args.z) (c.cells-hold.ensures (other s) (zero-half c.before))
+    subst (λ n. RegionTold (ws s) s.args.t n (other s) s.args.word s.args.dir.now c.cells_hold.result)
+    (add-one s.args.z) (c.cells_hold.ensures (other s) (zero-half c.before))
 
-with-bit-requires : tie.Need-with-bit-requires
+with-bit-requires : tie.Need-with_bit-other-requires
 with-bit-requires c κs =
     let at = c.before.before in
     let s = start at in
-    let g = at.before.step-place.result in
-    let pair = at.before.step-place.ensures in (
+    let g = at.before.step_place-g.result in
+    let pair = at.before.step_place-g.ensures in (
       pair.low,
       subst (λ v. get_or v (g % 4) 0 < 2 ^ (g / 4)) (named at) (get_d-cell-lt (ws s) s.pre.0.fit _ g pair (string s)),
     )
 
-add-cells-hold-3 : tie.Need-overflow-add-cells-hold-3
+add-cells-hold-3 : tie.Need-overflow_add-g-2
 add-cells-hold-3 c =
-    record { fits = omega (arith, c.before.before.before.before.step-place.ensures.low) }
+    record { fits = omega (arith, c.before.before.before.before.step_place-g.ensures.low) }
 
-add-cells-hold-4 : tie.Need-overflow-add-cells-hold-4
+add-cells-hold-4 : tie.Need-overflow_add-z-2
 add-cells-hold-4 c =
     let s = start c.before.before.before in
     record { fits = omega (arith, s.pre.0.short, s.pre.1) }
 
-cells-hold-requires-2 : tie.Need-cells-hold-requires-2
+cells-hold-requires-2 : tie.Need-cells_hold-requires-2
 cells-hold-requires-2 c κs =
     let s = start c.before.before.before in
     record {
       string = (other s, one-half c);
-      place = steps_before-pair (ws s) _ _ c.before.before.before.before.step-place.ensures;
+      place = steps_before-pair (ws s) _ _ c.before.before.before.before.step_place-g.ensures;
       within = omega (arith, s.pre.1);
       fits = s.pre.0;
     }
 
-returns-2 : tie.Need-returns-2
+returns-2 : tie.Need-returns
 returns-2 c =
     let s = start c.before.before.before.before in
-    subst (λ n. RegionTold (ws s) s.args.t n (other s) s.args.word s.args.dir.now c.cells-hold2.result)
-    (add-one s.args.z) (c.cells-hold2.ensures (other s) (one-half c.before))
+    subst (λ n. RegionTold (ws s) s.args.t n (other s) s.args.word s.args.dir.now c.cells_hold-2.result)
+    (add-one s.args.z) (c.cells_hold-2.ensures (other s) (one-half c.before))
 
-pub sibling-holds-spec : {M : Type 1} → statement M
-sibling-holds-spec =
+pub sibling_holds_spec : {M : Type 1} → statement M
+sibling_holds_spec =
     tie.close
     (tie.spec
     step-place-requires

@@ -6,33 +6,33 @@ use borrow.Author.Rules.{rules}
 use Rattle.probe.proofs.calls.fields_of.Statement.{statement}
 use Rattle.probe.proofs.calls.fields_of.Tie as tie
 
-enum_told : tie.Need-enum-told
+enum_told : tie.Need-enum_told-1
 enum_told c = search rules
 
-enum-known-answer : tie.Need-enum-known-answer
+enum-known-answer : tie.Need-enum_known-answer
 enum-known-answer c = search rules
 
-enum-known-answer-2 : tie.Need-enum-known-answer-2
+enum-known-answer-2 : tie.Need-enum_known-answer-in-Width-1
 enum-known-answer-2 c = search rules
 
-returns : tie.Need-returns
+returns : tie.Need-returns-in-Done
 unfolding made_answer
 returns c =
-    let e = sym c.enum_told.given.1 in
+    let e = sym c.enum_told-1.given.1 in
     (ap (λ a. number_told (made_answer a)) e, ap (λ a. carried_beside 14 (made_answer a)) e, refl)
 
-returns-2 : tie.Need-returns-2
+returns-2 : tie.Need-returns-in-Refused
 unfolding made_answer
 returns-2 c =
-    let e = sym c.before.answer.given.1 in
+    let e = sym c.before.answer-1.given.1 in
     (ap (λ a. number_told (made_answer a)) e, ap (λ a. carried_beside 14 (made_answer a)) e, refl)
 
-returns-3 : tie.Need-returns-3
+returns-3 : tie.Need-returns-in-Width
 unfolding made_answer
 returns-3 c =
-    let e = sym c.before.answer2.given.1 in
+    let e = sym c.before.answer-in-Width-1.given.1 in
     (ap (λ a. number_told (made_answer a)) e, ap (λ a. carried_beside 14 (made_answer a)) e, refl)
 
-pub fields-of-spec : {M : Type 1} → statement M
-fields-of-spec =
+pub fields_of_spec : {M : Type 1} → statement M
+fields_of_spec =
     tie.close (tie.spec enum_told enum-known-answer enum-known-answer-2 returns returns-2 returns-3)

@@ -10,31 +10,31 @@ use Rattle.probe.proofs.calls.probe_replay.Tie as tie
 replay-requires : tie.Need-replay-requires
 replay-requires c κs = search rules
 
-fields-of-requires : tie.Need-fields-of-requires
+fields-of-requires : tie.Need-fields_of-requires
 fields-of-requires c κs = search rules
 
-same_length : tie.Need-same-length
+same_length : tie.Need-shape_of-dir
 same_length c = search rules
 
-same-length-2 : tie.Need-same-length-2
+same-length-2 : tie.Need-shape_of-pages
 same-length-2 c = search rules
 
-same-length-3 : tie.Need-same-length-3
+same-length-3 : tie.Need-shape_of-answers
 same-length-3 c = search rules
 
-same-length-4 : tie.Need-same-length-4
+same-length-4 : tie.Need-shape_of-out
 same-length-4 c = search rules
 
 returns : tie.Need-returns
 returns c =
     let ran = c.before.before.before.before.before.before.before.before.before.replay in
-    let told = c.fields-of.ensures in
+    let told = c.fields_of.ensures in
     rw told.2
     (replayed-told _ _ (named-fresh _ _) (answered_by-fresh _ _) _ _ _ _ _ _ _ _ _ (made_answer ran.result.answer) _ _
     (told.0, told.1) ran.ensures)
 
-pub probe-replay-spec : {M : Type 1} → statement M
-probe-replay-spec =
+pub probe_replay_spec : {M : Type 1} → statement M
+probe_replay_spec =
     tie.close
     (tie.spec
     replay-requires

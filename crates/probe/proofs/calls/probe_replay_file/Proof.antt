@@ -7,34 +7,34 @@ use Rattle.probe.proofs.ReplayLaws.{replayed-told}
 use Rattle.probe.proofs.calls.probe_replay_file.Statement.{statement}
 use Rattle.probe.proofs.calls.probe_replay_file.Tie as tie
 
-replay-file-requires : tie.Need-replay-file-requires
+replay-file-requires : tie.Need-replay_file-requires
 replay-file-requires c κs = search rules
 
-fields-of-requires : tie.Need-fields-of-requires
+fields-of-requires : tie.Need-fields_of-requires
 fields-of-requires c κs = search rules
 
-same_length : tie.Need-same-length
+same_length : tie.Need-shape_of-dir
 same_length c = search rules
 
-same-length-2 : tie.Need-same-length-2
+same-length-2 : tie.Need-shape_of-pages
 same-length-2 c = search rules
 
-same-length-3 : tie.Need-same-length-3
+same-length-3 : tie.Need-shape_of-answers
 same-length-3 c = search rules
 
-same-length-4 : tie.Need-same-length-4
+same-length-4 : tie.Need-shape_of-out
 same-length-4 c = search rules
 
 returns : tie.Need-returns
 returns c =
-    let ran = c.before.before.before.before.before.before.before.before.before.replay-file in
-    let told = c.fields-of.ensures in
+    let ran = c.before.before.before.before.before.before.before.before.before.replay_file in
+    let told = c.fields_of.ensures in
     rw told.2
     (replayed-told _ _ (named-load _ _) (answered_by-load _ _) _ _ _ _ _ _ _ _ _ (made_answer ran.result.answer) _ _
     (told.0, told.1) ran.ensures)
 
-pub probe-replay-file-spec : {M : Type 1} → statement M
-probe-replay-file-spec =
+pub probe_replay_file_spec : {M : Type 1} → statement M
+probe_replay_file_spec =
     tie.close
     (tie.spec
     replay-file-requires

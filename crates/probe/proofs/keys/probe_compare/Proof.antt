@@ -5,28 +5,28 @@ use borrow.Author.Rules.{rules}
 use Rattle.probe.proofs.keys.probe_compare.Statement.{statement}
 use Rattle.probe.proofs.keys.probe_compare.Tie as tie
 
-compare-requires : tie.Need-compare-requires
+compare-requires : tie.Need-compare-order-requires
 compare-requires c κs = search rules
 
-enum_told : tie.Need-enum-told
+enum_told : tie.Need-enum_told-1
 enum_told c = search rules
 
-enum-told-2 : tie.Need-enum-told-2
+enum-told-2 : tie.Need-enum_told-in-Before
 enum-told-2 c = search rules
 
-enum-told-3 : tie.Need-enum-told-3
+enum-told-3 : tie.Need-enum_told-in-After
 enum-told-3 c = search rules
 
-returns : tie.Need-returns
-returns c = sym (ap order_number (sym c.before.before.compare.ensures ∙ c.enum_told.given.1))
+returns : tie.Need-returns-in-Same
+returns c = sym (ap order_number (sym c.before.before.compare-order.ensures ∙ c.enum_told-1.given.1))
 
-returns-2 : tie.Need-returns-2
-returns-2 c = sym (ap order_number (sym c.before.before.compare.ensures ∙ c.enum-told2.given.1))
+returns-2 : tie.Need-returns-in-Before
+returns-2 c = sym (ap order_number (sym c.before.before.compare-order.ensures ∙ c.enum_told-in-Before-1.given.1))
 
-returns-3 : tie.Need-returns-3
-returns-3 c = sym (ap order_number (sym c.before.before.compare.ensures ∙ c.enum-told3.given.1))
+returns-3 : tie.Need-returns-in-After
+returns-3 c = sym (ap order_number (sym c.before.before.compare-order.ensures ∙ c.enum_told-in-After-1.given.1))
 
-pub probe-compare-spec : {M : Type 1} → statement M
-probe-compare-spec =
+pub probe_compare_spec : {M : Type 1} → statement M
+probe_compare_spec =
     tie.close
     (tie.spec compare-requires enum_told enum-told-2 enum-told-3 returns returns-2 returns-3)

@@ -7,27 +7,27 @@ use borrow.Author.Rules.{rules}
 use Rattle.probe.proofs.keys.probe_find.Statement.{statement}
 use Rattle.probe.proofs.keys.probe_find.Tie as tie
 
-find-requires : tie.Need-find-requires
+find-requires : tie.Need-find-found-requires
 find-requires c κs = search rules
 
-enum-known-found : tie.Need-enum-known-found
+enum-known-found : tie.Need-enum_known-found
 enum-known-found c = search rules
 
-enum-known-found-2 : tie.Need-enum-known-found-2
+enum-known-found-2 : tie.Need-enum_known-found-in-At-1
 enum-known-found-2 c = search rules
 
-returns : tie.Need-returns
+returns : tie.Need-returns-in-Before
 returns c =
     let s = c.before.before.before.before.before.args in
-    subst (Placed (width_list s.widths) 0 (unpacked_key s.key) s.page.now s.n) c.before.found.given.1
-    c.before.before.before.find.ensures
+    subst (Placed (width_list s.widths) 0 (unpacked_key s.key) s.page.now s.n) c.before.found-1.given.1
+    c.before.before.before.find-found.ensures
 
-returns-2 : tie.Need-returns-2
+returns-2 : tie.Need-returns-in-At
 returns-2 c =
     let s = c.before.before.before.before.before.args in
-    subst (Placed (width_list s.widths) 0 (unpacked_key s.key) s.page.now s.n) c.before.found2.given.1
-    c.before.before.before.find.ensures
+    subst (Placed (width_list s.widths) 0 (unpacked_key s.key) s.page.now s.n) c.before.found-in-At-1.given.1
+    c.before.before.before.find-found.ensures
 
-pub probe-find-spec : {M : Type 1} → statement M
-probe-find-spec =
+pub probe_find_spec : {M : Type 1} → statement M
+probe_find_spec =
     tie.close (tie.spec find-requires enum-known-found enum-known-found-2 returns returns-2)

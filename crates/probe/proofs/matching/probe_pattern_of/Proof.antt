@@ -6,14 +6,14 @@ use borrow.Author.Rules.{rules}
 use Rattle.probe.proofs.matching.probe_pattern_of.Statement.{statement}
 use Rattle.probe.proofs.matching.probe_pattern_of.Tie as tie
 
-store-query-requires : tie.Need-store-query-requires
+store-query-requires : tie.Need-store_query-requires
 store-query-requires c κs = search rules
 
-pattern-of-requires : tie.Need-pattern-of-requires
+pattern-of-requires : tie.Need-pattern_of-requires
 pattern-of-requires c κs = search rules
 
 returns : tie.Need-returns
-returns c = c.pattern-of.ensures ∙ ap pattern_of c.before.store-query.ensures
+returns c = c.pattern_of.ensures ∙ ap pattern_of c.before.store_query.ensures
 
-pub probe-pattern-of-spec : {M : Type 1} → statement M
-probe-pattern-of-spec = tie.close (tie.spec store-query-requires pattern-of-requires returns)
+pub probe_pattern_of_spec : {M : Type 1} → statement M
+probe_pattern_of_spec = tie.close (tie.spec store-query-requires pattern-of-requires returns)

@@ -5,21 +5,21 @@ use borrow.Author.Rules.{rules}
 use Rattle.probe.proofs.words.probe_unpack.Statement.{statement}
 use Rattle.probe.proofs.words.probe_unpack.Tie as tie
 
-unpack-requires : tie.Need-unpack-requires
+unpack-requires : tie.Need-unpack-leaf-requires
 unpack-requires c κs = search rules
 
-enum-known-leaf : tie.Need-enum-known-leaf
+enum-known-leaf : tie.Need-enum_known-leaf
 enum-known-leaf c = search rules
 
-enum-known-leaf-2 : tie.Need-enum-known-leaf-2
+enum-known-leaf-2 : tie.Need-enum_known-leaf-in-Page-1
 enum-known-leaf-2 c = search rules
 
-returns : tie.Need-returns
-returns c = sym (ap leaf_fields (sym c.before.before.before.unpack.ensures ∙ c.before.leaf.given.1))
+returns : tie.Need-returns-in-Empty
+returns c = sym (ap leaf_fields (sym c.before.before.before.unpack-leaf.ensures ∙ c.before.leaf-1.given.1))
 
-returns-2 : tie.Need-returns-2
-returns-2 c = sym (ap leaf_fields (sym c.before.before.before.unpack.ensures ∙ c.before.leaf2.given.1))
+returns-2 : tie.Need-returns-in-Page
+returns-2 c = sym (ap leaf_fields (sym c.before.before.before.unpack-leaf.ensures ∙ c.before.leaf-in-Page-1.given.1))
 
-pub probe-unpack-spec : {M : Type 1} → statement M
-probe-unpack-spec =
+pub probe_unpack_spec : {M : Type 1} → statement M
+probe_unpack_spec =
     tie.close (tie.spec unpack-requires enum-known-leaf enum-known-leaf-2 returns returns-2)

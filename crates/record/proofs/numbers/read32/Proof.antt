@@ -7,7 +7,7 @@ use Rattle.record.proofs.numbers.read32.Tie as tie
 read16-requires : tie.Need-read16-requires
 read16-requires c κs = search rules
 
-add-read16 : tie.Need-overflow-add-read16
+add-read16 : tie.Need-overflow_add-at
 add-read16 c = search rules
 
 read16-requires-2 : tie.Need-read16-requires-2
@@ -17,10 +17,10 @@ returns : tie.Need-returns
 returns c =
     let start = c.before.before.before in
     let low = c.before.read16 in
-    let high = c.read162 in
+    let high = c.read16-2 in
     read-four start.args.bytes.now start.args.at low.result high.result low.ensures.0
     low.ensures.1
     high.ensures.0 high.ensures.1
 
-pub read32-spec : {M : Type 1} → statement M
-read32-spec = tie.close (tie.spec read16-requires add-read16 read16-requires-2 returns)
+pub read32_spec : {M : Type 1} → statement M
+read32_spec = tie.close (tie.spec read16-requires add-read16 read16-requires-2 returns)

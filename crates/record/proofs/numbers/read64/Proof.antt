@@ -7,7 +7,7 @@ use Rattle.record.proofs.numbers.read64.Tie as tie
 read32-requires : tie.Need-read32-requires
 read32-requires c κs = search rules
 
-add-read32 : tie.Need-overflow-add-read32
+add-read32 : tie.Need-overflow_add-at
 add-read32 c = search rules
 
 read32-requires-2 : tie.Need-read32-requires-2
@@ -17,10 +17,10 @@ returns : tie.Need-returns
 returns c =
     let start = c.before.before.before in
     let low = c.before.read32 in
-    let high = c.read322 in
+    let high = c.read32-2 in
     read-eight start.args.bytes.now start.args.at low.result high.result low.ensures.0
     low.ensures.1
     high.ensures.0 high.ensures.1
 
-pub read64-spec : {M : Type 1} → statement M
-read64-spec = tie.close (tie.spec read32-requires add-read32 read32-requires-2 returns)
+pub read64_spec : {M : Type 1} → statement M
+read64_spec = tie.close (tie.spec read32-requires add-read32 read32-requires-2 returns)

@@ -8,22 +8,22 @@ use borrow.Author.Rules.{rules}
 use Rattle.record.proofs.numbers.write16.Statement.{statement}
 use Rattle.record.proofs.numbers.write16.Tie as tie
 
-cast-bytes : tie.Need-overflow-cast-bytes
+cast-bytes : tie.Need-overflow_cast-bytes
 cast-bytes c = record { fits = mask_lt c.args.x 8 }
 
-slice-write-bytes : tie.Need-slice-write-bytes
+slice-write-bytes : tie.Need-bounds-bytes-at
 slice-write-bytes c = search rules
 
-cast-bytes-2 : tie.Need-overflow-cast-bytes-2
+cast-bytes-2 : tie.Need-overflow_cast-bytes-2
 cast-bytes-2 c = record { fits = mask_lt (c.args.x / 256) 8 }
 
-add-bytes : tie.Need-overflow-add-bytes
+add-bytes : tie.Need-overflow_add-bytes
 add-bytes c = search rules
 
-slice-write-bytes-2 : tie.Need-slice-write-bytes-2
+slice-write-bytes-2 : tie.Need-bounds-bytes-at-2
 slice-write-bytes-2 c = simp length-set (omega arith)
 
-same_length : tie.Need-same-length
+same_length : tie.Need-shape_of-bytes
 same_length c = search rules
 
 returns : tie.Need-returns
@@ -31,8 +31,8 @@ returns c =
     let a = c.args in
     rw (and_mask a.x 8, and_mask (a.x / 256) 8) (paste-two a.bytes.now a.at _ _ c.requires)
 
-pub write16-spec : {M : Type 1} → statement M
-write16-spec =
+pub write16_spec : {M : Type 1} → statement M
+write16_spec =
     tie.close
     (tie.spec
     cast-bytes

@@ -7,13 +7,13 @@ use Rattle.record.proofs.numbers.write32.Tie as tie
 write16-requires : tie.Need-write16-requires
 write16-requires c κs = search rules
 
-add-write16 : tie.Need-overflow-add-write16
+add-write16 : tie.Need-overflow_add-at
 add-write16 c = search rules
 
 write16-requires-2 : tie.Need-write16-requires-2
 write16-requires-2 c κs = search rules
 
-same_length : tie.Need-same-length
+same_length : tie.Need-shape_of-bytes
 same_length c = search rules
 
 returns : tie.Need-returns
@@ -21,8 +21,8 @@ returns c =
     let start = c.before.before.before.before.before.before.before.before.before in
     let a = start.args in
     write-four a.bytes.now _ _ a.at a.x start.requires
-    c.before.before.before.before.before.before.write16.ensures c.before.before.write162.ensures
+    c.before.before.before.before.before.before.write16.ensures c.before.before.write16-2.ensures
 
-pub write32-spec : {M : Type 1} → statement M
-write32-spec =
+pub write32_spec : {M : Type 1} → statement M
+write32_spec =
     tie.close (tie.spec write16-requires add-write16 write16-requires-2 same_length returns)

@@ -7,13 +7,13 @@ use Rattle.record.proofs.numbers.write64.Tie as tie
 write32-requires : tie.Need-write32-requires
 write32-requires c κs = search rules
 
-add-write32 : tie.Need-overflow-add-write32
+add-write32 : tie.Need-overflow_add-at
 add-write32 c = search rules
 
 write32-requires-2 : tie.Need-write32-requires-2
 write32-requires-2 c κs = search rules
 
-same_length : tie.Need-same-length
+same_length : tie.Need-shape_of-bytes
 same_length c = search rules
 
 returns : tie.Need-returns
@@ -21,8 +21,8 @@ returns c =
     let start = c.before.before.before.before.before.before.before.before.before in
     let a = start.args in
     write-eight a.bytes.now _ _ a.at a.x start.requires
-    c.before.before.before.before.before.before.write32.ensures c.before.before.write322.ensures
+    c.before.before.before.before.before.before.write32.ensures c.before.before.write32-2.ensures
 
-pub write64-spec : {M : Type 1} → statement M
-write64-spec =
+pub write64_spec : {M : Type 1} → statement M
+write64_spec =
     tie.close (tie.spec write32-requires add-write32 write32-requires-2 same_length returns)

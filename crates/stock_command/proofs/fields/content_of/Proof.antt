@@ -4,12 +4,12 @@ use borrow.Author.Rules.{rules}
 use Rattle.stock_command.proofs.fields.content_of.Statement.{statement}
 use Rattle.stock_command.proofs.fields.content_of.Tie as tie
 
-number-at-requires : tie.Need-number-at-requires
+number-at-requires : tie.Need-number_at-payload-requires
 number-at-requires c κs = search rules
 
 returns : tie.Need-returns
 unfolding content_in
-returns c = rw c.number_at.ensures
+returns c = rw c.number_at-payload.ensures
 
-pub content-of-spec : {M : Type 1} → statement M
-content-of-spec = tie.close (tie.spec number-at-requires returns)
+pub content_of_spec : {M : Type 1} → statement M
+content_of_spec = tie.close (tie.spec number-at-requires returns)

@@ -4,16 +4,16 @@ use borrow.Author.Rules.{rules}
 use Rattle.stock_command.proofs.fields.values_from.Statement.{statement}
 use Rattle.stock_command.proofs.fields.values_from.Tie as tie
 
-value-at-requires : tie.Need-value-at-requires
+value-at-requires : tie.Need-value_at-v0-requires
 value-at-requires c κs = search rules
 
-value-at-requires-2 : tie.Need-value-at-requires-2
+value-at-requires-2 : tie.Need-value_at-v1-requires
 value-at-requires-2 c κs = search rules
 
-value-at-requires-3 : tie.Need-value-at-requires-3
+value-at-requires-3 : tie.Need-value_at-v2-requires
 value-at-requires-3 c κs = search rules
 
-value-at-requires-4 : tie.Need-value-at-requires-4
+value-at-requires-4 : tie.Need-value_at-v3-requires
 value-at-requires-4 c κs = search rules
 
 returns : tie.Need-returns
@@ -21,10 +21,10 @@ unfolding values_from
 returns c =
     let three = c.before in
     let two = three.before in
-    rw (two.before.value-at.ensures, two.value-at2.ensures, three.value-at3.ensures, c.value-at4.ensures)
+    rw (two.before.value_at-v0.ensures, two.value_at-v1.ensures, three.value_at-v2.ensures, c.value_at-v3.ensures)
 
-pub values-from-spec : {M : Type 1} → statement M
-values-from-spec =
+pub values_from_spec : {M : Type 1} → statement M
+values_from_spec =
     tie.close
     (tie.spec
     value-at-requires
