@@ -8,7 +8,7 @@ returns : tie.Need-returns-then-j-z
 returns c = sym (only_at-same _ _ _ c.if-j-z.true)
 
 returns-2 : tie.Need-returns-else-j-z
-returns-2 c = sym (only_at-other c.before.args.x _ _ c.if-j-z.false)
+returns-2 c = sym (only_at-other c.args.x _ _ c.if-j-z.false)
 
 pub only_at_spec : {M : Type 1} → statement M
 only_at_spec = tie.close (tie.spec returns returns-2)

@@ -14,8 +14,8 @@ use borrow.Author.Rules.{rules}
 use Rattle.address_calls.proofs.address_of.Statement.{statement}
 use Rattle.address_calls.proofs.address_of.Tie as tie
 
-in_bounds : (c : tie.Else-number-ne0) → shape_number c.before.before.before.args.shape ≡ 0
-in_bounds c = sym c.before.before.shape_number-number.ensures ∙ c.if-number-ne0.false
+in_bounds : (c : tie.Else-number-ne0) → shape_number c.args.shape ≡ 0
+in_bounds c = sym c.shape_number-number.ensures ∙ c.if-number-ne0.false
 
 shape-number-requires : tie.Need-shape_number-number-requires
 shape-number-requires c κs = search rules
@@ -27,8 +27,8 @@ returns : tie.Need-returns-then-number-eq14
 unfolding address_answer_of
 returns c =
     let n = c.before.before in
-    let s = n.before.args in
-    let width : shape_number s.shape ≡ 14 = sym n.shape_number-number.ensures ∙ c.before.if-number-eq14.true in
+    let s = n.args in
+    let width : shape_number s.shape ≡ 14 = sym n.shape_number-number.ensures ∙ c.if-number-eq14.true in
     ap (refused_with 14) c.bad_width.ensures
     ∙ sym (refused_for-width s.shape (shape_number s.shape) width)
     ∙ address_answer-shape-out s.shape (index_list s.index) (λ e. omega (arith, width, e))
@@ -37,10 +37,10 @@ returns-2 : tie.Need-returns-then-number-ne0
 unfolding address_answer_of
 returns-2 c =
     let n = c.before.before in
-    let s = n.before.args in
+    let s = n.args in
     let k = n.shape_number-number.ensures in
     ap refused k
-    ∙ sym (refused_for-other s.shape (shape_number s.shape) (λ e. c.before.if-number-eq14.false (k ∙ e)))
+    ∙ sym (refused_for-other s.shape (shape_number s.shape) (λ e. c.if-number-eq14.false (k ∙ e)))
     ∙ address_answer-shape-out s.shape (index_list s.index) (λ e. c.if-number-ne0.true (k ∙ e))
 
 widths-of-requires : tie.Need-widths_of-widths-requires
@@ -48,7 +48,7 @@ widths-of-requires c κs = search rules
 
 index-fits-requires : tie.Need-index_fits-requires
 index-fits-requires c κs =
-    let s = c.before.before.before.before.args in
+    let s = c.args in
     let w = c.widths_of-widths in
     widths-fit s.shape (width_list w.result) (in_bounds c.before) w.ensures
 
@@ -56,20 +56,20 @@ returns-3 : tie.Need-returns-then-not-index_fits
 unfolding address_answer_of
 returns-3 c =
     let w = c.before.before in
-    let s = w.before.before.before.before.args in
+    let s = w.args in
     address_answer-index-out s.shape (width_list w.widths_of-widths.result) (in_bounds w.before)
-    w.widths_of-widths.ensures (index_list s.index) (sym c.before.index_fits.ensures ∙ not-true _ c.if-not-index_fits.true-raw)
+    w.widths_of-widths.ensures (index_list s.index) (sym c.index_fits.ensures ∙ not-true _ c.if-not-index_fits.true-raw)
 
 locate-requires : tie.Need-locate-requires
 locate-requires c κs =
     let w = c.before.before in
-    let s = w.before.before.before.before.args in
+    let s = w.args in
     let ws = w.widths_of-widths.result in
     record {
       fit = widths-fit s.shape (width_list ws) (in_bounds w.before) w.widths_of-widths.ensures;
       below =
           index_fits-below (width_list ws) (index_list s.index)
-          (sym c.before.index_fits.ensures ∙ not-false _ c.if-not-index_fits.false-raw);
+          (sym c.index_fits.ensures ∙ not-false _ c.if-not-index_fits.false-raw);
     }
 
 returns-4 : tie.Need-returns
@@ -77,9 +77,9 @@ unfolding address_answer_of
 returns-4 c =
     let f = c.before.before in
     let w = f.before in
-    let s = w.before.before.before.before.args in
+    let s = w.args in
     address_answer-address s.shape (width_list w.widths_of-widths.result) (in_bounds w.before) w.widths_of-widths.ensures
-    (index_list s.index) c.locate.result (sym f.index_fits.ensures ∙ not-false _ c.before.if-not-index_fits.false-raw)
+    (index_list s.index) c.locate.result (sym f.index_fits.ensures ∙ not-false _ c.if-not-index_fits.false-raw)
     c.locate.ensures
 
 pub address_of_spec : {M : Type 1} → statement M

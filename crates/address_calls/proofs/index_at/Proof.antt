@@ -16,16 +16,16 @@ use borrow.Author.Rules.{rules}
 use Rattle.address_calls.proofs.index_at.Statement.{statement}
 use Rattle.address_calls.proofs.index_at.Tie as tie
 
-in_bounds : (c : tie.Else-number-ne0) → shape_number c.before.before.before.args.shape ≡ 0
-in_bounds c = sym c.before.before.shape_number-number.ensures ∙ c.if-number-ne0.false
+in_bounds : (c : tie.Else-number-ne0) → shape_number c.args.shape ≡ 0
+in_bounds c = sym c.shape_number-number.ensures ∙ c.if-number-ne0.false
 
 -- the test of the address, by the sum of the widths
 test : (c : tie.After-address_fits) → let w = c.before.before in
-    ltb w.before.before.before.before.args.address (2 ^ total (width_list w.widths_of-widths.result))
+    ltb w.args.address (2 ^ total (width_list w.widths_of-widths.result))
     ≡ c.address_fits.result
 test c =
-    let a = c.before.before.before.before.before.before.args.address in
-    ap (λ t. ltb a (2 ^ t)) (sym c.before.total_of.ensures.0) ∙ sym c.address_fits.ensures
+    let a = c.args.address in
+    ap (λ t. ltb a (2 ^ t)) (sym c.total_of.ensures.0) ∙ sym c.address_fits.ensures
 
 shape-number-requires : tie.Need-shape_number-number-requires
 shape-number-requires c κs = search rules
@@ -37,8 +37,8 @@ returns : tie.Need-returns-then-number-eq14
 unfolding index_answer_of
 returns c =
     let n = c.before.before in
-    let s = n.before.args in
-    let width : shape_number s.shape ≡ 14 = sym n.shape_number-number.ensures ∙ c.before.if-number-eq14.true in
+    let s = n.args in
+    let width : shape_number s.shape ≡ 14 = sym n.shape_number-number.ensures ∙ c.if-number-eq14.true in
     ap (refused_with 14) c.bad_width.ensures
     ∙ sym (refused_for-width s.shape (shape_number s.shape) width)
     ∙ index_answer-shape-out s.shape s.address (λ e. omega (arith, width, e))
@@ -47,10 +47,10 @@ returns-2 : tie.Need-returns-then-number-ne0
 unfolding index_answer_of
 returns-2 c =
     let n = c.before.before in
-    let s = n.before.args in
+    let s = n.args in
     let k = n.shape_number-number.ensures in
     ap refused k
-    ∙ sym (refused_for-other s.shape (shape_number s.shape) (λ e. c.before.if-number-eq14.false (k ∙ e)))
+    ∙ sym (refused_for-other s.shape (shape_number s.shape) (λ e. c.if-number-eq14.false (k ∙ e)))
     ∙ index_answer-shape-out s.shape s.address (λ e. c.if-number-ne0.true (k ∙ e))
 
 widths-of-requires : tie.Need-widths_of-widths-requires
@@ -58,7 +58,7 @@ widths-of-requires c κs = search rules
 
 total-of-requires : tie.Need-total_of-requires
 total-of-requires c κs =
-    let s = c.before.before.before.before.args in
+    let s = c.args in
     widths-fit s.shape (width_list c.widths_of-widths.result) (in_bounds c.before) c.widths_of-widths.ensures
 
 address-fits-requires : tie.Need-address_fits-requires
@@ -68,14 +68,14 @@ returns-3 : tie.Need-returns-then-not-address_fits
 unfolding index_answer_of
 returns-3 c =
     let w = c.before.before.before in
-    let s = w.before.before.before.before.args in
+    let s = w.args in
     index_answer-address-out s.shape (width_list w.widths_of-widths.result) (in_bounds w.before)
     w.widths_of-widths.ensures s.address (test c.before ∙ not-true _ c.if-not-address_fits.true-raw)
 
 vector-at-requires : tie.Need-vector_at-requires
 vector-at-requires c κs =
     let w = c.before.before.before in
-    let s = w.before.before.before.before.args in (
+    let s = w.args in (
       widths-fit s.shape (width_list w.widths_of-widths.result) (in_bounds w.before) w.widths_of-widths.ensures,
       ltb-true _ _ (test c.before ∙ not-false _ c.if-not-address_fits.false-raw),
     )
@@ -86,12 +86,12 @@ returns-4 c =
     let f = c.before.before in
     let w = f.before.before in
     let ws = w.widths_of-widths.result in
-    let s = w.before.before.before.before.args in
+    let s = w.args in
     let v = c.vector_at.result in
     let fit = widths-fit s.shape (width_list ws) (in_bounds w.before) w.widths_of-widths.ensures in
     index_answer-index s.shape (width_list ws) (in_bounds w.before) w.widths_of-widths.ensures s.address
     (index_list v)
-    (test f ∙ not-false _ c.before.if-not-address_fits.false-raw)
+    (test f ∙ not-false _ c.if-not-address_fits.false-raw)
     (get_d-index_at ws.w0 ws.w1 ws.w2 ws.w3 s.address v.i0 v.i1 v.i2 v.i3 fit
     c.vector_at.ensures)
 

@@ -12,14 +12,14 @@ use Rattle.address_formula.proofs.address_before.Tie as tie
 
 -- what the four digits need and give, once the index in front is known
 digits : (c : tie.After-index_of-a0) (a1 a2 a3 : ℕ)
-    → let s = c.before.before.before.before.before.args in
+    → let s = c.args in
     let i = s.index in
     let z = s.g % 4 in
     let a0 = c.index_of-a0.result in
-    let h0 = c.before.before.before.before.depth_before-h0.result in
-    let h1 = c.before.before.before.depth_before-h1.result in
-    let h2 = c.before.before.depth_before-h2.result in
-    let h3 = c.before.depth_before-h3.result in
+    let h0 = c.depth_before-h0.result in
+    let h1 = c.depth_before-h1.result in
+    let h2 = c.depth_before-h2.result in
+    let h3 = c.depth_before-h3.result in
     (a1 ≡ append_digit a0 (2 ^ h0) i.i0 0 z → a2 ≡ append_digit a1 (2 ^ h1) i.i1 1 z
     → a3 ≡ append_digit a2 (2 ^ h2) i.i2 2 z
     → Appended (width_list s.widths) z h0 h1 h2 h3 i.i0 i.i1 i.i2 i.i3 a0 a1 a2 a3)
@@ -27,10 +27,10 @@ unfolding depth_before
 digits c a1 a2 a3 e1 e2 e3 =
     let s = c.before.before.before.before.before in
     let i = s.args.index in
-    let h0 = c.before.before.before.before.depth_before-h0 in
-    let h1 = c.before.before.before.depth_before-h1 in
-    let h2 = c.before.before.depth_before-h2 in
-    let h3 = c.before.depth_before-h3 in
+    let h0 = c.depth_before-h0 in
+    let h1 = c.depth_before-h1 in
+    let h2 = c.depth_before-h2 in
+    let h3 = c.depth_before-h3 in
     appended-digits (width_list s.args.widths) i.i0 i.i1 i.i2 i.i3 s.args.g h0.result h1.result
     h2.result h3.result c.index_of-a0.result a1 a2 a3 s.requires.1 s.requires.2 h0.ensures h1.ensures
     h2.ensures h3.ensures c.index_of-a0.ensures e1 e2 e3
@@ -62,15 +62,15 @@ append-digit-requires-2 c κs =
 
 append-digit-requires-3 : tie.Need-append_digit-a3-requires
 append-digit-requires-3 c κs =
-    let d1 = c.before.append_digit-a1 in
+    let d1 = c.append_digit-a1 in
     let d2 = c.append_digit-a2 in
     let p = digits c.before.before d1.result d2.result _ d1.ensures d2.ensures refl in
     (p.deep.2, p.fits2)
 
 append-digit-requires-4 : tie.Need-append_digit-requires
 append-digit-requires-4 c κs =
-    let d1 = c.before.before.append_digit-a1 in
-    let d2 = c.before.append_digit-a2 in
+    let d1 = c.append_digit-a1 in
+    let d2 = c.append_digit-a2 in
     let d3 = c.append_digit-a3 in
     let p = digits c.before.before.before d1.result d2.result d3.result d1.ensures d2.ensures
     d3.ensures in
@@ -78,9 +78,9 @@ append-digit-requires-4 c κs =
 
 returns : tie.Need-returns
 returns c =
-    let d1 = c.before.before.before.append_digit-a1 in
-    let d2 = c.before.before.append_digit-a2 in
-    let d3 = c.before.append_digit-a3 in
+    let d1 = c.append_digit-a1 in
+    let d2 = c.append_digit-a2 in
+    let d3 = c.append_digit-a3 in
     let p = digits c.before.before.before.before d1.result d2.result d3.result d1.ensures
     d2.ensures d3.ensures in
     c.append_digit.ensures ∙ p.result

@@ -12,10 +12,10 @@ latest-pair-requires c κs = search rules
 
 returns : tie.Need-returns-then-latest-eq0
 returns c =
-    let s = c.before.before.args in
+    let s = c.args in
     sym
     (address-latest_pair-zero (width_list s.widths) (index_list s.index)
-    (sym c.before.latest_pair-latest.ensures.0 ∙ c.if-latest-eq0.true))
+    (sym c.latest_pair-latest.ensures.0 ∙ c.if-latest-eq0.true))
 
 sub-address-before : tie.Need-overflow_sub-latest
 sub-address-before c = search rules

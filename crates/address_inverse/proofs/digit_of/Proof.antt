@@ -10,19 +10,19 @@ use Rattle.address_inverse.proofs.digit_of.Tie as tie
 
 returns : tie.Need-returns-then-j-z
 returns c =
-    let s = c.before.args in
+    let s = c.args in
     digit_of-same s.x s.a (2 ^ s.h) s.j s.z c.if-j-z.true
 
 shl-result : tie.Need-overflow_shl-result
 shl-result c = search rules
 
 sub-result : tie.Need-overflow_sub-result
-sub-result c = rw (one_shifted c.before.args.h (omega (arith, c.before.requires))) (pow_pos c.before.args.h)
+sub-result c = rw (one_shifted c.args.h (omega (arith, c.requires))) (pow_pos c.args.h)
 
 returns-2 : tie.Need-returns
 returns-2 c =
-    let s = c.before.args in
-    digit_of-other s.x s.a s.h s.j s.z c.if-j-z.false c.before.requires
+    let s = c.args in
+    digit_of-other s.x s.a s.h s.j s.z c.if-j-z.false c.requires
 
 pub digit_of_spec : {M : Type 1} → statement M
 digit_of_spec = tie.close (tie.spec returns shl-result sub-result returns-2)

@@ -7,7 +7,7 @@ use Rattle.address_inverse.proofs.drop_digit.Tie as tie
 
 returns : tie.Need-returns-then-j-z
 returns c =
-    let s = c.before.args in
+    let s = c.args in
     drop_digit-same s.a (2 ^ s.h) s.j s.z c.if-j-z.true
 
 shr-result : tie.Need-overflow_shr-result
@@ -15,7 +15,7 @@ shr-result c = search rules
 
 returns-2 : tie.Need-returns
 returns-2 c =
-    let s = c.before.args in
+    let s = c.args in
     drop_digit-other s.a (2 ^ s.h) s.j s.z c.if-j-z.false
 
 pub drop_digit_spec : {M : Type 1} → statement M

@@ -9,14 +9,14 @@ use Rattle.address_inverse.proofs.index_before.Statement.{statement}
 use Rattle.address_inverse.proofs.index_before.Tie as tie
 
 -- no depth is above its width
-deep : (c : tie.After-depth_before-h3) → (c.before.before.before.depth_before-h0.result ≤ 16)
-    × (c.before.before.depth_before-h1.result ≤ 16) × (c.before.depth_before-h2.result ≤ 16)
+deep : (c : tie.After-depth_before-h3) → (c.depth_before-h0.result ≤ 16)
+    × (c.depth_before-h1.result ≤ 16) × (c.depth_before-h2.result ≤ 16)
     × (c.depth_before-h3.result ≤ 16)
 deep c =
-    let fit = c.before.before.before.before.requires.fit in (
-      omega (arith, c.before.before.before.depth_before-h0.ensures, fit 0),
-      omega (arith, c.before.before.depth_before-h1.ensures, fit 1),
-      omega (arith, c.before.depth_before-h2.ensures, fit 2),
+    let fit = c.requires.fit in (
+      omega (arith, c.depth_before-h0.ensures, fit 0),
+      omega (arith, c.depth_before-h1.ensures, fit 1),
+      omega (arith, c.depth_before-h2.ensures, fit 2),
       omega (arith, c.depth_before-h3.ensures, fit 3),
     )
 
@@ -74,9 +74,9 @@ returns c =
     h0.depth_before-h0.ensures h1.depth_before-h1.ensures h2.depth_before-h2.ensures h3.depth_before-h3.ensures
     a3.drop_digit-a3.result a2.drop_digit-a2.result a1.drop_digit-a1.result a0.drop_digit-a0.result
     a3.drop_digit-a3.ensures a2.drop_digit-a2.ensures a1.drop_digit-a1.ensures a0.drop_digit-a0.ensures
-    c.before.before.before.digit_of-i0.result c.before.before.digit_of-i1.result c.before.digit_of-i2.result
-    c.digit_of-i3.result c.before.before.before.digit_of-i0.ensures c.before.before.digit_of-i1.ensures
-    c.before.digit_of-i2.ensures c.digit_of-i3.ensures
+    c.digit_of-i0.result c.digit_of-i1.result c.digit_of-i2.result
+    c.digit_of-i3.result c.digit_of-i0.ensures c.digit_of-i1.ensures
+    c.digit_of-i2.ensures c.digit_of-i3.ensures
 
 pub index_before_spec : {M : Type 1} → statement M
 index_before_spec =

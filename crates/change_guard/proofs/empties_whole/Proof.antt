@@ -14,7 +14,7 @@ abbrev decreases-loop : tie.decreases-loop-z
 decreases-loop state dir encoded m y z₀ z = m - z
 
 loop-holds : tie.Need-loop-z-init invariant-loop decreases-loop
-loop-holds c = empty_to-start _ _ _ _ _ c.before.requires.above
+loop-holds c = empty_to-start _ _ _ _ _ c.requires.above
 
 add-pack-empty : tie.Need-overflow_add-z invariant-loop decreases-loop
 add-pack-empty c =
@@ -29,13 +29,13 @@ pack-empty-requires c κs =
 sibling-whole-requires : tie.Need-sibling_whole-requires invariant-loop decreases-loop
 sibling-whole-requires c κs =
     let s = c.before.before.before.before in
-    (s.requires.lent, omega (arith, c.before.loop-z-test.true, s.requires.below))
+    (s.requires.lent, omega (arith, c.loop-z-test.true, s.requires.below))
 
 returns : tie.Need-returns-then-not-sibling_whole invariant-loop decreases-loop
 returns c =
     let turn = c.before.before.before in
-    empties_told-no _ _ _ _ _ _ turn.before.loop-z.invariant turn.loop-z-test.true _
-    c.before.before.pack_empty-word.ensures _ c.before.sibling_whole.ensures (not-true _ c.if-not-sibling_whole.true-raw)
+    empties_told-no _ _ _ _ _ _ turn.loop-z.invariant turn.loop-z-test.true _
+    c.pack_empty-word.ensures _ c.sibling_whole.ensures (not-true _ c.if-not-sibling_whole.true-raw)
 
 add-z : tie.Need-overflow_add-z-in-loop-z invariant-loop decreases-loop
 add-z c =
@@ -44,16 +44,16 @@ add-z c =
     record { fits = omega (arith, turn.loop-z-test.true, s.requires.below, s.requires.lent.short) }
 
 loop-less : tie.Need-loop-z-smaller invariant-loop decreases-loop
-loop-less c = omega (arith, c.before.before.before.loop-z-test.true)
+loop-less c = omega (arith, c.loop-z-test.true)
 
 loop-again : tie.Need-loop-z-preserved invariant-loop decreases-loop
 loop-again c =
     let turn = c.before.before.before in
-    empty_to-suc _ _ _ _ _ _ turn.before.loop-z.invariant turn.loop-z-test.true _
-    c.before.before.pack_empty-word.ensures _ c.before.sibling_whole.ensures (not-false _ c.if-not-sibling_whole.false-raw)
+    empty_to-suc _ _ _ _ _ _ turn.loop-z.invariant turn.loop-z-test.true _
+    c.pack_empty-word.ensures _ c.sibling_whole.ensures (not-false _ c.if-not-sibling_whole.false-raw)
 
 returns-2 : tie.Need-returns invariant-loop decreases-loop
-returns-2 c = empties_told-yes _ _ _ _ _ _ c.before.loop-z.invariant c.loop-z-test.false
+returns-2 c = empties_told-yes _ _ _ _ _ _ c.loop-z.invariant c.loop-z-test.false
 
 pub empties_whole_spec : {M : Type 1} → statement M
 empties_whole_spec =

@@ -18,15 +18,15 @@ cast-folds c = search rules
 folds-requires : tie.Need-folds-requires
 folds-requires c κs =
     let s = c.before.before.before in
-    let w = c.before.widths_of-widths in
+    let w = c.widths_of-widths in
     (directory_fits s.args.state (width_list w.result) w.ensures _ _ s.requires.0 (omega arith), s.requires.1)
 
 returns : tie.Need-returns
 returns c =
-    let a = c.before.before.before.before.args in
+    let a = c.args in
     subst
     (λ ws. FoldTold ws a.u a.state.deepest (split_bit ws a.encoded) a.dir.now
-    c.folds.result) c.before.before.widths_of-widths.ensures c.folds.ensures
+    c.folds.result) c.widths_of-widths.ensures c.folds.ensures
 
 pub halving_whole_spec : {M : Type 1} → statement M
 halving_whole_spec =

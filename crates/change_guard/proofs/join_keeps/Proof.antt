@@ -18,7 +18,7 @@ returns c =
     let s = own.before.before.before in
     delete_told-join _ _ _ _ _ _
     (join_told-own _ _ _ s.args.found s.args.join s.requires.leaves.depth-step _
-    own.before.pack_page-own.ensures _ own.leaf_whole.ensures
+    own.pack_page-own.ensures _ own.leaf_whole.ensures
     (not-true _ c.if-not-leaf_whole.true-raw))
 
 pack-page-requires-2 : tie.Need-pack_page-other-requires
@@ -35,8 +35,8 @@ returns-2 c =
     let s = own.before.before.before in
     delete_told-join _ _ _ _ _ _
     (join_told-other _ _ _ s.args.found s.args.join s.requires.leaves.depth-step _
-    own.before.pack_page-own.ensures _ own.leaf_whole.ensures
-    (not-false _ whole.if-not-leaf_whole.false-raw) _ other.before.pack_page-other.ensures _ other.sibling_whole.ensures
+    own.pack_page-own.ensures _ own.leaf_whole.ensures
+    (not-false _ whole.if-not-leaf_whole.false-raw) _ other.pack_page-other.ensures _ other.sibling_whole.ensures
     (not-true _ c.if-not-sibling_whole.true-raw))
 
 empties-whole-requires : tie.Need-empties_whole-requires
@@ -52,8 +52,8 @@ returns-3 c =
     let s = own.before.before.before in
     delete_told-join _ _ _ _ _ _
     (join_told-empties _ _ _ s.args.found s.args.join s.requires.leaves.depth-step _
-    own.before.pack_page-own.ensures _ own.leaf_whole.ensures (not-false _ whole.if-not-leaf_whole.false-raw) _
-    other.before.pack_page-other.ensures _ other.sibling_whole.ensures (not-false _ both.if-not-sibling_whole.false-raw) _
+    own.pack_page-own.ensures _ own.leaf_whole.ensures (not-false _ whole.if-not-leaf_whole.false-raw) _
+    other.pack_page-other.ensures _ other.sibling_whole.ensures (not-false _ both.if-not-sibling_whole.false-raw) _
     empties.empties_whole.ensures (not-true _ c.if-not-empties_whole.true-raw))
 
 joined-depth-requires : tie.Need-joined_depth-requires
@@ -73,10 +73,10 @@ returns-4 c =
     let s = own.before.before.before in
     delete_told-join _ _ _ _ _ _
     (join_told-folds _ _ _ s.args.found s.args.join s.requires.leaves.depth-step _
-    own.before.pack_page-own.ensures _ own.leaf_whole.ensures (not-false _ whole.if-not-leaf_whole.false-raw) _
-    other.before.pack_page-other.ensures _ other.sibling_whole.ensures (not-false _ both.if-not-sibling_whole.false-raw) _
+    own.pack_page-own.ensures _ own.leaf_whole.ensures (not-false _ whole.if-not-leaf_whole.false-raw) _
+    other.pack_page-other.ensures _ other.sibling_whole.ensures (not-false _ both.if-not-sibling_whole.false-raw) _
     empties.empties_whole.ensures (not-false _ all.if-not-empties_whole.false-raw) _
-    c.before.joined_depth.ensures.is _ c.halving_whole.ensures)
+    c.joined_depth.ensures.is _ c.halving_whole.ensures)
 
 pub join_keeps_spec : {M : Type 1} → statement M
 join_keeps_spec =

@@ -10,24 +10,24 @@ use Rattle.change_kept.specs.Tested.{joined_depth}
 use Rattle.change_guard.proofs.joined_depth.Statement.{statement}
 use Rattle.change_guard.proofs.joined_depth.Tie as tie
 
-depth_is : (c : tie.After-greatest_depth) → let a = c.before.before.before.before.before.before.args in
+depth_is : (c : tie.After-greatest_depth) → let a = c.args in
     c.greatest_depth.result ≡ joined_depth a.state a.join
 depth_is c =
     let s = c.before.before.before.before.before.before in
     let a = s.args in
     c.greatest_depth.ensures
     ∙ ap (tally_depth a.state.deepest)
-    (c.before.before.join-tally.ensures
+    (c.join-tally.ensures
     ∙ ap (λ x. joined_tally a.join.top (x - a.join.top) a.state.tally.leaves) s.requires.1.depth-step)
 
 depth_le : (c : tie.After-greatest_depth)
-    → c.greatest_depth.result ≤ c.before.before.before.before.before.before.args.state.deepest
+    → c.greatest_depth.result ≤ c.args.state.deepest
 depth_le c =
-    let a = c.before.before.before.before.before.before.args in
+    let a = c.args in
     omega (
       arith,
       c.greatest_depth.ensures,
-      tally_depth-le c.before.before.join-tally.result.leaves a.state.deepest,
+      tally_depth-le c.join-tally.result.leaves a.state.deepest,
     )
 
 sub-levels : tie.Need-overflow_sub-levels
@@ -49,7 +49,7 @@ greatest-depth-requires : tie.Need-greatest_depth-requires
 greatest-depth-requires c κs = search rules
 
 cast-result : tie.Need-overflow_cast-result
-cast-result c = omega (arith, depth_le c, c.before.before.before.before.before.before.requires.0)
+cast-result c = omega (arith, depth_le c, c.requires.0)
 
 returns : tie.Need-returns
 returns c = record { is = depth_is c; at_most = depth_le c }

@@ -18,15 +18,15 @@ cast-region-holds c = search rules
 region-holds-requires : tie.Need-region_holds-requires
 region-holds-requires c κs =
     let s = c.before.before.before in
-    let w = c.before.widths_of-widths in
+    let w = c.widths_of-widths in
     (directory_fits s.args.state (width_list w.result) w.ensures _ _ s.requires.0 (omega arith), s.requires.1)
 
 returns : tie.Need-returns
 returns c =
-    let a = c.before.before.before.before.args in
+    let a = c.args in
     subst
     (λ ws. RegionTold ws a.state.deepest a.x (split_bit ws a.encoded) a.word a.dir.now
-    c.region_holds.result) c.before.before.widths_of-widths.ensures c.region_holds.ensures
+    c.region_holds.result) c.widths_of-widths.ensures c.region_holds.ensures
 
 pub leaf_whole_spec : {M : Type 1} → statement M
 leaf_whole_spec =

@@ -29,19 +29,19 @@ cast-region-holds-2 c = search rules
 region-holds-requires : tie.Need-region_holds-requires
 region-holds-requires c κs =
     let s = c.before.before.before.before.before.before.before in
-    let w = c.before.before.widths_of-widths in (
+    let w = c.widths_of-widths in (
       directory_fits s.args.state (width_list w.result) w.ensures _ _ s.requires.lent (omega arith),
       s.requires.deep,
     )
 
 returns-2 : tie.Need-returns
 returns-2 c =
-    let a = c.before.before.before.before.before.before.before.before.args in
+    let a = c.args in
     let told = subst
     (λ ws. RegionTold ws a.state.deepest a.found.depth (split_bit ws a.encoded)
-    c.before.before.before.before.pack_page-word.result a.dir.now c.region_holds.result)
-    c.before.before.before.widths_of-widths.ensures c.region_holds.ensures in
-    delete_told-one _ _ _ a.found _ _ c.before.before.before.before.pack_page-word.ensures told
+    c.pack_page-word.result a.dir.now c.region_holds.result)
+    c.widths_of-widths.ensures c.region_holds.ensures in
+    delete_told-one _ _ _ a.found _ _ c.pack_page-word.ensures told
 
 pub removal_keeps_spec : {M : Type 1} → statement M
 removal_keeps_spec =

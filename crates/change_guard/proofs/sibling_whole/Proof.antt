@@ -20,15 +20,15 @@ cast-sibling-holds c = search rules
 sibling-holds-requires : tie.Need-sibling_holds-requires
 sibling-holds-requires c κs =
     let s = c.before.before.before in
-    let w = c.before.widths_of-widths in
+    let w = c.widths_of-widths in
     (directory_fits s.args.state (width_list w.result) w.ensures _ _ s.requires.0 (omega arith), s.requires.1)
 
 returns : tie.Need-returns
 returns c =
-    let a = c.before.before.before.before.args in
+    let a = c.args in
     subst
     (λ ws. RegionTold ws a.state.deepest (suc a.z) (sibling (split_bit ws a.encoded) a.z) a.word
-    a.dir.now c.sibling_holds.result) c.before.before.widths_of-widths.ensures c.sibling_holds.ensures
+    a.dir.now c.sibling_holds.result) c.widths_of-widths.ensures c.sibling_holds.ensures
 
 pub sibling_whole_spec : {M : Type 1} → statement M
 sibling_whole_spec =

@@ -13,13 +13,13 @@ use Rattle.check_call.proofs.check.Statement.{statement}
 use Rattle.check_call.proofs.check.Tie as tie
 
 -- what the tests have told
-none : (c : tie.Else-number-ne0) → let a = c.before.before.before.before.args in
+none : (c : tie.Else-number-ne0) → let a = c.args in
     lent_number_by a.state (length a.dir.now) (length a.pages.now) ≡ 0
-none c = sym c.before.lent_number-number.ensures ∙ c.if-number-ne0.false
+none c = sym c.lent_number-number.ensures ∙ c.if-number-ne0.false
 
-limits : (c : tie.Else-not-limits_hold) → let a = c.before.before.before.before.before.before.args in
+limits : (c : tie.Else-not-limits_hold) → let a = c.args in
     limits_hold a.state ≡ true
-limits c = sym c.before.limits_hold.ensures ∙ not-false _ c.if-not-limits_hold.false-raw
+limits c = sym c.limits_hold.ensures ∙ not-false _ c.if-not-limits_hold.false-raw
 
 lent-number-requires : tie.Need-lent_number-number-requires
 lent-number-requires c κs = search rules
@@ -30,9 +30,9 @@ refuse-check-requires c κs = search rules
 returns : tie.Need-returns-then-number-ne0
 returns c =
     let n = c.before.before in
-    let a = n.before.before.before.args in
+    let a = n.args in
     rw c.refuse_check.ensures
-    (check-refused a.state a.dir.now a.pages.now _ c.before.if-number-ne0.true n.lent_number-number.ensures)
+    (check-refused a.state a.dir.now a.pages.now _ c.if-number-ne0.true n.lent_number-number.ensures)
 
 limits-hold-requires : tie.Need-limits_hold-requires
 limits-hold-requires c κs = (memory_lent _ _ _ (none c)).shape
@@ -41,14 +41,14 @@ returns-2 : tie.Need-returns-then-not-limits_hold
 unfolding checked_answer
 returns-2 c =
     let lent = c.before.before in
-    let a = lent.before.before.before.before.args in
+    let a = lent.args in
     check-limits-fail a.state a.dir.now a.pages.now (none lent)
-    (sym c.before.limits_hold.ensures ∙ not-true _ c.if-not-limits_hold.true-raw)
+    (sym c.limits_hold.ensures ∙ not-true _ c.if-not-limits_hold.true-raw)
 
 shows-leaves-requires : tie.Need-shows_leaves-requires
 shows-leaves-requires c κs =
     let lent = c.before.before in
-    let a = lent.before.before.before.before.args in
+    let a = lent.args in
     store_lent a.state a.dir.now a.pages.now (none lent) (limits c)
 
 returns-3 : tie.Need-returns-then-shows_leaves
@@ -56,18 +56,18 @@ unfolding checked_answer
 returns-3 c =
     let limited = c.before.before in
     let lent = limited.before.before in
-    let a = lent.before.before.before.before.args in
+    let a = lent.args in
     check-shows a.state a.dir.now a.pages.now (none lent) (limits limited) true
-    (sym c.if-shows_leaves.true ∙ c.before.shows_leaves.ensures)
+    (sym c.if-shows_leaves.true ∙ c.shows_leaves.ensures)
 
 returns-4 : tie.Need-returns
 unfolding checked_answer
 returns-4 c =
     let limited = c.before.before in
     let lent = limited.before.before in
-    let a = lent.before.before.before.before.args in
+    let a = lent.args in
     check-shows a.state a.dir.now a.pages.now (none lent) (limits limited) false
-    (sym c.if-shows_leaves.false ∙ c.before.shows_leaves.ensures)
+    (sym c.if-shows_leaves.false ∙ c.shows_leaves.ensures)
 
 pub check_spec : {M : Type 1} → statement M
 check_spec =

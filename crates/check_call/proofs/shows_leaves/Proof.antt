@@ -12,13 +12,13 @@ use Rattle.check_call.proofs.shows_leaves.Statement.{statement}
 use Rattle.check_call.proofs.shows_leaves.Tie as tie
 
 -- what the walk has told
-walked : (c : tie.After-walk-seen) → let a = c.before.before.before.before.before.before.args in
+walked : (c : tie.After-walk-seen) → let a = c.args in
     let lent = store a.state a.dir.now a.pages.now in
     Tells 0 (replicate 13 0) c.walk-seen.result c.walk-seen.new.1.1.1.1.1.0 (walk_test lent) (shown_division lent)
 walked c =
-    let a = c.before.before.before.before.before.before.args in
-    tells-whole a.state a.dir.now a.pages.now _ c.before.before.before.widths_of-widths.ensures _
-    c.before.before.whole_region.ensures _ _ c.walk-seen.ensures
+    let a = c.args in
+    tells-whole a.state a.dir.now a.pages.now _ c.widths_of-widths.ensures _
+    c.whole_region.ensures _ _ c.walk-seen.ensures
 
 widths-of-requires : tie.Need-widths_of-widths-requires
 widths-of-requires c κs = search rules
@@ -32,19 +32,19 @@ slice-aggregate-walk c = search rules
 walk-requires : tie.Need-walk-seen-requires
 walk-requires c κs =
     let s = c.before.before.before.before.before in
-    walks-whole s.args.state _ _ s.requires _ c.before.before.widths_of-widths.ensures _
-    c.before.whole_region.ensures
+    walks-whole s.args.state _ _ s.requires _ c.widths_of-widths.ensures _
+    c.whole_region.ensures
 
 returns : tie.Need-returns-then-not-seen
 returns c =
-    let a = c.before.before.before.before.before.before.before.before.before.args in
+    let a = c.args in
     shows-walk-fails a.state a.dir.now a.pages.now _ _ (walked c.before.before.before)
     (not-true _ c.if-not-seen.true)
 
 returns-2 : tie.Need-returns-then-seen-state
 returns-2 c =
     let test = c.before.before.before in
-    let a = test.before.before.before.before.before.before.before.before.before.args in
+    let a = test.args in
     shows-depth-fails a.state a.dir.now a.pages.now _ _ (walked test.before.before.before)
     (not-false _ test.if-not-seen.false)
     c.if-seen-state.true
@@ -58,10 +58,10 @@ same-tally-requires c κs = search rules
 returns-3 : tie.Need-returns-then-not-same_tally
 returns-3 c =
     let test = c.before.before.before.before.before.before in
-    let a = test.before.before.before.before.before.before.before.before.before.args in
-    let tally = c.before.same_tally.ensures in
+    let a = test.args in
+    let tally = c.same_tally.ensures in
     shows-tally-fails a.state a.dir.now a.pages.now _ _ (walked test.before.before.before)
-    (not-false _ test.if-not-seen.false) c.before.before.before.if-seen-state.false tally.1
+    (not-false _ test.if-not-seen.false) c.if-seen-state.false tally.1
     (sym tally.0 ∙ not-true _ c.if-not-same_tally.true-raw)
 
 pages-in-use-requires : tie.Need-pages_in_use-requires
@@ -70,12 +70,12 @@ pages-in-use-requires c κs = search rules
 returns-4 : tie.Need-returns
 returns-4 c =
     let test = c.before.before.before.before.before.before.before.before in
-    let a = test.before.before.before.before.before.before.before.before.before.args in
-    let tally = c.before.before.before.same_tally.ensures in
+    let a = test.args in
+    let tally = c.same_tally.ensures in
     shows-pages a.state a.dir.now a.pages.now _ _ (walked test.before.before.before)
     (not-false _ test.if-not-seen.false)
-    c.before.before.before.before.before.if-seen-state.false tally.1
-    (sym tally.0 ∙ not-false _ c.before.before.if-not-same_tally.false-raw) _ c.before.pages_in_use.ensures
+    c.if-seen-state.false tally.1
+    (sym tally.0 ∙ not-false _ c.if-not-same_tally.false-raw) _ c.pages_in_use.ensures
 
 pub shows_leaves_spec : {M : Type 1} → statement M
 shows_leaves_spec =

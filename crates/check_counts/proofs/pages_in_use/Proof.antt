@@ -24,11 +24,11 @@ abbrev decreases-loop : tie.decreases-loop-page
 decreases-loop capacity n pages size used₀ page₀ start₀ used page start = n - page
 
 -- the page lies in the lent bytes
-within : (c : tie.In-loop-page invariant-loop decreases-loop) → let s = c.before.before.before.before.args in
-    c.before.loop-page.start + page_size s.capacity ≤ length s.pages.now
+within : (c : tie.In-loop-page invariant-loop decreases-loop) → let s = c.args in
+    c.loop-page.start + page_size s.capacity ≤ length s.pages.now
 within c =
     let s = c.before.before.before.before in
-    let l = c.before.loop-page in
+    let l = c.loop-page in
     let end = page-end-le s.args.capacity l.page s.args.n c.loop-page-test.true in
     omega (arith, s.requires, l.invariant.1, end)
 
@@ -43,32 +43,32 @@ number-at-requires c κs = omega (arith, within c)
 
 add-used : tie.Need-overflow_add-used invariant-loop decreases-loop
 add-used c =
-    let s = c.before.before.before.before.before.before.args in
-    let l = c.before.before.before.loop-page in
+    let s = c.args in
+    let l = c.loop-page in
     let le = used_pages-le s.capacity s.pages.now l.page in
-    record { fits = omega (arith, c.before.before.loop-page-test.true, le, l.invariant) }
+    record { fits = omega (arith, c.loop-page-test.true, le, l.invariant) }
 
 add_start : tie.Need-overflow_add-start invariant-loop decreases-loop
 add_start c =
-    rw c.before.before.before.before.page_size-size.ensures
+    rw c.page_size-size.ensures
     (record { fits = omega (arith, within c.before.before) })
 
 add-page : tie.Need-overflow_add-page invariant-loop decreases-loop
-add-page c = omega (arith, c.before.before.loop-page-test.true)
+add-page c = omega (arith, c.loop-page-test.true)
 
 loop-less : tie.Need-loop-page-smaller invariant-loop decreases-loop
-loop-less c = omega (arith, c.before.before.loop-page-test.true)
+loop-less c = omega (arith, c.loop-page-test.true)
 
 loop-again : tie.Need-loop-page-preserved invariant-loop decreases-loop
 loop-again c =
-    let s = c.before.before.before.before.before.before.args in
-    let l = c.before.before.before.loop-page in
+    let s = c.args in
+    let l = c.loop-page in
     let b = s.capacity in
-    let size = c.before.before.before.before.page_size-size.ensures in
-    let read = c.before.number_at.ensures.0
+    let size = c.page_size-size.ensures in
+    let read = c.number_at.ensures.0
     ∙ ap (λ o. number_of (field s.pages.now o 2)) l.invariant.1
     ∙ count_of-page_at b l.page s.pages.now in (
-      omega (arith, c.before.before.loop-page-test.true),
+      omega (arith, c.loop-page-test.true),
       rw (l.invariant.1, size, add-one l.page, suc-mul l.page (page_size b)) refl,
       ⊎_elim
           (λ w. rw w.1 (used_pages-used b s.pages.now l.page l.used l.invariant.2 _ read w.0.taken))
@@ -78,8 +78,8 @@ loop-again c =
 
 returns : tie.Need-returns invariant-loop decreases-loop
 returns c =
-    let l = c.before.loop-page in
-    let s = c.before.before.before.before.args in
+    let l = c.loop-page in
+    let s = c.args in
     let end : l.page ≡ s.n = omega (arith, c.loop-page-test.false, l.invariant.0) in
     l.invariant.2 ∙ ap (used_pages s.capacity s.pages.now) end
 

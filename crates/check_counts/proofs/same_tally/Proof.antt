@@ -32,35 +32,35 @@ mul-if1-2 : tie.Need-offset_bounds-counts-x invariant-loop decreases-loop
 mul-if1-2 c = omega (arith, c.loop-x-test.true)
 
 shared-slice-read-if1 : tie.Need-bounds-counts-x invariant-loop decreases-loop
-shared-slice-read-if1 c = omega (arith, c.before.loop-x-test.true, c.before.before.before.before.requires)
+shared-slice-read-if1 c = omega (arith, c.loop-x-test.true, c.requires)
 
 returns : tie.Need-returns-then-leaves-x invariant-loop decreases-loop
 returns c =
-    let s = c.before.before.before.before.before.args in
-    let x = c.before.before.before.loop-x.x in
+    let s = c.args in
+    let x = c.loop-x.x in
     let test : ℕ → Bool = λ y. eqb (get_or s.tally.leaves y 0) (get_or s.counts.now y 0) in
     let fails = ne_eqb (get_or s.tally.leaves x 0) (get_or s.counts.now x 0) c.if-leaves-x.true in
-    (sym (all_below-fails test 13 x (omega (arith, c.before.before.loop-x-test.true)) fails), search rules)
+    (sym (all_below-fails test 13 x (omega (arith, c.loop-x-test.true)) fails), search rules)
 
 add-x : tie.Need-overflow_add-x invariant-loop decreases-loop
-add-x c = omega (arith, c.before.before.loop-x-test.true)
+add-x c = omega (arith, c.loop-x-test.true)
 
 loop-less : tie.Need-loop-x-smaller invariant-loop decreases-loop
-loop-less c = omega (arith, c.before.before.loop-x-test.true)
+loop-less c = omega (arith, c.loop-x-test.true)
 
 loop-again : tie.Need-loop-x-preserved invariant-loop decreases-loop
 loop-again c =
-    let s = c.before.before.before.before.before.args in
-    let l = c.before.before.before.loop-x in
+    let s = c.args in
+    let l = c.loop-x in
     let test : ℕ → Bool = λ y. eqb (get_or s.tally.leaves y 0) (get_or s.counts.now y 0) in
     let same = eq-eqb (get_or s.tally.leaves l.x 0) (get_or s.counts.now l.x 0) c.if-leaves-x.false in (
-      omega (arith, c.before.before.loop-x-test.true),
+      omega (arith, c.loop-x-test.true),
       ap (λ n. all_below n test) (add-one l.x) ∙ all_below-suc test l.x l.invariant.1 same,
     )
 
 returns-2 : tie.Need-returns invariant-loop decreases-loop
 returns-2 c =
-    let l = c.before.loop-x in
+    let l = c.loop-x in
     let end : l.x ≡ 13 = omega (arith, c.loop-x-test.false, l.invariant.0) in
     (sym (rw end at l.invariant.1), search rules)
 

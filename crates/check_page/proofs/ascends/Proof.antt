@@ -21,23 +21,23 @@ abbrev decreases-loop : tie.decreases-loop-k
 decreases-loop widths page n last₀ bits₀ k₀ last bits k = n - k
 
 -- the key of record k
-key : (c : tie.After-key_at-key invariant-loop decreases-loop) → let loop = c.before.before.loop-k in
+key : (c : tie.After-key_at-key invariant-loop decreases-loop) → let loop = c.loop-k in
     unpacked_key c.key_at-key.result
-    ≡ encodings_at 0 c.before.before.before.before.before.args.page.now (record_offset loop.k)
+    ≡ encodings_at 0 c.args.page.now (record_offset loop.k)
 key c =
     let start = c.before.before.before.before in
     let bytes = start.shared_slice_known-1.given in
     ap unpacked_key c.key_at-key.ensures
-    ∙ unpacked_key-key_at-zero start.before.args.page.now (λ i. omega (arith, bytes i))
-    c.before.before.loop-k.k
+    ∙ unpacked_key-key_at-zero start.args.page.now (λ i. omega (arith, bytes i))
+    c.loop-k.k
 
 key-at-requires : tie.Need-key_at-last-requires invariant-loop decreases-loop
-key-at-requires c κs = omega (arith, c.before.requires.0, c.before.requires.1)
+key-at-requires c κs = omega (arith, c.requires.0, c.requires.1)
 
 loop-holds : tie.Need-loop-k-init invariant-loop decreases-loop
 loop-holds c =
     let start = c.before.before in
-    let bytes = c.before.shared_slice_known-1.given in (
+    let bytes = c.shared_slice_known-1.given in (
       omega arith,
       omega (arith, start.requires.0),
       risen-first _ _ _ _ start.requires.0 _
@@ -46,41 +46,41 @@ loop-holds c =
     )
 
 key-at-requires-2 : tie.Need-key_at-key-requires invariant-loop decreases-loop
-key-at-requires-2 c κs = omega (arith, c.before.before.before.before.requires.1, c.loop-k-test.true)
+key-at-requires-2 c κs = omega (arith, c.requires.1, c.loop-k-test.true)
 
 stands-before-requires : tie.Need-stands_before-requires invariant-loop decreases-loop
-stands-before-requires c κs = c.before.before.before.before.before.requires.2
+stands-before-requires c κs = c.requires.2
 
 returns : tie.Need-returns-then-not-stands_before invariant-loop decreases-loop
 returns c =
     let turn = c.before.before in
-    let w = turn.before.before.before.before.before.args.widths in
-    risen-stop w.w0 w.w1 w.w2 w.w3 _ _ _ _ _ _ turn.before.before.loop-k.invariant.2
-    turn.before.loop-k-test.true _ (key turn) (sym c.before.stands_before.ensures ∙ not-true _ c.if-not-stands_before.true-raw)
+    let w = turn.args.widths in
+    risen-stop w.w0 w.w1 w.w2 w.w3 _ _ _ _ _ _ turn.loop-k.invariant.2
+    turn.loop-k-test.true _ (key turn) (sym c.stands_before.ensures ∙ not-true _ c.if-not-stands_before.true-raw)
 
 add-k : tie.Need-overflow_add-k invariant-loop decreases-loop
-add-k c = omega (arith, c.before.before.before.loop-k-test.true)
+add-k c = omega (arith, c.loop-k-test.true)
 
 loop-less : tie.Need-loop-k-smaller invariant-loop decreases-loop
-loop-less c = omega (arith, c.before.before.before.loop-k-test.true)
+loop-less c = omega (arith, c.loop-k-test.true)
 
 loop-again : tie.Need-loop-k-preserved invariant-loop decreases-loop
 loop-again c =
     let turn = c.before.before in
-    let w = turn.before.before.before.before.before.args.widths in (
+    let w = turn.args.widths in (
       omega arith,
-      omega (arith, turn.before.loop-k-test.true),
-      risen-next w.w0 w.w1 w.w2 w.w3 _ _ _ _ _ _ turn.before.before.loop-k.invariant.2
-          turn.before.loop-k-test.true _ (key turn)
-          (sym c.before.stands_before.ensures ∙ not-false _ c.if-not-stands_before.false-raw),
+      omega (arith, turn.loop-k-test.true),
+      risen-next w.w0 w.w1 w.w2 w.w3 _ _ _ _ _ _ turn.loop-k.invariant.2
+          turn.loop-k-test.true _ (key turn)
+          (sym c.stands_before.ensures ∙ not-false _ c.if-not-stands_before.false-raw),
     )
 
 key-fits-requires : tie.Need-key_fits-requires invariant-loop decreases-loop
-key-fits-requires c κs = c.before.before.before.before.requires.2
+key-fits-requires c κs = c.requires.2
 
 returns-2 : tie.Need-returns invariant-loop decreases-loop
 returns-2 c =
-    c.key_fits.ensures ∙ risen-end _ _ _ _ _ _ _ c.before.before.loop-k.invariant.2 c.before.loop-k-test.false
+    c.key_fits.ensures ∙ risen-end _ _ _ _ _ _ _ c.loop-k.invariant.2 c.loop-k-test.false
 
 pub ascends_spec : {M : Type 1} → statement M
 ascends_spec =

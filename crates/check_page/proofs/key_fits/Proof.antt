@@ -15,73 +15,73 @@ test : (w v u : ℕ) (β : Bool) → u ≡ v → β ≡ ltb u (2 ^ w) → ltb v 
 test w v u β e h = ap (λ x. ltb x (2 ^ w)) (sym e) ∙ sym h
 
 -- the values that fit
-first : (c : tie.Else-not-below) → let s = c.before.before.before.args in
+first : (c : tie.Else-not-below) → let s = c.args in
     ltb (packed_value s.key 0) (2 ^ s.widths.w0) ≡ true
-first c = test _ _ _ _ c.before.before.value_at.ensures c.before.below.ensures ∙ not-false _ c.if-not-below.false-raw
+first c = test _ _ _ _ c.value_at.ensures c.below.ensures ∙ not-false _ c.if-not-below.false-raw
 
-second : (c : tie.Else-not-below-2) → let s = c.before.before.before.before.before.before.args in
+second : (c : tie.Else-not-below-2) → let s = c.args in
     ltb (packed_value s.key 1) (2 ^ s.widths.w1) ≡ true
 second c =
-    test _ _ _ _ c.before.before.value_at-2.ensures c.before.below-2.ensures ∙ not-false _ c.if-not-below-2.false-raw
+    test _ _ _ _ c.value_at-2.ensures c.below-2.ensures ∙ not-false _ c.if-not-below-2.false-raw
 
 value-at-requires : tie.Need-value_at-requires
 value-at-requires c κs = search rules
 
 below-requires : tie.Need-below-requires
-below-requires c κs = c.before.requires 0
+below-requires c κs = c.requires 0
 
 returns : tie.Need-returns-then-not-below
 returns c =
-    let s = c.before.before.before.args in
+    let s = c.args in
     let w = s.widths in
     index_fits-first w.w0 w.w1 w.w2 w.w3 s.key
-    (test _ _ _ _ c.before.before.value_at.ensures c.before.below.ensures ∙ not-true _ c.if-not-below.true-raw)
+    (test _ _ _ _ c.value_at.ensures c.below.ensures ∙ not-true _ c.if-not-below.true-raw)
 
 value-at-requires-2 : tie.Need-value_at-requires-2
 value-at-requires-2 c κs = search rules
 
 below-requires-2 : tie.Need-below-requires-2
-below-requires-2 c κs = c.before.before.before.before.requires 1
+below-requires-2 c κs = c.requires 1
 
 returns-2 : tie.Need-returns-then-not-below-2
 returns-2 c =
     let s1 = c.before.before.before in
-    let s = s1.before.before.before.args in
+    let s = s1.args in
     let w = s.widths in
     index_fits-second w.w0 w.w1 w.w2 w.w3 s.key (first s1)
-    (test _ _ _ _ c.before.before.value_at-2.ensures c.before.below-2.ensures ∙ not-true _ c.if-not-below-2.true-raw)
+    (test _ _ _ _ c.value_at-2.ensures c.below-2.ensures ∙ not-true _ c.if-not-below-2.true-raw)
 
 value-at-requires-3 : tie.Need-value_at-requires-3
 value-at-requires-3 c κs = search rules
 
 below-requires-3 : tie.Need-below-requires-3
-below-requires-3 c κs = c.before.before.before.before.before.before.before.requires 2
+below-requires-3 c κs = c.requires 2
 
 returns-3 : tie.Need-returns-then-not-below-3
 returns-3 c =
     let s2 = c.before.before.before in
     let s1 = s2.before.before.before in
-    let s = s1.before.before.before.args in
+    let s = s1.args in
     let w = s.widths in
     index_fits-third w.w0 w.w1 w.w2 w.w3 s.key (first s1) (second s2)
-    (test _ _ _ _ c.before.before.value_at-3.ensures c.before.below-3.ensures ∙ not-true _ c.if-not-below-3.true-raw)
+    (test _ _ _ _ c.value_at-3.ensures c.below-3.ensures ∙ not-true _ c.if-not-below-3.true-raw)
 
 value-at-requires-4 : tie.Need-value_at-requires-4
 value-at-requires-4 c κs = search rules
 
 below-requires-4 : tie.Need-below-requires-4
-below-requires-4 c κs = c.before.before.before.before.before.before.before.before.before.before.requires 3
+below-requires-4 c κs = c.requires 3
 
 returns-4 : tie.Need-returns
 returns-4 c =
     let s3 = c.before.before in
     let s2 = s3.before.before.before in
     let s1 = s2.before.before.before in
-    let s = s1.before.before.before.args in
+    let s = s1.args in
     let w = s.widths in
     index_fits-last w.w0 w.w1 w.w2 w.w3 s.key (first s1) (second s2)
-    (test _ _ _ _ s3.before.before.value_at-3.ensures s3.before.below-3.ensures ∙ not-false _ s3.if-not-below-3.false-raw)
-    _ (sym (test _ _ _ _ c.before.value_at-4.ensures c.below-4.ensures))
+    (test _ _ _ _ s3.value_at-3.ensures s3.below-3.ensures ∙ not-false _ s3.if-not-below-3.false-raw)
+    _ (sym (test _ _ _ _ c.value_at-4.ensures c.below-4.ensures))
 
 pub key_fits_spec : {M : Type 1} → statement M
 key_fits_spec =

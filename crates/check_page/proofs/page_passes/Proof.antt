@@ -19,44 +19,44 @@ use Rattle.check_page.proofs.page_passes.Tie as tie
 -- the keys of the first and of the last record
 first : (c : tie.After-code_at-first) →
     unpacked_key c.code_at-first.result
-    ≡ encodings_at c.before.before.before.before.before.args.bias
-    c.before.before.before.before.before.args.page.now (record_offset 0)
+    ≡ encodings_at c.args.bias
+    c.args.page.now (record_offset 0)
 first c =
     let start = c.before.before.before.before in
     let bytes = start.shared_slice_known-1.given in
     ap unpacked_key c.code_at-first.ensures
-    ∙ unpacked_key-code_at start.before.args.page.now (λ i. omega (arith, bytes i)) start.before.args.bias 0
+    ∙ unpacked_key-code_at start.args.page.now (λ i. omega (arith, bytes i)) start.args.bias 0
 
 last : (c : tie.After-code_at) → let few = c.before.before.before.before in
     unpacked_key c.code_at.result
-    ≡ encodings_at few.before.before.before.before.args.bias few.before.before.before.before.args.page.now
-    (record_offset (few.before.before.number_at-n.result - 1))
+    ≡ encodings_at few.args.bias few.args.page.now
+    (record_offset (few.number_at-n.result - 1))
 last c =
     let few = c.before.before.before.before in
     let start = few.before.before.before in
     let bytes = start.shared_slice_known-1.given in
     ap unpacked_key c.code_at.ensures
-    ∙ unpacked_key-code_at start.before.args.page.now (λ i. omega (arith, bytes i)) start.before.args.bias
-    (few.before.before.number_at-n.result - 1)
+    ∙ unpacked_key-code_at start.args.page.now (λ i. omega (arith, bytes i)) start.args.bias
+    (few.number_at-n.result - 1)
 
 -- the first one begins as the leaf does
-begun : (c : tie.Else-not-begins) → let a = c.before.before.before.before.before.before.before.args in
+begun : (c : tie.Else-not-begins) → let a = c.args in
     let ws = width_list a.widths in
-    key_code ws (unpacked_key c.before.before.code_at-first.result) / 2 ^ (total ws - a.x) ≡ a.string
-begun c = eqb-true _ _ (sym c.before.begins.ensures ∙ not-false _ c.if-not-begins.false-raw)
+    key_code ws (unpacked_key c.code_at-first.result) / 2 ^ (total ws - a.x) ≡ a.string
+begun c = eqb-true _ _ (sym c.begins.ensures ∙ not-false _ c.if-not-begins.false-raw)
 
 -- all of them do, if they are in split order
 all-begin : (c : tie.Else-first_step-x) → let few = c.before.before.before.before.before.before in
-    let a = few.before.before.before.before.args in
-    ascending (width_list a.widths) a.bias a.page.now few.before.before.number_at-n.result
+    let a = few.args in
+    ascending (width_list a.widths) a.bias a.page.now few.number_at-n.result
     ≡ page_passes (width_list a.widths) a.capacity a.x a.string a.bias a.page.now
 all-begin c =
     let keys = c.before.before in
     let few = keys.before.before.before.before in
     let start = few.before.before.before.before in
-    let step = c.before.first_step.ensures in
+    let step = c.first_step.ensures in
     let same = begun keys.before in
-    page_passes-ascends _ _ _ _ _ _ _ few.before.before.number_at-n.ensures.0 few.before.if-n-eq0.false
+    page_passes-ascends _ _ _ _ _ _ _ few.number_at-n.ensures.0 few.if-n-eq0.false
     few.if-capacity-n.false _ (first keys.before.before.before) same _ (last keys)
     (sym
     (begins-same (width_list start.args.widths) _ _ start.args.x start.requires.within
@@ -67,10 +67,10 @@ number-at-requires : tie.Need-number_at-n-requires
 number-at-requires c κs = search rules
 
 returns : tie.Need-returns-then-n-eq0
-returns c = page_passes-none _ _ _ _ _ _ _ c.before.number_at-n.ensures.0 c.if-n-eq0.true
+returns c = page_passes-none _ _ _ _ _ _ _ c.number_at-n.ensures.0 c.if-n-eq0.true
 
 returns-2 : tie.Need-returns-then-capacity-n
-returns-2 c = page_passes-over _ _ _ _ _ _ _ c.before.before.number_at-n.ensures.0 c.if-capacity-n.true
+returns-2 c = page_passes-over _ _ _ _ _ _ _ c.number_at-n.ensures.0 c.if-capacity-n.true
 
 cast-count : tie.Need-overflow_cast-count
 cast-count c = search rules
@@ -84,8 +84,8 @@ begins-requires c κs = search rules
 returns-3 : tie.Need-returns-then-not-begins
 returns-3 c =
     let few = c.before.before.before in
-    page_passes-first _ _ _ _ _ _ _ few.before.before.number_at-n.ensures.0 few.before.if-n-eq0.false few.if-capacity-n.false
-    _ (first c.before.before) (sym c.before.begins.ensures ∙ not-true _ c.if-not-begins.true-raw)
+    page_passes-first _ _ _ _ _ _ _ few.number_at-n.ensures.0 few.if-n-eq0.false few.if-capacity-n.false
+    _ (first c.before.before) (sym c.begins.ensures ∙ not-true _ c.if-not-begins.true-raw)
 
 sub-code-at : tie.Need-overflow_sub-count
 sub-code-at c = search rules
@@ -101,9 +101,9 @@ returns-4 c =
     let keys = c.before.before in
     let few = keys.before.before.before.before in
     let start = few.before.before.before.before in
-    let step = c.before.first_step.ensures in
+    let step = c.first_step.ensures in
     let same = begun keys.before in
-    page_passes-last _ _ _ _ _ _ _ few.before.before.number_at-n.ensures.0 few.before.if-n-eq0.false few.if-capacity-n.false _
+    page_passes-last _ _ _ _ _ _ _ few.number_at-n.ensures.0 few.if-n-eq0.false few.if-capacity-n.false _
     (first keys.before.before.before) same _ (last keys)
     (λ e.
     begins-other (width_list start.args.widths) _ _ start.args.x start.requires.within
@@ -115,10 +115,10 @@ ascends-requires c κs = search rules
 returns-5 : tie.Need-returns-then-bias-eq0
 returns-5 c =
     let few = c.before.before.before.before.before.before.before.before in
-    let a = few.before.before.before.before.args in
+    let a = few.args in
     c.ascends.ensures
-    ∙ ap (λ h. ascending (width_list a.widths) h a.page.now few.before.before.number_at-n.result)
-    (sym c.before.if-bias-eq0.true)
+    ∙ ap (λ h. ascending (width_list a.widths) h a.page.now few.number_at-n.result)
+    (sym c.if-bias-eq0.true)
     ∙ all-begin c.before.before
 
 marked-ascends-requires : tie.Need-marked_ascends-requires

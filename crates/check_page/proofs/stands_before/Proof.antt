@@ -22,21 +22,21 @@ enum-told-3 c = search rules
 
 returns : tie.Need-returns-in-Same
 returns c =
-    let a = c.before.before.before.args in
+    let a = c.args in
     is_before-compared (width_list a.widths) (unpacked_key a.x) (unpacked_key a.y) Same
-    (sym c.before.before.compare-order.ensures ∙ c.enum_told-1.given.1)
+    (sym c.compare-order.ensures ∙ c.in-Same.is)
 
 returns-2 : tie.Need-returns-in-Before
 returns-2 c =
-    let a = c.before.before.before.args in
+    let a = c.args in
     is_before-compared (width_list a.widths) (unpacked_key a.x) (unpacked_key a.y) Before
-    (sym c.before.before.compare-order.ensures ∙ c.enum_told-in-Before-1.given.1)
+    (sym c.compare-order.ensures ∙ c.in-Before.is)
 
 returns-3 : tie.Need-returns-in-After
 returns-3 c =
-    let a = c.before.before.before.args in
+    let a = c.args in
     is_before-compared (width_list a.widths) (unpacked_key a.x) (unpacked_key a.y) After
-    (sym c.before.before.compare-order.ensures ∙ c.enum_told-in-After-1.given.1)
+    (sym c.compare-order.ensures ∙ c.in-After.is)
 
 pub stands_before_spec : {M : Type 1} → statement M
 stands_before_spec =

@@ -15,7 +15,7 @@ fails-requires c κs = search rules
 returns : tie.Need-returns-then-not-page_passes
 unfolding page_seen
 returns c =
-    let failed = sym c.before.before.page_passes.ensures ∙ not-true _ c.before.if-not-page_passes.true-raw in
+    let failed = sym c.page_passes.ensures ∙ not-true _ c.if-not-page_passes.true-raw in
     rw failed c.fails.ensures
 
 number-at-requires : tie.Need-number_at-requires
@@ -24,7 +24,7 @@ number-at-requires c κs = search rules
 returns-2 : tie.Need-returns
 unfolding page_seen
 returns-2 c =
-    let passed = sym c.before.before.page_passes.ensures ∙ not-false _ c.before.if-not-page_passes.false-raw in
+    let passed = sym c.page_passes.ensures ∙ not-false _ c.if-not-page_passes.false-raw in
     rw (passed, c.number_at.ensures.0)
 
 pub page_seen_spec : {M : Type 1} → statement M

@@ -122,28 +122,28 @@ here t s p n =
 -- the depth of the word, as the test has it
 depth : (t : ℕ) (c : walk-lts.After-depth-of (near t) (walk_at t) walk.Post) (p : ℕ → Bool)
     → let s = c.before.before.before.before.before in
-    IsNamed t s p → c.depth_of.result ≡ depth_field ((view t s).word p)
-depth t c p n = c.depth_of.ensures ∙ ap depth_field (sym (here t c.before.before.before.before.before p n))
+    IsNamed t s p → c.depth-of.result ≡ depth_field ((view t s).word p)
+depth t c p n = c.depth-of.ensures ∙ ap depth_field (sym (here t c.before.before.before.before.before p n))
 
 deeper : (t : ℕ) (c : Deeper t) (p : ℕ → Bool) → let s = of-deeper t c in
     IsNamed t s p → s.args.region.depth < depth_field ((view t s).word p)
-deeper t c p n = subst (λ d. (of-deeper t c).args.region.depth < d) (depth t c.before.before p n) c.if-depth_of-region.false
+deeper t c p n = subst (λ d. (of-deeper t c).args.region.depth < d) (depth t c.before.before p n) c.if1.false
 
 -- the region is divided, and a step is left
 divided : (t : ℕ) (c : Sides t) (p : ℕ → Bool) → let s = of-sides t c in
-    let y = c.sides_of-sides.result.lower.depth in
+    let y = c.sides-of.result.lower.depth in
     IsNamed t s p → Divided (view t s) (steps t s) (s.args.state.deepest - y) p s.args.region.depth y
 divided t c p n =
-    let next = c.sides_of-sides.ensures.lower-depth in
-    let left = c.before.if-state-region.false in
+    let next = c.sides-of.ensures.lower-depth in
+    let left = c.before.if2.false in
     record { deeper = deeper t c.before.before.before.before p n; steps = omega arith; next = omega arith }
 
 -- the sides have the same depth
-level : (t : ℕ) (c : Sides t) → c.sides_of-sides.result.upper.depth ≡ c.sides_of-sides.result.lower.depth
-level t c = c.sides_of-sides.ensures.upper-depth ∙ sym c.sides_of-sides.ensures.lower-depth
+level : (t : ℕ) (c : Sides t) → c.sides-of.result.upper.depth ≡ c.sides-of.result.lower.depth
+level t c = c.sides-of.ensures.upper-depth ∙ sym c.sides-of.ensures.lower-depth
 
 abbrev lower-depth : (t : ℕ) → First t → ℕ
-lower-depth t c = c.before.before.sides_of-sides.result.lower.depth
+lower-depth t c = c.before.before.sides-of.result.lower.depth
 
 -- what is told of a side with the bit β, at the depth y
 abbrev Told : (t : ℕ) → Start t → (ℕ → Bool) → Bool → List ℕ → Seen → List ℕ → ℕ → Type 0
@@ -154,22 +154,22 @@ Told t s p β before seen after y =
 
 -- the tally that a call leaves
 abbrev tally-lower : (t : ℕ) → First t → List ℕ
-tally-lower t c = c.walk-lower.new.1.1.1.1.1.0
+tally-lower t c = c.walk.new.1.1.1.1.1.0
 
 abbrev tally-upper : (t : ℕ) → Second t → List ℕ
-tally-upper t c = c.walk-upper.new.1.1.1.1.1.0
+tally-upper t c = c.walk2.new.1.1.1.1.1.0
 
 told-lower : (t : ℕ) (c : First t) (p : ℕ → Bool) → let s = of-first t c in
-    IsNamed t s p → Told t s p false s.args.tally.now c.walk-lower.result (tally-lower t c) (lower-depth t c)
-told-lower t c p n = c.walk-lower.ensures _ (c.before.before.sides_of-sides.ensures.lower-names p n)
+    IsNamed t s p → Told t s p false s.args.tally.now c.walk.result (tally-lower t c) (lower-depth t c)
+told-lower t c p n = c.walk.ensures _ (c.before.before.sides-of.ensures.lower-names p n)
 
 told-upper : (t : ℕ) (c : Second t) (p : ℕ → Bool) → IsNamed t (of-second t c) p
-    → Told t (of-second t c) p true (tally-lower t (first t c)) c.walk-upper.result (tally-upper t c)
+    → Told t (of-second t c) p true (tally-lower t (first t c)) c.walk2.result (tally-upper t c)
     (lower-depth t (first t c))
 told-upper t c p n =
     let sides = (first t c).before.before in
-    subst (Told t (of-second t c) p true (tally-lower t (first t c)) c.walk-upper.result (tally-upper t c))
-    (level t sides) (c.walk-upper.ensures _ (sides.sides-of.ensures.upper-names p n))
+    subst (Told t (of-second t c) p true (tally-lower t (first t c)) c.walk2.result (tally-upper t c))
+    (level t sides) (c.walk2.ensures _ (sides.sides-of.ensures.upper-names p n))
 
 -- ---- the needs
 
@@ -196,7 +196,7 @@ walk-returns t c =
     let x = s.args.region.depth in
     λ p n.
     region-leaf (view t s) (steps t s) p x
-    (subst (λ d. d ≤ x) (depth t test.before.before p n) test.if-depth_of-region.true) _ _ _
+    (subst (λ d. d ≤ x) (depth t test.before.before p n) test.if1.true) _ _ _
     (c.before.before.leaf.ensures p n)
 
 walk-cast-if2 : (t : ℕ) → walk-lts.Need-overflow-cast-if2 (near t) (walk_at t) walk.Post
@@ -212,37 +212,37 @@ walk-returns-2 t c =
     λ p n.
     rw c.fails.ensures
     (region-too-deep (view t s) (steps t s) p x (deeper t c.before.before.before.before p n)
-    (omega (arith, c.before.if-state-region.true))
+    (omega (arith, c.before.if2.true))
     s.args.tally.now)
 
 walk-sides-of-requires : (t : ℕ) → walk-lts.Need-sides-of-requires (near t) (walk_at t) walk.Post
 walk-sides-of-requires t c κs =
     let s = c.before.before.before.before.before.before.before.before.before.before in
     let k = s.requires.1.0 in
-    (k.directory.fit, omega (arith, c.if-state-region.false, k.directory.deep), k.region)
+    (k.directory.fit, omega (arith, c.if2.false, k.directory.deep), k.region)
 
 walk-walk-requires : (t : ℕ) → walk-lts.Need-walk-requires (near t) (walk_at t) walk.Post
 walk-walk-requires t c κs =
     let s = c.before.before.before.before.before.before.before.before.before.before.before.before in
     let k = s.requires.1.0 in
-    let sides = c.before.sides_of-sides.ensures in
+    let sides = c.before.sides-of.ensures in
     let d = divided t c.before k.region.named.0 k.region.named.1 in (
       omega (arith, s.requires.0, d.steps),
       (
-        sub-walks _ _ _ _ _ k _ sides.lower_in sides.lower-depth c.before.before.if-state-region.false,
+        sub-walks _ _ _ _ _ k _ sides.lower_in sides.lower-depth c.before.before.if2.false,
         room-lower _ _ d.steps _ s.requires.1.1,
       ),
     )
 
 walk-same-length-2 : (t : ℕ) → walk-lts.Need-same-length-2 (near t) (walk_at t) walk.Post
-walk-same-length-2 t c = c.before.before.before.before.walk-lower.auto.1.1.1.1.1.0
+walk-same-length-2 t c = c.before.before.before.before.walk.auto.1.1.1.1.1.0
 
 walk-returns-3 : (t : ℕ) → walk-lts.Need-returns-3 (near t) (walk_at t) walk.Post
 walk-returns-3 t c =
     let lower = c.before.before.before.before in
     λ p n.
     region-lower-fails _ _ _ _ _ _ (divided t lower.before.before p n) _ _ _ (told-lower t lower p n)
-    (not-true _ c.if-not-lower.true)
+    (not-true _ c.if3.true)
 
 walk-walk-requires-2 : (t : ℕ) → walk-lts.Need-walk-requires-2 (near t) (walk_at t) walk.Post
 walk-walk-requires-2 t c κs =
@@ -255,18 +255,18 @@ walk-walk-requires-2 t c κs =
     let d = divided t sides p n in (
       omega (arith, s.pre.0, d.steps, level t sides),
       (
-        sub-walks _ _ _ _ _ k _ sides.sides_of-sides.ensures.upper_in sides.sides_of-sides.ensures.upper-depth
-            sides.before.if-state-region.false,
+        sub-walks _ _ _ _ _ k _ sides.sides-of.ensures.upper_in sides.sides-of.ensures.upper-depth
+            sides.before.if2.false,
         subst (λ y. TallyRoom (s.args.state.deepest - y) (tally-lower t lower)) (sym (level t sides))
-            (room-upper _ _ _ _ _ _ d _ _ _ (told-lower t lower p n) (not-false _ c.before.if-not-lower.false) s.pre.1.1
-            lower.walk-lower.auto.1.1.1.1.1.0),
+            (room-upper _ _ _ _ _ _ d _ _ _ (told-lower t lower p n) (not-false _ c.before.if3.false) s.pre.1.1
+            lower.walk.auto.1.1.1.1.1.0),
       ),
     )
 
 walk-same-length-3 : (t : ℕ) → walk-lts.Need-same-length-3 (near t) (walk_at t) walk.Post
 walk-same-length-3 t c =
     let upper = c.before.before.before.before in
-    upper.walk-upper.auto.1.1.1.1.1.0 ∙ (first t upper).walk.auto.1.1.1.1.1.0
+    upper.walk2.auto.1.1.1.1.1.0 ∙ (first t upper).walk.auto.1.1.1.1.1.0
 
 walk-returns-4 : (t : ℕ) → walk-lts.Need-returns-4 (near t) (walk_at t) walk.Post
 walk-returns-4 t c =
@@ -274,7 +274,7 @@ walk-returns-4 t c =
     let lower = first t upper in
     λ p n.
     region-upper-fails _ _ _ _ _ _ (divided t lower.before.before p n) _ _ _ (told-lower t lower p n)
-    (not-false _ upper.before.before.if-not-lower.false) _ _ (told-upper t upper p n) (not-true _ c.if-not-upper.true)
+    (not-false _ upper.before.before.if3.false) _ _ (told-upper t upper p n) (not-true _ c.if4.true)
 
 walk-joined-requires : (t : ℕ) → walk-lts.Need-joined-requires (near t) (walk_at t) walk.Post
 walk-joined-requires t c κs =
@@ -284,13 +284,13 @@ walk-joined-requires t c κs =
     let p = k.region.named.0 in
     let n = k.region.named.1 in
     let d = divided t lower.before.before p n in
-    sums-fit _ _ _ _ _ _ d _ _ _ (told-lower t lower p n) (not-false _ upper.before.before.if-not-lower.false) _ _
-    (told-upper t upper p n) (not-false _ c.if-not-upper.false) k.capacity (omega (arith, d.steps, k.directory.short))
+    sums-fit _ _ _ _ _ _ d _ _ _ (told-lower t lower p n) (not-false _ upper.before.before.if3.false) _ _
+    (told-upper t upper p n) (not-false _ c.if4.false) k.capacity (omega (arith, d.steps, k.directory.short))
 
 walk-same-length-4 : (t : ℕ) → walk-lts.Need-same-length-4 (near t) (walk_at t) walk.Post
 walk-same-length-4 t c =
     let upper = c.before.before.before.before.before in
-    upper.walk-upper.auto.1.1.1.1.1.0 ∙ (first t upper).walk.auto.1.1.1.1.1.0
+    upper.walk2.auto.1.1.1.1.1.0 ∙ (first t upper).walk.auto.1.1.1.1.1.0
 
 walk-returns-5 : (t : ℕ) → walk-lts.Need-returns-5 (near t) (walk_at t) walk.Post
 walk-returns-5 t c =
@@ -299,7 +299,7 @@ walk-returns-5 t c =
     λ p n.
     rw c.joined.ensures
     (region-joined _ _ _ _ _ _ (divided t lower.before.before p n) _ _ _ (told-lower t lower p n)
-    (not-false _ upper.before.before.if-not-lower.false) _ _ (told-upper t upper p n) (not-false _ c.before.if-not-upper.false))
+    (not-false _ upper.before.before.if3.false) _ _ (told-upper t upper p n) (not-false _ c.before.if4.false))
 
 pub +walk-spec : {M : Type 1} → statement M
 +walk-spec = close μ-walk λ t. walk-lts.spec (near t)

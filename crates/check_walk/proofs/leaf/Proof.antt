@@ -54,9 +54,9 @@ page c p n =
     (c.leaf_page-seen.ensures s.args.dir.now p n)
 
 -- the word's depth is the region's
-depth : (c : tie.Else-depth_of-region) → let a = c.before.before.before.before.before.before.args in
+depth : (c : tie.Else-depth_of-region) → let a = c.args in
     depth_field a.word ≡ a.region.depth
-depth c = sym c.before.before.depth_of.ensures ∙ c.if-depth_of-region.false
+depth c = sym c.depth_of.ensures ∙ c.if-depth_of-region.false
 
 short : (s : tie.Start) → s.args.region.depth < length s.args.tally.now
 short s =
@@ -82,7 +82,7 @@ returns c =
     λ p n.
     rw c.fails.ensures
     (leaf-depth-fails (view s) (steps s) p a.region.depth a.word (here s p n) a.tally.now a.tally.now
-    (λ e. c.before.if-depth_of-region.true (c.before.before.before.depth_of.ensures ∙ e)))
+    (λ e. c.if-depth_of-region.true (c.depth_of.ensures ∙ e)))
 
 leaf-page-requires : tie.Need-leaf_page-seen-requires
 leaf-page-requires c κs =
@@ -118,8 +118,8 @@ returns-3 c =
     (leaf-words-fail (view s) (steps s) p a.region.depth a.word (here s p n) a.tally.now a.tally.now
     (depth test) _
     (page c.before.before.before.before.before.before p n)
-    (not-false _ c.before.before.before.before.if-not-seen.false)
-    (sym (c.before.before.same_words.ensures p n) ∙ not-true _ c.before.if-not-same_words.true-raw))
+    (not-false _ c.if-not-seen.false)
+    (sym (c.same_words.ensures p n) ∙ not-true _ c.if-not-same_words.true-raw))
 
 mul-tally : tie.Need-offset_bounds-tally-x
 mul-tally c = search rules
@@ -151,8 +151,8 @@ returns-4 c =
     λ p n.
     leaf-passes (view s) (steps s) p a.region.depth a.word (here s p n) a.tally.now _ (depth test) _
     (page c.before.before.before.before.before.before p n)
-    (not-false _ c.before.before.before.before.if-not-seen.false)
-    (sym (c.before.before.same_words.ensures p n) ∙ not-false _ c.before.if-not-same_words.false-raw) s.requires.1.depths refl
+    (not-false _ c.if-not-seen.false)
+    (sym (c.same_words.ensures p n) ∙ not-false _ c.if-not-same_words.false-raw) s.requires.1.depths refl
 
 pub leaf_spec : {M : Type 1} → statement M
 leaf_spec =

@@ -15,7 +15,7 @@ use Rattle.check_walk.proofs.leaf_page.Statement.{statement}
 use Rattle.check_walk.proofs.leaf_page.Tie as tie
 
 -- the page lies in the lent bytes
-within : (c : tie.Else-state-page) → let a = c.before.before.before.before.args in
+within : (c : tie.Else-state-page) → let a = c.args in
     let size = page_size a.state.shape.capacity in
     (a.field - 1) * size + size ≤ length a.pages.now
 within c =
@@ -25,7 +25,7 @@ within c =
 
 returns : tie.Need-returns-then-field-eq0
 returns c =
-    let a = c.before.before.args in
+    let a = c.args in
     λ words p n.
     page-none a.state (width_list a.widths) words a.pages.now a.region p n a.field c.if-field-eq0.true
 
@@ -37,11 +37,11 @@ fails-requires c κs = search rules
 
 returns-2 : tie.Need-returns-then-state-page
 returns-2 c =
-    let a = c.before.before.before.before.before.args in
+    let a = c.args in
     λ words p n.
     rw c.fails.ensures
     (page-past a.state (width_list a.widths) words a.pages.now a.region p n a.field
-    c.before.before.before.if-field-eq0.false c.before.if-state-page.true)
+    c.if-field-eq0.false c.if-state-page.true)
 
 cast-page-size : tie.Need-overflow_cast-capacity
 cast-page-size c = search rules
@@ -59,7 +59,7 @@ add-end : tie.Need-overflow_add-end
 add-end c = rw c.page_size-size.ensures (record { fits = omega (arith, within c.before) })
 
 bias-key-requires : tie.Need-bias_key-bias-requires
-bias-key-requires c κs = c.before.before.before.before.before.requires.shape
+bias-key-requires c κs = c.requires.shape
 
 sub-page-seen : tie.Need-slice_bounds-page_seen-count
 sub-page-seen c = search rules
@@ -68,7 +68,7 @@ part-page-seen-start : tie.Need-slice_bounds-page_seen-start
 part-page-seen-start c = search rules
 
 part-page-seen-end : tie.Need-slice_bounds-page_seen-end
-part-page-seen-end c = rw c.before.page_size-size.ensures (within c.before.before)
+part-page-seen-end c = rw c.page_size-size.ensures (within c.before.before)
 
 page-seen-requires : tie.Need-page_seen-requires
 page-seen-requires c κs =
@@ -76,7 +76,7 @@ page-seen-requires c κs =
     let s = size.before.before.before.before.before in
     let a = s.args in
     rw size.page_size-size.ensures
-    (page_lent-part a.state _ a.region a.pages.now (a.field - 1) s.requires size.before.if-state-page.false)
+    (page_lent-part a.state _ a.region a.pages.now (a.field - 1) s.requires size.if-state-page.false)
 
 returns-3 : tie.Need-returns
 returns-3 c =
@@ -86,8 +86,8 @@ returns-3 c =
     let b = a.state.shape.capacity in
     λ words p n.
     page-told a.state (width_list a.widths) words a.pages.now a.region p n a.field
-    size.before.before.before.if-field-eq0.false s.requires.shape size.before.if-state-page.false s.requires.bits _
-    (rw (size.page_size-size.ensures, c.before.before.bias_key-bias.ensures) at c.page_seen.ensures
+    size.if-field-eq0.false s.requires.shape size.if-state-page.false s.requires.bits _
+    (rw (size.page_size-size.ensures, c.bias_key-bias.ensures) at c.page_seen.ensures
     ∙ ap (page_seen (width_list a.widths) b a.region.depth a.region.string (bias_key a.state.shape))
     (mid_of-page b (a.field - 1) ((a.field - 1) * page_size b) (page_size b) a.pages.now refl refl))
 

@@ -24,7 +24,7 @@ use Rattle.delete.proofs.delete.Tie as tie
 
 -- the tally has thirteen counts: what owning the state tells
 thirteen : (c : tie.Start) → length c.args.state.tally.leaves ≡ 13
-thirteen c = sym (length-map c.args.state.tally.leaves (λ v. v)) ∙ c.well-formed.0.1.1.1.1.1.0.1.1.0.1.0.1
+thirteen c = sym (length-map c.args.state.tally.leaves (λ v. v)) ∙ c.well_formed.0.1.1.1.1.1.0.1.1.0.1.0.1
 
 abbrev given : tie.Start → Store
 given s = store s.args.state s.args.dir.now s.args.pages.now
@@ -46,9 +46,9 @@ early : (c : tie.Else-not-encodings_fit)
 early c =
     let e = c.before.before in
     let n = e.before.before in
-    let a = n.before.before.before.args in
+    let a = n.args in
     number-none a.state a.dir.now a.pages.now _ n.lent_number-number.ensures a.key.values
-    e.before.if-number-ne0.false _ e.encode_key-encoded.ensures _ c.before.encodings_fit.ensures (not-false _ c.if-not-encodings_fit.false-raw)
+    e.if-number-ne0.false _ e.encode_key-encoded.ensures _ c.encodings_fit.ensures (not-false _ c.if-not-encodings_fit.false-raw)
 
 -- what holds of all values with these encodings holds of the call's
 called : (p : tie.After-plan_delete-plan) (X : List ℕ → Type 0) → OfValues (given (start p)) (encoded p) X
@@ -80,7 +80,7 @@ refuse-change-requires c κs = search rules
 
 returns : tie.Need-returns-then-number-ne0
 returns c =
-    let some = c.before.if-number-ne0.true in
+    let some = c.if-number-ne0.true in
     let n = c.before.before in
     let s = n.before.before.before in
     let a = s.args in
@@ -91,14 +91,14 @@ returns c =
 encode-key-requires : tie.Need-encode_key-encoded-requires
 encode-key-requires c κs =
     let n = c.before in
-    let a = n.before.before.before.args in
+    let a = n.args in
     shape-lent a.state a.dir.now a.pages.now _ n.lent_number-number.ensures c.if-number-ne0.false
 
 encodings-fit-requires : tie.Need-encodings_fit-requires
 encodings-fit-requires c κs =
     let n = c.before.before in
-    let a = n.before.before.before.args in
-    shape-lent a.state a.dir.now a.pages.now _ n.lent_number-number.ensures c.before.if-number-ne0.false
+    let a = n.args in
+    shape-lent a.state a.dir.now a.pages.now _ n.lent_number-number.ensures c.if-number-ne0.false
 
 returns-2 : tie.Need-returns-then-not-encodings_fit
 unfolding changed_answer
@@ -109,13 +109,13 @@ returns-2 c =
     let a = s.args in
     promise-early (given s) a.key.values 3
     (number-out a.state a.dir.now a.pages.now _ n.lent_number-number.ensures a.key.values
-    e.before.if-number-ne0.false _ e.encode_key-encoded.ensures _ c.before.encodings_fit.ensures (not-true _ c.if-not-encodings_fit.true-raw))
+    e.if-number-ne0.false _ e.encode_key-encoded.ensures _ c.encodings_fit.ensures (not-true _ c.if-not-encodings_fit.true-raw))
     (λ z. omega (arith, z))
 
 plan-delete-requires : tie.Need-plan_delete-plan-requires
 plan-delete-requires c κs =
     let fitting = c.before.before.before in
-    subst (Passed _) (sym fitting.before.before.encode_key-encoded.ensures) (passed _ _ (early fitting))
+    subst (Passed _) (sym fitting.encode-key.ensures) (passed _ _ (early fitting))
 
 enum-known-plan : tie.Need-enum_known-plan
 enum-known-plan c = search rules
@@ -128,7 +128,7 @@ enum-known-plan-3 c = search rules
 
 removal-keeps-requires : tie.Need-removal_keeps-requires
 removal-keeps-requires c κs =
-    let p = c.before.before.before.before in
+    let p = c.before.before in
     let s = start p in
     let leaf = (kept c.before.before).found.leaf in
     let few = (limits-parts s.args.state leaf.limits).1 in
@@ -147,14 +147,14 @@ same-length-2 c = search rules
 returns-3 : tie.Need-returns-then-not-removal_keeps
 unfolding changed_answer
 returns-3 c =
-    let p = c.before.before.before.before.before.before in
+    let p = c.before.before.before.before in
     called p _
     (promise-not-whole (given (start p)) (encoded p) _ (kept c.before.before.before.before) _
-    c.before.removal_keeps.ensures (not-true _ c.if-not-removal_keeps.true-raw))
+    c.removal_keeps.ensures (not-true _ c.if-not-removal_keeps.true-raw))
 
 keep-leaf-requires : tie.Need-keep_leaf-requires
 keep-leaf-requires c κs =
-    let p = c.before.before.before.before.before.before.before.before in
+    let p = c.before.before.before.before.before.before in
     let s = start p in
     let f = (kept c.before.before.before.before.before.before).found in
     record {
@@ -168,7 +168,7 @@ enum-known-plan-4 c = search rules
 
 join-keeps-requires : tie.Need-join_keeps-requires
 join-keeps-requires c κs =
-    let p = c.before.before.before.before in
+    let p = c.before.before in
     let s = start p in
     let v = encoded p in
     let k = joined c.before.before in
@@ -190,14 +190,14 @@ same-length-4 c = search rules
 returns-4 : tie.Need-returns-then-not-join_keeps
 unfolding changed_answer
 returns-4 c =
-    let p = c.before.before.before.before.before.before in
+    let p = c.before.before.before.before in
     called p _
     (promise-not-whole (given (start p)) (encoded p) _ (joined c.before.before.before.before) _
-    c.before.join_keeps.ensures (not-true _ c.if-not-join_keeps.true-raw))
+    c.join_keeps.ensures (not-true _ c.if-not-join_keeps.true-raw))
 
 join-leaves-requires : tie.Need-join_leaves-joined-requires
 join-leaves-requires c κs =
-    let p = c.before.before.before.before.before.before.before.before in
+    let p = c.before.before.before.before.before.before in
     let s = start p in
     let v = encoded p in
     let k = joined c.before.before.before.before.before.before in
@@ -216,9 +216,9 @@ same-length-6 c = search rules
 returns-5 : tie.Need-returns-in-Refused
 unfolding changed_answer
 returns-5 c =
-    let p = c.before.before.before in
+    let p = c.before in
     called p _
-    (subst (DeletePlanned (given (start p)) (encoded p)) c.before.plan-1.given.1 p.plan_delete-plan.ensures)
+    (subst (DeletePlanned (given (start p)) (encoded p)) c.in-Refused.is p.plan_delete-plan.ensures)
 
 same-length-7 : tie.Need-shape_of-dir-in-Absent
 same-length-7 c = search rules
@@ -229,9 +229,9 @@ same-length-8 c = search rules
 returns-6 : tie.Need-returns-in-Absent
 unfolding changed_answer
 returns-6 c =
-    let p = c.before.before.before in
+    let p = c.before in
     called p _
-    (subst (DeletePlanned (given (start p)) (encoded p)) c.before.plan-in-Absent-1.given.1 p.plan_delete-plan.ensures)
+    (subst (DeletePlanned (given (start p)) (encoded p)) c.in-Absent.is p.plan_delete-plan.ensures)
 
 same-length-9 : tie.Need-shape_of-dir-else-not-removal_keeps
 same-length-9 c = search rules
@@ -242,14 +242,14 @@ same-length-10 c = search rules
 returns-7 : tie.Need-returns-else-not-removal_keeps
 unfolding changed_answer
 returns-7 c =
-    let p = c.before.before.before.before.before.before.before.before.before.before.before.before.before in
+    let p = c.before.before.before.before.before.before.before.before.before.before.before in
     let k = kept c.before.before.before.before.before.before.before.before.before.before.before in
     let test = c.before.before.before.before.before.before.before in
-    let done = c.before.before.before.before.keep_leaf in
+    let done = c.keep_leaf in
     called p _
     (promise-kept (given (start p)) (encoded p) _ k.found _ _ done.ensures.words_are
     done.ensures.bytes-are k.alone
-    (test.before.removal_keeps.ensures.yes (not-false _ test.if-not-removal_keeps.false-raw)))
+    (test.removal_keeps.ensures.yes (not-false _ test.if-not-removal_keeps.false-raw)))
 
 same-length-11 : tie.Need-shape_of-dir-else-not-join_keeps
 same-length-11 c = search rules
@@ -260,14 +260,14 @@ same-length-12 c = search rules
 returns-8 : tie.Need-returns-else-not-join_keeps
 unfolding changed_answer
 returns-8 c =
-    let p = c.before.before.before.before.before.before.before.before.before.before.before.before.before in
+    let p = c.before.before.before.before.before.before.before.before.before.before.before in
     let k = joined c.before.before.before.before.before.before.before.before.before.before.before in
     let test = c.before.before.before.before.before.before.before in
-    let done = c.before.before.before.before.join_leaves-joined in
+    let done = c.join_leaves-joined in
     called p _
     (promise-joined (given (start p)) (encoded p) _ k.found _ k done.result _ _
     done.ensures.words_are done.ensures.bytes-are (thirteen (start p))
-    (test.before.join_keeps.ensures.yes (not-false _ test.if-not-join_keeps.false-raw)))
+    (test.join_keeps.ensures.yes (not-false _ test.if-not-join_keeps.false-raw)))
 
 pub delete_spec : {M : Type 1} → statement M
 delete_spec =

@@ -14,7 +14,7 @@ returns : tie.Need-returns-then-bit
 unfolding joined_pages
 returns c =
     let called = c.before.before in
-    let bit = called.before.before.if-bit.true in
+    let bit = called.if-bit.true in
     record { kept = rw bit; bytes-are = rw bit called.carry.ensures }
 
 carry-requires-2 : tie.Need-carry-requires-2
@@ -27,7 +27,7 @@ returns-2 : tie.Need-returns
 unfolding joined_pages
 returns-2 c =
     let called = c.before.before in
-    let bit = called.before.before.if-bit.false in
+    let bit = called.if-bit.false in
     record { kept = rw bit; bytes-are = rw bit called.carry-2.ensures }
 
 pub join_pages_spec : {M : Type 1} → statement M

@@ -11,10 +11,10 @@ use Rattle.delete_pages.proofs.join_records.Statement.{statement}
 use Rattle.delete_pages.proofs.join_records.Tie as tie
 
 remove-record-requires : tie.Need-remove_record-requires
-remove-record-requires c κs = c.before.before.requires.own
+remove-record-requires c κs = c.requires.own
 
 sub-join-pages : tie.Need-overflow_sub-found
-sub-join-pages c = omega (arith, c.before.before.before.before.before.before.before.requires.own.place-lt)
+sub-join-pages c = omega (arith, c.requires.own.place-lt)
 
 join-pages-requires : tie.Need-join_pages-requires
 join-pages-requires c κs =
@@ -22,7 +22,7 @@ join-pages-requires c κs =
     let a = s.args in
     let r = a.found in
     let own = s.requires.own in
-    let e = sym c.before.before.before.before.remove_record.ensures in
+    let e = sym c.remove_record.ensures in
     let lent = lent-removed_bytes a.capacity r.page r.place r.count a.pages.now own.page
     own.place-lt own.few in
     record {
@@ -37,15 +37,15 @@ same_length c = search rules
 returns : tie.Need-returns
 unfolding joined_bytes joined_pages
 returns c =
-    let a = c.before.before.before.before.before.before.before.before.before.before.args in
+    let a = c.args in
     let j = a.join in
-    let joined = c.before.before.join_pages.ensures in
+    let joined = c.join_pages.ensures in
     record {
       kept = joined.kept;
       bytes-are =
           joined.bytes-are
           ∙ ap (joined_pages a.capacity a.found.page (a.found.count - 1) j.other j.count j.bit)
-          c.before.before.before.before.before.before.before.remove_record.ensures;
+          c.remove_record.ensures;
     }
 
 pub join_records_spec : {M : Type 1} → statement M

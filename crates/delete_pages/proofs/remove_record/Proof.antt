@@ -47,9 +47,9 @@ returns c =
     let r = a.found in
     let page = page_at a.capacity a.pages.now r.page in
     let whole = length-page_at a.capacity r.page a.pages.now start.requires.page.whole in
-    put_mid-change a.capacity r.page _ _ a.pages.now size.before.page_start-start.ensures
+    put_mid-change a.capacity r.page _ _ a.pages.now size.page_start-start.ensures
     size.page_size.ensures (removed_page r.place r.count) _
-    c.before.before.remove_at.ensures
+    c.remove_at.ensures
     (length-removed_page r.place r.count page start.requires.place-lt (omega (arith, whole, start.requires.few))
     ∙ whole)
 

@@ -22,61 +22,61 @@ use Rattle.delete_plan.proofs.plan_delete.Statement.{statement}
 use Rattle.delete_plan.proofs.plan_delete.Tie as tie
 
 -- the limits hold
-limited : (c : tie.Else-not-limits_hold) → limits_hold c.before.before.before.before.args.state ≡ true
-limited c = sym c.before.limits_hold.ensures ∙ not-false c.before.limits_hold.result c.if-not-limits_hold.false-raw
+limited : (c : tie.Else-not-limits_hold) → limits_hold c.args.state ≡ true
+limited c = sym c.limits_hold.ensures ∙ not-false c.limits_hold.result c.if-not-limits_hold.false-raw
 
 pack-key-requires : tie.Need-pack_key-requires
-pack-key-requires c κs = SixteenBits-passed _ _ c.before.before.before.before.before.before.requires
+pack-key-requires c κs = SixteenBits-passed _ _ c.requires
 
 -- the key, back from its packed form
 back : (c : tie.After-pack_key)
     → unpacked_key c.pack_key.result
-    ≡ c.before.before.before.before.before.before.before.args.encoded.values
+    ≡ c.args.encoded.values
 back c =
     ap unpacked_key c.pack_key.ensures
-    ∙ unpacked_key-passed _ _ c.before.before.before.before.before.before.before.requires
+    ∙ unpacked_key-passed _ _ c.requires
 
 -- the word that was found, of the state's own shape
 found : (c : tie.After-key_word-at)
-    → let a = c.before.before.before.before.before.before.before.before.args in
+    → let a = c.args in
     let before = store a.state a.dir.now a.pages.now in
     c.key_word-at.result.word ≡ word_on before (key_string before a.encoded.values)
 found c =
-    let a = c.before.before.before.before.before.before.before.before.args in
-    key-word-is a.state.shape _ c.before.before.before.widths_of-widths.ensures a.state.deepest a.dir.now
-    a.encoded.values _ _ (back c.before) c.key_word-at.ensures.0
+    let a = c.args in
+    key-word-is a.state.shape _ c.widths_of-widths.ensures a.state.deepest a.dir.now
+    a.encoded.values _ _ (back c.before) c.key_word-at.ensures.word_value
 
 -- it holds
 held : (c : tie.Else-not-word_holds)
-    → let a = c.before.before.before.before.before.before.before.before.before.before.args in
+    → let a = c.args in
     let before = store a.state a.dir.now a.pages.now in
     word_holds a.state (word_on before (key_string before a.encoded.values)) ≡ true
 held c =
-    let a = c.before.before.before.before.before.before.before.before.before.before.args in
+    let a = c.args in
     ap (word_holds a.state) (sym (found c.before.before))
-    ∙ sym c.before.word_holds.ensures
-    ∙ not-false c.before.word_holds.result c.if-not-word_holds.false-raw
+    ∙ sym c.word_holds.ensures
+    ∙ not-false c.word_holds.result c.if-not-word_holds.false-raw
 
 -- the leaf with a page that it names
 named : (c : tie.In-Page-2)
     → let words = c.before.before.before.before.before.before in
-    let a = words.before.before.before.before.before.before.before.args in
+    let a = words.args in
     let before = store a.state a.dir.now a.pages.now in
     leaf_of (word_on before (key_string before a.encoded.values))
     ≡ Page c.found-1.given.0.0 c.found-1.given.0.1.0
 named c =
     ap leaf_of (sym (found c.before.before.before.before.before))
-    ∙ sym c.before.before.unpack-found.ensures
+    ∙ sym c.unpack-found.ensures
     ∙ c.found-1.given.1
 
 limits-hold-requires : tie.Need-limits_hold-requires
-limits-hold-requires c κs = c.before.before.requires.shape
+limits-hold-requires c κs = c.requires.shape
 
 returns : tie.Need-returns-then-not-limits_hold
 returns c =
-    let a = c.before.before.before.before.args in
+    let a = c.args in
     let before = store a.state a.dir.now a.pages.now in
-    let holds = c.before.limits_hold in
+    let holds = c.limits_hold in
     refused-limits before a.encoded.values
     (sym holds.ensures ∙ not-true holds.result c.if-not-limits_hold.true-raw)
 
@@ -92,7 +92,7 @@ key-word-requires c κs =
     let a = s.args in
     let p = s.requires in
     let l = limits-parts a.state (limited c.before.before.before) in
-    key-word-asks a.state.shape _ c.before.before.widths_of-widths.ensures a.state.deepest p.shape
+    key-word-asks a.state.shape _ c.widths_of-widths.ensures a.state.deepest p.shape
     (le_trans l.4 l.3) _ (le_trans (pow_mono l.4) p.words-lent)
 
 word-holds-requires : tie.Need-word_holds-requires
@@ -103,9 +103,9 @@ word-holds-requires c κs =
 
 returns-2 : tie.Need-returns-then-not-word_holds
 returns-2 c =
-    let a = c.before.before.before.before.before.before.before.before.before.before.args in
+    let a = c.args in
     let before = store a.state a.dir.now a.pages.now in
-    let holds = c.before.word_holds in
+    let holds = c.word_holds in
     refused-word before a.encoded.values (key_string before a.encoded.values)
     (ap (word_holds a.state) (sym (found c.before.before))
     ∙ sym holds.ensures
@@ -122,22 +122,22 @@ enum_told c = search rules
 
 returns-3 : tie.Need-returns-in_default
 returns-3 c =
-    let s = c.before.before.before.before.before.before.before.before.before.before.before.before.before in
+    let s = c.before.before.before.before.before.before.before.before.before.before.before.before in
     let a = s.args in
     let before = store a.state a.dir.now a.pages.now in
-    let at = c.before.before.before.before.before in
+    let at = c.before.before.before.before in
     refused-empty before a.encoded.values _ at.key_word-at.result.depth
-    (ap leaf_of (sym (found at)) ∙ sym c.before.before.unpack-found.ensures ∙ c.enum_told-1.given.1)
-    (held c.before.before.before) (at.key_word-at.ensures.1 ∙ ap depth_field (found at))
+    (ap leaf_of (sym (found at)) ∙ sym c.unpack-found.ensures ∙ c.in_default.is)
+    (held c.before.before) (at.key_word-at.ensures.depth_value ∙ ap depth_field (found at))
 
 plan-leaf-requires : tie.Need-plan_leaf-requires
 plan-leaf-requires c κs =
-    let limits = c.before.before.before.before.before.before.before.before.before.before in
+    let limits = c.before.before.before.before.before.before.before.before in
     let s = limits.before.before.before.before in
     let a = s.args in
     let before = store a.state a.dir.now a.pages.now in
     leaf_met before a.encoded.values s.requires (limited limits) _ _ (named c.before)
-    (held c.before.before.before.before)
+    (held c.before.before)
 
 returns-4 : tie.Need-returns
 returns-4 c = c.plan_leaf.ensures

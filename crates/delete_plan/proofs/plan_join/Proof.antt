@@ -6,24 +6,24 @@ use Rattle.delete_plan.proofs.plan_join.Statement.{statement}
 use Rattle.delete_plan.proofs.plan_join.Tie as tie
 
 sub-step : tie.Need-overflow_sub-step
-sub-step c = omega (arith, c.before.requires.divided)
+sub-step c = omega (arith, c.requires.divided)
 
 step-bit-requires : tie.Need-step_bit-bit-requires
 step-bit-requires c κs =
-    let pre = c.before.requires in
+    let pre = c.requires in
     (pre.lent.shape, omega (arith, pre.lent.deep, pre.divided, pre.deep))
 
 climb-requires : tie.Need-climb-top-requires
-climb-requires c κs = let pre = c.before.before.requires in (pre.lent, omega (arith, pre.divided, pre.deep))
+climb-requires c κs = let pre = c.requires in (pre.lent, omega (arith, pre.divided, pre.deep))
 
 returns : tie.Need-returns
 returns c =
-    let pre = c.before.before.before.requires in
+    let pre = c.requires in
     record {
       other = refl;
       count = refl;
       depth-step = omega (arith, pre.divided);
-      bit = c.before.step_bit-bit.ensures;
+      bit = c.step_bit-bit.ensures;
       climbed = c.climb-top.ensures;
     }
 

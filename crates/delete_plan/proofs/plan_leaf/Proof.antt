@@ -28,24 +28,24 @@ start k = k.before.before.before.before.before.before.before.before.before
 
 -- the mask is that of the leaf's depth
 mask_is : (c : tie.After-fixed_bits-mask)
-    → let a = c.before.before.before.before.before.args in
+    → let a = c.args in
     c.fixed_bits-mask.result ≡ fixed_bits (widths_of a.state.shape) a.depth
 mask_is c =
-    let a = c.before.before.before.before.before.args in
-    c.fixed_bits-mask.ensures ∙ ap (λ ws. fixed_bits ws a.depth) c.before.widths_of.ensures
+    let a = c.args in
+    c.fixed_bits-mask.ensures ∙ ap (λ ws. fixed_bits ws a.depth) c.widths_of.ensures
 
 -- what was sought is the key, packed
 sought : (k : tie.After-seek-found)
     → let a = (start k).args in
-    Sought a.state.shape.capacity (bias_key a.state.shape) (packed_key a.encoded.values) k.before.before.before.before.fixed_bits-mask.result
+    Sought a.state.shape.capacity (bias_key a.state.shape) (packed_key a.encoded.values) k.fixed_bits-mask.result
     (page_at a.state.shape.capacity a.pages.now a.page) a.page a.depth k.seek-found.result
 sought k =
     let a = (start k).args in
     let there : ℕ → ℕ → Type 0 =
-    λ bias key. Sought a.state.shape.capacity bias key k.before.before.before.before.fixed_bits-mask.result
+    λ bias key. Sought a.state.shape.capacity bias key k.fixed_bits-mask.result
     (page_at a.state.shape.capacity a.pages.now a.page) a.page a.depth k.seek-found.result in
-    subst (λ bias. there bias (packed_key a.encoded.values)) k.before.before.before.bias_key-bias.ensures
-    (subst (there k.before.before.before.bias_key-bias.result) k.before.before.pack_key-packed.ensures
+    subst (λ bias. there bias (packed_key a.encoded.values)) k.bias_key-bias.ensures
+    (subst (there k.bias_key-bias.result) k.pack_key-packed.ensures
     k.seek-found.ensures)
 
 -- the record that was found
@@ -69,10 +69,10 @@ fixed-bits-requires c κs =
     (width_list c.widths_of.result) c.widths_of.ensures
 
 bias-key-requires : tie.Need-bias_key-bias-requires
-bias-key-requires c κs = c.before.before.before.before.before.requires.passed.shape
+bias-key-requires c κs = c.requires.passed.shape
 
 pack-key-requires : tie.Need-pack_key-packed-requires
-pack-key-requires c κs = SixteenBits-passed _ _ c.before.before.before.before.before.before.requires.passed
+pack-key-requires c κs = SixteenBits-passed _ _ c.requires.passed
 
 cast-seek : tie.Need-overflow_cast-shape
 cast-seek c = search rules
@@ -98,16 +98,16 @@ returns-2 c =
     let a = s.args in
     let r = k.seek-found.result in
     let fair = fair-of-count a.state.shape.capacity _ _ r.count (sought k).counted
-    c.before.before.if-found-eq0.false in
+    c.if-found-eq0.false in
     refused-absent (given s) a.encoded.values a.page a.depth s.pre
-    (λ i. (k.before.before.before.before.before.before.before.shared_slice_known-2-1.given i).fits)
+    (λ i. (k.shared_slice_known-2-1.given i).fits)
     r.count fair.counted r.place (sought k).placed c.if-found.true
 
 returns-3 : tie.Need-returns-then-depth-eq0
 returns-3 c =
     let k = c.before.before.before.before.before in
     let s = start k in
-    let f = found k c.before.before.before.if-found-eq0.false c.before.if-found.false in
+    let f = found k c.if-found-eq0.false c.if-found.false in
     record {
       found = f;
       alone = stays-root (given s) s.args.encoded.values _ f ((sought k).depth_is ∙ c.if-depth-eq0.true);
@@ -118,7 +118,7 @@ plan-sibling-requires c κs =
     let k = c.before.before.before.before.before in
     let s = start k in
     record {
-      found = found k c.before.before.before.if-found-eq0.false c.before.if-found.false;
+      found = found k c.if-found-eq0.false c.if-found.false;
       divided = omega (arith, (sought k).depth_is, c.if-depth-eq0.false);
       fixed = mask_is k.before.before.before.before
           ∙ ap (fixed_bits (widths_of s.args.state.shape)) (sym (sought k).depth_is);

@@ -36,7 +36,7 @@ counted k =
     let page = page_at a.state.shape.capacity a.pages.now a.other in
     k.count_on-count.ensures.is
     ∙ ap (λ h. fair_count a.state.shape.capacity (ends_agree h a.mask a.beside page (count_of page)) page)
-    k.before.bias_key-bias.ensures
+    k.bias_key-bias.ensures
 
 -- the sibling's page
 fair : (c : tie.Else-count-eq0)
@@ -53,7 +53,7 @@ cast-capacity : tie.Need-overflow_cast-capacity
 cast-capacity c = search rules
 
 bias-key-requires : tie.Need-bias_key-bias-requires
-bias-key-requires c κs = c.before.before.before.before.requires.leaf.found.leaf.passed.shape
+bias-key-requires c κs = c.requires.leaf.found.leaf.passed.shape
 
 count-on-requires : tie.Need-count_on-count-requires
 count-on-requires c κs =
@@ -95,7 +95,7 @@ returns-3 : tie.Need-returns-then-not-tally_holds
 returns-3 c =
     let s = start c.before.before.before.before.before in
     let a = s.args in
-    let holds = c.before.tally_holds in
+    let holds = c.tally_holds in
     refused-tally (given s) a.encoded.values a.found a.mask a.other a.beside s.pre
     (sym holds.ensures ∙ not-true holds.result c.if-not-tally_holds.true-raw)
 
@@ -120,14 +120,14 @@ returns-4 c =
     let e = c.before.before.before.before.before.before in
     let s = start e.before in
     let a = s.args in
-    let holds = c.before.before.before.tally_holds in
-    let back = ap unpacked_key c.before.pack_key.ensures
+    let holds = c.tally_holds in
+    let back = ap unpacked_key c.pack_key.ensures
     ∙ unpacked_key-passed _ _ s.pre.leaf.found.leaf.passed in
     join_planned (given s) a.encoded.values a.found a.mask a.other a.beside s.pre _ (fair e)
-    c.before.before.before.before.if-capacity-found.false
-    (sym holds.ensures ∙ not-false holds.result c.before.before.if-not-tally_holds.false-raw) _
+    c.if-capacity-found.false
+    (sym holds.ensures ∙ not-false holds.result c.if-not-tally_holds.false-raw) _
     (subst
-    (λ v. JoinMade a.state a.dir.now v a.found.depth a.other e.before.count_on-count.result
+    (λ v. JoinMade a.state a.dir.now v a.found.depth a.other e.count_on-count.result
     c.plan_join-join.result) back c.plan_join-join.ensures)
 
 pub plan_pair_spec : {M : Type 1} → statement M

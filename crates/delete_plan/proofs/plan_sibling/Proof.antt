@@ -35,12 +35,12 @@ there : (k : tie.After-find_sibling-beside)
 there k =
     let a = (start k).args in
     subst (λ key. SiblingKey a.state.shape key (a.found.depth - 1) k.find_sibling-beside.result.key)
-    k.before.before.pack_key-packed.ensures k.find_sibling-beside.ensures.beside
+    k.pack_key-packed.ensures k.find_sibling-beside.ensures.beside
 
 -- the key, back from its packed form
-back : (k : tie.After-find_sibling-beside) → unpacked_key k.before.before.pack_key-packed.result ≡ (start k).args.encoded.values
+back : (k : tie.After-find_sibling-beside) → unpacked_key k.pack_key-packed.result ≡ (start k).args.encoded.values
 back k =
-    ap unpacked_key k.before.before.pack_key-packed.ensures
+    ap unpacked_key k.pack_key-packed.ensures
     ∙ unpacked_key-passed _ _ (start k).requires.found.leaf.passed
 
 -- the word of the sibling's cell
@@ -60,18 +60,18 @@ held : (c : tie.Else-not-sibling_word_holds)
 held c =
     let k = c.before.before in
     let s = start k in
-    let holds = c.before.sibling_word_holds in
+    let holds = c.sibling_word_holds in
     held-sibling (given s) s.args.encoded.values s.args.found s.pre.found s.pre.divided _
     (beside k) (sym holds.ensures ∙ not-false holds.result c.if-not-sibling_word_holds.false-raw)
 
 -- the leaf with a page that it names
 named : (c : tie.In-Page-2)
-    → leaf_of c.before.before.before.before.before.find_sibling-beside.result.word
+    → leaf_of c.find_sibling-beside.result.word
     ≡ Page c.sibling-1.given.0.0 c.sibling-1.given.0.1.0
-named c = sym c.before.before.unpack-sibling.ensures ∙ c.sibling-1.given.1
+named c = sym c.unpack-sibling.ensures ∙ c.sibling-1.given.1
 
 pack-key-requires : tie.Need-pack_key-packed-requires
-pack-key-requires c κs = SixteenBits-passed _ _ c.before.before.requires.found.leaf.passed
+pack-key-requires c κs = SixteenBits-passed _ _ c.requires.found.leaf.passed
 
 sub-find-sibling : tie.Need-overflow_sub-found
 sub-find-sibling c = search rules
@@ -85,7 +85,7 @@ find-sibling-requires c κs =
       lent = directory_lent (given s) a.encoded.values a.found.page a.found.depth leaf;
       below = omega (arith, s.requires.divided, leaf.deep);
       fits =
-          ap (λ n. index_fits (widths_of a.state.shape) (unpacked_key n)) c.before.pack_key-packed.ensures
+          ap (λ n. index_fits (widths_of a.state.shape) (unpacked_key n)) c.pack_key-packed.ensures
           ∙ index_fits-passed _ _ leaf.passed;
     }
 
@@ -101,7 +101,7 @@ returns : tie.Need-returns-then-not-sibling_word_holds
 returns c =
     let k = c.before.before in
     let s = start k in
-    let holds = c.before.sibling_word_holds in
+    let holds = c.sibling_word_holds in
     refused-sibling (given s) s.args.encoded.values s.args.found s.pre.found s.pre.divided _
     (beside k) (sym holds.ensures ∙ not-true holds.result c.if-not-sibling_word_holds.true-raw)
 
@@ -116,34 +116,34 @@ enum_told c = search rules
 
 returns-2 : tie.Need-returns-in_default
 returns-2 c =
-    let k = c.before.before.before.before.before in
+    let k = c.before.before.before.before in
     let s = start k in
     record {
       found = s.pre.found;
       alone =
           stays-empty (given s) s.args.encoded.values s.args.found s.pre.found s.pre.divided _
-          (beside k) (held c.before.before.before) _
-          (sym c.before.before.unpack-sibling.ensures ∙ c.enum_told-1.given.1);
+          (beside k) (held c.before.before) _
+          (sym c.unpack-sibling.ensures ∙ c.in_default.is);
     }
 
 returns-3 : tie.Need-returns-then-depth-found
 returns-3 c =
-    let k = c.before.before.before.before.before.before.before.before in
+    let k = c.before.before.before.before.before.before in
     let s = start k in
     record {
       found = s.pre.found;
       alone =
           stays-deep (given s) s.args.encoded.values s.args.found s.pre.found s.pre.divided _
-          (beside k) (held c.before.before.before.before.before.before) _ _
+          (beside k) (held c.before.before.before.before) _ _
           (named c.before.before.before) c.if-depth-found.true;
     }
 
 plan-pair-requires : tie.Need-plan_pair-requires
 plan-pair-requires c κs =
-    let k = c.before.before.before.before.before.before.before.before in
+    let k = c.before.before.before.before.before.before in
     let s = start k in
     sibling_met (given s) s.args.encoded.values s.args.found s.pre.found s.pre.divided _
-    (beside k) (held c.before.before.before.before.before.before) _ _
+    (beside k) (held c.before.before.before.before) _ _
     (named c.before.before.before) c.if-depth-found.false s.args.mask s.pre.fixed _ (there k)
 
 returns-4 : tie.Need-returns

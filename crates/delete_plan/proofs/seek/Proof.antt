@@ -17,14 +17,14 @@ place-on-requires c κs = search rules
 
 returns : tie.Need-returns
 returns c =
-    let a = c.before.before.before.before.args in
+    let a = c.args in
     let page = page_at a.capacity a.pages.now a.page in
     record {
       page-is = refl;
       depth_is = refl;
-      counted = c.before.before.count_on-count.ensures.is;
+      counted = c.count_on-count.ensures.is;
       placed = c.place_on-place.ensures
-          ∙ ap (λ k. key_place k page c.before.before.count_on-count.result 0) c.before.to_fields-fields.ensures;
+          ∙ ap (λ k. key_place k page c.count_on-count.result 0) c.to_fields-fields.ensures;
     }
 
 pub seek_spec : {M : Type 1} → statement M

@@ -15,51 +15,51 @@ abbrev decreases-loop : tie.decreases-loop-y
 decreases-loop state dir key m y₀ y = y
 
 loop-holds : tie.Need-loop-y-init invariant-loop decreases-loop
-loop-holds c = let a = c.before.args in rising-start a.state a.dir.now (unpacked_key a.key) a.m
+loop-holds c = let a = c.args in rising-start a.state a.dir.now (unpacked_key a.key) a.m
 
 sub-word-beside : tie.Need-overflow_sub-y invariant-loop decreases-loop
 sub-word-beside c = omega (arith, c.loop-y-test.true)
 
 word-beside-requires : tie.Need-word_beside-word-requires invariant-loop decreases-loop
 word-beside-requires c κs =
-    let pre = c.before.before.before.requires in
-    (pre.0, omega (arith, pre.1, c.before.loop-y.invariant.0, c.loop-y-test.true))
+    let pre = c.requires in
+    (pre.0, omega (arith, pre.1, c.loop-y.invariant.0, c.loop-y-test.true))
 
 pack-empty-requires : tie.Need-pack_empty-requires invariant-loop decreases-loop
 pack-empty-requires c κs =
-    let pre = c.before.before.before.before.requires in
-    omega (arith, pre.0.short, pre.1, c.before.before.loop-y.invariant.0)
+    let pre = c.requires in
+    omega (arith, pre.0.short, pre.1, c.loop-y.invariant.0)
 
 returns : tie.Need-returns-then-word-pack_empty invariant-loop decreases-loop
 returns c =
     let called = c.before.before in
-    let loop = called.before.before.loop-y in
-    let a = called.before.before.before.before.args in
+    let loop = called.loop-y in
+    let a = called.args in
     climbed-stop a.state a.dir.now (unpacked_key a.key) a.m loop.y (loop.y - 1)
-    called.word_beside-word.result loop.invariant (omega (arith, called.before.loop-y-test.true))
+    called.word_beside-word.result loop.invariant (omega (arith, called.loop-y-test.true))
     called.word_beside-word.ensures
-    (λ h. c.if-word-pack_empty.true (h ∙ sym c.before.pack_empty.ensures))
+    (λ h. c.if-word-pack_empty.true (h ∙ sym c.pack_empty.ensures))
 
 sub-y : tie.Need-overflow_sub-y-in-loop-y invariant-loop decreases-loop
-sub-y c = omega (arith, c.before.before.before.loop-y-test.true)
+sub-y c = omega (arith, c.loop-y-test.true)
 
 loop-less : tie.Need-loop-y-smaller invariant-loop decreases-loop
-loop-less c = omega (arith, c.before.before.before.loop-y-test.true)
+loop-less c = omega (arith, c.loop-y-test.true)
 
 loop-again : tie.Need-loop-y-preserved invariant-loop decreases-loop
 loop-again c =
     let called = c.before.before in
-    let loop = called.before.before.loop-y in
-    let a = called.before.before.before.before.args in
+    let loop = called.loop-y in
+    let a = called.args in
     rising-next a.state a.dir.now (unpacked_key a.key) a.m loop.y (loop.y - 1)
-    called.word_beside-word.result loop.invariant (omega (arith, called.before.loop-y-test.true))
+    called.word_beside-word.result loop.invariant (omega (arith, called.loop-y-test.true))
     called.word_beside-word.ensures
-    (c.if-word-pack_empty.false ∙ c.before.pack_empty.ensures)
+    (c.if-word-pack_empty.false ∙ c.pack_empty.ensures)
 
 returns-2 : tie.Need-returns invariant-loop decreases-loop
 returns-2 c =
-    let loop = c.before.loop-y in
-    let a = c.before.before.before.args in
+    let loop = c.loop-y in
+    let a = c.args in
     climbed-end a.state a.dir.now (unpacked_key a.key) a.m loop.y loop.invariant
     (omega (arith, c.loop-y-test.false))
 

@@ -23,8 +23,8 @@ cast-sibling-word c = search rules
 
 sibling-word-requires : tie.Need-sibling_word-word-requires
 sibling-word-requires c κs =
-    let place = c.before.step_place-g in
-    let w = c.before.before.widths_of-widths in
+    let place = c.step_place-g in
+    let w = c.widths_of-widths in
     let s = c.before.before.before.before in (
       step_within s.args.state (width_list w.result) w.ensures s.args.z s.requires.below _ s.requires.lent
           place.result place.ensures,
@@ -33,8 +33,8 @@ sibling-word-requires c κs =
 
 flipped-requires : tie.Need-flipped-requires
 flipped-requires c κs =
-    let place = c.before.before.step_place-g in
-    let w = c.before.before.before.widths_of-widths in
+    let place = c.step_place-g in
+    let w = c.widths_of-widths in
     let s = c.before.before.before.before.before in (
       (step-asked s.args.state (width_list w.result) w.ensures s.args.z s.requires.below _
           s.requires.lent).0,
@@ -43,14 +43,14 @@ flipped-requires c κs =
 
 returns : tie.Need-returns
 returns c =
-    let place = c.before.before.before.step_place-g in
-    let w = c.before.before.before.before.widths_of-widths in
+    let place = c.step_place-g in
+    let w = c.widths_of-widths in
     let s = c.before.before.before.before.before.before in
     let a = s.args in
     record {
       word =
           at_sibling a.state (width_list w.result) w.ensures a.z s.requires.below (unpacked_key a.key)
-          a.dir.now place.result _ place.ensures c.before.sibling_word-word.ensures;
+          a.dir.now place.result _ place.ensures c.sibling_word-word.ensures;
       beside =
           subst (SiblingKey a.state.shape a.key a.z) (sym c.flipped.ensures)
           (sibling_key a.state.shape s.requires.lent.shape a.key s.requires.fits (width_list w.result)

@@ -11,8 +11,8 @@ word-holds-requires c κs = search rules
 
 returns : tie.Need-returns-then-not-word_holds
 returns c =
-    let a = c.before.before.args in
-    let holds = c.before.word_holds in
+    let a = c.args in
+    let holds = c.word_holds in
     sibling_holds-damaged a.state a.depth a.word
     (sym holds.ensures ∙ not-true holds.result c.if-not-word_holds.true-raw)
 
@@ -21,10 +21,10 @@ pack-empty-requires c κs = search rules
 
 returns-2 : tie.Need-returns
 returns-2 c =
-    let a = c.before.before.before.args in
-    let holds = c.before.before.word_holds in
+    let a = c.args in
+    let holds = c.word_holds in
     sibling_holds-above a.state a.depth a.word
-    (sym holds.ensures ∙ not-false holds.result c.before.if-not-word_holds.false-raw) _ c.pack_empty.ensures
+    (sym holds.ensures ∙ not-false holds.result c.if-not-word_holds.false-raw) _ c.pack_empty.ensures
 
 pub sibling_word_holds_spec : {M : Type 1} → statement M
 sibling_word_holds_spec = tie.close (tie.spec word-holds-requires returns pack-empty-requires returns-2)

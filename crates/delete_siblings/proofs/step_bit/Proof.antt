@@ -27,7 +27,7 @@ step-place-requires c κs =
 pair-bit-requires : tie.Need-pair_bit-requires
 pair-bit-requires c κs =
     let s = c.before.before in
-    let w = c.before.widths_of-widths in
+    let w = c.widths_of-widths in
     let place = c.step_place-pair.ensures in
     (widths-fit s.args.shape (width_list w.result) s.requires.0 w.ensures, place.low, place.live)
 
@@ -35,9 +35,9 @@ returns : tie.Need-returns
 returns c =
     let s = c.before.before.before in
     let key = s.args.key in
-    let w = c.before.before.widths_of-widths in
+    let w = c.widths_of-widths in
     let ws = width_list w.result in
-    let place = c.before.step_place-pair in
+    let place = c.step_place-pair in
     let g = place.result in
     let fit = widths-fit s.args.shape ws s.requires.0 w.ensures in
     c.pair_bit.ensures

@@ -21,8 +21,8 @@ cast-sibling-word c = search rules
 
 sibling-word-requires : tie.Need-sibling_word-requires
 sibling-word-requires c κs =
-    let place = c.before.step_place-g in
-    let w = c.before.before.widths_of-widths in
+    let place = c.step_place-g in
+    let w = c.widths_of-widths in
     let s = c.before.before.before.before in (
       step_within s.args.state (width_list w.result) w.ensures s.args.z s.requires.1 _ s.requires.0
           place.result place.ensures,
@@ -31,8 +31,8 @@ sibling-word-requires c κs =
 
 returns : tie.Need-returns
 returns c =
-    let place = c.before.before.step_place-g in
-    let w = c.before.before.before.widths_of-widths in
+    let place = c.step_place-g in
+    let w = c.widths_of-widths in
     let s = c.before.before.before.before.before in
     at_sibling s.args.state (width_list w.result) w.ensures s.args.z s.requires.1
     (unpacked_key s.args.key) s.args.dir.now place.result _ place.ensures c.sibling_word.ensures

@@ -35,7 +35,7 @@ pack-page-requires c κs =
     let pair = s.requires.pair in
     let lt = kept_page-lt a.join.bit a.found.page a.join.other 4096 pair.own.page.number_lt
     pair.page.number_lt in (
-      omega (arith, lt, c.before.before.before.before.before.join_records-kept.ensures.kept),
+      omega (arith, lt, c.join_records-kept.ensures.kept),
       omega (arith, s.requires.lent.short, l.above, l.deep, l.depth-step),
     )
 
@@ -50,9 +50,9 @@ fill-requires c κs =
     let earlier = c.before.before.before.before.before.before.before.before.before in
     let s = earlier.before.before.before.before.before.before.before in
     let a = s.args in
-    let w = c.before.before.widths_of in
-    let depth = c.before.before.before.before.greatest_depth-depth in
-    let tally = c.before.before.before.before.before.before.join_tally-tally in (
+    let w = c.widths_of in
+    let depth = c.greatest_depth-depth in
+    let tally = c.join_tally-tally in (
       directory_fits a.state (width_list w.result) w.ensures _ _ s.requires.lent
           (omega (arith, depth.ensures, tally_depth-le tally.result.leaves a.state.deepest)),
       omega (
@@ -66,12 +66,12 @@ fill-requires c κs =
 cast-t22 : tie.Need-overflow_cast-result
 cast-t22 c =
     let earlier = c.before.before.before.before.before.before.before.before.before in
-    let a = earlier.before.before.before.before.before.before.before.before.before.before.args in
+    let a = earlier.args in
     omega (
       arith,
-      c.before.before.before.before.before.before.before.greatest_depth-depth.ensures,
+      c.greatest_depth-depth.ensures,
       tally_depth-le earlier.join_tally-tally.result.leaves a.state.deepest,
-      earlier.before.before.before.before.before.before.before.before.before.before.requires.lent.short,
+      earlier.requires.lent.short,
     )
 
 same_length : tie.Need-shape_of-dir
@@ -83,10 +83,10 @@ same-length-2 c = search rules
 returns : tie.Need-returns
 returns c =
     let earlier = c.before.before.before.before.before.before.before.before.before in
-    let a = earlier.before.before.before.before.before.before.before.before.before.before.args in
-    let w = c.before.before.before.before.before.widths_of in
-    let depth = c.before.before.before.before.before.before.before.greatest_depth-depth in
-    let records = earlier.before.before.before.join_records-kept.ensures in
+    let a = earlier.args in
+    let w = c.widths_of in
+    let depth = c.greatest_depth-depth in
+    let records = earlier.join_records-kept.ensures in
     record {
       words_are =
           record {
@@ -96,9 +96,9 @@ returns c =
             new-leaf =
                 filled-shape a.state (width_list w.result) w.ensures depth.result a.join.top
                 a.encoded _ _ a.dir.now _
-                (c.before.before.before.before.before.before.pack_page-word.ensures
+                (c.pack_page-word.ensures
                 ∙ ap (λ k. word_of (Page k a.join.top)) records.kept)
-                c.before.before.fill.ensures;
+                c.fill.ensures;
           };
       bytes-are = records.bytes-are;
     }

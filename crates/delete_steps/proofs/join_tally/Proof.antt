@@ -12,7 +12,7 @@ cast-joined c = search rules
 
 sub-joined : tie.Need-overflow_sub-found
 sub-joined c =
-    let l = c.before.before.before.requires.1 in
+    let l = c.requires.1 in
     omega (arith, l.depth-step, l.above)
 
 cast-joined-2 : tie.Need-overflow_cast-found
@@ -20,7 +20,7 @@ cast-joined-2 c = search rules
 
 joined-requires : tie.Need-joined-requires
 joined-requires c κs =
-    let pre = c.before.before.before.requires in
+    let pre = c.requires in
     let l = pre.1 in
     (omega (arith, pre.0, l.deep, l.depth-step, l.above), l.tally)
 

@@ -12,14 +12,14 @@ cast-remove-record : tie.Need-overflow_cast-shape
 cast-remove-record c = search rules
 
 remove-record-requires : tie.Need-remove_record-requires
-remove-record-requires c κs = c.before.before.before.before.before.requires.own
+remove-record-requires c κs = c.requires.own
 
 same_length : tie.Need-shape_of-pages-then-found-ne1
 same_length c = search rules
 
 returns : tie.Need-returns-then-found-ne1
 returns c =
-    let removed = c.before.before.before.before.remove_record in
+    let removed = c.remove_record in
     record {
       words_are = record { emptied = λ e. absurd (c.if-found-ne1.true e); same = λ n. refl };
       bytes-are = removed.ensures;
@@ -27,7 +27,7 @@ returns c =
 
 pack-empty-requires : tie.Need-pack_empty-word-requires
 pack-empty-requires c κs =
-    let pre = c.before.before.before.before.before.before.before.before.before.before.requires in
+    let pre = c.requires in
     omega (arith, pre.lent.short, pre.deep)
 
 widths-of-requires : tie.Need-widths_of-requires
@@ -43,7 +43,7 @@ fill-requires : tie.Need-fill-requires
 fill-requires c κs =
     let earlier = c.before.before.before.before.before.before.before.before.before in
     let s = earlier.before.before.before.before.before.before in
-    let w = c.before.before.before.widths_of in
+    let w = c.widths_of in
     (directory_fits s.args.state (width_list w.result) w.ensures _ _ s.requires.lent (omega arith), s.requires.deep)
 
 same-length-2 : tie.Need-shape_of-dir
@@ -57,18 +57,18 @@ returns-2 c =
     let earlier = c.before.before.before.before.before.before.before.before.before in
     let s = earlier.before.before.before.before.before.before.before.before.before in
     let a = s.args in
-    let filled = c.before.before.fill.ensures in
-    let word = c.before.before.before.before.before.before.before.pack_empty-word.ensures in
-    let w = c.before.before.before.before.before.before.widths_of in
+    let filled = c.fill.ensures in
+    let word = c.pack_empty-word.ensures in
+    let w = c.widths_of in
     record {
       words_are =
           record {
             emptied = λ e.
                 filled-shape a.state (width_list w.result) w.ensures a.state.deepest a.found.depth
                 a.encoded _ _ a.dir.now _ word filled;
-            same = λ n. absurd (n c.before.before.before.before.before.before.before.before.if-found-ne1.false);
+            same = λ n. absurd (n c.if-found-ne1.false);
           };
-      bytes-are = earlier.before.before.before.remove_record.ensures;
+      bytes-are = earlier.remove_record.ensures;
     }
 
 pub keep_leaf_spec : {M : Type 1} → statement M

@@ -23,10 +23,10 @@ cell-before-requires c κs = search rules
 
 returns-2 : tie.Need-returns
 returns-2 c =
-    let a = c.before.before.before.args in
+    let a = c.args in
     let ws = width_list a.widths in
     c.cell_before.ensures
-    ∙ ap (λ key. cell ws (length (steps_below ws a.g)) (split_bit ws key)) c.before.unpack_key.ensures
+    ∙ ap (λ key. cell ws (length (steps_below ws a.g)) (split_bit ws key)) c.unpack_key.ensures
 
 pub cell_at_spec : {M : Type 1} → statement M
 cell_at_spec =

@@ -19,11 +19,11 @@ near-cell-requires c κs = search rules
 
 returns : tie.Need-returns-then-near-le16
 returns c =
-    let s = c.before.before.before.before.before.args in
+    let s = c.args in
     let ws = width_list s.widths in
     c.near_cell.ensures
     ∙ ap (λ n. cell ws n (split_bit ws (unpacked_key s.key)))
-    (c.before.before.before.steps_before.ensures.before ∙ c.before.before.if-steps_before-t.true)
+    (c.steps_before.ensures.before ∙ c.if-steps_before-t.true)
 
 unpack-key-requires : tie.Need-unpack_key-requires
 unpack-key-requires c κs = search rules
@@ -36,11 +36,11 @@ cell-before-requires c κs = search rules
 
 returns-2 : tie.Need-returns
 returns-2 c =
-    let s = c.before.before.before.before.before.before.args in
+    let s = c.args in
     let ws = width_list s.widths in
     c.cell_before.ensures
-    ∙ ap (λ n. cell ws n (split_bit ws c.before.before.unpack_key.result)) c.before.place_of.ensures.before
-    ∙ ap (λ key. cell ws s.t (split_bit ws key)) c.before.before.unpack_key.ensures
+    ∙ ap (λ n. cell ws n (split_bit ws c.unpack_key.result)) c.place_of.ensures.before
+    ∙ ap (λ key. cell ws s.t (split_bit ws key)) c.unpack_key.ensures
 
 pub cell_of_spec : {M : Type 1} → statement M
 cell_of_spec =

@@ -20,8 +20,8 @@ locate-requires c κs =
 returns : tie.Need-returns
 unfolding cell_address
 returns c =
-    let s = c.before.before.args in
-    c.locate.ensures ∙ ap (address (width_list s.widths)) c.before.cell_of-index.ensures
+    let s = c.args in
+    c.locate.ensures ∙ ap (address (width_list s.widths)) c.cell_of-index.ensures
 
 pub find_cell_spec : {M : Type 1} → statement M
 find_cell_spec = tie.close (tie.spec cell-of-requires locate-requires returns)

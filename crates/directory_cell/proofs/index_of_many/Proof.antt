@@ -26,7 +26,7 @@ add-if1 : tie.Need-overflow_add-k invariant-loop decreases-loop
 add-if1 c = omega arith
 
 reversed-requires : tie.Need-reversed-requires invariant-loop decreases-loop
-reversed-requires c κs = four-lt c.before.before.loop-k.rest
+reversed-requires c κs = four-lt c.loop-k.rest
 
 add-k : tie.Need-overflow_add-k-then-k-h invariant-loop decreases-loop
 add-k c = omega arith
@@ -36,12 +36,12 @@ loop-less c = omega arith
 
 loop-again : tie.Need-loop-k-preserved-then-k-h invariant-loop decreases-loop
 loop-again c =
-    let l = c.before.before.before.loop-k in
+    let l = c.loop-k in
     let s = c.before.before.before.before in
     let r = c.reversed in
     taken-four s.args.w s.args.encoding s.args.h l.rest l.index l.k l.invariant s.requires.0
     s.requires.1
-    c.before.if-k-h.true r.result r.ensures.0 r.ensures.1
+    c.if-k-h.true r.result r.ensures.0 r.ensures.1
 
 add-k-2 : tie.Need-overflow_add-k-else-k-h invariant-loop decreases-loop
 add-k-2 c = omega arith
@@ -51,16 +51,16 @@ loop-less-2 c = omega arith
 
 loop-again-2 : tie.Need-loop-k-preserved invariant-loop decreases-loop
 loop-again-2 c =
-    let l = c.before.before.loop-k in
+    let l = c.loop-k in
     let s = c.before.before.before in
     taken-suc s.args.w s.args.encoding s.args.h l.rest l.index l.k l.invariant s.requires.0
     s.requires.1
-    c.before.loop-k-test.true
+    c.loop-k-test.true
 
 returns : tie.Need-returns invariant-loop decreases-loop
 returns c =
     let s = c.before.before in
-    let l = c.before.loop-k in
+    let l = c.loop-k in
     taken-end s.args.w s.args.encoding s.args.h l.rest l.index l.k l.invariant c.loop-k-test.false
 
 pub index_of_many_spec : {M : Type 1} → statement M

@@ -14,12 +14,12 @@ use Rattle.directory_cell.proofs.locate_cell.Tie as tie
 
 -- t steps are before the place
 indexed : (c : tie.After-cell_before-index)
-    → let s = c.before.before.args in
+    → let s = c.args in
     index_list c.cell_before-index.result ≡ cell (width_list s.widths) s.t (split_bit (width_list s.widths) s.key)
 indexed c =
-    let s = c.before.before.args in
+    let s = c.args in
     let ws = width_list s.widths in
-    c.cell_before-index.ensures ∙ ap (λ n. cell ws n (split_bit ws s.key)) c.before.place_of.ensures.before
+    c.cell_before-index.ensures ∙ ap (λ n. cell ws n (split_bit ws s.key)) c.place_of.ensures.before
 
 place-of-requires : tie.Need-place_of-requires
 place-of-requires c κs = search rules
@@ -35,7 +35,7 @@ locate-requires c κs =
 returns : tie.Need-returns
 unfolding cell_address
 returns c =
-    let s = c.before.before.before.args in
+    let s = c.args in
     c.locate.ensures ∙ ap (address (width_list s.widths)) (indexed c.before)
 
 pub locate_cell_spec : {M : Type 1} → statement M

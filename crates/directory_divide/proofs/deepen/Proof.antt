@@ -20,12 +20,12 @@ abbrev turn : tie.After-slice_known-in-loop-depth-1 invariant-loop decreases-loo
 turn c = c.before.before.before.before
 
 loop-holds : tie.Need-loop-depth-init invariant-loop decreases-loop
-loop-holds c = (c.before.requires.1, deepened-none _ _ _)
+loop-holds c = (c.requires.1, deepened-none _ _ _)
 
 double-requires : tie.Need-double-requires invariant-loop decreases-loop
 double-requires c κs =
-    let l = c.before.before.loop-depth in
-    fits-shallower _ _ _ _ _ c.before.before.before.before.requires.0 (omega (arith, c.before.loop-depth-test.true))
+    let l = c.loop-depth in
+    fits-shallower _ _ _ _ _ c.requires.0 (omega (arith, c.loop-depth-test.true))
     l.invariant.1.size
 
 add-depth : tie.Need-overflow_add-depth invariant-loop decreases-loop
@@ -39,15 +39,15 @@ loop-less c = omega (arith, (turn c).loop-test.true)
 
 loop-again : tie.Need-loop-depth-preserved invariant-loop decreases-loop
 loop-again c =
-    let doubled = c.before.before.double.ensures in
-    (omega (arith, (turn c).loop-test.true), deepened-next _ _ _ _ _ (turn c).before.loop-depth.invariant.1 _ doubled)
+    let doubled = c.double.ensures in
+    (omega (arith, (turn c).loop-test.true), deepened-next _ _ _ _ _ (turn c).before.loop.invariant.1 _ doubled)
 
 same_length : tie.Need-shape_of-dir invariant-loop decreases-loop
-same_length c = c.before.loop-depth.invariant.1.size
+same_length c = c.loop-depth.invariant.1.size
 
 returns : tie.Need-returns invariant-loop decreases-loop
 returns c =
-    let l = c.before.loop-depth in
+    let l = c.loop-depth in
     deepened-at _ _ _ _ _ l.invariant.1 _ (omega (arith, l.invariant.0, c.loop-depth-test.false))
 
 pub deepen_spec : {M : Type 1} → statement M

@@ -26,7 +26,7 @@ other c = c.before.before.before
 
 -- m < 12
 small : (s : tie.Start) → s.args.m < 12
-small s = omega (arith, s.requires.0.0.short, s.requires.0.2)
+small s = omega (arith, s.requires.directory_fits.0.short, s.requires.directory_fits.2)
 
 set-siblings-requires : tie.Need-set_siblings-requires
 set-siblings-requires c κs = search rules
@@ -92,8 +92,8 @@ returns c =
     leaves-of-whole _ _ _ _ _ _ pre.0.1 _ _ _ _ _ set.set-siblings.ensures
     (filled-page _ _ _ _ _ _ _ _ _ refl filled.fill.ensures _ a.zero a.one a.bit
     filled.before.before.pack-page.ensures page.page-of-bit.ensures pre.1.1)
-    (filled-page _ _ _ _ _ _ _ _ _ (add-one a.m) c.before.before.fill-2.ensures _ a.one a.zero a.bit
-    c.before.before.before.before.pack_page-own.ensures own.page_of_bit-2.ensures pre.1.1)
+    (filled-page _ _ _ _ _ _ _ _ _ (add-one a.m) c.fill-2.ensures _ a.one a.zero a.bit
+    c.pack_page-own.ensures own.page_of_bit-2.ensures pre.1.1)
 
 pub set_leaves_spec : {M : Type 1} → statement M
 set_leaves_spec =

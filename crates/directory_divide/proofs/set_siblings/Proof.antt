@@ -25,13 +25,13 @@ abbrev turn : tie.After-slice_known-in-loop-y-1 invariant-loop decreases-loop �
 turn c = c.before.before.before.before.before
 
 -- y < 12
-small : (c : Turn) → c.before.loop-y.y < 12
+small : (c : Turn) → c.before.loop.y < 12
 small c =
     let pre = c.before.before.before.requires in
-    omega (arith, c.loop-y-test.true, pre.2, pre.0.short)
+    omega (arith, c.loop-test.true, pre.2, pre.0.short)
 
 loop-holds : tie.Need-loop-y-init invariant-loop decreases-loop
-loop-holds c = (omega arith, c.before.requires.1, siblings-none _ _ _ _ _)
+loop-holds c = (omega arith, c.requires.1, siblings-none _ _ _ _ _)
 
 add-pack-empty : tie.Need-overflow_add-y invariant-loop decreases-loop
 add-pack-empty c = record { fits = omega (arith, small c) }
@@ -44,9 +44,9 @@ pack-empty-requires c κs = omega (arith, small c)
 
 fill-requires : tie.Need-fill-requires invariant-loop decreases-loop
 fill-requires c κs =
-    let pre = c.before.before.before.before.before.requires in (
-      fits-shallower _ _ _ _ _ pre.0 (omega (arith, pre.2)) c.before.before.before.loop-y.invariant.2.size,
-      omega (arith, c.before.before.loop-y-test.true, pre.2),
+    let pre = c.requires in (
+      fits-shallower _ _ _ _ _ pre.0 (omega (arith, pre.2)) c.loop-y.invariant.2.size,
+      omega (arith, c.loop-y-test.true, pre.2),
     )
 
 add-y : tie.Need-overflow_add-y-in-loop-y invariant-loop decreases-loop
@@ -57,19 +57,19 @@ loop-less c = omega (arith, (turn c).loop-test.true)
 
 loop-again : tie.Need-loop-y-preserved invariant-loop decreases-loop
 loop-again c =
-    let l = (turn c).before.loop-y in (
+    let l = (turn c).before.loop in (
       omega (arith, l.inv.0),
       omega (arith, (turn c).loop-test.true),
       siblings-next _ _ _ _ _ _ _ l.inv.2 l.inv.0 _ _
-          c.before.before.before.before.pack_empty-word.ensures c.before.before.fill.ensures,
+          c.pack_empty-word.ensures c.fill.ensures,
     )
 
 same_length : tie.Need-shape_of-dir invariant-loop decreases-loop
-same_length c = c.before.loop-y.invariant.2.size
+same_length c = c.loop-y.invariant.2.size
 
 returns : tie.Need-returns invariant-loop decreases-loop
 returns c =
-    let l = c.before.loop-y in
+    let l = c.loop-y in
     siblings-at _ _ _ _ _ _ _ l.invariant.2 _ (omega (arith, l.invariant.1, c.loop-y-test.false))
 
 pub set_siblings_spec : {M : Type 1} → statement M

@@ -39,30 +39,30 @@ small : (c : Found) → 2 ^ suc (t c) ≤ 4096
 small c = le_trans (pow_mono c.before.before.requires.short) (omega arith)
 
 deep : (c : Found) → t c < length (steps (ws c))
-deep c = step_pair-lt (ws c) (t c) _ c.step_place-g.ensures c.before.before.requires.fit
+deep c = step_pair-lt (ws c) (t c) _ c.step-place.ensures c.before.before.requires.fit
 
 below : (c : tie.In-loop-r invariant-loop decreases-loop) → let s = c.before.before in
-    (1 * 2 ^ t s) % 2 ^ 64 + c.before.loop-r.r < 2 ^ suc (t s)
+    (1 * 2 ^ t s) % 2 ^ 64 + c.loop-r.r < 2 ^ suc (t s)
 below c = omega (arith, size_is c.before.before, c.loop-r-test.true)
 
 -- the whole cell's address
 low : (c : tie.After-whole_of-whole invariant-loop decreases-loop) → c.whole_of-whole.result < 2 ^ t c.before.before.before
 low c =
     let s = c.before.before.before in
-    upper_half-lt (ws s) s.before.before.requires.fit (t s) (deep s) _ _ c.whole_of-whole.ensures
+    upper_half-lt (ws s) s.requires.fit (t s) (deep s) _ _ c.whole_of-whole.ensures
 
 step-place-requires : tie.Need-step_place-g-requires invariant-loop decreases-loop
-step-place-requires c κs = (c.before.requires.fit, c.before.requires.deep)
+step-place-requires c κs = (c.requires.fit, c.requires.deep)
 
 shl-size : tie.Need-overflow_shl-size invariant-loop decreases-loop
-shl-size c = omega (arith, c.before.before.requires.short)
+shl-size c = omega (arith, c.requires.short)
 
 loop-holds : tie.Need-loop-r-init invariant-loop decreases-loop
 loop-holds c =
-    let words = c.before.before.args.dir.now in
+    let words = c.args.dir.now in
     let start : 2 ^ t c ≡ (1 * 2 ^ t c) % 2 ^ 64 + 0 = omega (arith, size_is c) in
     subst (DoubledTo (ws c) (t c) words words) start
-    (doubled_to-none (ws c) c.before.before.requires.fit (t c) (deep c) words)
+    (doubled_to-none (ws c) c.requires.fit (t c) (deep c) words)
 
 add_a : tie.Need-overflow_add-a invariant-loop decreases-loop
 add_a c = record { fits = omega (arith, below c, small c.before.before) }
@@ -71,9 +71,9 @@ whole-of-requires : tie.Need-whole_of-whole-requires invariant-loop decreases-lo
 whole-of-requires c κs =
     let s = c.before.before in
     record {
-      fit = s.before.before.requires.fit;
-      from = c.before.loop-r.invariant.low;
-      past = subst (λ n. (1 * 2 ^ t s) % 2 ^ 64 + c.before.loop-r.r < 2 ^ n) (sym (add-one (t s))) (below c);
+      fit = s.requires.fit;
+      from = c.loop-r.invariant.low;
+      past = subst (λ n. (1 * 2 ^ t s) % 2 ^ 64 + c.loop-r.r < 2 ^ n) (sym (add-one (t s))) (below c);
       pair = s.step_place-g.ensures;
     }
 
@@ -89,8 +89,8 @@ slice-read-word c =
       arith,
       low c.before,
       below c.before.before,
-      s.before.before.requires.room,
-      c.before.before.before.loop-r.invariant.size,
+      s.requires.room,
+      c.loop-r.invariant.size,
     )
 
 mul-dir : tie.Need-offset_bounds-dir-a invariant-loop decreases-loop
@@ -99,32 +99,32 @@ mul-dir c = record { fits = omega (arith, below c.before.before, small c.before.
 slice-write-dir : tie.Need-bounds-dir-a invariant-loop decreases-loop
 slice-write-dir c =
     let s = c.before.before.before.before in
-    omega (arith, below c.before.before, s.before.before.requires.room, c.before.before.before.loop-r.invariant.size)
+    omega (arith, below c.before.before, s.requires.room, c.loop-r.invariant.size)
 
 add_r : tie.Need-overflow_add-r invariant-loop decreases-loop
 add_r c = record { fits = omega (arith, below c.before.before, small c.before.before.before.before) }
 
 loop-less : tie.Need-loop-r-smaller invariant-loop decreases-loop
-loop-less c = omega (arith, c.before.before.loop-r-test.true)
+loop-less c = omega (arith, c.loop-r-test.true)
 
 loop-again : tie.Need-loop-r-preserved invariant-loop decreases-loop
 loop-again c =
-    let l = c.before.before.before.loop-r in
+    let l = c.loop-r in
     let s = c.before.before.before.before in
     let a = (1 * 2 ^ t s) % 2 ^ 64 + l.r in
     let next : a + 1 ≡ (1 * 2 ^ t s) % 2 ^ 64 + (l.r + 1) = omega arith in
     subst (DoubledTo (ws s) (t s) _ _) next
-    (doubled_to-suc (ws s) s.before.before.requires.fit (t s) (deep s) _ l.dir a l.invariant _
-    s.before.before.requires.room (below c.before.before) c.before.whole_of-whole.ensures)
+    (doubled_to-suc (ws s) s.requires.fit (t s) (deep s) _ l.dir a l.invariant _
+    s.requires.room (below c.before.before) c.whole_of-whole.ensures)
 
 same_length : tie.Need-shape_of-dir invariant-loop decreases-loop
-same_length c = c.before.loop-r.invariant.size
+same_length c = c.loop-r.invariant.size
 
 returns : tie.Need-returns invariant-loop decreases-loop
 returns c =
-    let l = c.before.loop-r in
+    let l = c.loop-r in
     let s = c.before.before in
-    doubled_to-end (ws s) s.before.before.requires.fit (t s) (deep s) _ l.dir _ l.invariant
+    doubled_to-end (ws s) s.requires.fit (t s) (deep s) _ l.dir _ l.invariant
     (omega (arith, size_is s, c.loop-r-test.false))
 
 pub double_spec : {M : Type 1} → statement M

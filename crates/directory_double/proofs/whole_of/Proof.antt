@@ -12,15 +12,15 @@ use borrow.Author.Rules.{rules}
 use Rattle.directory_double.proofs.whole_of.Statement.{statement}
 use Rattle.directory_double.proofs.whole_of.Tie as tie
 
-found : (c : tie.After-index_before-index) → let s = c.before.args in
+found : (c : tie.After-index_before-index) → let s = c.args in
     Whole (width_list s.widths) s.t s.g s.a (index_list c.index_before-index.result)
-found c = whole _ _ _ _ (index_list c.index_before-index.result) c.before.requires refl c.index_before-index.ensures
+found c = whole _ _ _ _ (index_list c.index_before-index.result) c.requires refl c.index_before-index.ensures
 
 index-before-requires : tie.Need-index_before-index-requires
 index-before-requires c κs = search rules
 
 without-bit-requires : tie.Need-without_bit-whole-requires
-without-bit-requires c κs = (c.before.requires.pair.low, (found c).high)
+without-bit-requires c κs = (c.requires.pair.low, (found c).high)
 
 locate-requires : tie.Need-locate-requires
 locate-requires c κs =
@@ -32,8 +32,8 @@ returns : tie.Need-returns
 unfolding cell_address
 returns c =
     let f = found c.before.before in
-    let ws = width_list c.before.before.before.args.widths in
-    (f.string, f.at, sym (c.locate.ensures ∙ ap (address ws) (c.before.without_bit-whole.ensures ∙ f.cleared)))
+    let ws = width_list c.args.widths in
+    (f.string, f.at, sym (c.locate.ensures ∙ ap (address ws) (c.without_bit-whole.ensures ∙ f.cleared)))
 
 pub whole_of_spec : {M : Type 1} → statement M
 whole_of_spec =

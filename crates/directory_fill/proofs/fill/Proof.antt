@@ -35,7 +35,7 @@ named : (c : tie.After-cell_before-index) → let s = c.before.before.before in
     cell (ws s) s.args.x (string s) ≡ index_list c.cell_before-index.result
 named c =
     let s = c.before.before.before in
-    ap (λ n. cell (ws s) n (string s)) (sym c.before.place_of-start.ensures.before) ∙ sym c.cell_before-index.ensures
+    ap (λ n. cell (ws s) n (string s)) (sym c.place_of-start.ensures.before) ∙ sym c.cell_before-index.ensures
 
 -- and its address that cell's
 own_is : (c : tie.After-locate-own) → let s = c.before.before.before.before in
@@ -43,7 +43,7 @@ own_is : (c : tie.After-locate-own) → let s = c.before.before.before.before in
 unfolding cell_address
 own_is c = c.locate-own.ensures ∙ ap (address (ws c.before.before.before.before)) (sym (named c.before))
 
-low : (c : tie.After-locate-own) → c.locate-own.result < 2 ^ c.before.before.before.before.args.t
+low : (c : tie.After-locate-own) → c.locate-own.result < 2 ^ c.args.t
 low c =
     let s = c.before.before.before.before in
     subst (λ a. a < 2 ^ s.args.t) (sym (own_is c))
@@ -67,15 +67,15 @@ mul-dir c =
     record { fits = omega (arith, low c) }
 
 slice-write-dir : tie.Need-bounds-dir-own
-slice-write-dir c = omega (arith, low c, c.before.before.before.before.requires.0.room)
+slice-write-dir c = omega (arith, low c, c.requires.0.room)
 
 fill-blocks-requires : tie.Need-fill_blocks-requires
 fill-blocks-requires c κs =
     let s = c.before.before.before.before.before in
-    let stored = length-set s.args.dir.now c.before.locate-own.result s.args.word in
+    let stored = length-set s.args.dir.now c.locate-own.result s.args.word in
     record {
       string = (string s, named c.before.before);
-      place = c.before.before.before.place_of-start.ensures;
+      place = c.place_of-start.ensures;
       within = s.requires.1;
       fits = subst (DirectoryFits (ws s) s.args.t) (sym stored) s.requires.0;
     }
@@ -83,15 +83,15 @@ fill-blocks-requires c κs =
 same_length : tie.Need-shape_of-dir
 same_length c =
     let s = c.before.before.before.before.before.before.before.before in
-    c.before.before.fill_blocks.auto.1.1.1.1.1.1.0
-    ∙ length-set s.args.dir.now c.before.before.before.before.locate-own.result s.args.word
+    c.fill_blocks.auto.1.1.1.1.1.1.0
+    ∙ length-set s.args.dir.now c.locate-own.result s.args.word
 
 returns : tie.Need-returns
 returns c =
     let l = c.before.before.before.before in
     let s = l.before.before.before.before in
     filled-region (ws s) s.requires.0.fit _ _ s.requires.1 (deep s) (string s) _ _ _ _ (own_is l) s.requires.0.room
-    (c.before.before.fill_blocks.ensures (string s) (named l.before))
+    (c.fill_blocks.ensures (string s) (named l.before))
 
 pub fill_spec : {M : Type 1} → statement M
 fill_spec =

@@ -22,9 +22,9 @@ same_length c = search rules
 
 returns : tie.Need-returns
 returns c =
-    let m = c.before.before.fill_mask.ensures in
-    let first = c.before.before.before.before.before.address_before-base.ensures in
-    let last = c.before.before.before.before.address_before-end.ensures in
+    let m = c.fill_mask.ensures in
+    let first = c.address_before-base.ensures in
+    let last = c.address_before-end.ensures in
     rw (sym first, sym last) m
 
 pub fill_block_spec : {M : Type 1} → statement M

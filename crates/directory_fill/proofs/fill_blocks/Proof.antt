@@ -17,34 +17,34 @@ abbrev decreases-loop : tie.decreases-loop-y
 decreases-loop widths index start x t word dir₀ g₀ last₀ y₀ dir g last y = t - y
 
 loop-holds : tie.Need-loop-y-init invariant-loop decreases-loop
-loop-holds c = filled_to-start _ _ _ _ _ _ _ c.before.requires
+loop-holds c = filled_to-start _ _ _ _ _ _ _ c.requires
 
 step-from-requires : tie.Need-step_from-step-requires invariant-loop decreases-loop
 step-from-requires c κs =
-    let f = c.before.before.before.requires.fits in
-    let l = c.before.loop-y.invariant in
+    let f = c.requires.fits in
+    let l = c.loop-y.invariant in
     (f.fit, omega (arith, c.loop-y-test.true, f.deep), l.place)
 
 with-bit-requires : tie.Need-with_bit-first-requires invariant-loop decreases-loop
 with-bit-requires c κs =
     let pair = c.step_from-step.ensures in
-    let l = c.before.before.loop-y in
-    (pair.low, first_small _ _ _ _ _ _ _ c.before.before.before.before.requires _ _ _ _ l.invariant _ pair)
+    let l = c.loop-y in
+    (pair.low, first_small _ _ _ _ _ _ _ c.requires _ _ _ _ l.invariant _ pair)
 
 with-bit-requires-2 : tie.Need-with_bit-last-requires invariant-loop decreases-loop
 with-bit-requires-2 c κs =
-    let pair = c.before.step_from-step.ensures in
-    let l = c.before.before.before.loop-y in
-    (pair.low, last-small _ _ _ _ _ _ _ c.before.before.before.before.before.requires _ _ _ _ l.invariant _ pair)
+    let pair = c.step_from-step.ensures in
+    let l = c.loop-y in
+    (pair.low, last-small _ _ _ _ _ _ _ c.requires _ _ _ _ l.invariant _ pair)
 
 fill-block-requires : tie.Need-fill_block-requires invariant-loop decreases-loop
 fill-block-requires c κs =
     let bits = c.before in
     let step = bits.before.before in
     let turn = step.before in
-    let l = turn.before.loop-y in
-    block-fits _ _ _ _ _ _ _ turn.before.before.before.requires _ _ _ _ l.invariant _ step.step_from-step.ensures
-    turn.loop-y-test.true _ _ bits.before.with_bit-first.ensures bits.with_bit-last.ensures
+    let l = turn.loop-y in
+    block-fits _ _ _ _ _ _ _ turn.requires _ _ _ _ l.invariant _ step.step_from-step.ensures
+    turn.loop-y-test.true _ _ bits.with_bit-first.ensures bits.with_bit-last.ensures
 
 -- from the end of a turn back to its step
 abbrev stepped : tie.After-slice_known-in-loop-y-1 invariant-loop decreases-loop → tie.After-step_from-step invariant-loop decreases-loop
@@ -59,7 +59,7 @@ add-y c =
     record { fits = omega (arith, turn.loop-test.taken, turn.before.before.before.pre.fits.short) }
 
 loop-less : tie.Need-loop-y-smaller invariant-loop decreases-loop
-loop-less c = omega (arith, (stepped c).before.loop-y-test.true)
+loop-less c = omega (arith, (stepped c).before.loop-test.true)
 
 loop-again : tie.Need-loop-y-preserved invariant-loop decreases-loop
 loop-again c =
@@ -67,16 +67,16 @@ loop-again c =
     let turn = (stepped c).before in
     let l = turn.before.loop in
     filled_to-suc _ _ _ _ _ _ _ turn.before.before.before.pre _ _ _ _ l.inv _ (stepped c).step_from.ensures
-    turn.loop-test.taken _ _ bits.before.with_bit-first.ensures bits.with_bit-last.ensures _
-    c.before.before.fill_block.ensures
+    turn.loop-test.taken _ _ bits.with_bit-first.ensures bits.with_bit-last.ensures _
+    c.fill_block.ensures
 
 same_length : tie.Need-shape_of-dir invariant-loop decreases-loop
-same_length c = c.before.loop-y.invariant.size
+same_length c = c.loop-y.invariant.size
 
 returns : tie.Need-returns invariant-loop decreases-loop
 returns c =
-    let l = c.before.loop-y in
-    filled_to-end _ _ _ _ _ _ _ c.before.before.before.requires _ _ _ _ l.invariant c.loop-y-test.false
+    let l = c.loop-y in
+    filled_to-end _ _ _ _ _ _ _ c.requires _ _ _ _ l.invariant c.loop-y-test.false
 
 pub fill_blocks_spec : {M : Type 1} → statement M
 fill_blocks_spec =

@@ -25,7 +25,7 @@ sub-result : tie.Need-overflow_sub-result
 sub-result c = search rules
 
 width-le : (c : tie.After-width_at-w) → c.width_at-w.result ≤ 16
-width-le c = subst (λ w. w ≤ 16) (sym c.width_at-w.ensures) (c.before.requires.0 (c.before.args.g % 4))
+width-le c = subst (λ w. w ≤ 16) (sym c.width_at-w.ensures) (c.requires.0 (c.args.g % 4))
 
 cast-result : tie.Need-overflow_cast-result
 cast-result c = record { fits = omega (arith, width-le c) }
@@ -35,8 +35,8 @@ shr-result c = omega (arith, width-le c)
 
 returns : tie.Need-returns
 returns c =
-    let s = c.before.args in
-    let h = c.before.requires in
+    let s = c.args in
+    let h = c.requires in
     split_bit-shifted (width_list s.widths) s.t2 s.g c.width_at-w.result h.0 h.1 c.width_at-w.ensures
 
 pub bit_at_spec : {M : Type 1} → statement M

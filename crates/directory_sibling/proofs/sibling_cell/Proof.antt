@@ -73,7 +73,7 @@ one-half c =
     let s = start at in
     let g = s.args.g in
     cell-sibling-one (ws s) s.pre.0 _ g (step s) (string s)
-    (bit_is c.before.before ∙ c.before.if-pair_bit.false)
+    (bit_is c.before.before ∙ c.if-pair_bit.false)
     ∙ ap (bit_set g) (named at)
     ∙ sym c.with_bit.ensures
 

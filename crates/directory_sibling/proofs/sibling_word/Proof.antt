@@ -35,7 +35,7 @@ deep s =
     let w = s.args.widths in
     omega (arith, s.requires.0.deep, length-steps w.w0 w.w1 w.w2 w.w3 s.requires.0.fit)
 
-below : (c : tie.After-sibling_cell-cell) → c.sibling_cell-cell.result < 2 ^ c.before.before.args.t
+below : (c : tie.After-sibling_cell-cell) → c.sibling_cell-cell.result < 2 ^ c.args.t
 below c =
     let s = c.before.before in
     subst (λ a. a < 2 ^ s.args.t) (sym c.sibling_cell-cell.ensures)
@@ -43,7 +43,7 @@ below c =
 
 sibling-cell-requires : tie.Need-sibling_cell-cell-requires
 sibling-cell-requires c κs =
-    let asked = c.before.requires.0 in
+    let asked = c.requires.0 in
     (asked.fit, asked.step.low, asked.step.live)
 
 mul-result : tie.Need-offset_bounds-dir-cell
@@ -59,7 +59,7 @@ returns c =
     let there = cell_address-cut-deeper (ws s) s.requires.0.fit x s.args.t s.requires.0.below (deep s) (other s) in (
       cut x (other s),
       agree-sym x (cut x (other s)) (other s) (agree-cut x (other s)),
-      ap (λ a. get_or s.args.dir.now a 0) (c.before.sibling_cell-cell.ensures ∙ sym there),
+      ap (λ a. get_or s.args.dir.now a 0) (c.sibling_cell-cell.ensures ∙ sym there),
     )
 
 pub sibling_word_spec : {M : Type 1} → statement M

@@ -16,7 +16,7 @@ depth-of-requires c = search rules
 returns : tie.Need-returns-then-field-eq0
 returns c =
     let s = c.before.before in
-    ap Empty c.before.depth_of-depth.ensures.0
+    ap Empty c.depth_of-depth.ensures.0
     ∙ sym (leaf_of-empty _ (sym s.field_of-field.ensures.0 ∙ c.if-field-eq0.true))
 
 sub-t5 : tie.Need-overflow_sub-result
@@ -24,8 +24,8 @@ sub-t5 c = search rules
 
 returns-2 : tie.Need-returns
 returns-2 c =
-    let field = c.before.before.field_of-field in
-    ap (λ x. Page (field.result - 1) x) c.before.depth_of-depth.ensures.0
+    let field = c.field_of-field in
+    ap (λ x. Page (field.result - 1) x) c.depth_of-depth.ensures.0
     ∙ sym (leaf_of-page _ _ (sym field.ensures.0) c.if-field-eq0.false)
 
 pub unpack_spec : {M : Type 1} → statement M

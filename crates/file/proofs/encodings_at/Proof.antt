@@ -19,10 +19,10 @@ to-encodings-requires c κs = search rules
 
 returns : tie.Need-returns
 returns c =
-    let a = c.before.before.before.args in
+    let a = c.args in
     c.to_encodings.ensures
     ∙ ap (λ k. lane_sum k a.bias)
-    (c.before.read_key.ensures ∙ sym (key_in-field a.file.now (record_size * a.i)))
+    (c.read_key.ensures ∙ sym (key_in-field a.file.now (record_size * a.i)))
 
 pub encodings_at_spec : {M : Type 1} → statement M
 encodings_at_spec = tie.close (tie.spec mul-read-key read-key-requires to-encodings-requires returns)

@@ -14,7 +14,7 @@ shared-slice-read-result c = search rules
 
 cast-result : tie.Need-overflow_cast-result
 cast-result c =
-    let a = c.before.args in
+    let a = c.args in
     record { fits = omega (arith, c.shared_slice_known-1.given (length a.file.now - a.n)) }
 
 returns : tie.Need-returns

@@ -35,8 +35,8 @@ array-read-if1 c = search rules
 
 returns : tie.Need-returns-then-file-size invariant-loop decreases-loop
 returns c =
-    let file = c.before.before.before.before.args.file.now in
-    let i = c.before.before.before.loop-i.i in
+    let file = c.args.file.now in
+    let i = c.loop-i.i in
     sym (all_below-fails (letter_stands file) 4 i (omega arith) (ne_eqb _ _ c.if-file-size.true))
 
 add-i : tie.Need-overflow_add-i invariant-loop decreases-loop
@@ -47,12 +47,12 @@ loop-less c = search rules
 
 loop-again : tie.Need-loop-i-preserved invariant-loop decreases-loop
 loop-again c =
-    let loop = c.before.before.before.loop-i in
+    let loop = c.loop-i in
     (omega arith, rw (add-one loop.i) (all_below-suc _ loop.i loop.invariant.1 (eq-eqb _ _ c.if-file-size.false)))
 
 returns-2 : tie.Need-returns invariant-loop decreases-loop
 returns-2 c =
-    let loop = c.before.loop-i in
+    let loop = c.loop-i in
     let end : loop.i ≡ 4 = omega arith in
     sym (rw end at loop.invariant.1)
 

@@ -24,7 +24,7 @@ decreases-loop file shape widths j₀ j = 4 - j
 bound : (c : tie.After-shape_in-shape invariant-loop decreases-loop) → c.shape_in-shape.result.attributes ≤ 4
 bound c =
     let shape = c.shape_in-shape.result in
-    let number : shape_number shape ≡ 0 = rw c.shape_in-shape.ensures c.before.before.before.before.requires.1 in
+    let number : shape_number shape ≡ 0 = rw c.shape_in-shape.ensures c.requires.1 in
     attributes-le shape (in_bounds-of shape number)
 
 byte-before-requires : tie.Need-byte_before-requires invariant-loop decreases-loop
@@ -33,7 +33,7 @@ byte-before-requires c κs = search rules
 returns : tie.Need-returns-then-byte_before-ne0 invariant-loop decreases-loop
 returns c =
     let call = c.before in
-    sym (is_plain-last call.before.before.args.file.now (λ e. c.if-byte_before-ne0.true (call.byte_before.ensures ∙ e)))
+    sym (is_plain-last call.args.file.now (λ e. c.if-byte_before-ne0.true (call.byte_before.ensures ∙ e)))
 
 shape-in-requires : tie.Need-shape_in-shape-requires invariant-loop decreases-loop
 shape-in-requires c κs = search rules
@@ -43,7 +43,7 @@ cast-j c = search rules
 
 loop-holds : tie.Need-loop-j-init invariant-loop decreases-loop
 loop-holds c =
-    let shape = c.before.before.shape_in-shape.result in
+    let shape = c.shape_in-shape.result in
     (omega arith, bound c.before.before, plain_width-used shape.attributes shape.widths)
 
 mul-if2 : tie.Need-offset_bounds-widths-j invariant-loop decreases-loop
@@ -57,7 +57,7 @@ returns-2 c =
     let loop = c.before.before in
     let call = loop.before.before.before in
     let shape = call.shape_in-shape.result in
-    let file = call.before.before.before.before.args.file.now in
+    let file = call.args.file.now in
     sym (is_plain-width file shape call.shape_in-shape.ensures loop.loop-j.j (omega arith) (omega arith) c.if-widths-j-ne0.true)
 
 add-j : tie.Need-overflow_add-j invariant-loop decreases-loop
@@ -68,8 +68,8 @@ loop-less c = search rules
 
 loop-again : tie.Need-loop-j-preserved invariant-loop decreases-loop
 loop-again c =
-    let loop = c.before.before.loop-j in
-    let shape = c.before.before.before.before.before.shape_in-shape.result in
+    let loop = c.loop-j in
+    let shape = c.shape_in-shape.result in
     let unused = plain_width-unused shape.attributes shape.widths loop.j loop.invariant.0 in
     let plain = unused ∙ eq-eqb _ _ c.if-widths-j-ne0.false in
     (omega arith, omega arith, rw (add-one loop.j) (all_below-suc _ loop.j loop.invariant.2 plain))
@@ -79,11 +79,11 @@ shr-result c = omega (arith, bound c.before.before.before.before.before)
 
 returns-3 : tie.Need-returns invariant-loop decreases-loop
 returns-3 c =
-    let loop = c.before.before.loop-j in
+    let loop = c.loop-j in
     let call = c.before.before.before.before.before in
     let first = call.before.before in
-    let file = first.before.before.args.file.now in
-    let last = sym first.byte_before.ensures ∙ call.before.if-byte_before-ne0.false in
+    let file = first.args.file.now in
+    let last = sym first.byte_before.ensures ∙ call.if-byte_before-ne0.false in
     let end : loop.j ≡ 4 = omega arith in
     sym (is_plain-marks file call.shape_in-shape.result call.shape_in-shape.ensures last (rw end at loop.invariant.2))
 

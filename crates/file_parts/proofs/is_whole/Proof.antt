@@ -16,25 +16,25 @@ use Rattle.file_parts.proofs.is_whole.Tie as tie
 
 -- ---- what is known behind each test
 
-long : (c : tie.Else-size-lt-END_SIZE) → end_size ≤ length c.before.before.args.file.now
+long : (c : tie.Else-size-lt-END_SIZE) → end_size ≤ length c.args.file.now
 long c = omega arith
 
-stand : (c : tie.Else-not-has_letters) → all_below 4 (letter_stands c.before.before.before.before.args.file.now) ≡ true
-stand c = sym c.before.has_letters.ensures ∙ not-false _ c.if-not-has_letters.false-raw
+stand : (c : tie.Else-not-has_letters) → all_below 4 (letter_stands c.args.file.now) ≡ true
+stand c = sym c.has_letters.ensures ∙ not-false _ c.if-not-has_letters.false-raw
 
 shape : (c : tie.Else-number_before)
-    → number_before 12 c.before.before.before.before.before.before.args.file.now ≡ end_size
-shape c = sym c.before.number_before.ensures.0 ∙ c.if-number_before.false
+    → number_before 12 c.args.file.now ≡ end_size
+shape c = sym c.number_before.ensures.0 ∙ c.if-number_before.false
 
 counted : (c : tie.After-size_with-counted)
     → c.size_with-counted.result
-    ≡ file_size (file_count c.before.before.before.before.before.before.before.before.args.file.now)
-counted c = c.size_with-counted.ensures ∙ ap file_size c.before.number_before-2.ensures.0
+    ≡ file_size (file_count c.args.file.now)
+counted c = c.size_with-counted.ensures ∙ ap file_size c.number_before-2.ensures.0
 
 -- ---- the answers
 
 returns : tie.Need-returns-then-size-lt-END_SIZE
-returns c = sym (is_whole-short c.before.before.args.file.now c.if-size-lt-END_SIZE.true)
+returns c = sym (is_whole-short c.args.file.now c.if-size-lt-END_SIZE.true)
 
 has-letters-requires : tie.Need-has_letters-requires
 has-letters-requires c κs = search rules
@@ -42,7 +42,7 @@ has-letters-requires c κs = search rules
 returns-2 : tie.Need-returns-then-not-has_letters
 returns-2 c =
     let call = c.before in
-    let file = call.before.before.before.args.file.now in
+    let file = call.args.file.now in
     sym (is_whole-letters file (long call.before) (sym call.has_letters.ensures ∙ not-true _ c.if-not-has_letters.true-raw))
 
 number-before-requires : tie.Need-number_before-requires
@@ -51,7 +51,7 @@ number-before-requires c κs = search rules
 returns-3 : tie.Need-returns-then-number_before
 returns-3 c =
     let call = c.before in
-    let file = call.before.before.before.before.before.args.file.now in
+    let file = call.args.file.now in
     sym
     (is_whole-shape file (long call.before.before.before) (stand call.before)
     (λ e. c.if-number_before.true (call.number_before.ensures.0 ∙ e)))
@@ -69,7 +69,7 @@ returns-4 : tie.Need-returns-then-number_before-counted
 returns-4 c =
     let call = c.before in
     let at = call.before.before.before in
-    let file = at.before.before.before.before.before.before.args.file.now in
+    let file = at.args.file.now in
     sym
     (is_whole-size file (long at.before.before.before.before) (stand at.before.before) (shape at)
     (λ e. c.if-number_before-counted.true (call.number_before-3.ensures.0 ∙ e ∙ sym (counted call.before))))
@@ -78,7 +78,7 @@ returns-5 : tie.Need-returns
 returns-5 c =
     let call = c.before in
     let at = call.before.before.before in
-    let file = at.before.before.before.before.before.before.args.file.now in
+    let file = at.args.file.now in
     let size = sym call.number_before-3.ensures.0 ∙ c.if-number_before-counted.false ∙ counted call.before in
     ap (eqb (length file)) (counted call.before)
     ∙ sym (is_whole-length file (long at.before.before.before.before) (stand at.before.before) (shape at) size)

@@ -52,7 +52,7 @@ returns c =
     let call = first.before.before.before.before in
     let start = call.before.before.before.before in
     let a = start.args in
-    paste-trailer_bytes a.out.now _ _ _ _ a.at a.count _ start.requires.1 second.before.size_with.ensures
+    paste-trailer_bytes a.out.now _ _ _ _ a.at a.count _ start.requires.1 second.size_with.ensures
     call.copy.ensures first.write32.ensures second.write32-2.ensures third.write32-3.ensures
 
 pub put_trailer_spec : {M : Type 1} → statement M

@@ -8,14 +8,14 @@ use Rattle.file_parts.proofs.record_count.Tie as tie
 
 number-before-requires : tie.Need-number_before-requires
 number-before-requires c κs =
-    let bound = long-of-is_whole c.before.args.file.now c.before.requires in
+    let bound = long-of-is_whole c.args.file.now c.requires in
     (omega arith, omega arith)
 
 returns : tie.Need-returns
 returns c =
-    let file = c.before.before.args.file.now in
+    let file = c.args.file.now in
     let count = c.number_before.ensures.0 in
-    (count, ap file_size count ∙ length-of-is_whole file c.before.before.requires)
+    (count, ap file_size count ∙ length-of-is_whole file c.requires)
 
 pub record_count_spec : {M : Type 1} → statement M
 record_count_spec = tie.close (tie.spec number-before-requires returns)

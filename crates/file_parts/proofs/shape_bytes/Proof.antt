@@ -13,7 +13,7 @@ use Rattle.file_parts.proofs.shape_bytes.Statement.{statement}
 use Rattle.file_parts.proofs.shape_bytes.Tie as tie
 
 fit : (c : tie.After-widths_of-widths) → Fit (width_list c.widths_of-widths.result)
-fit c = widths-fit c.before.args.shape (width_list c.widths_of-widths.result) c.before.requires c.widths_of-widths.ensures
+fit c = widths-fit c.args.shape (width_list c.widths_of-widths.result) c.requires c.widths_of-widths.ensures
 
 attributes-bound : (c : tie.Start) → c.args.shape.attributes ≤ 4
 attributes-bound c = attributes-le c.args.shape (in_bounds-of c.args.shape c.requires)
@@ -47,16 +47,16 @@ cast-t9 c =
 cast-t10 : tie.Need-overflow_cast-result-7
 cast-t10 c =
     let call = c.before.before.before.before.before.before in
-    let positive = pow_pos call.before.before.args.shape.attributes in
+    let positive = pow_pos call.args.shape.attributes in
     let bound = pow_mono {j = 4} (attributes-bound call.before.before) in
     record { fits = marks-lt _ _ _ call.marks_below-marks.ensures (omega arith) (omega arith) }
 
 returns : tie.Need-returns
 returns c =
     let call = c.before.before.before.before.before.before in
-    let shape = call.before.before.args.shape in
+    let shape = call.args.shape in
     λ i. shape.attributes
-    ∷ (call.before.widths_of-widths.ensures i ++ shape.capacity ∷ call.marks_below-marks.ensures i ∷ 0 ∷ [])
+    ∷ (call.widths_of-widths.ensures i ++ shape.capacity ∷ call.marks_below-marks.ensures i ∷ 0 ∷ [])
 
 pub shape_bytes_spec : {M : Type 1} → statement M
 shape_bytes_spec =

@@ -40,14 +40,14 @@ unfolding file_shape
 returns c =
     let fourth = c.before.before.before in
     λ i. record {
-      attributes = c.before.before.byte_before-5.ensures i;
+      attributes = c.byte_before-5.ensures i;
       widths =
-          fourth.before.before.before.byte_before.ensures i
-          ∷ fourth.before.before.byte_before-2.ensures i
-          ∷ fourth.before.byte_before-3.ensures i
+          fourth.byte_before.ensures i
+          ∷ fourth.byte_before-2.ensures i
+          ∷ fourth.byte_before-3.ensures i
           ∷ fourth.byte_before-4.ensures i
           ∷ [];
-      capacity = c.before.byte_before-6.ensures i;
+      capacity = c.byte_before-6.ensures i;
       signs = c.byte_before-7.ensures i;
     }
 

@@ -22,14 +22,14 @@ decreases-loop shape file n widths bias last₀ bits₀ i₀ last bits i = n - i
 -- the key of record i
 key : (c : tie.After-encodings_at-key invariant-loop decreases-loop) → let start = c.before.before.before.before.before.before in
     unpacked_key c.encodings_at-key.result
-    ≡ (record_in start.args.shape start.args.file.now c.before.before.loop-i.i).key
+    ≡ (record_in start.args.shape start.args.file.now c.loop-i.i).key
 key c =
     let entry = c.before.before.before in
     let known = entry.before.before in
     let start = known.before in
     let bytes = known.shared_slice_known-1.given in
     let file = start.args.file.now in
-    let i = c.before.before.loop-i.i in
+    let i = c.loop-i.i in
     ap unpacked_key (c.encodings_at-key.ensures ∙ ap (λ b. encodings_at b file i) entry.bias_key-bias.ensures)
     ∙ unpacked_key-encodings_at start.args.shape file start.requires.0 (λ k. omega (arith, bytes k)) i
 
@@ -37,44 +37,44 @@ widths-of-requires : tie.Need-widths_of-widths-requires invariant-loop decreases
 widths-of-requires c κs = tt
 
 bias-key-requires : tie.Need-bias_key-bias-requires invariant-loop decreases-loop
-bias-key-requires c κs = c.before.before.requires.0
+bias-key-requires c κs = c.requires.0
 
 loop-holds : tie.Need-loop-i-init invariant-loop decreases-loop
 loop-holds c =
-    let a = c.before.before.before.args in
+    let a = c.args in
     (omega arith, risen-none a.shape a.file.now)
 
 encodings-at-requires : tie.Need-encodings_at-key-requires invariant-loop decreases-loop
-encodings-at-requires c κs = omega (arith, c.before.before.before.before.before.requires.1, c.loop-i-test.true)
+encodings-at-requires c κs = omega (arith, c.requires.1, c.loop-i-test.true)
 
 may-follow-requires : tie.Need-may_follow-requires invariant-loop decreases-loop
 may-follow-requires c κs =
     let start = c.before.before.before.before.before.before in
-    widths-fit start.args.shape _ start.requires.0 c.before.before.before.before.widths_of-widths.ensures
+    widths-fit start.args.shape _ start.requires.0 c.widths_of-widths.ensures
 
 returns : tie.Need-returns-then-not-may_follow invariant-loop decreases-loop
 returns c =
     let read = c.before.before in
-    let loop = read.before.before.loop-i in
-    let a = read.before.before.before.before.before.before.args in
-    let widths = read.before.before.before.before.widths_of-widths.ensures in
-    risen-stop a.shape a.file.now _ _ _ loop.invariant.1 _ (key read) _ widths _ c.before.may_follow.ensures
-    a.n read.before.loop-i-test.true (not-true _ c.if-not-may_follow.true-raw)
+    let loop = read.loop-i in
+    let a = read.args in
+    let widths = read.widths_of-widths.ensures in
+    risen-stop a.shape a.file.now _ _ _ loop.invariant.1 _ (key read) _ widths _ c.may_follow.ensures
+    a.n read.loop-i-test.true (not-true _ c.if-not-may_follow.true-raw)
 
 add-i : tie.Need-overflow_add-i invariant-loop decreases-loop
-add-i c = omega (arith, c.before.before.before.loop-i-test.true)
+add-i c = omega (arith, c.loop-i-test.true)
 
 loop-less : tie.Need-loop-i-smaller invariant-loop decreases-loop
-loop-less c = omega (arith, c.before.before.before.loop-i-test.true)
+loop-less c = omega (arith, c.loop-i-test.true)
 
 loop-again : tie.Need-loop-i-preserved invariant-loop decreases-loop
 loop-again c =
     let read = c.before.before in
-    let loop = read.before.before.loop-i in
-    let a = read.before.before.before.before.before.before.args in
-    let widths = read.before.before.before.before.widths_of-widths.ensures in (
-      omega (arith, read.before.loop-i-test.true),
-      risen-next a.shape a.file.now _ _ _ loop.invariant.1 _ (key read) _ widths _ c.before.may_follow.ensures
+    let loop = read.loop-i in
+    let a = read.args in
+    let widths = read.widths_of-widths.ensures in (
+      omega (arith, read.loop-i-test.true),
+      risen-next a.shape a.file.now _ _ _ loop.invariant.1 _ (key read) _ widths _ c.may_follow.ensures
           (not-false _ c.if-not-may_follow.false-raw),
     )
 
@@ -82,16 +82,16 @@ unpack-key-requires : tie.Need-unpack_key-requires invariant-loop decreases-loop
 unpack-key-requires c κs = tt
 
 encodings-fit-requires : tie.Need-encodings_fit-requires invariant-loop decreases-loop
-encodings-fit-requires c κs = c.before.before.before.before.before.before.requires.0
+encodings-fit-requires c κs = c.requires.0
 
 returns-2 : tie.Need-returns invariant-loop decreases-loop
 returns-2 c =
-    let loop = c.before.before.before.loop-i in
-    let a = c.before.before.before.before.before.before.before.args in
+    let loop = c.loop-i in
+    let a = c.args in
     c.encodings_fit.ensures
-    ∙ ap (index_fits (widths_of a.shape)) c.before.unpack_key.ensures
+    ∙ ap (index_fits (widths_of a.shape)) c.unpack_key.ensures
     ∙ risen-end a.shape a.file.now _ _ _ loop.invariant.1 a.n loop.invariant.0
-    c.before.before.loop-i-test.false
+    c.loop-i-test.false
 
 pub is_set_spec : {M : Type 1} → statement M
 is_set_spec =

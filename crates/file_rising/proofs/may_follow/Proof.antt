@@ -11,7 +11,7 @@ use Rattle.file_rising.proofs.may_follow.Tie as tie
 
 returns : tie.Need-returns-then-i-eq0
 returns c =
-    let a = c.before.args in
+    let a = c.args in
     may_follow-first (width_list a.widths) (unpacked_key a.last) (unpacked_key a.key) a.i c.if-i-eq0.true
 
 compare-requires : tie.Need-compare-order-requires
@@ -28,24 +28,24 @@ enum-told-3 c = search rules
 
 returns-2 : tie.Need-returns-in-Same
 returns-2 c =
-    let call = c.before.before in
-    let a = call.before.before.args in
+    let call = c.before in
+    let a = call.args in
     may_follow-compared (width_list a.widths) (unpacked_key a.last) (unpacked_key a.key) a.i
-    call.before.if-i-eq0.false Same (sym call.compare-order.ensures ∙ c.enum_told-1.given.1)
+    call.if-i-eq0.false Same (sym call.compare-order.ensures ∙ c.in-Same.is)
 
 returns-3 : tie.Need-returns-in-Before
 returns-3 c =
-    let call = c.before.before in
-    let a = call.before.before.args in
+    let call = c.before in
+    let a = call.args in
     may_follow-compared (width_list a.widths) (unpacked_key a.last) (unpacked_key a.key) a.i
-    call.before.if-i-eq0.false Before (sym call.compare-order.ensures ∙ c.enum_told-in-Before-1.given.1)
+    call.if-i-eq0.false Before (sym call.compare-order.ensures ∙ c.in-Before.is)
 
 returns-4 : tie.Need-returns-in-After
 returns-4 c =
-    let call = c.before.before in
-    let a = call.before.before.args in
+    let call = c.before in
+    let a = call.args in
     may_follow-compared (width_list a.widths) (unpacked_key a.last) (unpacked_key a.key) a.i
-    call.before.if-i-eq0.false After (sym call.compare-order.ensures ∙ c.enum_told-in-After-1.given.1)
+    call.if-i-eq0.false After (sym call.compare-order.ensures ∙ c.in-After.is)
 
 pub may_follow_spec : {M : Type 1} → statement M
 may_follow_spec =

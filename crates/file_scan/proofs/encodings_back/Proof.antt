@@ -12,8 +12,8 @@ encodings-at-requires c κs = search rules
 
 returns : tie.Need-returns-then-i-capacity
 returns c =
-    let a = c.before.before.before.args in
-    let first : 0 ≡ a.i - a.capacity = omega (arith, c.before.if-i-capacity.true) in
+    let a = c.args in
+    let first : 0 ≡ a.i - a.capacity = omega (arith, c.if-i-capacity.true) in
     c.encodings_at.ensures ∙ ap (encodings_at a.bias a.file.now) first
 
 encodings-at-requires-2 : tie.Need-encodings_at-requires-2

@@ -6,29 +6,29 @@ use Rattle.file_scan.proofs.new_leaves.Statement.{statement}
 use Rattle.file_scan.proofs.new_leaves.Tie as tie
 
 returns : tie.Need-returns-then-i-eq0
-returns c = rw (eq-eqb c.before.args.i 0 c.if-i-eq0.true)
+returns c = rw (eq-eqb c.args.i 0 c.if-i-eq0.true)
 
 first-step-requires : tie.Need-first_step-requires
 first-step-requires c κs = search rules
 
 returns-2 : tie.Need-returns-then-first_step-depth
 returns-2 c =
-    let near = c.before.first_step in
-    let a = c.before.before.before.args in
+    let near = c.first_step in
+    let a = c.args in
     rw (
-      ne_eqb a.i 0 c.before.before.if-i-eq0.false,
+      ne_eqb a.i 0 c.if-i-eq0.false,
       ← near.ensures,
       lt-ltb near.result a.depth c.if-first_step-depth.true,
     )
 
 returns-3 : tie.Need-returns-then-i-capacity
 returns-3 c =
-    let near = c.before.before.first_step in
-    let a = c.before.before.before.before.args in
+    let near = c.first_step in
+    let a = c.args in
     rw (
-      ne_eqb a.i 0 c.before.before.before.if-i-eq0.false,
+      ne_eqb a.i 0 c.if-i-eq0.false,
       ← near.ensures,
-      le-ltb near.result a.depth c.before.if-first_step-depth.false,
+      le-ltb near.result a.depth c.if-first_step-depth.false,
       lt-leb a.capacity a.i c.if-i-capacity.true,
     )
 
@@ -37,28 +37,28 @@ first-step-requires-2 c κs = search rules
 
 returns-4 : tie.Need-returns-then-first_step-depth-2
 returns-4 c =
-    let far = c.before.first_step-2 in
-    let near = c.before.before.before.before.first_step in
-    let a = c.before.before.before.before.before.before.args in
+    let far = c.first_step-2 in
+    let near = c.first_step in
+    let a = c.args in
     rw (
-      ne_eqb a.i 0 c.before.before.before.before.before.if-i-eq0.false,
+      ne_eqb a.i 0 c.if-i-eq0.false,
       ← near.ensures,
-      le-ltb near.result a.depth c.before.before.before.if-first_step-depth.false,
-      le-leb a.capacity a.i c.before.before.if-i-capacity.false,
+      le-ltb near.result a.depth c.if-first_step-depth.false,
+      le-leb a.capacity a.i c.if-i-capacity.false,
       ← far.ensures,
       lt-leb a.depth far.result c.if-first_step-depth-2.true,
     )
 
 returns-5 : tie.Need-returns
 returns-5 c =
-    let far = c.before.first_step-2 in
-    let near = c.before.before.before.before.first_step in
-    let a = c.before.before.before.before.before.before.args in
+    let far = c.first_step-2 in
+    let near = c.first_step in
+    let a = c.args in
     rw (
-      ne_eqb a.i 0 c.before.before.before.before.before.if-i-eq0.false,
+      ne_eqb a.i 0 c.if-i-eq0.false,
       ← near.ensures,
-      le-ltb near.result a.depth c.before.before.before.if-first_step-depth.false,
-      le-leb a.capacity a.i c.before.before.if-i-capacity.false,
+      le-ltb near.result a.depth c.if-first_step-depth.false,
+      le-leb a.capacity a.i c.if-i-capacity.false,
       ← far.ensures,
       le-leb a.depth far.result c.if-first_step-depth-2.false,
     )

@@ -11,7 +11,7 @@ widths-of-requires : tie.Need-widths_of-requires
 widths-of-requires c κs = search rules
 
 bias-key-requires : tie.Need-bias_key-requires
-bias-key-requires c κs = c.before.before.requires.shape
+bias-key-requires c κs = c.requires.shape
 
 cast-scan : tie.Need-overflow_cast-shape
 cast-scan c = search rules
@@ -19,7 +19,7 @@ cast-scan c = search rules
 scan-requires : tie.Need-scan-requires
 scan-requires c κs =
     let start = c.before.before.before.before in (
-      widths-fit start.args.shape _ start.requires.shape c.before.before.widths_of.ensures,
+      widths-fit start.args.shape _ start.requires.shape c.widths_of.ensures,
       (capacity-bounds start.args.shape start.requires.shape).0,
       start.requires.lent,
     )
@@ -28,9 +28,9 @@ returns : tie.Need-returns
 returns c =
     let start = c.before.before.before.before.before in
     let a = start.args in
-    let bytes = c.before.before.before.before.shared_slice_known-1.given in
+    let bytes = c.shared_slice_known-1.given in
     joined-of-scanned a.shape a.limits a.n a.file.now start.requires (λ i. omega (arith, bytes i)) _ _ _
-    c.before.before.before.widths_of.ensures c.before.before.bias_key.ensures c.scan.ensures
+    c.widths_of.ensures c.bias_key.ensures c.scan.ensures
 
 pub room_number_spec : {M : Type 1} → statement M
 room_number_spec =

@@ -22,65 +22,65 @@ cast-pages : tie.Need-overflow_cast-pages invariant-loop decreases-loop
 cast-pages c = omega (arith, c.struct_known-2-1.given)
 
 loop-holds : tie.Need-loop-i-init invariant-loop decreases-loop
-loop-holds c = scanned-start _ _ _ _ _ _ _ 0 c.before.before.before.requires.1
+loop-holds c = scanned-start _ _ _ _ _ _ _ 0 c.requires.1
 
 encodings-at-requires : tie.Need-encodings_at-key-requires invariant-loop decreases-loop
-encodings-at-requires c κs = omega (arith, c.loop-i-test.true, c.before.before.before.before.before.requires.2)
+encodings-at-requires c κs = omega (arith, c.loop-i-test.true, c.requires.2)
 
 encodings-back-requires : tie.Need-encodings_back-back-requires invariant-loop decreases-loop
 encodings-back-requires c κs =
-    omega (arith, c.before.loop-i-test.true, c.before.before.before.before.before.before.requires.2)
+    omega (arith, c.loop-i-test.true, c.requires.2)
 
 depth-at-requires : tie.Need-depth_at-next-requires invariant-loop decreases-loop
-depth-at-requires c κs = c.before.before.before.before.before.before.before.requires.0
+depth-at-requires c κs = c.requires.0
 
 returns : tie.Need-returns-then-deepest-next invariant-loop decreases-loop
 returns c =
     let turn = c.before.before.before in
-    let loop = turn.before.before.loop-i in
-    scanned-deep _ _ _ _ _ _ _ _ _ _ _ loop.invariant turn.before.loop-i-test.true _ _ _ turn.encodings_at-key.ensures
-    c.before.before.encodings_back-back.ensures c.before.depth_at-next.ensures c.if-deepest-next.true
+    let loop = turn.loop-i in
+    scanned-deep _ _ _ _ _ _ _ _ _ _ _ loop.invariant turn.loop-i-test.true _ _ _ turn.encodings_at-key.ensures
+    c.encodings_back-back.ensures c.depth_at-next.ensures c.if-deepest-next.true
 
 new-leaves-requires : tie.Need-new_leaves-leaves-requires invariant-loop decreases-loop
-new-leaves-requires c κs = c.before.before.before.before.before.before.before.before.before.requires.0
+new-leaves-requires c κs = c.requires.0
 
 add-leaves : tie.Need-overflow_add-leaves invariant-loop decreases-loop
 add-leaves c =
     let met = c.before.before in
     let turn = met.before.before in
-    let loop = turn.before.before.loop-i in
+    let loop = turn.loop-i in
     let few =
-    more-le _ _ _ _ _ _ _ _ _ _ _ loop.invariant turn.before.loop-i-test.true _ _ _ turn.encodings_at-key.ensures
-    met.before.encodings_back-back.ensures met.depth_at-next.ensures _ c.new_leaves-leaves.ensures in
+    more-le _ _ _ _ _ _ _ _ _ _ _ loop.invariant turn.loop-i-test.true _ _ _ turn.encodings_at-key.ensures
+    met.encodings_back-back.ensures met.depth_at-next.ensures _ c.new_leaves-leaves.ensures in
     let start = turn.before.before.before.before.before.before in
-    omega (arith, few, loop.invariant.few, turn.before.loop-i-test.true, start.ranges.n.fits)
+    omega (arith, few, loop.invariant.few, turn.loop-i-test.true, start.ranges.n.fits)
 
 returns-2 : tie.Need-returns-then-pages-leaves invariant-loop decreases-loop
 returns-2 c =
     let met = c.before.before.before in
     let turn = met.before.before in
-    let loop = turn.before.before.loop-i in
-    scanned-wide _ _ _ _ _ _ _ _ _ _ _ loop.invariant turn.before.loop-i-test.true _ _ _ turn.encodings_at-key.ensures
-    met.before.encodings_back-back.ensures met.depth_at-next.ensures _ c.before.new_leaves-leaves.ensures
-    c.before.before.if-deepest-next.false c.if-pages-leaves.true
+    let loop = turn.loop-i in
+    scanned-wide _ _ _ _ _ _ _ _ _ _ _ loop.invariant turn.loop-i-test.true _ _ _ turn.encodings_at-key.ensures
+    met.encodings_back-back.ensures met.depth_at-next.ensures _ c.new_leaves-leaves.ensures
+    c.if-deepest-next.false c.if-pages-leaves.true
 
 add-i : tie.Need-overflow_add-i invariant-loop decreases-loop
-add-i c = omega (arith, c.before.before.before.before.before.before.loop-i-test.true)
+add-i c = omega (arith, c.loop-i-test.true)
 
 loop-less : tie.Need-loop-i-smaller invariant-loop decreases-loop
-loop-less c = omega (arith, c.before.before.before.before.before.before.loop-i-test.true)
+loop-less c = omega (arith, c.loop-i-test.true)
 
 loop-again : tie.Need-loop-i-preserved invariant-loop decreases-loop
 loop-again c =
     let met = c.before.before.before in
     let turn = met.before.before in
-    let loop = turn.before.before.loop-i in
-    scanned-next _ _ _ _ _ _ _ _ _ _ _ loop.invariant turn.before.loop-i-test.true _ _ _ turn.encodings_at-key.ensures
-    met.before.encodings_back-back.ensures met.depth_at-next.ensures _ c.before.new_leaves-leaves.ensures
-    c.before.before.if-deepest-next.false c.if-pages-leaves.false
+    let loop = turn.loop-i in
+    scanned-next _ _ _ _ _ _ _ _ _ _ _ loop.invariant turn.loop-i-test.true _ _ _ turn.encodings_at-key.ensures
+    met.encodings_back-back.ensures met.depth_at-next.ensures _ c.new_leaves-leaves.ensures
+    c.if-deepest-next.false c.if-pages-leaves.false
 
 returns-3 : tie.Need-returns invariant-loop decreases-loop
-returns-3 c = scanned-end _ _ _ _ _ _ _ _ _ _ _ c.before.loop-i.invariant c.loop-i-test.false
+returns-3 c = scanned-end _ _ _ _ _ _ _ _ _ _ _ c.loop-i.invariant c.loop-i-test.false
 
 pub scan_spec : {M : Type 1} → statement M
 scan_spec =

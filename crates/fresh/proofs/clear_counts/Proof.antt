@@ -21,15 +21,15 @@ abbrev decreases-loop : tie.decreases-loop-page
 decreases-loop pages₀ b n size page₀ start₀ pages page start = n - page
 
 kept : (c : tie.At-loop-page invariant-loop decreases-loop)
-    → length c.loop-page.pages-1 ≡ length c.before.before.before.args.pages.now
+    → length c.loop-page.pages ≡ length c.args.pages.now
 kept c = ap length c.loop-page.invariant.2 ∙ length-cleared_counts _ c.loop-page.page _
 
 -- the page lies in the lent bytes
 within : (c : tie.In-loop-page invariant-loop decreases-loop)
-    → c.before.loop-page.start + c.before.before.page_size-size.result ≤ length c.before.loop-page.pages-1
+    → c.loop-page.start + c.page_size-size.result ≤ length c.loop-page.pages
 within c =
-    let args = c.before.before.before.before.args in
-    let end = page-end-le args.b c.before.loop-page.page args.n c.loop-page-test.true in
+    let args = c.args in
+    let end = page-end-le args.b c.loop-page.page args.n c.loop-page-test.true in
     omega (arith, kept c.before)
 
 page-size-requires : tie.Need-page_size-size-requires invariant-loop decreases-loop
@@ -53,9 +53,9 @@ part-clear-count-end c = within c
 
 clear-count-requires : tie.Need-clear_count-requires invariant-loop decreases-loop
 clear-count-requires c κs =
-    let loop = c.before.before.loop-page in
-    let end = loop.start + c.before.before.before.page_size-size.result in
-    omega (arith, mid_len loop.start end loop.pages-1 (within c.before))
+    let loop = c.loop-page in
+    let end = loop.start + c.page_size-size.result in
+    omega (arith, mid_len loop.start end loop.pages (within c.before))
 
 add-page : tie.Need-overflow_add-page invariant-loop decreases-loop
 add-page c = search rules
@@ -66,13 +66,13 @@ loop-less c = omega arith
 loop-again : tie.Need-loop-page-preserved invariant-loop decreases-loop
 loop-again c =
     let turn = c.before.before.before.before in
-    let loop = turn.before.loop-page in
-    let args = turn.before.before.before.before.args in
-    let end = loop.start + turn.before.before.page_size-size.result in (
+    let loop = turn.loop-page in
+    let args = turn.args in
+    let end = loop.start + turn.page_size-size.result in (
       omega arith,
       omega arith,
-      cleared_counts-suc args.b loop.page loop.start end args.pages.now loop.pages-1 _
-          loop.invariant.1 loop.invariant.2 (omega arith) (within turn) c.before.before.clear_count.ensures,
+      cleared_counts-suc args.b loop.page loop.start end args.pages.now loop.pages _
+          loop.invariant.1 loop.invariant.2 (omega arith) (within turn) c.clear_count.ensures,
     )
 
 same_length : tie.Need-shape_of-pages invariant-loop decreases-loop
@@ -80,8 +80,8 @@ same_length c = kept c.before
 
 returns : tie.Need-returns invariant-loop decreases-loop
 returns c =
-    let end : c.before.loop-page.page ≡ c.before.before.before.before.args.n = omega arith in
-    rw end at c.before.loop-page.invariant.2
+    let end : c.loop-page.page ≡ c.args.n = omega arith in
+    rw end at c.loop-page.invariant.2
 
 pub clear_counts_spec : {M : Type 1} → statement M
 clear_counts_spec =

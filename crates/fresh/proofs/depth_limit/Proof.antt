@@ -12,7 +12,7 @@ widths-of-requires c κs = search rules
 
 total-of-requires : tie.Need-total_of-bits-requires
 total-of-requires c κs =
-    widths-fit c.before.args.shape (width_list c.widths_of.result) c.before.requires.0 c.widths_of.ensures
+    widths-fit c.args.shape (width_list c.widths_of.result) c.requires.0 c.widths_of.ensures
 
 log2-requires : tie.Need-log2-requires
 log2-requires c κs = search rules
@@ -31,10 +31,10 @@ unfolding depth_limit_of
 returns c =
     rw (
       c.smaller-2.ensures,
-      c.before.smaller.ensures,
-      c.before.before.log2.ensures,
-      c.before.before.before.total_of-bits.ensures.0,
-      ← c.before.before.before.before.widths_of.ensures,
+      c.smaller.ensures,
+      c.log2.ensures,
+      c.total_of-bits.ensures.0,
+      ← c.widths_of.ensures,
     )
 
 pub depth_limit_spec : {M : Type 1} → statement M

@@ -12,14 +12,14 @@ use Rattle.fresh.proofs.PromiseLaws.{promise-refused, fresh_state-of, promise-ac
 use Rattle.fresh.proofs.fresh.Statement.{statement}
 use Rattle.fresh.proofs.fresh.Tie as tie
 
-in_bounds : (c : tie.Else-number-ne0) → shape_number c.before.before.before.before.args.shape ≡ 0
-in_bounds c = sym c.before.shape_number-number.ensures ∙ c.if-number-ne0.false
+in_bounds : (c : tie.Else-number-ne0) → shape_number c.args.shape ≡ 0
+in_bounds c = sym c.shape_number-number.ensures ∙ c.if-number-ne0.false
 
-some_word : (c : tie.Else-lacks_word_or_page) → 0 < length c.before.before.before.before.before.before.args.dir.now
+some_word : (c : tie.Else-lacks_word_or_page) → 0 < length c.args.dir.now
 some_word c =
-    let s = c.before.before.before.before.before.before.args in
+    let s = c.args in
     word-of-lent s.shape (length s.dir.now) (length s.pages.now)
-    (sym c.before.lacks_word_or_page.ensures ∙ c.if-lacks_word_or_page.false)
+    (sym c.lacks_word_or_page.ensures ∙ c.if-lacks_word_or_page.false)
 
 shape-number-requires : tie.Need-shape_number-number-requires
 shape-number-requires c κs = search rules
@@ -33,12 +33,12 @@ refuse-requires c κs = search rules
 returns : tie.Need-returns-then-number-ne0
 returns c =
     let tested = c.before.before in
-    let s = tested.before.before.before.before.args in
-    let n = tested.before.shape_number-number in
+    let s = tested.args in
+    let n = tested.shape_number-number in
     promise-refused s.shape s.dir.now s.pages.now _ _ n.result
     (fresh_number-shape-out s.shape s.dir.now s.pages.now (λ e. tested.if-number-ne0.true (n.ensures ∙ e))
     ∙ sym n.ensures)
-    tested.if-number-ne0.true (c.refuse.ensures.0 ∙ c.before.refuse_made.ensures) c.refuse.ensures.1
+    tested.if-number-ne0.true (c.refuse.ensures.0 ∙ c.refuse_made.ensures) c.refuse.ensures.1
 
 lacks-word-or-page-requires : tie.Need-lacks_word_or_page-requires
 lacks-word-or-page-requires c κs = search rules
@@ -49,11 +49,11 @@ refuse-requires-2 c κs = search rules
 returns-2 : tie.Need-returns-then-lacks_word_or_page
 unfolding made_answer
 returns-2 c =
-    let s = c.before.before.before.before.before.before.before.args in
+    let s = c.args in
     let lacks = c.before.before in
     promise-refused s.shape s.dir.now s.pages.now _ _ 2
     (fresh_number-lacks s.shape s.dir.now s.pages.now (in_bounds lacks.before)
-    (sym lacks.lacks_word_or_page.ensures ∙ c.before.if-lacks_word_or_page.true))
+    (sym lacks.lacks_word_or_page.ensures ∙ c.if-lacks_word_or_page.true))
     (λ e. omega arith) c.refuse-then-lacks_word_or_page.ensures.0 c.refuse-then-lacks_word_or_page.ensures.1
 
 page-limit-requires : tie.Need-page_limit-page_count-requires
@@ -67,8 +67,8 @@ slice-write-dir c = some_word c.before.before
 
 clear-counts-requires : tie.Need-clear_counts-requires
 clear-counts-requires c κs =
-    let s = c.before.before.before.before.before.before.before.before.before.args in
-    rw c.before.before.page_limit-page_count.ensures (page_limit_of-fits s.shape (length s.pages.now))
+    let s = c.args in
+    rw c.page_limit-page_count.ensures (page_limit_of-fits s.shape (length s.pages.now))
 
 fresh-shape-requires : tie.Need-fresh_shape-requires
 fresh-shape-requires c κs = search rules
@@ -88,14 +88,14 @@ returns-3 c =
     let cleared = c.before.before.before.before in
     let limits = cleared.before.before in
     let lent = limits.before.before in
-    let s = lent.before.before.before.before.before.before.args in
+    let s = lent.args in
     promise-accepted s.shape s.dir.now s.pages.now _ _ _
     (fresh_number-none s.shape s.dir.now s.pages.now (in_bounds lent.before.before)
-    (sym lent.before.lacks_word_or_page.ensures ∙ lent.if-lacks_word_or_page.false))
-    (fresh_state-of s.shape s.dir.now s.pages.now _ _ _ _ c.before.fresh_shape.ensures
-    c.one_leaf.ensures limits.before.page_limit-page_count.ensures limits.depth_limit-limit.ensures)
+    (sym lent.lacks_word_or_page.ensures ∙ lent.if-lacks_word_or_page.false))
+    (fresh_state-of s.shape s.dir.now s.pages.now _ _ _ _ c.fresh_shape.ensures
+    c.one_leaf.ensures limits.page_limit-page_count.ensures limits.depth_limit-limit.ensures)
     refl
-    (rw limits.before.page_limit-page_count.ensures at cleared.clear_counts.ensures)
+    (rw limits.page_limit-page_count.ensures at cleared.clear_counts.ensures)
 
 pub fresh_spec : {M : Type 1} → statement M
 fresh_spec =

@@ -9,7 +9,7 @@ use Rattle.fresh.proofs.fresh_shape.Statement.{statement}
 use Rattle.fresh.proofs.fresh_shape.Tie as tie
 
 fit : (c : tie.After-widths_of-used) → Fit (width_list c.widths_of-used.result)
-fit c = widths-fit c.before.args.shape (width_list c.widths_of-used.result) c.before.requires c.widths_of-used.ensures
+fit c = widths-fit c.args.shape (width_list c.widths_of-used.result) c.requires c.widths_of-used.ensures
 
 widths-of-requires : tie.Need-widths_of-used-requires
 widths-of-requires c κs = search rules
@@ -35,7 +35,7 @@ returns : tie.Need-returns
 unfolding fresh_shape
 returns c =
     let all-widths = c.before.before.before.before.before in
-    let shape = all-widths.before.args.shape in
+    let shape = all-widths.args.shape in
     λ i. record {
       attributes = shape.attributes;
       widths = all-widths.widths_of-used.ensures i;

@@ -21,7 +21,7 @@ cast-result c = search rules
 
 returns : tie.Need-returns
 unfolding page_limit_of
-returns c = rw (c.smaller_length.ensures, c.before.page_size.ensures)
+returns c = rw (c.smaller_length.ensures, c.page_size.ensures)
 
 pub page_limit_spec : {M : Type 1} → statement M
 page_limit_spec =

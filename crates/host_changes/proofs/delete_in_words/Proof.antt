@@ -29,7 +29,7 @@ returns : tie.Need-returns
 returns c =
     let call = c.before.before.before.before.before.before.before.before in
     let read = call.before.before.before in
-    let settled = c.before.before.settle_change.ensures in
+    let settled = c.settle_change.ensures in
     promise-settled (delete-judged _ _ _ _ _) _ _ read.state_in.ensures _ _ call.delete-deleted.ensures _ _ _ _
     settled.0 settled.1
 

@@ -24,8 +24,8 @@ returns : tie.Need-returns-then-state-ge-STATE_SIZE
 returns c =
     let call = c.before.before.before.before.before.before.before.before in
     let long = call.before.before.before in
-    let a = long.before.before.before.before.args in
-    let settled = c.before.before.settle.ensures in
+    let a = long.args in
+    let settled = c.settle.ensures in
     long-settled a.shape a.state.now a.dir.now a.pages.now long.if-state-ge-STATE_SIZE.true _ _ _ _
     call.fresh-made.ensures _ _ _ settled.0 settled.1
 
@@ -54,7 +54,7 @@ settle-requires-2 : tie.Need-settle-requires-2
 settle-requires-2 c κs =
     let call = c.before.before.before.before.before in
     let short = call.before.before.before in
-    let a = short.before.before.before.before.args in
+    let a = short.args in
     λ done. absurd
     (short-not-done a.shape a.state.now a.dir.now a.pages.now short.if-state-ge-STATE_SIZE.false _ _ _ _
     call.fresh-refused.ensures done)
@@ -72,8 +72,8 @@ returns-2 : tie.Need-returns
 returns-2 c =
     let call = c.before.before.before.before.before.before.before.before in
     let short = call.before.before.before in
-    let a = short.before.before.before.before.args in
-    let settled = c.before.before.settle-2.ensures in
+    let a = short.args in
+    let settled = c.settle-2.ensures in
     short-settled a.shape a.state.now a.dir.now a.pages.now short.if-state-ge-STATE_SIZE.false _ _ _ _
     call.fresh-refused.ensures _ _ _ settled.0 settled.1
 

@@ -23,22 +23,22 @@ enum-known-answer-3 c = search rules
 returns : tie.Need-returns-in-Address
 unfolding address_answer_of
 returns c =
-    let call = c.before.before.before.address_of-answer in
-    reports-accepted _ _ _ (ap address_answer_of (sym c.before.answer-1.given.1) ∙ call.ensures)
+    let call = c.address_of-answer in
+    reports-accepted _ _ _ (ap address_answer_of (sym c.in-Address.is) ∙ call.ensures)
 
 returns-2 : tie.Need-returns-in-Refused
 unfolding address_answer_of
 returns-2 c =
-    let call = c.before.before.before in
-    let s = call.before.args in
+    let call = c.before in
+    let s = call.args in
     reports-refused _ _ _ (address_answer-alone s.shape (index_list s.index))
-    (ap address_answer_of (sym c.before.answer-in-Refused-1.given.1) ∙ call.address_of-answer.ensures)
+    (ap address_answer_of (sym c.in-Refused.is) ∙ call.address_of-answer.ensures)
 
 returns-3 : tie.Need-returns-in-Width
 unfolding address_answer_of
 returns-3 c =
-    let call = c.before.before.before.address_of-answer in
-    reports-width _ _ _ (ap address_answer_of (sym c.before.answer-in-Width-1.given.1) ∙ call.ensures)
+    let call = c.address_of-answer in
+    reports-width _ _ _ (ap address_answer_of (sym c.in-Width.is) ∙ call.ensures)
 
 pub address_result_spec : {M : Type 1} → statement M
 address_result_spec =

@@ -35,15 +35,15 @@ no-index-requires-2 c κs = search rules
 returns : tie.Need-returns-in-Index
 unfolding index_answer_of
 returns c =
-    let call = c.before.before.before.index_at-answer in
-    reports-accepted _ _ _ (ap index_answer_of (sym c.before.answer-1.given.1) ∙ call.ensures)
+    let call = c.index_at-answer in
+    reports-accepted _ _ _ (ap index_answer_of (sym c.in-Index.is) ∙ call.ensures)
 
 returns-2 : tie.Need-returns-in-Refused
 unfolding index_answer_of
 returns-2 c =
-    let call = c.before.before.before.before in
-    let s = call.before.args in
-    let told = c.before.before.answer-in-Refused-1.given in
+    let call = c.before.before in
+    let s = call.args in
+    let told = c.before.before.answer2.given in
     let answer = index_answer s.shape s.address in
     subst (λ values. Reports told.0.0 0 values zeros answer) (sym c.no_index.ensures)
     (reports-refused answer _ zeros (index_answer-alone s.shape s.address)
@@ -52,9 +52,9 @@ returns-2 c =
 returns-3 : tie.Need-returns-in-Width
 unfolding index_answer_of
 returns-3 c =
-    let call = c.before.before.before.before in
-    let s = call.before.args in
-    let told = c.before.before.answer-in-Width-1.given in
+    let call = c.before.before in
+    let s = call.args in
+    let told = c.before.before.answer3.given in
     let answer = index_answer s.shape s.address in
     subst (λ values. Reports 14 told.0.0 values zeros answer) (sym c.no_index-in-Width.ensures)
     (reports-width answer _ zeros (ap index_answer_of (sym told.1) ∙ call.index_at-answer.ensures))

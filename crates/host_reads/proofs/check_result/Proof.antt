@@ -28,9 +28,9 @@ checked-result-requires c κs = check-numbers _ _ c.check.ensures
 returns : tie.Need-returns
 returns c =
     let s = c.before in (
-      keeps-reported _ _ _ _ _ _ (subst (Promise s) s.before.state_in.ensures s.check.ensures)
-          c.checked_result.ensures.0,
-      c.checked_result.ensures.1,
+      keeps-reported _ _ _ _ _ _ (subst (Promise s) s.state_in.ensures s.check.ensures)
+          c.checked_result.ensures.reports,
+      c.checked_result.ensures.sound_bound,
     )
 
 pub check_result_spec : {M : Type 1} → statement M

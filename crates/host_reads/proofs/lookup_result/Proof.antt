@@ -28,7 +28,7 @@ found-result-requires c κs = lookup-numbers _ _ _ c.lookup.ensures
 returns : tie.Need-returns
 returns c =
     let s = c.before in
-    keeps_depth-told _ _ _ _ _ _ _ (subst (Promise s) s.before.state_in.ensures s.lookup.ensures)
+    keeps_depth-told _ _ _ _ _ _ _ (subst (Promise s) s.state_in.ensures s.lookup.ensures)
     c.found_result.ensures
 
 pub lookup_result_spec : {M : Type 1} → statement M

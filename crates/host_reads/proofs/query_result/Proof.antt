@@ -33,7 +33,7 @@ query-requires c κs = search rules
 
 listed-result-requires : tie.Need-listed_result-requires
 listed-result-requires c κs =
-    list-numbers _ _ _ _ _ _ _ (named-query _ _) c.before.before.query.ensures.listed-as
+    list-numbers _ _ _ _ _ _ _ (named-query _ _) c.query.ensures.listed-as
 
 same_length : tie.Need-shape_of-out
 same_length c = search rules
@@ -41,12 +41,12 @@ same_length c = search rules
 returns : tie.Need-returns
 returns c =
     let s = c.before.before.before in
-    let a = s.before.before.before.before.before.before.before.before.args in
+    let a = s.args in
     let asked =
-    subst (λ q. Promise s q s.before.before.before.state_in.result) s.before.before.store_query.ensures
+    subst (λ q. Promise s q s.state_in.result) s.store_query.ensures
     s.query.ensures in
     keeps-reported _ _ _ _ _ _
-    (subst (Promise s (wanted_of a.wanted.given a.wanted.values)) s.before.before.before.state_in.ensures
+    (subst (Promise s (wanted_of a.wanted.given a.wanted.values)) s.state_in.ensures
     asked)
     c.listed_result.ensures
 

@@ -32,7 +32,7 @@ range-requires : tie.Need-range-requires
 range-requires c κs = search rules
 
 listed-result-requires : tie.Need-listed_result-requires
-listed-result-requires c κs = list-numbers _ _ _ _ _ _ _ (named-range _ _) c.before.before.range.ensures
+listed-result-requires c κs = list-numbers _ _ _ _ _ _ _ (named-range _ _) c.range.ensures
 
 same_length : tie.Need-shape_of-out
 same_length c = search rules
@@ -40,13 +40,13 @@ same_length c = search rules
 returns : tie.Need-returns
 returns c =
     let s = c.before.before.before in
-    let a = s.before.before.before.before.before.before.before.before.args in
+    let a = s.args in
     let asked =
-    subst (λ r. Promise s r s.before.before.before.state_in.result) s.before.before.store_range.ensures
+    subst (λ r. Promise s r s.state_in.result) s.store_range.ensures
     s.range.ensures in
     keeps-reported _ _ _ _ _ _
     (subst (Promise s (intervals_of a.within.given a.within.lows a.within.highs))
-    s.before.before.before.state_in.ensures asked)
+    s.state_in.ensures asked)
     c.listed_result.ensures
 
 pub range_result_spec : {M : Type 1} → statement M

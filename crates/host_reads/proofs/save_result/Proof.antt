@@ -24,7 +24,7 @@ save-requires : tie.Need-save-requires
 save-requires c κs = search rules
 
 saved-result-requires : tie.Need-saved_result-requires
-saved-result-requires c κs = save-numbers _ _ _ _ c.before.before.save.ensures
+saved-result-requires c κs = save-numbers _ _ _ _ c.save.ensures
 
 same_length : tie.Need-shape_of-out
 same_length c = search rules
@@ -32,7 +32,7 @@ same_length c = search rules
 returns : tie.Need-returns
 returns c =
     let s = c.before.before.before in
-    keeps-reported _ _ _ _ _ _ (subst (Promise s) s.before.before.state_in.ensures s.save.ensures)
+    keeps-reported _ _ _ _ _ _ (subst (Promise s) s.state_in.ensures s.save.ensures)
     c.saved_result.ensures
 
 pub save_result_spec : {M : Type 1} → statement M

@@ -21,23 +21,23 @@ enum-known-answer-2 c = search rules
 
 returns : tie.Need-returns-in-Yes
 unfolding checked_answer
-returns c = (reports-accepted _ _ _ (ap checked_answer (sym c.enum_told-1.given.1)), omega arith)
+returns c = (reports-accepted _ _ _ (ap checked_answer (sym c.in-Yes.is)), omega arith)
 
 returns-2 : tie.Need-returns-in-No
 unfolding checked_answer
-returns-2 c = (reports-accepted _ _ _ (ap checked_answer (sym c.enum_told-in-No-1.given.1)), omega arith)
+returns-2 c = (reports-accepted _ _ _ (ap checked_answer (sym c.in-No.is)), omega arith)
 
 returns-3 : tie.Need-returns-in-Refused
 unfolding checked_answer
 returns-3 c = (
-  reports-refused _ _ _ c.before.before.before.requires (ap checked_answer (sym c.before.answer-1.given.1)),
+  reports-refused _ _ _ c.requires (ap checked_answer (sym c.in-Refused.is)),
   omega arith,
 )
 
 returns-4 : tie.Need-returns-in-Width
 unfolding checked_answer
 returns-4 c = (
-  reports-width _ _ _ (ap checked_answer (sym c.before.answer-in-Width-1.given.1)),
+  reports-width _ _ _ (ap checked_answer (sym c.in-Width.is)),
   omega arith,
 )
 

@@ -22,23 +22,23 @@ enum-known-answer-4 c = search rules
 
 returns : tie.Need-returns-in-Content
 unfolding found_answer
-returns c = keeps_depth-accepted _ _ _ _ (ap found_answer (sym c.before.answer-1.given.1))
+returns c = keeps_depth-accepted _ _ _ _ (ap found_answer (sym c.in-Content.is))
 
 returns-2 : tie.Need-returns-in-Absent
 unfolding found_answer
-returns-2 c = keeps_depth-absent _ _ _ (ap found_answer (sym c.before.answer-in-Absent-1.given.1))
+returns-2 c = keeps_depth-absent _ _ _ (ap found_answer (sym c.in-Absent.is))
 
 returns-3 : tie.Need-returns-in-Refused
 unfolding found_answer
 returns-3 c =
-    let never = c.before.before.before.requires in
-    let told = ap found_answer c.before.answer-in-Refused-1.given.1 in
+    let never = c.requires in
+    let told = ap found_answer c.in-Refused.is in
     keeps_depth-refused _ _ _ (λ e. never.0 (told ∙ ap refused e)) (λ e. never.1 (told ∙ ap refused e))
     (λ e. never.2 (told ∙ ap refused e)) (sym told)
 
 returns-4 : tie.Need-returns-in-Width
 unfolding found_answer
-returns-4 c = keeps_depth-width _ _ _ (ap found_answer (sym c.before.answer-in-Width-1.given.1))
+returns-4 c = keeps_depth-width _ _ _ (ap found_answer (sym c.in-Width.is))
 
 pub found_result_spec : {M : Type 1} → statement M
 found_result_spec =

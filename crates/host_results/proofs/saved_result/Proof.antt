@@ -17,16 +17,16 @@ enum-known-answer-3 c = search rules
 
 returns : tie.Need-returns-in-Bytes
 unfolding saved_answer
-returns c = reports-accepted _ _ _ (ap saved_answer (sym c.before.answer-1.given.1))
+returns c = reports-accepted _ _ _ (ap saved_answer (sym c.in-Bytes.is))
 
 returns-2 : tie.Need-returns-in-Refused
 unfolding saved_answer
 returns-2 c =
-    reports-refused _ _ _ c.before.before.before.requires (ap saved_answer (sym c.before.answer-in-Refused-1.given.1))
+    reports-refused _ _ _ c.requires (ap saved_answer (sym c.in-Refused.is))
 
 returns-3 : tie.Need-returns-in-Width
 unfolding saved_answer
-returns-3 c = reports-width _ _ _ (ap saved_answer (sym c.before.answer-in-Width-1.given.1))
+returns-3 c = reports-width _ _ _ (ap saved_answer (sym c.in-Width.is))
 
 pub saved_result_spec : {M : Type 1} → statement M
 saved_result_spec =

@@ -13,12 +13,12 @@ use Rattle.host_results.proofs.settle.Tie as tie
 four : (c : tie.Start) → length c.args.making.state.shape.widths ≡ 4
 four c =
     sym (length-map c.args.making.state.shape.widths (λ v. v))
-    ∙ c.well-formed.1.0.1.1.1.0.1.1.0.1.1.1.0.1.0.1
+    ∙ c.well_formed.1.0.1.1.1.0.1.1.0.1.1.1.0.1.0.1
 
 thirteen : (c : tie.Start) → length c.args.making.state.tally.leaves ≡ 13
 thirteen c =
     sym (length-map c.args.making.state.tally.leaves (λ v. v))
-    ∙ c.well-formed.1.0.1.1.1.0.1.1.1.1.1.0.1.1.0.1.0.1
+    ∙ c.well_formed.1.0.1.1.1.0.1.1.1.1.1.0.1.1.0.1.0.1
 
 -- equal answers tell the same
 numbers : (a b : Made) → a ≡ b
@@ -32,7 +32,7 @@ enum_told c = search rules
 put-state-requires : tie.Need-put_state-requires
 unfolding made_answer
 put-state-requires c κs =
-    c.before.before.before.before.requires (ap (λ a. is_refused (made_answer a)) c.before.enum_told-1.given.1)
+    c.requires (ap (λ a. is_refused (made_answer a)) c.in-Done.is)
 
 enum-known-answer : tie.Need-enum_known-answer
 enum-known-answer c = search rules
@@ -47,17 +47,17 @@ returns : tie.Need-returns-in-Done
 unfolding made_answer
 returns c =
     let told = c.before.before.before.before in
-    let start = told.before.before.before in
-    let made = told.enum_told-1.given.1 in (
+    let start = told.before.before in
+    let made = told.in-Done.is in (
       numbers _ _ (sym made),
       settled-done _ _ _ (ap (λ a. is_refused (made_answer a)) made) (four start) (thirteen start) _
-          c.before.before.put_state.ensures,
+          c.put_state.ensures,
     )
 
 returns-2 : tie.Need-returns-in-Refused
 unfolding made_answer
 returns-2 c =
-    let made = c.before.answer-1.given.1 in (
+    let made = c.in-Refused.is in (
       numbers _ _ (sym made),
       settled-refused _ _ _ (ap (λ a. is_refused (made_answer a)) made),
     )
@@ -65,7 +65,7 @@ returns-2 c =
 returns-3 : tie.Need-returns-in-Width
 unfolding made_answer
 returns-3 c =
-    let made = c.before.answer-in-Width-1.given.1 in (
+    let made = c.in-Width.is in (
       numbers _ _ (sym made),
       settled-refused _ _ _ (ap (λ a. is_refused (made_answer a)) made),
     )

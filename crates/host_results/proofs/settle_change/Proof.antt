@@ -14,12 +14,12 @@ use Rattle.host_results.proofs.settle_change.Tie as tie
 four : (c : tie.Start) → length c.args.change.state.shape.widths ≡ 4
 four c =
     sym (length-map c.args.change.state.shape.widths (λ v. v))
-    ∙ c.well-formed.1.0.1.1.1.0.1.1.0.1.1.1.0.1.0.1
+    ∙ c.well_formed.1.0.1.1.1.0.1.1.0.1.1.1.0.1.0.1
 
 thirteen : (c : tie.Start) → length c.args.change.state.tally.leaves ≡ 13
 thirteen c =
     sym (length-map c.args.change.state.tally.leaves (λ v. v))
-    ∙ c.well-formed.1.0.1.1.1.0.1.1.1.1.1.0.1.1.0.1.0.1
+    ∙ c.well_formed.1.0.1.1.1.0.1.1.1.1.1.0.1.1.0.1.0.1
 
 -- equal answers tell the same
 numbers : (a b : Changed) → a ≡ b
@@ -47,13 +47,13 @@ enum-known-answer-4 c = search rules
 put-state-requires : tie.Need-put_state-requires
 unfolding changed_answer
 put-state-requires c κs =
-    c.before.before.before.before.before.requires
-    (ap (λ a. is_refused (changed_answer a)) c.before.before.answer-in-Done-1.given.1)
+    c.requires
+    (ap (λ a. is_refused (changed_answer a)) c.in-Done.is)
 
 returns : tie.Need-returns-in-Refused
 unfolding changed_answer
 returns c =
-    let told = c.before.answer-1.given.1 in (
+    let told = c.in-Refused.is in (
       numbers _ _ (sym told),
       settled-refused _ _ _ (ap (λ a. is_refused (changed_answer a)) told),
     )
@@ -61,7 +61,7 @@ returns c =
 returns-2 : tie.Need-returns-in-Absent
 unfolding changed_answer
 returns-2 c =
-    let told = c.before.answer-in-Absent-1.given.1 in (
+    let told = c.in-Absent.is in (
       numbers _ _ (sym told),
       settled-refused _ _ _ (ap (λ a. is_refused (changed_answer a)) told),
     )
@@ -73,17 +73,17 @@ returns-3 : tie.Need-returns-in-Done
 unfolding changed_answer
 returns-3 c =
     let told = c.before.before.before.before.before in
-    let start = told.before.before.before in
-    let done = told.answer-in-Done-1.given.1 in (
+    let start = told.before in
+    let done = told.in-Done.is in (
       numbers _ _ (sym done),
       settled-done _ _ _ (ap (λ a. is_refused (changed_answer a)) done) (four start) (thirteen start) _
-          c.before.before.put_state.ensures,
+          c.put_state.ensures,
     )
 
 returns-4 : tie.Need-returns-in-Width
 unfolding changed_answer
 returns-4 c =
-    let told = c.before.answer-in-Width-1.given.1 in (
+    let told = c.in-Width.is in (
       numbers _ _ (sym told),
       settled-refused _ _ _ (ap (λ a. is_refused (changed_answer a)) told),
     )

@@ -23,9 +23,9 @@ unfolding wanted_values wanted_of
 returns c =
     let two = c.before.before in
     rw (
-      two.before.wanted_at-a0.ensures,
+      two.wanted_at-a0.ensures,
       two.wanted_at-a1.ensures,
-      c.before.wanted_at-a2.ensures,
+      c.wanted_at-a2.ensures,
       c.wanted_at-a3.ensures,
     ) refl
 

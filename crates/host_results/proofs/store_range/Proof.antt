@@ -22,9 +22,9 @@ unfolding range_intervals intervals_of
 returns c =
     let two = c.before.before in
     rw (
-      two.before.span_at-a0.ensures,
+      two.span_at-a0.ensures,
       two.span_at-a1.ensures,
-      c.before.span_at-a2.ensures,
+      c.span_at-a2.ensures,
       c.span_at-a3.ensures,
     ) refl
 

@@ -66,7 +66,7 @@ same_length c = search rules
 
 returns : tie.Need-returns
 unfolding state_put state_words
-returns c = c.before.before.put_words.ensures
+returns c = c.put_words.ensures
 
 pub put_state_spec : {M : Type 1} → statement M
 put_state_spec =

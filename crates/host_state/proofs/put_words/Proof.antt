@@ -41,8 +41,8 @@ loop-less c = omega arith
 
 loop-again : tie.Need-loop-i-preserved invariant-loop decreases-loop
 loop-again c =
-    let a = c.before.before.before.args in
-    let now = c.before.before.loop-i in (
+    let a = c.args in
+    let now = c.loop-i in (
       omega arith,
       now.invariant.1,
       simp length-set now.invariant.2,
@@ -51,13 +51,13 @@ loop-again c =
     )
 
 same_length : tie.Need-shape_of-words invariant-loop decreases-loop
-same_length c = c.before.loop-i.invariant.2
+same_length c = c.loop-i.invariant.2
 
 returns : tie.Need-returns invariant-loop decreases-loop
 returns c =
-    let a = c.before.before.args in
-    let end : c.before.loop-i.i ≡ length a.image.now = omega arith in
-    c.before.loop-i.invariant.3 ∙ ap (paste a.words.now 0 a.image.now) end
+    let a = c.args in
+    let end : c.loop-i.i ≡ length a.image.now = omega arith in
+    c.loop-i.invariant.3 ∙ ap (paste a.words.now 0 a.image.now) end
     ∙ paste-whole a.words.now a.image.now
 
 pub put_words_spec : {M : Type 1} → statement M

@@ -37,7 +37,7 @@ start p = (encoding p).before.before.before
 -- the early refusals let the key pass
 through : (c : tie.After-encode_key-encoded)
     → Passed (given c.before.before.before) c.encode_key-encoded.result.values
-through c = subst (Passed _) (sym c.encode_key-encoded.ensures) (passed _ _ c.before.before.before.requires)
+through c = subst (Passed _) (sym c.encode_key-encoded.ensures) (passed _ _ c.requires)
 
 -- what the plan tells
 planned : (p : tie.After-allocate-plan) (plan : Plan) → p.allocate-plan.result ≡ plan
@@ -51,16 +51,16 @@ called p X told = told (start p).args.key.values (start p).requires (sym (encodi
 
 -- a payload has 32 bits: what owning the record tells
 small : (s : tie.Start) → s.args.content.payload < 2 ^ 32
-small s = s.well-formed.1.1.1.1.0.1.1.0.1
+small s = s.well_formed.1.1.1.1.0.1.1.0.1
 
 encode-key-requires : tie.Need-encode_key-encoded-requires
-encode-key-requires c κs = (passed _ _ c.before.before.requires).shape
+encode-key-requires c κs = (passed _ _ c.requires).shape
 
 find-requires : tie.Need-find-found-requires
 find-requires c κs = through c.before.before.before
 
 allocate-requires : tie.Need-allocate-plan-requires
-allocate-requires c κs = c.before.before.find-found.ensures
+allocate-requires c κs = c.find.ensures
 
 pack-key-requires : tie.Need-pack_key-packed-requires
 pack-key-requires c κs = SixteenBits-passed _ _ (through (encoding c))
@@ -80,7 +80,7 @@ written : (f : tie.After-to_fields-fields)
     ≡ fields_key (start (allocated f)).args.state.shape (packed_key (encoded (allocated f)))
 written f =
     f.to_fields-fields.ensures
-    ∙ (λ i. lane_difference (f.before.before.pack_key-packed.ensures i) (f.before.bias_key.ensures i))
+    ∙ (λ i. lane_difference (f.pack_key-packed.ensures i) (f.bias_key.ensures i))
 
 cast-b : tie.Need-overflow_cast-b
 cast-b c = search rules
@@ -97,8 +97,8 @@ same-length-2 c = search rules
 returns : tie.Need-returns-in-Refused
 unfolding changed_answer
 returns c =
-    let p = allocated c.before.before.before.before in
-    called p _ (planned p _ c.before.plan-1.given.1) (start p).args.content
+    let p = allocated c.before.before in
+    called p _ (planned p _ c.in-Refused.is) (start p).args.content
 
 -- ---- the page is not full
 
@@ -110,11 +110,11 @@ cast-insert-record c = search rules
 
 insert-record-requires : tie.Need-insert_record-requires
 insert-record-requires c κs =
-    let plan = c.before.before in
+    let plan = c in
     let p = allocated plan.before.before.before in
     let s = start p in
     lent-taken (given s) (encoded p) s.args.content (small s) _ refl _ _ _ _
-    (planned p _ plan.plan-in-Take-1.given.1)
+    (planned p _ plan.in-Take.is)
 
 same-length-3 : tie.Need-shape_of-dir-in-Take
 same-length-3 c = search rules
@@ -126,13 +126,13 @@ returns-2 : tie.Need-returns-in-Take
 unfolding changed_answer
 returns-2 c =
     let inserted = c.before.before in
-    let plan = inserted.before.before.before in
-    let f = plan.before.before.before in
+    let plan = inserted in
+    let f = plan.before.before.before.before in
     let p = allocated f in
     let s = start p in
     called p _
     (by-taken (given s) (encoded p) s.args.content (small s) _ (written f) _ _ _ _
-    (planned p _ plan.plan-in-Take-1.given.1) _ inserted.insert_record.ensures)
+    (planned p _ plan.in-Take.is) _ inserted.insert_record.ensures)
 
 -- ---- the page was null
 
@@ -144,18 +144,18 @@ cast-insert-record-2 c = search rules
 
 insert-record-requires-2 : tie.Need-insert_record-requires-in-Get
 insert-record-requires-2 c κs =
-    let plan = c.before.before in
+    let plan = c in
     let p = allocated plan.before.before.before in
     let s = start p in
-    let told = planned p _ plan.plan-in-Get-1.given.1 in
+    let told = planned p _ plan.in-Get.is in
     lent-got (given s) (encoded p) s.args.content (small s) _ refl _ _ told.0 told.1
 
 set-word-requires : tie.Need-set_word-requires
 set-word-requires c κs =
-    let plan = c.before.before.before.before.before.before in
-    let p = allocated plan.before.before.before in
+    let plan = c in
+    let p = allocated plan.before.before.before.before.before.before.before in
     let s = start p in
-    let told = planned p _ plan.plan-in-Get-1.given.1 in
+    let told = planned p _ plan.in-Get.is in
     word-asked (given s) (encoded p) s.args.content (small s) _ refl _ _ told.0 told.1
 
 same-length-5 : tie.Need-shape_of-dir-in-Get
@@ -169,11 +169,11 @@ unfolding changed_answer
 returns-3 c =
     let set = c.before.before in
     let inserted = set.before.before.before.before in
-    let plan = inserted.before.before.before in
-    let f = plan.before.before.before in
+    let plan = inserted in
+    let f = plan.before.before.before.before in
     let p = allocated f in
     let s = start p in
-    let told = planned p _ plan.plan-in-Get-1.given.1 in
+    let told = planned p _ plan.in-Get.is in
     called p _
     (by-got (given s) (encoded p) s.args.content (small s) _ (written f) _ _ told.0
     told.1 _ set.set_word.ensures _ inserted.insert_record-in-Get.ensures)
@@ -185,29 +185,29 @@ enum-known-plan-4 c = search rules
 
 double-requires : tie.Need-double-deeper-requires
 double-requires c κs =
-    let plan = c.before.before in
+    let plan = c in
     let p = allocated plan.before.before.before in
     let s = start p in
-    let told = planned p _ plan.plan-in-Divide-1.given.1 in
+    let told = planned p _ plan.in-Divide.is in
     doubling-asked (given s) (encoded p) s.args.content (small s) _ refl _ _ _ told.0 told.1
 
 set-words-requires : tie.Need-set_words-requires
 set-words-requires c κs =
     let doubled = c.before.before.before in
-    let plan = doubled.before.before.before in
-    let p = allocated plan.before.before.before in
+    let plan = doubled in
+    let p = allocated plan.before.before.before.before in
     let s = start p in
-    let told = planned p _ plan.plan-in-Divide-1.given.1 in
+    let told = planned p _ plan.in-Divide.is in
     leaves-asked (given s) (encoded p) s.args.content (small s) _ refl _ _ _ told.0 told.1 _ _
     doubled.double-deeper.ensures
 
 count-leaves-requires : tie.Need-count_leaves-state-requires
 count-leaves-requires c κs =
     let doubled = c.before.before.before.before.before.before in
-    let plan = doubled.before.before.before in
-    let p = allocated plan.before.before.before in
+    let plan = doubled in
+    let p = allocated plan.before.before.before.before in
     let s = start p in
-    let told = planned p _ plan.plan-in-Divide-1.given.1 in
+    let told = planned p _ plan.in-Divide.is in
     tally-asked (given s) (encoded p) s.args.content (small s) _ refl _ _ _ told.0 told.1 _
     (ap (λ st. st.tally) doubled.double-deeper.ensures.state)
 
@@ -216,17 +216,17 @@ cast-divide-pages c = search rules
 
 cast-divide-pages-2 : tie.Need-overflow_cast-free
 cast-divide-pages-2 c =
-    let plan = c.before.before.before.before.before.before.before.before.before.before.before.before in
-    let told = (planned (allocated plan.before.before.before) _ plan.plan-in-Divide-1.given.1).0 in
+    let plan = c in
+    let told = (planned (allocated plan.before.before.before.before.before.before.before.before.before.before.before.before.before) _ plan.in-Divide.is).0 in
     omega (arith, told.free-within, told.found.asked.pages-lent.few)
 
 divide-pages-requires : tie.Need-divide_pages-requires
 divide-pages-requires c κs =
     let counted = c.before.before in
-    let plan = counted.before.before.before.before.before.before.before.before.before.before in
-    let p = allocated plan.before.before.before in
+    let plan = counted in
+    let p = allocated plan.before.before.before.before.before.before.before.before.before.before.before in
     let s = start p in
-    let told = planned p _ plan.plan-in-Divide-1.given.1 in (
+    let told = planned p _ plan.in-Divide.is in (
       pages-lent (given s) (encoded p) s.args.content (small s) _ refl _ _ _ told.0 told.1,
       cut_fits (given s) (encoded p) s.args.content (small s) _ refl _ _ _ told.0 told.1,
     )
@@ -262,11 +262,11 @@ returns-4 c =
     let counted = pages.before.before.before in
     let set = counted.before.before.before in
     let doubled = set.before.before.before.before in
-    let plan = doubled.before.before.before in
-    let f = plan.before.before.before in
+    let plan = doubled in
+    let f = plan.before.before.before.before in
     let p = allocated f in
     let s = start p in
-    let told = planned p _ plan.plan-in-Divide-1.given.1 in
+    let told = planned p _ plan.in-Divide.is in
     called p _
     (by-divided (given s) (encoded p) s.args.content (small s) _ (written f) _ _ _ told.0
     told.1 _ _ doubled.double-deeper.ensures _ set.set_words.ensures _ counted.count_leaves-state.ensures _

@@ -37,7 +37,7 @@ none c =
     let n = e.before.before in
     let a = (start n).args in
     number-none a.state a.dir.now a.pages.now _ n.lent_number-number.ensures a.key.values
-    e.before.if-number-ne0.false _ e.encode_key.ensures _ c.before.encodings_fit.ensures (not-false _ c.if-not-encodings_fit.false-raw)
+    e.if-number-ne0.false _ e.encode_key.ensures _ c.encodings_fit.ensures (not-false _ c.if-not-encodings_fit.false-raw)
 
 lent-number-requires : tie.Need-lent_number-number-requires
 lent-number-requires c κs = search rules
@@ -47,7 +47,7 @@ refuse-change-requires c κs = search rules
 
 returns : tie.Need-returns-then-number-ne0
 returns c =
-    let some = c.before.if-number-ne0.true in
+    let some = c.if-number-ne0.true in
     let n = c.before.before in
     let s = start n in
     let a = s.args in
@@ -65,7 +65,7 @@ encodings-fit-requires : tie.Need-encodings_fit-requires
 encodings-fit-requires c κs =
     let n = c.before.before in
     let a = (start n).args in
-    shape-lent a.state a.dir.now a.pages.now _ n.lent_number-number.ensures c.before.if-number-ne0.false
+    shape-lent a.state a.dir.now a.pages.now _ n.lent_number-number.ensures c.if-number-ne0.false
 
 returns-2 : tie.Need-returns-then-not-encodings_fit
 unfolding changed_answer
@@ -76,7 +76,7 @@ returns-2 c =
     let a = s.args in
     early (given s) a.key.values a.content 3
     (number-out a.state a.dir.now a.pages.now _ n.lent_number-number.ensures a.key.values
-    e.before.if-number-ne0.false _ e.encode_key.ensures _ c.before.encodings_fit.ensures (not-true _ c.if-not-encodings_fit.true-raw))
+    e.if-number-ne0.false _ e.encode_key.ensures _ c.encodings_fit.ensures (not-true _ c.if-not-encodings_fit.true-raw))
     (λ z. omega (arith, z))
 
 returns-3 : tie.Need-returns-then-content-eq0

@@ -23,19 +23,19 @@ enum-known-found-3 : tie.Need-enum_known-found-in-Null-1
 enum-known-found-3 c = search rules
 
 allocate-first-requires : tie.Need-allocate_first-requires
-allocate-first-requires c κs = found c.before.before.before.before.before _ c.before.found-in-Null-1.given.1
+allocate-first-requires c κs = found c.before.before.before _ c.in-Null.is
 
 enum-known-found-4 : tie.Need-enum_known-found-in-Full-1
 enum-known-found-4 c = search rules
 
 allocate-half-requires : tie.Need-allocate_half-requires
-allocate-half-requires c κs = found c.before.before.before.before.before _ c.before.found-in-Full-1.given.1
+allocate-half-requires c κs = found c.before.before.before _ c.in-Full.is
 
 returns : tie.Need-returns-in-Refused
-returns c = found c.before.before.before.before.before _ c.before.found-1.given.1
+returns c = found c.before.before.before _ c.in-Refused.is
 
 returns-2 : tie.Need-returns-in-Room
-returns-2 c = found c.before.before.before.before.before _ c.before.found-in-Room-1.given.1
+returns-2 c = found c.before.before.before _ c.in-Room.is
 
 returns-3 : tie.Need-returns-in-Null
 returns-3 c = c.allocate_first.ensures

@@ -17,7 +17,7 @@ abbrev start : tie.After-spare_page-free → tie.Start
 start f = f.before.before.before.before
 
 spare-page-requires : tie.Need-spare_page-free-requires
-spare-page-requires c κs = c.before.before.before.requires.asked.pages-lent
+spare-page-requires c κs = c.requires.asked.pages-lent
 
 returns : tie.Need-returns-then-free-limits
 returns c =
@@ -41,7 +41,7 @@ returns-2 c =
     let f = t.before.before.before.before in
     let s = start f in
     nine-empty (given s) s.args.encoded _ _ f.spare_page-free.ensures s.args.depth s.pre _
-    t.before.pack_empty.ensures _ t.leaf_whole.ensures (not-true _ c.if-not-leaf_whole.true-raw)
+    t.pack_empty.ensures _ t.leaf_whole.ensures (not-true _ c.if-not-leaf_whole.true-raw)
 
 returns-3 : tie.Need-returns
 returns-3 c =
@@ -50,7 +50,7 @@ returns-3 c =
     let f = room.before.before in
     let s = start f in
     get-planned (given s) s.args.encoded _ _ f.spare_page-free.ensures s.args.depth s.pre _
-    t.before.pack_empty.ensures _ t.leaf_whole.ensures room.if-free-limits.false (not-false _ c.if-not-leaf_whole.false-raw)
+    t.pack_empty.ensures _ t.leaf_whole.ensures room.if-free-limits.false (not-false _ c.if-not-leaf_whole.false-raw)
 
 pub allocate_first_spec : {M : Type 1} → statement M
 allocate_first_spec =

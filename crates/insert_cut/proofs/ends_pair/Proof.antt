@@ -19,9 +19,9 @@ first-pair-requires c κs = search rules
 
 returns : tie.Need-returns
 returns c =
-    let a = c.before.before.before.before.args in
-    let first = c.before.before.first_key-first in
-    let last = c.before.last_key-last in
+    let a = c.args in
+    let first = c.first_key-first in
+    let last = c.last_key-last in
     subst
     (λ k. FirstPair (width_list a.widths) (unpacked_key k) (unpacked_key
     (last_key a.bias a.page.now a.n a.key a.i))

@@ -14,10 +14,10 @@ use Rattle.insert_cut.proofs.half_of.Tie as tie
 
 -- what is computed is the key's bit
 bit : (c : tie.After-pair_bit)
-    → let a = c.before.before.before.args in
+    → let a = c.args in
     pair_bit (width_list a.widths) (unpacked_key a.key) a.pair ≡ c.pair_bit.result
 bit c =
-    let a = c.before.before.before.args in
+    let a = c.args in
     pair_bit-unpacked_key (width_list a.widths) a.key a.pair ∙ sym c.pair_bit.ensures
 
 first-one-requires : tie.Need-first_one-start-requires
@@ -29,53 +29,53 @@ pair-bit-requires c κs = search rules
 returns : tie.Need-returns-then-i-start
 returns c =
     let p = c.before.before in
-    let a = p.before.before.before.args in
+    let a = p.args in
     damaged-high (width_list a.widths) a.bias a.page.now a.n a.key a.i a.pair _
-    p.before.first_one-start.ensures
-    (bit p ∙ c.before.if-pair_bit.true) c.if-i-start.true
+    p.first_one-start.ensures
+    (bit p ∙ c.if-pair_bit.true) c.if-i-start.true
 
 returns-2 : tie.Need-returns-then-start-eq0
 returns-2 c =
     let p = c.before.before.before in
-    let a = p.before.before.before.args in
+    let a = p.args in
     damaged-none (width_list a.widths) a.bias a.page.now a.n a.key a.i a.pair _
-    p.before.first_one-start.ensures
-    (bit p ∙ c.before.before.if-pair_bit.true) c.if-start-eq0.true
+    p.first_one-start.ensures
+    (bit p ∙ c.if-pair_bit.true) c.if-start-eq0.true
 
 returns-3 : tie.Need-returns-then-pair_bit
 returns-3 c =
     let p = c.before.before.before in
     let s = p.before.before.before in
     let a = s.args in
-    own-high (width_list a.widths) a.bias a.page.now a.n a.key a.i a.pair _ p.before.first_one-start.ensures
-    (bit p ∙ c.before.before.if-pair_bit.true) (omega (arith, c.before.if-i-start.false)) c.if-start-eq0.false s.requires.0.0
+    own-high (width_list a.widths) a.bias a.page.now a.n a.key a.i a.pair _ p.first_one-start.ensures
+    (bit p ∙ c.if-pair_bit.true) (omega (arith, c.if-i-start.false)) c.if-start-eq0.false s.requires.le_n.0
 
 returns-4 : tie.Need-returns-then-start-i
 returns-4 c =
     let p = c.before.before in
-    let a = p.before.before.before.args in
+    let a = p.args in
     damaged-low (width_list a.widths) a.bias a.page.now a.n a.key a.i a.pair _
-    p.before.first_one-start.ensures
-    (bit p ∙ c.before.if-pair_bit.false) c.if-start-i.true
+    p.first_one-start.ensures
+    (bit p ∙ c.if-pair_bit.false) c.if-start-i.true
 
 returns-5 : tie.Need-returns-then-start-n
 returns-5 c =
     let p = c.before.before.before in
-    let a = p.before.before.before.args in
+    let a = p.args in
     damaged-all (width_list a.widths) a.bias a.page.now a.n a.key a.i a.pair _
-    p.before.first_one-start.ensures
-    (bit p ∙ c.before.before.if-pair_bit.false) c.if-start-n.true
+    p.first_one-start.ensures
+    (bit p ∙ c.if-pair_bit.false) c.if-start-n.true
 
 returns-6 : tie.Need-returns
 returns-6 c =
     let p = c.before.before.before in
-    let a = p.before.before.before.args in
-    own-low (width_list a.widths) a.bias a.page.now a.n a.key a.i a.pair _ p.before.first_one-start.ensures
-    (bit p ∙ c.before.before.if-pair_bit.false) (omega (arith, c.before.if-start-i.false))
+    let a = p.args in
+    own-low (width_list a.widths) a.bias a.page.now a.n a.key a.i a.pair _ p.first_one-start.ensures
+    (bit p ∙ c.if-pair_bit.false) (omega (arith, c.if-start-i.false))
     (omega (
       arith,
       c.if-start-n.false,
-      p.before.first_one-start.ensures,
+      p.first_one-start.ensures,
       first_one-le (width_list a.widths) a.bias a.pair a.page.now a.n 0,
     ))
 

@@ -18,23 +18,23 @@ use Rattle.insert_find.proofs.find.Tie as tie
 
 -- what the early refusals and the limits leave
 told : (c : tie.Else-not-limits_hold)
-    → let a = c.before.before.before.before.args in
+    → let a = c.args in
     InsertAsked (store a.state a.dir.now a.pages.now) a.encoded.values
 told c =
     let s = c.before.before.before.before in
     let a = s.args in
-    let limits = c.before.limits_hold in
+    let limits = c.limits_hold in
     asked (store a.state a.dir.now a.pages.now) a.encoded.values s.requires
     (sym limits.ensures ∙ not-false limits.result c.if-not-limits_hold.false-raw)
 
 limits-hold-requires : tie.Need-limits_hold-requires
-limits-hold-requires c κs = c.before.before.requires.shape
+limits-hold-requires c κs = c.requires.shape
 
 returns : tie.Need-returns-then-not-limits_hold
 returns c =
     let s = c.before.before.before.before in
     let a = s.args in
-    let limits = c.before.limits_hold in
+    let limits = c.limits_hold in
     nine-limits (store a.state a.dir.now a.pages.now) a.encoded.values
     (sym limits.ensures ∙ not-true limits.result c.if-not-limits_hold.true-raw)
 
@@ -43,19 +43,19 @@ pack-key-requires c κs = SixteenBits-passed _ _ (told c).passed
 
 -- the key, back from its packed form
 back : (c : tie.After-pack_key-packed)
-    → unpacked_key c.pack_key-packed.result ≡ c.before.before.before.before.before.args.encoded.values
+    → unpacked_key c.pack_key-packed.result ≡ c.args.encoded.values
 back c = ap unpacked_key c.pack_key-packed.ensures ∙ unpacked_key-passed _ _ (told c.before).passed
 
 -- the word that was found, of the state's own shape
 found : (c : tie.After-key_word-at)
-    → let a = c.before.before.before.before.before.before.before.before.args in
+    → let a = c.args in
     c.key_word-at.result.word
     ≡ word_at a.state.shape a.state.deepest a.dir.now
     (split_bit (widths_of a.state.shape) a.encoded.values)
 found c =
-    let a = c.before.before.before.before.before.before.before.before.args in
-    key-word-is a.state.shape _ c.before.before.widths_of-widths.ensures a.state.deepest a.dir.now
-    a.encoded.values _ _ (back c.before.before.before) c.key_word-at.ensures.0
+    let a = c.args in
+    key-word-is a.state.shape _ c.widths_of-widths.ensures a.state.deepest a.dir.now
+    a.encoded.values _ _ (back c.before.before.before) c.key_word-at.ensures.word_value
 
 widths-of-requires : tie.Need-widths_of-widths-requires
 widths-of-requires c κs = search rules
@@ -65,9 +65,9 @@ cast-key-word c = search rules
 
 key-word-requires : tie.Need-key_word-at-requires
 key-word-requires c κs =
-    let st = c.before.before.before.before.before.before.before.args.state in
+    let st = c.args.state in
     let t = told c.before.before.before in
-    key-word-asks st.shape _ c.before.widths_of-widths.ensures st.deepest t.passed.shape
+    key-word-asks st.shape _ c.widths_of-widths.ensures st.deepest t.passed.shape
     (le_trans t.within-limit t.bits) _ (le_trans (pow_mono t.within-limit) t.passed.words-lent)
 
 word-holds-requires : tie.Need-word_holds-requires
@@ -79,16 +79,16 @@ returns-2 : tie.Need-returns-then-not-word_holds
 returns-2 c =
     let s = c.before.before.before.before.before.before.before.before.before.before in
     let a = s.args in
-    let holds = c.before.word_holds in
+    let holds = c.word_holds in
     nine-word (store a.state a.dir.now a.pages.now) a.encoded.values _ (found c.before.before)
     (sym holds.ensures ∙ not-true holds.result c.if-not-word_holds.true-raw)
 
 find-page-requires : tie.Need-find_page-requires
 find-page-requires c κs =
     let packed = c.before.before.before.before.before in
-    let a = packed.before.before.before.before.before.args in
+    let a = packed.args in
     let t = told packed.before in
-    let holds = c.before.word_holds in (
+    let holds = c.word_holds in (
       t.pages-lent,
       sym holds.ensures ∙ not-false holds.result c.if-not-word_holds.false-raw,
       record {
@@ -101,7 +101,7 @@ find-page-requires c κs =
 returns-3 : tie.Need-returns
 returns-3 c =
     let packed = c.before.before.before.before.before.before in
-    let a = packed.before.before.before.before.before.args in
+    let a = packed.args in
     c.find_page.ensures a.dir.now a.encoded.values
     (record {
       asked = told packed.before;

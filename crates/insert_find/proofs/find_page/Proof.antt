@@ -14,14 +14,14 @@ use Rattle.insert_find.proofs.find_page.Tie as tie
 
 -- page and depth that the word names
 held : (c : tie.In-Page-2)
-    → let a = c.before.before.before.before.args in
+    → let a = c.args in
     let leaf = c.leaf-in-Page-1.given.0 in
     (leaf.0 < a.state.limits.pages) × (leaf.1.0 ≤ a.state.deepest) ×
     (a.word ≡ word_of (Page leaf.0 leaf.1.0))
 held c =
     let s = c.before.before.before.before in
     held-page s.args.state s.args.word s.requires.1 _ _
-    (sym c.before.before.unpack-leaf.ensures ∙ c.leaf-in-Page-1.given.1)
+    (sym c.unpack-leaf.ensures ∙ c.leaf-in-Page-1.given.1)
 
 unpack-requires : tie.Need-unpack-leaf-requires
 unpack-requires c κs = search rules
@@ -34,11 +34,11 @@ enum-known-leaf-2 c = search rules
 
 find-place-requires : tie.Need-find_place-requires
 find-place-requires c κs =
-    let s = c.before.before.before.before.before in
+    let s = c.before.before.before in
     let st = s.args.state in
     let lent = s.requires.0 in
     let h = held c.before in
-    let end = page-end-le st.shape.capacity c.before.leaf-in-Page-1.given.0.0 st.limits.pages h.0 in (
+    let end = page-end-le st.shape.capacity c.in-Page.page st.limits.pages h.0 in (
       lent,
       record {
         capacity-le = (capacity-bounds st.shape lent.shape).1;
@@ -51,10 +51,10 @@ find-place-requires c κs =
 
 returns : tie.Need-returns-in-Empty
 returns c words encoded m =
-    let leaf = c.before in
-    let s = leaf.before.before.before.before in
+    let leaf = c in
+    let s = leaf.before.before.before in
     let h = held-empty s.args.state s.args.word s.requires.1 _
-    (sym leaf.before.before.unpack-leaf.ensures ∙ leaf.leaf-1.given.1) in
+    (sym leaf.unpack-leaf.ensures ∙ leaf.in-Empty.is) in
     record {
       asked = m.asked;
       depth_le = h.0;
@@ -65,7 +65,7 @@ returns c words encoded m =
 returns-2 : tie.Need-returns-in-Page
 returns-2 c words encoded m =
     let h = held c.before.before in
-    let s = c.before.before.before.before.before.before in
+    let s = c.before.before.before.before in
     c.find_place.ensures words encoded
     (record {
       asked = m.asked;

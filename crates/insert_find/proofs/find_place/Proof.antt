@@ -26,7 +26,7 @@ use Rattle.insert_find.proofs.find_place.Tie as tie
 -- what is found is the key's place on the page
 place : (c : tie.After-find-place)
     → let f = c.before.before.before.before.before.before.before.before.before.before in
-    let a = f.before.before.before.before.args in
+    let a = f.args in
     Placed (widths_of a.state.shape) (bias_key a.state.shape) (unpacked_key a.key)
     (page_at a.state.shape.capacity a.pages.now a.page)
     f.count_at-n.result c.find-place.result
@@ -35,12 +35,12 @@ place c =
     let widths = bias.before in
     let size = widths.before.before in
     let f = size.before.before.before.before.before.before in
-    let a = f.before.before.before.before.args in
+    let a = f.args in
     let n = f.count_at-n.result in
-    let start = size.before.page_start-start.result in
+    let start = size.page_start-start.result in
     let part = mid_of start (start + size.page_size.result - start) a.pages.now in
     subst (λ page. Placed (widths_of a.state.shape) (bias_key a.state.shape) (unpacked_key a.key) page n c.find-place.result)
-    (mid_of-page a.state.shape.capacity a.page _ _ a.pages.now size.before.page_start-start.ensures
+    (mid_of-page a.state.shape.capacity a.page _ _ a.pages.now size.page_start-start.ensures
     size.page_size.ensures)
     (subst (λ h. Placed (widths_of a.state.shape) h (unpacked_key a.key) part n c.find-place.result)
     bias.bias_key.ensures
@@ -50,25 +50,25 @@ place c =
 -- the page is the leaf's
 own : (c : tie.After-find-place)
     → let f = c.before.before.before.before.before.before.before.before.before.before in
-    let a = f.before.before.before.before.args in
+    let a = f.args in
     own_page a.state.shape a.depth a.key (page_at a.state.shape.capacity a.pages.now a.page)
     f.count_at-n.result
     ≡ true
 own c =
     let held = c.before.before.before.before.before.before in
-    let holds = held.before.page_holds in
+    let holds = held.page_holds in
     sym holds.ensures ∙ not-false holds.result held.if-not-page_holds.false-raw
 
 cast-capacity : tie.Need-overflow_cast-capacity
 cast-capacity c = search rules
 
 count-at-requires : tie.Need-count_at-n-requires
-count-at-requires c κs = c.before.before.before.requires.1
+count-at-requires c κs = c.requires.1
 
 returns : tie.Need-returns-then-n-eq0
 returns c words encoded m =
     let f = c.before in
-    let a = f.before.before.before.before.args in
+    let a = f.args in
     nine-count (store a.state words a.pages.now) encoded a.key a.page a.depth m _
     f.count_at-n.ensures.0
     (inl c.if-n-eq0.true)
@@ -76,7 +76,7 @@ returns c words encoded m =
 returns-2 : tie.Need-returns-then-capacity-n
 returns-2 c words encoded m =
     let f = c.before.before in
-    let a = f.before.before.before.before.args in
+    let a = f.args in
     nine-count (store a.state words a.pages.now) encoded a.key a.page a.depth m _
     f.count_at-n.ensures.0
     (inr c.if-capacity-n.true)
@@ -89,15 +89,15 @@ page-holds-requires c κs =
       deep = le_trans s.requires.3 s.requires.2.bits;
       fits = s.requires.2.fits;
       lent = s.requires.1;
-      some = omega (arith, c.before.if-n-eq0.false);
+      some = omega (arith, c.if-n-eq0.false);
       few = omega (arith, c.if-capacity-n.false);
     }
 
 returns-3 : tie.Need-returns-then-not-page_holds
 returns-3 c words encoded m =
     let f = c.before.before.before.before in
-    let a = f.before.before.before.before.args in
-    let holds = c.before.page_holds in
+    let a = f.args in
+    let holds = c.page_holds in
     nine-ends (store a.state words a.pages.now) encoded a.key a.page a.depth m _
     f.count_at-n.ensures.0 (sym holds.ensures ∙ not-true holds.result c.if-not-page_holds.true-raw)
 
@@ -124,7 +124,7 @@ widths-of-requires c κs = search rules
 
 bias-key-requires : tie.Need-bias_key-requires
 bias-key-requires c κs =
-    c.before.before.before.before.before.before.before.before.before.before.before.before.requires.0.shape
+    c.requires.0.shape
 
 find-requires : tie.Need-find-place-requires
 find-requires c κs =
@@ -132,12 +132,12 @@ find-requires c κs =
     let held = size.before.before in
     let s = held.before.before.before.before.before.before.before.before in
     let st = s.args.state in
-    let few = held.before.before.if-capacity-n.false in
+    let few = held.if-capacity-n.false in
     let part = mid_of-page st.shape.capacity s.args.page _ _ s.args.pages.now
-    size.before.page_start-start.ensures size.page_size.ensures in
+    size.page_start-start.ensures size.page_size.ensures in
     let whole = ap length part
     ∙ length-page_at st.shape.capacity s.args.page s.args.pages.now s.requires.1.whole in
-    (omega (arith, whole), widths-fit st.shape _ s.requires.0.shape c.before.widths_of.ensures)
+    (omega (arith, whole), widths-fit st.shape _ s.requires.0.shape c.widths_of.ensures)
 
 enum-known-place : tie.Need-enum_known-place
 enum-known-place c = search rules
@@ -147,28 +147,28 @@ enum_told c = search rules
 
 returns-4 : tie.Need-returns-in_default
 returns-4 c words encoded m =
-    let d = c.before.before in
+    let d = c.before in
     let few = d.before.before.before.before.before.before.before.before in
     let f = few.before.before in
     let s = f.before.before.before.before in
     let a = s.args in
-    let known = f.before.before.before.shared_slice_known-1.given in
+    let known = f.shared_slice_known-1.given in
     four-stored (store a.state words a.pages.now) encoded a.key a.page a.depth m _
     f.count_at-n.ensures.0
     (omega (arith, few.if-capacity-n.false)) (own d) (λ i. omega (arith, known i)) _
     (subst
     (Placed (widths_of a.state.shape) (bias_key a.state.shape) (unpacked_key a.key)
     (page_at a.state.shape.capacity a.pages.now a.page) f.count_at-n.result)
-    c.enum_told-1.given.1 (place d))
+    c.in_default.is (place d))
 
 returns-5 : tie.Need-returns-then-n-capacity
 returns-5 c words encoded m =
-    let found = c.before.before.place-1 in
-    let d = c.before.before.before.before in
+    let found = c.before.before.place in
+    let d = c.before.before in
     let few = d.before.before.before.before.before.before.before.before in
     let f = few.before.before in
-    let a = f.before.before.before.before.args in
-    let known = f.before.before.before.shared_slice_known-1.given in
+    let a = f.args in
+    let known = f.shared_slice_known-1.given in
     room-found (store a.state words a.pages.now) encoded a.key a.page a.depth m _
     f.count_at-n.ensures.0 (omega (arith, few.if-capacity-n.false)) (own d)
     (λ i. omega (arith, known i)) _
@@ -180,18 +180,18 @@ returns-5 c words encoded m =
 find-split-requires : tie.Need-find_split-requires
 find-split-requires c κs =
     let f =
-    c.before.before.before.before.before.before.before.before.before.before.before.before.before.before in
+    c.before.before.before.before.before.before.before.before.before.before.before.before in
     let s = f.before.before.before.before in
     (s.pre.0, s.pre.1)
 
 returns-6 : tie.Need-returns
 returns-6 c words encoded m =
-    let found = c.before.before.before.place-1 in
-    let d = c.before.before.before.before.before in
+    let found = c.before.before.before.place in
+    let d = c.before.before.before in
     let few = d.before.before.before.before.before.before.before.before in
     let f = few.before.before in
-    let a = f.before.before.before.before.args in
-    let known = f.before.before.before.shared_slice_known-1.given in
+    let a = f.args in
+    let known = f.shared_slice_known-1.given in
     c.find_split.ensures words encoded
     (full-met (store a.state words a.pages.now) encoded a.key a.page a.depth m _
     f.count_at-n.ensures.0
@@ -200,7 +200,7 @@ returns-6 c words encoded m =
     (Placed (widths_of a.state.shape) (bias_key a.state.shape) (unpacked_key a.key)
     (page_at a.state.shape.capacity a.pages.now a.page) f.count_at-n.result)
     found.given.1 (place d))
-    (omega (arith, c.before.if-n-capacity.false)))
+    (omega (arith, c.if-n-capacity.false)))
 
 pub find_place_spec : {M : Type 1} → statement M
 find_place_spec =

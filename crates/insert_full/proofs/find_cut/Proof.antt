@@ -16,13 +16,13 @@ use Rattle.insert_full.proofs.find_cut.Tie as tie
 
 -- the part is the leaf's page
 part : (c : tie.After-page_size)
-    → let a = c.before.before.before.before.before.before.args in
-    let start = c.before.page_start-start.result in
+    → let a = c.args in
+    let start = c.page_start-start.result in
     mid_of start (start + c.page_size.result - start) a.pages.now
     ≡ page_at a.state.shape.capacity a.pages.now a.split.page
 part c =
-    let a = c.before.before.before.before.before.before.args in
-    mid_of-page a.state.shape.capacity a.split.page _ _ a.pages.now c.before.page_start-start.ensures
+    let a = c.args in
+    mid_of-page a.state.shape.capacity a.split.page _ _ a.pages.now c.page_start-start.ensures
     c.page_size.ensures
 
 cast-capacity : tie.Need-overflow_cast-capacity
@@ -53,20 +53,20 @@ widths-of-requires : tie.Need-widths_of-requires
 widths-of-requires c κs = search rules
 
 bias-key-requires : tie.Need-bias_key-requires
-bias-key-requires c κs = c.before.before.before.before.before.before.before.before.requires.0.0.shape
+bias-key-requires c κs = c.requires.pages_lent.0.shape
 
 half-of-requires : tie.Need-half_of-half-requires
 half-of-requires c κs =
     let size = c.before.before.before in
     let s = size.before.before.before.before.before.before in
     let st = s.args.state in
-    let page = s.requires.0.1 in
+    let page = s.requires.pages_lent.1 in
     let pair = s.args.split.pair in
-    let b = capacity-bounds st.shape s.requires.0.0.shape in
+    let b = capacity-bounds st.shape s.requires.pages_lent.0.shape in
     let whole = ap length (part size)
     ∙ length-page_at st.shape.capacity s.args.split.page s.args.pages.now page.whole in (
-      (b.0, b.1, omega (arith, whole), widths-fit st.shape _ s.requires.0.0.shape c.before.widths_of.ensures),
-      (s.requires.1.0, subst (λ ws. pair / 4 < get_or ws (pair % 4) 0) (sym c.before.widths_of.ensures) s.requires.1.1),
+      (b.0, b.1, omega (arith, whole), widths-fit st.shape _ s.requires.pages_lent.0.shape c.widths_of.ensures),
+      (s.requires.pair_bound.0, subst (λ ws. pair / 4 < get_or ws (pair % 4) 0) (sym c.widths_of.ensures) s.requires.pair_bound.1),
     )
 
 enum-known-half : tie.Need-enum_known-half
@@ -77,20 +77,20 @@ enum_told c = search rules
 
 returns : tie.Need-returns-in_default
 returns c words encoded m =
-    let h = c.before.before in
+    let h = c.before in
     let size = h.before.before.before.before in
-    let a = size.before.before.before.before.before.before.args in
-    nine-half (store a.state words a.pages.now) encoded a.key a.split m _ _ _ h.before.before.widths_of.ensures
-    (part size) h.before.bias_key.ensures
-    h.half_of-half.result h.half_of-half.ensures c.enum_told-1.given.1
+    let a = size.args in
+    nine-half (store a.state words a.pages.now) encoded a.key a.split m _ _ _ h.widths_of.ensures
+    (part size) h.bias_key.ensures
+    h.half_of-half.result h.half_of-half.ensures c.in_default.is
 
 returns-2 : tie.Need-returns
 returns-2 c words encoded m =
-    let h = c.before.before.before in
+    let h = c.before in
     let size = h.before.before.before.before in
-    let a = size.before.before.before.before.before.before.args in
+    let a = size.args in
     full-found (store a.state words a.pages.now) encoded a.key a.split m _ _ _
-    h.before.before.widths_of.ensures (part size) h.before.bias_key.ensures h.half_of-half.result h.half_of-half.ensures _ c.before.half-1.given.1
+    h.widths_of.ensures (part size) h.bias_key.ensures h.half_of-half.result h.half_of-half.ensures _ c.in-Own.is
 
 pub find_cut_spec : {M : Type 1} → statement M
 find_cut_spec =

@@ -28,45 +28,45 @@ fit c =
 
 -- the part is the leaf's page
 part : (c : tie.After-page_size)
-    → let a = c.before.before.before.before.before.before.before.before.args in
-    let start = c.before.page_start-start.result in
+    → let a = c.args in
+    let start = c.page_start-start.result in
     mid_of start (start + c.page_size.result - start) a.pages.now
     ≡ page_at a.state.shape.capacity a.pages.now a.page
 part c =
-    let a = c.before.before.before.before.before.before.before.before.args in
-    mid_of-page a.state.shape.capacity a.page _ _ a.pages.now c.before.page_start-start.ensures
+    let a = c.args in
+    mid_of-page a.state.shape.capacity a.page _ _ a.pages.now c.page_start-start.ensures
     c.page_size.ensures
 
 -- what is computed is where the first and the last key differ, at the step with its number
 met : (c : tie.After-ends_pair-pair)
     → let w = c.before.before.before.before in
-    let a = w.before.before.before.before.before.before.args in
+    let a = w.args in
     (words encoded : List ℕ)
     → FullMet (store a.state words a.pages.now) encoded a.key a.page a.depth a.i
     → EndsMet (store a.state words a.pages.now) encoded a.page a.depth a.i c.ends_pair-pair.result
     (length (steps_below (width_list w.widths_of-widths.result) c.ends_pair-pair.result))
 met c words encoded m =
     let w = c.before.before.before.before in
-    let a = w.before.before.before.before.before.before.args in
+    let a = w.args in
     ends-met (store a.state words a.pages.now) encoded a.key a.page a.depth a.i
     c.ends_pair-pair.result _
     m (width_list w.widths_of-widths.result) _ _ w.widths_of-widths.ensures
-    (part c.before.before) w.before.bias_key-bias.ensures c.ends_pair-pair.ensures refl
+    (part c.before.before) w.bias_key-bias.ensures c.ends_pair-pair.ensures refl
 
-below : (c : tie.Else-pair-eq64) → c.before.ends_pair-pair.result < 64
-below c = omega (arith, c.before.ends_pair-pair.ensures.most, c.if-pair-eq64.false)
+below : (c : tie.Else-pair-eq64) → c.ends_pair-pair.result < 64
+below c = omega (arith, c.ends_pair-pair.ensures.most, c.if-pair-eq64.false)
 
 -- the same, with the number as it is computed
 met-step : (c : tie.After-steps_before-step)
     → let e = c.before.before in
-    let a = e.before.before.before.before.before.before.before.before.before.before.args in
+    let a = e.args in
     (words encoded : List ℕ)
     → FullMet (store a.state words a.pages.now) encoded a.key a.page a.depth a.i
     → EndsMet (store a.state words a.pages.now) encoded a.page a.depth a.i e.ends_pair-pair.result
     c.steps_before-step.result
 met-step c words encoded m =
     let e = c.before.before in
-    let a = e.before.before.before.before.before.before.before.before.before.before.args in
+    let a = e.args in
     subst
     (EndsMet (store a.state words a.pages.now) encoded a.page a.depth a.i e.ends_pair-pair.result)
     c.steps_before-step.ensures.before (met e words encoded m)
@@ -75,7 +75,7 @@ cast-capacity : tie.Need-overflow_cast-capacity
 cast-capacity c = search rules
 
 bias-key-requires : tie.Need-bias_key-bias-requires
-bias-key-requires c κs = c.before.before.before.before.requires.0.shape
+bias-key-requires c κs = c.requires.0.shape
 
 widths-of-requires : tie.Need-widths_of-widths-requires
 widths-of-requires c κs = search rules
@@ -111,12 +111,12 @@ ends-pair-requires c κs =
 
 returns : tie.Need-returns-then-pair-eq64
 returns c words encoded m =
-    let a = c.before.before.before.before.before.before.before.before.before.before.before.args in
+    let a = c.args in
     nine-ends (store a.state words a.pages.now) encoded m.asked _ _ _ _ _ (met c.before words encoded m)
     c.if-pair-eq64.true
 
 steps-before-requires : tie.Need-steps_before-step-requires
-steps-before-requires c κs = (fit c.before.before.before.before.before, c.before.ends_pair-pair.ensures.most)
+steps-before-requires c κs = (fit c.before.before.before.before.before, c.ends_pair-pair.ensures.most)
 
 cast-if2 : tie.Need-overflow_cast-limits
 cast-if2 c = search rules
@@ -124,14 +124,14 @@ cast-if2 c = search rules
 returns-2 : tie.Need-returns-then-limits-step
 returns-2 c words encoded m =
     let t = c.before.before in
-    let a = t.before.before.before.before.before.before.before.before.before.before.before.before.args in
+    let a = t.args in
     six-alike (store a.state words a.pages.now) encoded m.asked _ _ _ _ _ (met-step t words encoded m)
     (below t.before) c.if-limits-step.true
 
 returns-3 : tie.Need-returns-then-step-depth
 returns-3 c words encoded m =
     let t = c.before.before.before in
-    let a = t.before.before.before.before.before.before.before.before.before.before.before.before.args in
+    let a = t.args in
     nine-below (store a.state words a.pages.now) encoded m.asked _ _ _ _ _ (met-step t words encoded m)
     (below t.before) c.if-step-depth.true
 
@@ -141,8 +141,8 @@ tally-holds-requires c κs = search rules
 returns-4 : tie.Need-returns-then-not-tally_holds
 returns-4 c words encoded m =
     let e = c.before.before.before.before.before.before in
-    let a = e.before.before.before.before.before.before.before.before.before.before.before.args in
-    let tally = c.before.tally_holds in
+    let a = e.args in
+    let tally = c.tally_holds in
     nine-tally (store a.state words a.pages.now) encoded
     (sym tally.ensures ∙ not-true tally.result c.if-not-tally_holds.true-raw)
 
@@ -151,8 +151,8 @@ find-cut-requires c κs =
     let e = c.before.before.before.before.before.before in
     let w = e.before.before.before.before.before in
     let s = w.before.before.before.before.before.before in
-    let pair = e.before.ends_pair-pair.result in
-    let live = e.before.ends_pair-pair.ensures.step-there (below e) in (
+    let pair = e.ends_pair-pair.result in
+    let live = e.ends_pair-pair.ensures.step-there (below e) in (
       (s.requires.0, s.requires.1),
       (below e, subst (λ ws. pair / 4 < get_or ws (pair % 4) 0) w.widths_of-widths.ensures live),
     )
@@ -160,7 +160,7 @@ find-cut-requires c κs =
 returns-5 : tie.Need-returns
 returns-5 c words encoded m =
     let t = c.before.before.before.before.before.before in
-    let tally = c.before.before.tally_holds in
+    let tally = c.tally_holds in
     c.find_cut.ensures words encoded
     (record {
       asked = m.asked;
@@ -169,9 +169,9 @@ returns-5 c words encoded m =
           record {
             ends-met = met-step t words encoded m;
             differ = below t.before;
-            below = omega (arith, c.before.before.before.if-step-depth.false);
-            deep = omega (arith, c.before.before.before.before.if-limits-step.false);
-            tally = sym tally.ensures ∙ not-false tally.result c.before.if-not-tally_holds.false-raw;
+            below = omega (arith, c.if-step-depth.false);
+            deep = omega (arith, c.if-limits-step.false);
+            tally = sym tally.ensures ∙ not-false tally.result c.if-not-tally_holds.false-raw;
           };
     })
 

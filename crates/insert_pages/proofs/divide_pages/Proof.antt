@@ -13,7 +13,7 @@ use Rattle.insert_pages.proofs.divide_pages.Tie as tie
 carry-requires : tie.Need-carry-requires
 carry-requires c κs =
     let s = c.before.before in
-    (s.requires.0, (s.requires.1.start-le, omega arith, omega arith))
+    (s.requires.page_lent, (s.requires.cut_fits.start-le, omega arith, omega arith))
 
 either-requires : tie.Need-either-own-requires
 either-requires c κs = search rules
@@ -21,7 +21,7 @@ either-requires c κs = search rules
 sub-either : tie.Need-overflow_sub-capacity
 sub-either c =
     let s = c.before.before.before.before.before.before.before in
-    omega (arith, s.requires.1.start-le)
+    omega (arith, s.requires.cut_fits.start-le)
 
 either-requires-2 : tie.Need-either-count-requires
 either-requires-2 c κs = search rules
@@ -30,11 +30,11 @@ insert-record-requires : tie.Need-insert_record-requires
 insert-record-requires c κs =
     let s = c.before.before.before.before.before.before.before.before.before in
     let a = s.args in
-    let fits = s.requires.1 in
-    let count = c.before.either-count in (
-      lent-carried a.capacity a.page a.free a.cut a.pages.now _ s.requires.0.0 s.requires.0.1 fits
-          c.before.before.before.before.before.before.carry.ensures _
-          c.before.before.before.either-own.ensures,
+    let fits = s.requires.cut_fits in
+    let count = c.either-count in (
+      lent-carried a.capacity a.page a.free a.cut a.pages.now _ s.requires.page_lent.0 s.requires.page_lent.1 fits
+          c.carry.ensures _
+          c.either-own.ensures,
       subst (λ k. a.cut.place ≤ k) (sym count.ensures) fits.place-le,
       subst (λ k. k < a.capacity) (sym count.ensures) fits.room,
     )
@@ -48,10 +48,10 @@ returns c =
     let s = c.before.before.before.before.before.before.before.before.before.before.before.before in
     let a = s.args in
     let new = packed_bytes a.key a.content in
-    let count = c.before.before.before.before.either-count in
-    let own = c.before.before.before.before.before.before.either-own in
-    let carried = c.before.before.before.before.before.before.before.before.before.carry in
-    c.before.before.insert_record.ensures
+    let count = c.either-count in
+    let own = c.either-own in
+    let carried = c.carry in
+    c.insert_record.ensures
     ∙ (λ j. inserted_pages a.capacity (own.ensures j) a.cut.place (count.ensures j) new (carried.ensures j))
 
 pub divide_pages_spec : {M : Type 1} → statement M

@@ -41,9 +41,9 @@ returns c =
     let s = size.before.before.before in
     let a = s.args in
     let new = packed_bytes a.key a.content in
-    put_mid-change a.capacity a.p _ _ a.pages.now size.before.page_start-start.ensures
+    put_mid-change a.capacity a.p _ _ a.pages.now size.page_start-start.ensures
     size.page_size.ensures (inserted_page a.i a.n new) _
-    c.before.before.insert_at.ensures
+    c.insert_at.ensures
     (length_inserted a.capacity a.p a.i a.n new a.pages.now s.requires.0 s.requires.1 s.requires.2
     (length-packed_bytes a.key a.content))
 

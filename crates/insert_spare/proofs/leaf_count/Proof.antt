@@ -29,7 +29,7 @@ widened-requires : tie.Need-widened-n-requires invariant-loop decreases-loop
 widened-requires c κs = search rules
 
 add-n : tie.Need-overflow_add-n invariant-loop decreases-loop
-add-n c = record { fits = omega (arith, c.widened-n.ensures.1, c.before.before.loop-x.invariant.1) }
+add-n c = record { fits = omega (arith, c.widened-n.ensures.1, c.loop-x.invariant.1) }
 
 add-x : tie.Need-overflow_add-x invariant-loop decreases-loop
 add-x c = omega arith
@@ -40,19 +40,19 @@ loop-less c = omega arith
 loop-again : tie.Need-loop-x-preserved invariant-loop decreases-loop
 unfolding leaves_above
 loop-again c =
-    let l = c.before.before.loop-x in
-    let leaves = c.before.before.before.before.args.tally.leaves in
+    let l = c.loop-x in
+    let leaves = c.args.tally.leaves in
     let e = c.widened-n.ensures in (
-      omega (arith, c.before.loop-x-test.true),
+      omega (arith, c.loop-x-test.true),
       omega (arith, e.1, l.invariant.1),
       rw add-one (omega (arith, e.0, l.invariant.2)),
     )
 
 returns : tie.Need-returns invariant-loop decreases-loop
 returns c =
-    let l = c.before.loop-x in
+    let l = c.loop-x in
     let end : l.x ≡ 13 = omega (arith, c.loop-x-test.false, l.invariant.0) in
-    l.invariant.2 ∙ ap (leaves_above c.before.before.before.args.tally.leaves) end
+    l.invariant.2 ∙ ap (leaves_above c.args.tally.leaves) end
 
 pub leaf_count_spec : {M : Type 1} → statement M
 leaf_count_spec =

@@ -34,7 +34,7 @@ cast-result c =
       arith,
       c.free_page.ensures,
       free_page-le st.shape.capacity s.args.pages.now st.limits.pages
-          c.before.before.before.one_less-start.result,
+          c.one_less-start.result,
       s.requires.few,
     )
 
@@ -44,8 +44,8 @@ returns c =
     let st = s.args.state in
     c.free_page.ensures
     ∙ ap (free_page st.shape.capacity s.args.pages.now st.limits.pages)
-    (c.before.before.before.one_less-start.ensures
-    ∙ ap (λ n. n - 1) c.before.before.before.before.leaf_count.ensures)
+    (c.one_less-start.ensures
+    ∙ ap (λ n. n - 1) c.leaf_count.ensures)
 
 pub spare_page_spec : {M : Type 1} → statement M
 spare_page_spec =

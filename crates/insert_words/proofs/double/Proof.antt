@@ -53,7 +53,7 @@ same_length c = search rules
 
 returns : tie.Need-returns
 returns c =
-    let d = c.before.before.deepen in
+    let d = c.deepen in
     let w = c.before.before.before.before in
     let g = w.before in
     let a = (start g).args in

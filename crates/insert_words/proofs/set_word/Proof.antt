@@ -31,9 +31,9 @@ returns : tie.Need-returns
 returns c =
     let packed = c.before.before.before.before in
     let w = packed.before.before in
-    let a = w.before.before.args in
+    let a = w.args in
     filled-shape a.state _ w.widths_of-widths.ensures _ _ a.encoded _ _ _ _ packed.pack_page-word.ensures
-    c.before.before.fill.ensures
+    c.fill.ensures
 
 pub set_word_spec : {M : Type 1} → statement M
 set_word_spec =

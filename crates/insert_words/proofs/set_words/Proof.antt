@@ -39,9 +39,9 @@ same_length c = search rules
 
 returns : tie.Need-returns
 returns c =
-    let set = c.before.before.set_leaves in
+    let set = c.set_leaves in
     let w = c.before.before.before.before.before.before in
-    let a = w.before.before.args in
+    let a = w.args in
     subst
     (λ ws. LeavesSet ws a.state.deepest a.split.depth a.split.step (split_bit ws a.encoded)
     a.split.page a.free a.dir.now set.new.1.1.1.1.1.1.1.1.0)

@@ -15,10 +15,10 @@ not-below-requires-2 c κs = search rules
 
 returns : tie.Need-returns
 returns c =
-    let a = c.before.before.args in
+    let a = c.args in
     let low = not_below a.low a.key in
     let high = not_below a.key a.high in
-    (λ i. bit_and (c.before.not_below.ensures i) (c.not_below-2.ensures i))
+    (λ i. bit_and (c.not_below.ensures i) (c.not_below-2.ensures i))
     ∙ and-even_flags (low 0) (low 2) (high 0) (high 2)
 
 pub even_within_spec : {M : Type 1} → statement M

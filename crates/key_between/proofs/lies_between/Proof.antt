@@ -15,8 +15,8 @@ even-within-requires-2 c κs = search rules
 
 returns : tie.Need-returns
 returns c =
-    let a = c.before.before.args in
-    (λ i. eqb (bit_and (c.before.even_within.ensures i) (c.even_within-2.ensures i)) 281474976776192)
+    let a = c.args in
+    (λ i. eqb (bit_and (c.even_within.ensures i) (c.even_within-2.ensures i)) 281474976776192)
     ∙ lies_between-flags a.low a.high a.key
 
 pub lies_between_spec : {M : Type 1} → statement M

@@ -21,8 +21,8 @@ sub-result c = search rules
 
 returns : tie.Need-returns
 returns c =
-    let a = c.before.before.args in
-    let second = c.before.even_values.ensures in
+    let a = c.args in
+    let second = c.even_values.ensures in
     let first = c.even_values-2.ensures in
     (λ i. bit_and (second i + 281474976776192 - first i) 281474976776192)
     ∙ even_flags-not_below a.first a.second

@@ -8,7 +8,7 @@ use Rattle.key_encoding.proofs.bias_key.Statement.{statement}
 use Rattle.key_encoding.proofs.bias_key.Tie as tie
 
 returns : tie.Need-returns-then-shape-eq0
-returns c = bias_key-none c.before.before.args.shape c.if-shape-eq0.true
+returns c = bias_key-none c.args.shape c.if-shape-eq0.true
 
 bias-of-requires : tie.Need-bias_of-b0-requires
 bias-of-requires c κs = search rules
@@ -27,8 +27,8 @@ pack-key-requires c κs =
     let three = c.before.before.before in
     let start = three.before.before.before in
     biases-listed-lt start.args.shape _ _ _ _ start.requires
-    (biases-listed start.args.shape _ _ _ _ three.bias_of-b0.ensures c.before.before.bias_of-b1.ensures
-    c.before.bias_of-b2.ensures c.bias_of-b3.ensures)
+    (biases-listed start.args.shape _ _ _ _ three.bias_of-b0.ensures c.bias_of-b1.ensures
+    c.bias_of-b2.ensures c.bias_of-b3.ensures)
 
 returns-2 : tie.Need-returns
 unfolding bias_key
@@ -37,8 +37,8 @@ returns-2 c =
     let three = b.before.before.before in
     c.pack_key.ensures
     ∙ ap packed_key
-    (biases-listed three.before.before.before.args.shape _ _ _ _ three.bias_of-b0.ensures
-    b.before.before.bias_of-b1.ensures b.before.bias_of-b2.ensures b.bias_of-b3.ensures)
+    (biases-listed three.args.shape _ _ _ _ three.bias_of-b0.ensures
+    b.bias_of-b1.ensures b.bias_of-b2.ensures b.bias_of-b3.ensures)
 
 pub bias_key_spec : {M : Type 1} → statement M
 bias_key_spec =

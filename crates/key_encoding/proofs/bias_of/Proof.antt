@@ -8,16 +8,16 @@ use Rattle.key_encoding.proofs.bias_of.Statement.{statement}
 use Rattle.key_encoding.proofs.bias_of.Tie as tie
 
 -- behind the test the attribute is marked
-set : (c : tie.After-widths-1) → let args = c.before.before.before.args in marked args.shape args.j ≡ true
-set c = sym c.before.before.is_marked.ensures ∙ not-false _ c.before.if-not-is_marked.false-raw
+set : (c : tie.After-widths-1) → let args = c.args in marked args.shape args.j ≡ true
+set c = sym c.is_marked.ensures ∙ not-false _ c.if-not-is_marked.false-raw
 
 is-marked-requires : tie.Need-is_marked-requires
 is-marked-requires c κs = search rules
 
 returns : tie.Need-returns-then-not-is_marked
 returns c =
-    let args = c.before.before.args in
-    sym (bias-plain args.shape args.j (sym c.before.is_marked.ensures ∙ not-true _ c.if-not-is_marked.true-raw))
+    let args = c.args in
+    sym (bias-plain args.shape args.j (sym c.is_marked.ensures ∙ not-true _ c.if-not-is_marked.true-raw))
 
 mul-result : tie.Need-offset_bounds-widths-j
 mul-result c = search rules

@@ -9,7 +9,7 @@ use Rattle.key_encoding.proofs.encode_key.Tie as tie
 
 -- the array of a key's values has four: what owning the key tells
 four : (c : tie.Start) → length c.args.key.values ≡ 4
-four c = sym (length-map c.args.key.values (λ v. v)) ∙ c.well-formed.1.0.1.1.0.1.0.1
+four c = sym (length-map c.args.key.values (λ v. v)) ∙ c.well_formed.1.0.1.1.0.1.0.1
 
 returns : tie.Need-returns-then-shape-eq0
 returns c =
@@ -45,8 +45,8 @@ returns-2 c =
     let three = c.before.before.before in
     let start = three.before.before.before.before in
     encodings-listed start.args.shape _ _ _ _ start.args.key.values
-    three.encode_value-e0.ensures c.before.before.encode_value-e1.ensures
-    c.before.encode_value-e2.ensures c.encode_value-e3.ensures
+    three.encode_value-e0.ensures c.encode_value-e1.ensures
+    c.encode_value-e2.ensures c.encode_value-e3.ensures
 
 pub encode_key_spec : {M : Type 1} → statement M
 encode_key_spec =

@@ -28,9 +28,9 @@ returns-2 : tie.Need-returns
 unfolding wanted_values encoded_wanted
 returns-2 c =
     let two = c.before.before in
-    let e0 = two.before.encode_wanted-a0.ensures in
+    let e0 = two.encode_wanted-a0.ensures in
     let e1 = two.encode_wanted-a1.ensures in
-    let e2 = c.before.encode_wanted-a2.ensures in
+    let e2 = c.encode_wanted-a2.ensures in
     let e3 = c.encode_wanted-a3.ensures in
     λ i. e0 i ∷ e1 i ∷ e2 i ∷ e3 i ∷ []
 

@@ -14,7 +14,7 @@ returns : tie.Need-returns
 returns c =
     let start = c.before.before in
     c.wrapping_add_u32.ensures
-    ∙ ap (λ b. (start.args.value + b) % 2 ^ 32) c.before.bias_of.ensures
+    ∙ ap (λ b. (start.args.value + b) % 2 ^ 32) c.bias_of.ensures
     ∙ encode-sum start.args.shape start.args.j start.args.value start.ranges.value.fits
 
 pub encode_value_spec : {M : Type 1} → statement M

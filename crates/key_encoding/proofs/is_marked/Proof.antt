@@ -16,11 +16,11 @@ shr-result c = search rules
 
 returns : tie.Need-returns-then-j-shape
 returns c =
-    let args = c.before.before.before.args in
-    marked-used args.shape args.j c.before.if-j-shape.true
+    let args = c.args in
+    marked-used args.shape args.j c.if-j-shape.true
 
 returns-2 : tie.Need-returns
-returns-2 c = let args = c.before.before.args in sym (marked-unused args.shape args.j c.if-j-shape.false)
+returns-2 c = let args = c.args in sym (marked-unused args.shape args.j c.if-j-shape.false)
 
 pub is_marked_spec : {M : Type 1} → statement M
 is_marked_spec = tie.close (tie.spec cast-if1 cast-result shr-result returns returns-2)

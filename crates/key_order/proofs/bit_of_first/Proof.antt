@@ -10,19 +10,19 @@ top-bits-requires : tie.Need-top_bits-a3-requires
 top-bits-requires c κs = (c.requires 3, omega arith)
 
 top-bits-requires-2 : tie.Need-top_bits-requires
-top-bits-requires-2 c κs = (c.before.requires 2, omega arith)
+top-bits-requires-2 c κs = (c.requires 2, omega arith)
 
 choose-requires : tie.Need-choose-b2-requires
 choose-requires c κs = search rules
 
 top-bits-requires-3 : tie.Need-top_bits-requires-2
-top-bits-requires-3 c κs = (c.before.before.before.requires 1, omega arith)
+top-bits-requires-3 c κs = (c.requires 1, omega arith)
 
 choose-requires-2 : tie.Need-choose-b1-requires
 choose-requires-2 c κs = search rules
 
 top-bits-requires-4 : tie.Need-top_bits-requires-3
-top-bits-requires-4 c κs = (c.before.before.before.before.before.requires 0, omega arith)
+top-bits-requires-4 c κs = (c.requires 0, omega arith)
 
 choose-requires-3 : tie.Need-choose-requires
 choose-requires-3 c κs = search rules
@@ -31,10 +31,10 @@ returns : tie.Need-returns
 returns c =
     let second = c.before.before in
     let third = second.before.before in
-    let a = third.before.before.before.args in
+    let a = third.args in
     bit_of_first-chosen (width_list a.widths) a.key a.bit a.d0 a.d1 a.d2 _ _ _ _ _ _ _
-    c.before.top_bits-3.ensures second.before.top_bits-2.ensures third.before.top_bits.ensures
-    third.before.before.top_bits-a3.ensures third.choose-b2.ensures second.choose-b1.ensures c.choose.ensures
+    c.top_bits-3.ensures second.top_bits-2.ensures third.top_bits.ensures
+    third.top_bits-a3.ensures third.choose-b2.ensures second.choose-b1.ensures c.choose.ensures
 
 pub bit_of_first_spec : {M : Type 1} → statement M
 bit_of_first_spec =

@@ -13,13 +13,13 @@ top-bits-requires : tie.Need-top_bits-d0-requires
 top-bits-requires c κs = (c.requires 0, omega arith)
 
 top-bits-requires-2 : tie.Need-top_bits-d1-requires
-top-bits-requires-2 c κs = (c.before.requires 1, omega arith)
+top-bits-requires-2 c κs = (c.requires 1, omega arith)
 
 top-bits-requires-3 : tie.Need-top_bits-d2-requires
-top-bits-requires-3 c κs = (c.before.before.requires 2, omega arith)
+top-bits-requires-3 c κs = (c.requires 2, omega arith)
 
 top-bits-requires-4 : tie.Need-top_bits-d3-requires
-top-bits-requires-4 c κs = (c.before.before.before.requires 3, omega arith)
+top-bits-requires-4 c κs = (c.requires 3, omega arith)
 
 returns : tie.Need-returns-then-all-eq0
 returns c =
@@ -30,7 +30,7 @@ returns c =
     let w = a.widths in
     sym
     (compared-zero w.w0 w.w1 w.w2 w.w3 start.requires a.x a.y _ _ _ _
-    two.before.top_bits-d0.ensures two.top_bits-d1.ensures four.before.top_bits-d2.ensures
+    two.top_bits-d0.ensures two.top_bits-d1.ensures four.top_bits-d2.ensures
     four.top_bits-d3.ensures c.if-all-eq0.true)
 
 leading-one-requires : tie.Need-leading_one-requires
@@ -49,8 +49,8 @@ returns-2 c =
     let w = a.widths in
     sym
     (compared-bit w.w0 w.w1 w.w2 w.w3 start.requires a.x a.y _ _ _ _
-    two.before.top_bits-d0.ensures two.top_bits-d1.ensures four.before.top_bits-d2.ensures
-    four.top_bits-d3.ensures _ _ one.leading_one.ensures c.before.bit_of_first.ensures
+    two.top_bits-d0.ensures two.top_bits-d1.ensures four.top_bits-d2.ensures
+    four.top_bits-d3.ensures _ _ one.leading_one.ensures c.bit_of_first.ensures
     ∙ ap (λ β. cond β Before After) (eq-eqb _ 0 c.if-bit_of_first-eq0.true))
 
 returns-3 : tie.Need-returns
@@ -63,8 +63,8 @@ returns-3 c =
     let w = a.widths in
     sym
     (compared-bit w.w0 w.w1 w.w2 w.w3 start.requires a.x a.y _ _ _ _
-    two.before.top_bits-d0.ensures two.top_bits-d1.ensures four.before.top_bits-d2.ensures
-    four.top_bits-d3.ensures _ _ one.leading_one.ensures c.before.bit_of_first.ensures
+    two.top_bits-d0.ensures two.top_bits-d1.ensures four.top_bits-d2.ensures
+    four.top_bits-d3.ensures _ _ one.leading_one.ensures c.bit_of_first.ensures
     ∙ ap (λ β. cond β Before After) (ne_eqb _ 0 c.if-bit_of_first-eq0.false))
 
 pub compare_spec : {M : Type 1} → statement M

@@ -19,7 +19,7 @@ mul-result : tie.Need-overflow_mul-result
 mul-result c = record { fits = zeros-fit-four _ }
 
 add-result : tie.Need-overflow_add-result
-add-result c = record { fits = zeros-fit-place _ _ c.before.requires.1 }
+add-result c = record { fits = zeros-fit-place _ _ c.requires.1 }
 
 returns : tie.Need-returns
 returns c =

@@ -11,13 +11,13 @@ first-bit-requires : tie.Need-first_bit-p0-requires
 first-bit-requires c κs = (c.requires 0, omega arith)
 
 first-bit-requires-2 : tie.Need-first_bit-p1-requires
-first-bit-requires-2 c κs = (c.before.requires 1, omega arith)
+first-bit-requires-2 c κs = (c.requires 1, omega arith)
 
 first-bit-requires-3 : tie.Need-first_bit-p2-requires
-first-bit-requires-3 c κs = (c.before.before.requires 2, omega arith)
+first-bit-requires-3 c κs = (c.requires 2, omega arith)
 
 first-bit-requires-4 : tie.Need-first_bit-p3-requires
-first-bit-requires-4 c κs = (c.before.before.before.requires 3, omega arith)
+first-bit-requires-4 c κs = (c.requires 3, omega arith)
 
 smaller-requires : tie.Need-smaller-requires
 smaller-requires c κs = search rules
@@ -36,13 +36,13 @@ returns c =
     let bits = c.before.before.before.before in
     let start = bits.before.before.before.before in
     let w = start.args.widths in
-    let low = c.before.before.before.smaller.ensures in
-    let high = c.before.before.smaller-2.ensures in
+    let low = c.smaller.ensures in
+    let high = c.smaller-2.ensures in
     let least =
-    c.smaller-4.ensures ∙ ap (λ a. min a 64) (c.before.smaller-3.ensures ∙ (λ i. min (low i) (high i))) in
+    c.smaller-4.ensures ∙ ap (λ a. min a 64) (c.smaller-3.ensures ∙ (λ i. min (low i) (high i))) in
     first_pair-of w.w0 w.w1 w.w2 w.w3 start.args.x start.args.y _ _ _ _ _
-    bits.before.before.before.first_bit-p0.ensures bits.before.before.first_bit-p1.ensures
-    bits.before.first_bit-p2.ensures bits.first_bit-p3.ensures least
+    bits.first_bit-p0.ensures bits.first_bit-p1.ensures
+    bits.first_bit-p2.ensures bits.first_bit-p3.ensures least
 
 pub first_pair_spec : {M : Type 1} → statement M
 first_pair_spec =

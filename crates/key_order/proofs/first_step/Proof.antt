@@ -19,7 +19,7 @@ returns c =
     let start = c.before.before in
     let a = start.args in
     let w = a.widths in
-    let pair = c.before.first_pair in
+    let pair = c.first_pair in
     sym c.steps_before.ensures.before
     ∙ sym
     (first_step-pair (width_list w) start.requires (unpacked_key a.x) (unpacked_key a.y) pair.result pair.ensures

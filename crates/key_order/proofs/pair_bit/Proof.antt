@@ -19,7 +19,7 @@ width-at-requires : tie.Need-width_at-requires
 width-at-requires c κs = search rules
 
 add_low : tie.Need-overflow_add-low
-add_low c = omega (arith, c.before.requires.0 (c.before.args.g % 4))
+add_low c = omega (arith, c.requires.0 (c.args.g % 4))
 
 sub_low : tie.Need-overflow_sub-low
 sub_low c = search rules
@@ -28,7 +28,7 @@ sub-low-2 : tie.Need-overflow_sub-low-2
 sub-low-2 c = search rules
 
 shr-result : tie.Need-overflow_shr-result
-shr-result c = omega (arith, c.before.requires.0 (c.before.args.g % 4))
+shr-result c = omega (arith, c.requires.0 (c.args.g % 4))
 
 returns : tie.Need-returns
 returns c =

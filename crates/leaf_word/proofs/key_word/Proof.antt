@@ -11,7 +11,7 @@ use Rattle.record.specs.Packed.{unpacked_key}
 use Rattle.leaf_word.proofs.key_word.Statement.{statement}
 use Rattle.leaf_word.proofs.key_word.Tie as tie
 
-below : (c : tie.After-find_cell-cell) → c.find_cell-cell.result < 2 ^ c.before.before.args.t
+below : (c : tie.After-find_cell-cell) → c.find_cell-cell.result < 2 ^ c.args.t
 below c =
     let s = c.before.before in
     let w = s.args.widths in
@@ -23,18 +23,18 @@ find-cell-requires : tie.Need-find_cell-cell-requires
 find-cell-requires c κs = let s = c.before in (s.requires.fit, s.requires.deep)
 
 mul-word : tie.Need-offset_bounds-dir-cell
-mul-word c = record { fits = omega (arith, below c, c.before.before.requires.lent) }
+mul-word c = record { fits = omega (arith, below c, c.requires.lent) }
 
 shared-slice-read-word : tie.Need-bounds-dir-cell
-shared-slice-read-word c = omega (arith, below c.before, c.before.before.before.requires.lent)
+shared-slice-read-word c = omega (arith, below c.before, c.requires.lent)
 
 depth-of-requires : tie.Need-depth_of-requires
 depth-of-requires c κs = search rules
 
 returns : tie.Need-returns
 returns c =
-    let a = c.before.before.before.before.args in
-    (ap (λ i. get_or a.dir.now i 0) c.before.before.find_cell-cell.ensures, c.depth_of.ensures.0)
+    let a = c.args in
+    (ap (λ i. get_or a.dir.now i 0) c.find_cell-cell.ensures, c.depth_of.ensures.0)
 
 pub key_word_spec : {M : Type 1} → statement M
 key_word_spec =

@@ -57,11 +57,11 @@ returns c =
     let page = page_at b a.pages.now a.g in
     c.fair_count.ensures
     ∙ ap (λ part. fair_count b (ends_agree bias.bias_key-bias.result mask.fixed_bits-mask.result a.key part (count_of part)) part)
-    (mid_of-page b a.g _ _ a.pages.now size.before.page_start-start.ensures size.page_size.ensures)
+    (mid_of-page b a.g _ _ a.pages.now size.page_start-start.ensures size.page_size.ensures)
     ∙ ap (λ h. fair_count b (ends_agree h mask.fixed_bits-mask.result a.key page (count_of page)) page)
     bias.bias_key-bias.ensures
     ∙ ap (λ own. fair_count b own page)
-    (ends_agree-mask a.shape s.requires.shape a.depth s.requires.deep _ mask.before.widths_of.ensures
+    (ends_agree-mask a.shape s.requires.shape a.depth s.requires.deep _ mask.widths_of.ensures
     (bias_key a.shape) _
     mask.fixed_bits-mask.ensures a.key s.requires.fits page (count_of page))
 

@@ -55,10 +55,10 @@ returns c =
     let b = a.shape.capacity in
     c.ends_agree.ensures
     ∙ ap (λ page. ends_agree bias.bias_key-bias.result mask.fixed_bits-mask.result a.key page a.n)
-    (mid_of-page b a.g _ _ a.pages.now size.before.page_start-start.ensures size.page_size.ensures)
+    (mid_of-page b a.g _ _ a.pages.now size.page_start-start.ensures size.page_size.ensures)
     ∙ ap (λ h. ends_agree h mask.fixed_bits-mask.result a.key (page_at b a.pages.now a.g) a.n)
     bias.bias_key-bias.ensures
-    ∙ ends_agree-mask a.shape s.requires.shape a.depth s.requires.deep _ mask.before.widths_of.ensures
+    ∙ ends_agree-mask a.shape s.requires.shape a.depth s.requires.deep _ mask.widths_of.ensures
     (bias_key a.shape) _
     mask.fixed_bits-mask.ensures a.key s.requires.fits (page_at b a.pages.now a.g) a.n
 

@@ -14,8 +14,8 @@ depth-of-requires c κs = search rules
 
 returns : tie.Need-returns-then-state-depth
 returns c =
-    let a = c.before.before.before.args in
-    word_holds-deep a.state a.word (rw c.before.before.depth_of-depth.ensures.0 at c.if-state-depth.true)
+    let a = c.args in
+    word_holds-deep a.state a.word (rw c.depth_of-depth.ensures.0 at c.if-state-depth.true)
 
 cast-if2 : tie.Need-overflow_cast-depth
 cast-if2 c = search rules
@@ -29,8 +29,8 @@ array-read-if2 c = search rules
 returns-2 : tie.Need-returns-then-leaves-depth-eq0
 returns-2 c =
     let test = c.before.before.before in
-    let depth = test.before.before.depth_of-depth.ensures.0 in
-    let a = test.before.before.before.args in
+    let depth = test.depth_of-depth.ensures.0 in
+    let a = test.args in
     word_holds-none a.state a.word (omega (arith, depth, test.if-state-depth.false)) (rw depth at c.if-leaves-depth-eq0.true)
 
 field-of-requires : tie.Need-field_of-requires
@@ -39,11 +39,11 @@ field-of-requires c κs = search rules
 returns-3 : tie.Need-returns
 returns-3 c =
     let test = c.before.before.before.before.before.before in
-    let depth = test.before.before.depth_of-depth.ensures.0 in
-    let a = test.before.before.before.args in
+    let depth = test.depth_of-depth.ensures.0 in
+    let a = test.args in
     let deep : depth_field a.word ≤ a.state.deepest = omega (arith, depth, test.if-state-depth.false) in
-    ap (λ page. leb page a.state.limits.pages) c.before.field_of.ensures.0
-    ∙ word_holds-page a.state a.word deep (rw depth at c.before.before.before.if-leaves-depth-eq0.false)
+    ap (λ page. leb page a.state.limits.pages) c.field_of.ensures.0
+    ∙ word_holds-page a.state a.word deep (rw depth at c.if-leaves-depth-eq0.false)
 
 pub word_holds_spec : {M : Type 1} → statement M
 word_holds_spec =

@@ -64,20 +64,20 @@ values-as : (d : tie.After-decode_key-key invariant-loop decreases-loop)
     → let s = start d.before.before.before.before in
     d.decode_key-key.result.values
     ≡ values_of s.args.state.shape
-    (encodings_at (bias_key s.args.state.shape) s.args.file.now d.before.before.before.loop-i.i)
+    (encodings_at (bias_key s.args.state.shape) s.args.file.now d.loop-i.i)
 values-as d =
     let b = d.before.before.before.before in
     let s = start b in
     d.decode_key-key.ensures
     ∙ ap (values_of s.args.state.shape)
-    (d.before.encodings_at.ensures
-    ∙ ap (λ k. encodings_at k s.args.file.now d.before.before.before.loop-i.i) b.bias_key-bias.ensures)
+    (d.encodings_at.ensures
+    ∙ ap (λ k. encodings_at k s.args.file.now d.loop-i.i) b.bias_key-bias.ensures)
 
 add-requires : tie.Need-add-step-requires invariant-loop decreases-loop
 add-requires c κs =
     let d = c.before.before.before in
-    joined_key _ _ _ _ _ (start d.before.before.before.before).pre d.before.before.before.loop-i.invariant.1
-    d.before.before.loop-i-test.true _ _ (values-as d) c.before.before.read_content-content.ensures
+    joined_key _ _ _ _ _ (start d.before.before.before.before).pre d.loop-i.invariant.1
+    d.loop-i-test.true _ _ (values-as d) c.read_content-content.ensures
 
 add-i : tie.Need-overflow_add-i invariant-loop decreases-loop
 add-i c =
@@ -96,23 +96,23 @@ loop-again c =
     let d = read.before in
     let test = d.before.before in (
       omega (arith, test.loop-i-test.true),
-      joined-more _ _ _ _ _ (start test.before.before).pre test.before.loop-i.invariant.1
+      joined-more _ _ _ _ _ (start test.before.before).pre test.loop-i.invariant.1
           test.loop-i-test.true _ _ (values-as d) read.read_content-content.ensures _ _ added.add-step.ensures,
     )
 
 same_length : tie.Need-shape_of-dir invariant-loop decreases-loop
-same_length c = c.before.loop-i.invariant.1.words-length
+same_length c = c.loop-i.invariant.1.words-length
 
 same-length-2 : tie.Need-shape_of-pages invariant-loop decreases-loop
-same-length-2 c = c.before.loop-i.invariant.1.bytes-length
+same-length-2 c = c.loop-i.invariant.1.bytes-length
 
 returns : tie.Need-returns invariant-loop decreases-loop
 returns c =
-    let loop = c.before.loop-i in
+    let loop = c.loop-i in
     let s = start c.before.before in
     let all : loop.i ≡ s.args.n = omega (arith, loop.invariant.0, c.loop-i-test.false) in
     subst
-    (λ (k : ℕ). Joined (given s) k s.args.file.now (store loop.current-1 loop.dir-1 loop.pages-1))
+    (λ (k : ℕ). Joined (given s) k s.args.file.now (store loop.current loop.dir loop.pages))
     all loop.invariant.1
 
 pub add_records_spec : {M : Type 1} → statement M

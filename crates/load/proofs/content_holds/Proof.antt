@@ -17,8 +17,8 @@ is-plain-requires c κs = let s = c.before in (end-within s.args.file.now s.requ
 
 returns : tie.Need-returns-then-not-is_plain
 returns c =
-    let file = c.before.before.before.args.file.now in
-    let plain : is_plain file ≡ false = sym c.before.is_plain.ensures ∙ not-true _ c.if-not-is_plain.true-raw in
+    let file = c.args.file.now in
+    let plain : is_plain file ≡ false = sym c.is_plain.ensures ∙ not-true _ c.if-not-is_plain.true-raw in
     sym (ap (λ b. b && is_set (file_shape file) (file_records file)) plain)
 
 shape-in-requires : tie.Need-shape_in-requires
@@ -30,17 +30,17 @@ record-count-requires c κs = search rules
 is-set-requires : tie.Need-is_set-requires
 is-set-requires c κs =
     let shape = c.before in
-    let good = shape.before.before.before.before.requires.1 in
+    let good = shape.requires.1 in
     (ap shape_number shape.shape_in.ensures ∙ good, omega (arith, c.record_count.ensures.1))
 
 returns-2 : tie.Need-returns
 returns-2 c =
     let shape = c.before.before in
     let passed = shape.before in
-    let file = passed.before.before.before.args.file.now in
-    let plain : is_plain file ≡ true = sym passed.before.is_plain.ensures ∙ not-false _ passed.if-not-is_plain.false-raw in
+    let file = passed.args.file.now in
+    let plain : is_plain file ≡ true = sym passed.is_plain.ensures ∙ not-false _ passed.if-not-is_plain.false-raw in
     c.is_set.ensures
-    ∙ set-read file _ shape.shape_in.ensures _ c.before.record_count.ensures.0
+    ∙ set-read file _ shape.shape_in.ensures _ c.record_count.ensures.0
     ∙ sym (ap (λ b. b && is_set (file_shape file) (file_records file)) plain)
 
 pub content_holds_spec : {M : Type 1} → statement M

@@ -30,7 +30,7 @@ number c =
 whole : (c : tie.Else-number-eq12) → is_whole (start c.before).args.file.now ≡ true
 whole c =
     whole-of-load_number_by (start c.before).args.file.now _ _
-    (λ e. c.if-number-eq12.false (c.before.load_number-number.ensures ∙ e))
+    (λ e. c.if-number-eq12.false (c.load_number-number.ensures ∙ e))
 
 -- no condition holds
 none : (c : tie.Else-number-ne0)
@@ -50,7 +50,7 @@ returns c =
     let n = c.before.before in
     let a = (start n).args in
     promise-refused a.file.now (memory a.dir.now a.pages.now) 12 _ _
-    (sym c.before.if-number-eq12.true ∙ number n) (λ e. omega arith) c.refuse.ensures.0 c.refuse.ensures.1 refl
+    (sym c.if-number-eq12.true ∙ number n) (λ e. omega arith) c.refuse.ensures.0 c.refuse.ensures.1 refl
 
 shape-in-requires : tie.Need-shape_in-requires
 shape-in-requires c κs = end-within (start c.before.before).args.file.now (whole c.before)
@@ -66,9 +66,9 @@ returns-2 c =
     let shape = c.before.before in
     let n = shape.before.before.before in
     let a = (start n).args in
-    promise-refused a.file.now (memory a.dir.now a.pages.now) _ _ _ (number n) shape.before.if-number-ne0.true
+    promise-refused a.file.now (memory a.dir.now a.pages.now) _ _ _ (number n) shape.if-number-ne0.true
     (c.refuse-then-number-ne0.ensures.0
-    ∙ c.before.refuse_made.ensures
+    ∙ c.refuse_made.ensures
     ∙ ap (λ (s : Shape). refused_for s n.load_number-number.result) shape.shape_in.ensures)
     c.refuse-then-number-ne0.ensures.1 refl
 
@@ -83,7 +83,7 @@ record-count-requires c κs = whole c.before.before.before.before.before.before.
 
 add-records-requires : tie.Need-add_records-state-requires
 add-records-requires c κs =
-    let counted = c.before.before.record_count-n in
+    let counted = c.record_count-n in
     let made = c.before.before.before.before.before.before.before in
     let shape = made.before.before.before in
     let a = (start shape.before.before.before).args in

@@ -24,25 +24,25 @@ abbrev tested : tie.Else-lacking → tie.After-content_holds-content
 tested c = c.before.before.before
 
 whole : (c : tie.Else-not-is_whole) → is_whole (start c).args.file.now ≡ true
-whole c = sym c.before.is_whole.ensures ∙ not-false _ c.if-not-is_whole.false-raw
+whole c = sym c.is_whole.ensures ∙ not-false _ c.if-not-is_whole.false-raw
 
 good : (c : tie.Else-number-ne0) → shape_number (shaped c).shape-in.result ≡ 0
-good c = sym c.before.shape_number-number.ensures ∙ c.if-number-ne0.false
+good c = sym c.shape_number-number.ensures ∙ c.if-number-ne0.false
 
 -- memory is not lacking
 lent : (c : tie.Else-lacking)
     → let shape = shaped (tested c).before in
     let a = (start shape.before).args in lacks_word_or_page shape.shape-in.result a.words a.bytes ≡ false
-lent c = sym c.before.before.lacks_word_or_page-lacking.ensures ∙ c.if-lacking.false
+lent c = sym c.lacks_word_or_page-lacking.ensures ∙ c.if-lacking.false
 
 is-whole-requires : tie.Need-is_whole-requires
 is-whole-requires c κs = search rules
 
 returns : tie.Need-returns-then-not-is_whole
 returns c =
-    let a = c.before.before.before.args in
+    let a = c.args in
     load_number_by-not-whole a.file.now a.words a.bytes
-    (sym c.before.is_whole.ensures ∙ not-true _ c.if-not-is_whole.true-raw)
+    (sym c.is_whole.ensures ∙ not-true _ c.if-not-is_whole.true-raw)
 
 shape-in-requires : tie.Need-shape_in-shape-requires
 shape-in-requires c κs = end-within (start c).args.file.now (whole c)
@@ -52,7 +52,7 @@ shape-number-requires c κs = search rules
 
 returns-2 : tie.Need-returns-then-number-ne0
 returns-2 c =
-    let n = c.before.shape_number-number in
+    let n = c.shape_number-number in
     let shape = c.before.before in
     let a = (start shape.before).args in
     n.ensures
@@ -81,8 +81,8 @@ returns-4 c =
     let shape = shaped content.before in
     let a = (start shape.before).args in
     load_number_by-lacks a.file.now a.words a.bytes (whole shape.before) _ shape.shape-in.ensures
-    (good content.before) _ content.content_holds-content.ensures (not-false _ c.before.if-not-content.false-raw)
-    (sym c.before.before.lacks_word_or_page-lacking.ensures ∙ c.if-lacking.true)
+    (good content.before) _ content.content_holds-content.ensures (not-false _ c.if-not-content.false-raw)
+    (sym c.lacks_word_or_page-lacking.ensures ∙ c.if-lacking.true)
 
 page-limit-requires : tie.Need-page_limit-requires
 page-limit-requires c κs = search rules
@@ -103,8 +103,8 @@ room-number-requires c κs =
     let shape = shaped content.before in
     let a = (start shape.before).args in
     scannable a.file.now a.words a.bytes (whole shape.before) _ shape.shape-in.ensures
-    (good content.before) _ content.content-holds.ensures (not-false _ passed.before.if-not-content.false-raw) _
-    c.record_count.ensures.0 _ c.before.depth_limit.ensures c.record_count.ensures.1
+    (good content.before) _ content.content-holds.ensures (not-false _ passed.if-not-content.false-raw) _
+    c.record_count.ensures.0 _ c.depth_limit.ensures c.record_count.ensures.1
 
 returns-5 : tie.Need-returns
 returns-5 c =
@@ -114,9 +114,9 @@ returns-5 c =
     let shape = shaped content.before in
     let a = (start shape.before).args in
     load_number_by-room a.file.now a.words a.bytes (whole shape.before) _ shape.shape-in.ensures
-    (good content.before) _ content.content-holds.ensures (not-false _ passed.before.if-not-content.false-raw) _
-    counted.record_count.ensures.0 _ counted.before.depth_limit.ensures (lent passed)
-    counted.before.before.page_limit.ensures _ c.room_number.ensures
+    (good content.before) _ content.content-holds.ensures (not-false _ passed.if-not-content.false-raw) _
+    counted.record_count.ensures.0 _ counted.depth_limit.ensures (lent passed)
+    counted.page_limit.ensures _ c.room_number.ensures
 
 pub load_number_spec : {M : Type 1} → statement M
 load_number_spec =

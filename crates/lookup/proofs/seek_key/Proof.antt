@@ -21,12 +21,12 @@ use Rattle.lookup.proofs.seek_key.Tie as tie
 
 -- what the early refusals leave
 early : (c : tie.After-shared_slice_known-2-1)
-    → let a = c.before.before.args in Passed (store a.state a.dir.now a.pages.now) a.encoded.values
-early c = c.before.before.requires
+    → let a = c.args in Passed (store a.state a.dir.now a.pages.now) a.encoded.values
+early c = c.requires
 
 -- and the limits
-held : (c : tie.Else-not-limits_hold) → limits_hold c.before.before.before.before.args.state ≡ true
-held c = sym c.before.limits_hold.ensures ∙ not-false c.before.limits_hold.result c.if-not-limits_hold.false-raw
+held : (c : tie.Else-not-limits_hold) → limits_hold c.args.state ≡ true
+held c = sym c.limits_hold.ensures ∙ not-false c.limits_hold.result c.if-not-limits_hold.false-raw
 
 limits-hold-requires : tie.Need-limits_hold-requires
 limits-hold-requires c κs = (early c).shape
@@ -34,28 +34,28 @@ limits-hold-requires c κs = (early c).shape
 returns : tie.Need-returns-then-not-limits_hold
 unfolding found_answer
 returns c =
-    let a = c.before.before.before.before.args in
+    let a = c.args in
     sought_answer-limits (store a.state a.dir.now a.pages.now) a.encoded.values
-    (sym c.before.limits_hold.ensures ∙ not-true c.before.limits_hold.result c.if-not-limits_hold.true-raw)
+    (sym c.limits_hold.ensures ∙ not-true c.limits_hold.result c.if-not-limits_hold.true-raw)
 
 pack-key-requires : tie.Need-pack_key-packed-requires
 pack-key-requires c κs = SixteenBits-passed _ _ (early c.before.before)
 
 -- the key, back from its packed form
 back : (c : tie.After-pack_key-packed)
-    → unpacked_key c.pack_key-packed.result ≡ c.before.before.before.before.before.args.encoded.values
+    → unpacked_key c.pack_key-packed.result ≡ c.args.encoded.values
 back c = ap unpacked_key c.pack_key-packed.ensures ∙ unpacked_key-passed _ _ (early c.before.before.before)
 
 -- the word that was found, of the state's own shape
 found : (c : tie.After-key_word-at)
-    → let a = c.before.before.before.before.before.before.before.before.args in
+    → let a = c.args in
     c.key_word-at.result.word
     ≡ word_at a.state.shape a.state.deepest a.dir.now
     (split_bit (widths_of a.state.shape) a.encoded.values)
 found c =
-    let a = c.before.before.before.before.before.before.before.before.args in
-    key-word-is a.state.shape _ c.before.before.widths_of-widths.ensures a.state.deepest a.dir.now
-    a.encoded.values _ _ (back c.before.before.before) c.key_word-at.ensures.0
+    let a = c.args in
+    key-word-is a.state.shape _ c.widths_of-widths.ensures a.state.deepest a.dir.now
+    a.encoded.values _ _ (back c.before.before.before) c.key_word-at.ensures.word_value
 
 widths-of-requires : tie.Need-widths_of-widths-requires
 widths-of-requires c κs = search rules
@@ -65,10 +65,10 @@ cast-key-word c = search rules
 
 key-word-requires : tie.Need-key_word-at-requires
 key-word-requires c κs =
-    let st = c.before.before.before.before.before.before.before.args.state in
+    let st = c.args.state in
     let p = early c.before.before.before.before.before in
     let l = limited st (held c.before.before.before) in
-    key-word-asks st.shape _ c.before.widths_of-widths.ensures st.deepest p.shape
+    key-word-asks st.shape _ c.widths_of-widths.ensures st.deepest p.shape
     (le_trans l.depth-within l.depth-bits) _ (le_trans (pow_mono l.depth-within) p.words-lent)
 
 seek-by-word-requires : tie.Need-seek_by_word-requires
@@ -87,13 +87,13 @@ seek-by-word-requires c κs =
         fits = subst (λ k. index_fits (widths_of st.shape) (unpacked_key k) ≡ true) (sym packed.pack_key-packed.ensures)
             (index_fits-passed _ _ p);
       },
-      c.key_word-at.ensures.1,
+      c.key_word-at.ensures.depth_value,
     )
 
 returns-2 : tie.Need-returns
 returns-2 c =
     let packed = c.before.before.before.before in
-    let a = packed.before.before.before.before.before.args in
+    let a = packed.args in
     c.seek_by_word.ensures
     ∙ sought_answer-word (store a.state a.dir.now a.pages.now) a.encoded.values (held packed.before) _
     _ (found c.before) packed.pack_key-packed.ensures

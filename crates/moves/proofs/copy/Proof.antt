@@ -40,8 +40,8 @@ loop-less c = omega arith
 
 loop-again : tie.Need-loop-k-preserved invariant-loop decreases-loop
 loop-again c =
-    let a = c.before.before.before.args in
-    let now = c.before.before.loop-k in
+    let a = c.args in
+    let now = c.loop-k in
     let k = now.k in (
       omega arith,
       simp length-set now.invariant.1,
@@ -50,13 +50,13 @@ loop-again c =
     )
 
 same_length : tie.Need-shape_of-target invariant-loop decreases-loop
-same_length c = c.before.loop-k.invariant.1
+same_length c = c.loop-k.invariant.1
 
 returns : tie.Need-returns invariant-loop decreases-loop
 returns c =
-    let a = c.before.before.args in
-    let end : c.before.loop-k.k ≡ a.n = omega arith in
-    c.before.loop-k.invariant.2 ∙ ap (paste a.target.now a.to (drop a.from a.source.now)) end
+    let a = c.args in
+    let end : c.loop-k.k ≡ a.n = omega arith in
+    c.loop-k.invariant.2 ∙ ap (paste a.target.now a.to (drop a.from a.source.now)) end
 
 pub copy_spec : {M : Type 1} → statement M
 copy_spec =

@@ -42,7 +42,7 @@ loop-again : tie.Need-loop-k-preserved invariant-loop decreases-loop
 loop-again c =
     let start = c.before.before.before in
     let a = start.args in
-    let now = c.before.before.loop-k in
+    let now = c.loop-k in
     let k = now.k in (
       omega arith,
       simp length-set now.invariant.1,
@@ -52,13 +52,13 @@ loop-again c =
     )
 
 same_length : tie.Need-shape_of-bytes invariant-loop decreases-loop
-same_length c = c.before.loop-k.invariant.1
+same_length c = c.loop-k.invariant.1
 
 returns : tie.Need-returns invariant-loop decreases-loop
 returns c =
-    let a = c.before.before.args in
-    let end : c.before.loop-k.k ≡ a.n = omega arith in
-    c.before.loop-k.invariant.2 ∙ ap (paste a.bytes.now a.to (drop a.from a.bytes.now)) end
+    let a = c.args in
+    let end : c.loop-k.k ≡ a.n = omega arith in
+    c.loop-k.invariant.2 ∙ ap (paste a.bytes.now a.to (drop a.from a.bytes.now)) end
 
 pub move_down_spec : {M : Type 1} → statement M
 move_down_spec =

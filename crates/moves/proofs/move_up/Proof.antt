@@ -44,7 +44,7 @@ loop-again : tie.Need-loop-left-preserved invariant-loop decreases-loop
 loop-again c =
     let start = c.before.before.before in
     let a = start.args in
-    let now = c.before.before.loop-left in
+    let now = c.loop-left in
     let k = now.left in (
       omega arith,
       simp length-set now.invariant.1,
@@ -54,16 +54,16 @@ loop-again c =
     )
 
 same_length : tie.Need-shape_of-bytes invariant-loop decreases-loop
-same_length c = c.before.loop-left.invariant.1
+same_length c = c.loop-left.invariant.1
 
 returns : tie.Need-returns invariant-loop decreases-loop
 returns c =
-    let a = c.before.before.args in
-    let k = c.before.loop-left.left in
+    let a = c.args in
+    let k = c.loop-left.left in
     let at-to : a.to + k ≡ a.to = omega arith in
     let at_from : a.from + k ≡ a.from = omega arith in
     let all : a.n - k ≡ a.n = omega arith in
-    c.before.loop-left.invariant.2 ∙ rw (at-to, at_from, all)
+    c.loop-left.invariant.2 ∙ rw (at-to, at_from, all)
 
 pub move_up_spec : {M : Type 1} → statement M
 move_up_spec =

@@ -10,15 +10,15 @@ returns c = search rules
 
 returns-2 : tie.Need-returns-else-j-eq0
 returns-2 c =
-    let e : c.before.before.args.j ≡ 1 = omega (arith, c.before.if-j-lt2.true, c.if-j-eq0.false) in rw e
+    let e : c.args.j ≡ 1 = omega (arith, c.if-j-lt2.true, c.if-j-eq0.false) in rw e
 
 returns-3 : tie.Need-returns-then-j-eq2
 returns-3 c = search rules
 
 returns-4 : tie.Need-returns-else-j-eq2
 returns-4 c =
-    let e : c.before.before.args.j ≡ 3 =
-    omega (arith, c.before.if-j-lt2.false, c.if-j-eq2.false, c.before.before.requires) in
+    let e : c.args.j ≡ 3 =
+    omega (arith, c.if-j-lt2.false, c.if-j-eq2.false, c.requires) in
     rw e
 
 pub one_of_spec : {M : Type 1} → statement M

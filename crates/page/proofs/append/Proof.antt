@@ -25,7 +25,7 @@ same_length c = search rules
 returns : tie.Need-returns
 unfolding counted_page appended_page
 returns c =
-    rw (c.before.before.write16.ensures, c.before.before.before.before.before.before.copy_records.ensures)
+    rw (c.write16.ensures, c.copy_records.ensures)
 
 pub append_spec : {M : Type 1} → statement M
 append_spec =

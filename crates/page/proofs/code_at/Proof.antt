@@ -13,8 +13,8 @@ to-encodings-requires c κs = search rules
 
 returns : tie.Need-returns
 returns c =
-    let a = c.before.before.before.args in
-    c.to_encodings.ensures ∙ ap (λ k. lane_sum k a.bias) c.before.key_at.ensures
+    let a = c.args in
+    c.to_encodings.ensures ∙ ap (λ k. lane_sum k a.bias) c.key_at.ensures
 
 pub code_at_spec : {M : Type 1} → statement M
 code_at_spec = tie.close (tie.spec key-at-requires to-encodings-requires returns)

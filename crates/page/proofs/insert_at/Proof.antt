@@ -39,9 +39,9 @@ unfolding counted_page inserted_page
 returns c =
     let written = c.before.before.before.before.before.before in
     rw (
-      c.before.before.write16.ensures,
+      c.write16.ensures,
       written.write_record.ensures,
-      written.before.before.before.before.move_up.ensures,
+      written.move_up.ensures,
     )
 
 pub insert_at_spec : {M : Type 1} → statement M

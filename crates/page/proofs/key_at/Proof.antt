@@ -17,7 +17,7 @@ read-key-requires c κs = search rules
 
 returns : tie.Need-returns
 returns c =
-    let a = c.before.before.args in
+    let a = c.args in
     c.read_key.ensures ∙ sym (key_in-field a.page.now (record_offset a.i))
 
 pub key_at_spec : {M : Type 1} → statement M

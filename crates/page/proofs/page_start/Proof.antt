@@ -12,14 +12,14 @@ page-size-requires c κs = search rules
 
 mul-result : tie.Need-overflow_mul-result
 mul-result c =
-    let a = c.before.args in
+    let a = c.args in
     let size = c.page_size.result in
     let least : a.g ≤ 2 ^ 32 = omega arith in
     let most : a.g * size ≤ 2 ^ 32 * size = mul-le-mul_right size least in
     record { fits = omega arith }
 
 returns : tie.Need-returns
-returns c = ap (λ k. c.before.args.g * k) c.page_size.ensures
+returns c = ap (λ k. c.args.g * k) c.page_size.ensures
 
 pub page_start_spec : {M : Type 1} → statement M
 page_start_spec = tie.close (tie.spec page-size-requires mul-result returns)

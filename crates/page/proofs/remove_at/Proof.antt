@@ -39,7 +39,7 @@ same_length c = search rules
 returns : tie.Need-returns
 unfolding counted_page removed_page
 returns c =
-    rw (c.before.before.write16.ensures, c.before.before.before.before.before.before.move_down.ensures)
+    rw (c.write16.ensures, c.move_down.ensures)
 
 pub remove_at_spec : {M : Type 1} → statement M
 remove_at_spec =

@@ -12,7 +12,7 @@ same_length c = search rules
 
 returns : tie.Need-returns
 unfolding counted_page
-returns c = c.before.before.write16.ensures
+returns c = c.write16.ensures
 
 pub set_count_spec : {M : Type 1} → statement M
 set_count_spec = tie.close (tie.spec write16-requires same_length returns)

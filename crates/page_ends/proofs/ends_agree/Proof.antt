@@ -16,7 +16,7 @@ code-at-requires-2 c κs = search rules
 
 returns : tie.Need-returns
 unfolding ends_agree
-returns c = rw (c.before.code_at.ensures, c.code_at-2.ensures) refl
+returns c = rw (c.code_at.ensures, c.code_at-2.ensures) refl
 
 pub ends_agree_spec : {M : Type 1} → statement M
 ends_agree_spec = tie.close (tie.spec code-at-requires sub-code-at code-at-requires-2 returns)

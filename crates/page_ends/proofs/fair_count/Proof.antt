@@ -10,26 +10,26 @@ use Rattle.page_ends.proofs.fair_count.Tie as tie
 
 -- what the test of the first and the last record is told, of the page's own count
 own : (c : tie.After-ends_agree)
-    → let a = c.before.before.before.before.before.args in
+    → let a = c.args in
     c.ends_agree.result ≡ ends_agree a.bias a.mask a.key a.page.now (count_of a.page.now)
 own c =
-    let a = c.before.before.before.before.before.args in
+    let a = c.args in
     c.ends_agree.ensures
-    ∙ ap (ends_agree a.bias a.mask a.key a.page.now) c.before.before.before.count-n.ensures.0
+    ∙ ap (ends_agree a.bias a.mask a.key a.page.now) c.count-n.ensures.0
 
 count-requires : tie.Need-count-n-requires
 count-requires c κs = search rules
 
 returns : tie.Need-returns-then-n-eq0
 returns c =
-    let a = c.before.before.before.args in
-    let count = c.before.count-n in
+    let a = c.args in
+    let count = c.count-n in
     fair_count-none a.capacity _ a.page.now count.result count.ensures.0 c.if-n-eq0.true
 
 returns-2 : tie.Need-returns-then-capacity-n
 returns-2 c =
-    let a = c.before.before.before.before.args in
-    let count = c.before.before.count-n in
+    let a = c.args in
+    let count = c.count-n in
     fair_count-many a.capacity _ a.page.now count.result count.ensures.0 c.if-capacity-n.true
 
 ends-agree-requires : tie.Need-ends_agree-requires
@@ -37,17 +37,17 @@ ends-agree-requires c κs = search rules
 
 returns-3 : tie.Need-returns-then-ends_agree
 returns-3 c =
-    let a = c.before.before.before.before.before.before.args in
-    let count = c.before.before.before.before.count-n in
+    let a = c.args in
+    let count = c.count-n in
     fair_count-own a.capacity _ a.page.now count.result count.ensures.0
-    c.before.before.before.if-n-eq0.false (omega arith) (sym (own c.before) ∙ c.if-ends_agree.true)
+    c.if-n-eq0.false (omega arith) (sym (own c.before) ∙ c.if-ends_agree.true)
 
 returns-4 : tie.Need-returns-else-ends_agree
 returns-4 c =
-    let a = c.before.before.before.before.before.before.args in
-    let count = c.before.before.before.before.count-n in
+    let a = c.args in
+    let count = c.count-n in
     fair_count-other a.capacity _ a.page.now count.result count.ensures.0
-    c.before.before.before.if-n-eq0.false (omega arith) (sym (own c.before) ∙ c.if-ends_agree.false)
+    c.if-n-eq0.false (omega arith) (sym (own c.before) ∙ c.if-ends_agree.false)
 
 pub fair_count_spec : {M : Type 1} → statement M
 fair_count_spec =

@@ -16,7 +16,7 @@ sub-result c = shifted-one-le _ (omega arith)
 
 returns : tie.Need-returns
 returns c =
-    fixed-value c.before.args.w _ c.free_bits.result c.free_bits.ensures.1 c.free_bits.ensures.0
+    fixed-value c.args.w _ c.free_bits.result c.free_bits.ensures.1 c.free_bits.ensures.0
 
 pub fixed_before_spec : {M : Type 1} → statement M
 fixed_before_spec = tie.close (tie.spec free-bits-requires shl-result sub-result returns)

@@ -19,7 +19,7 @@ fixed-bits-before-requires c κs = search rules
 
 add-if1 : tie.Need-overflow_add-free_before
 add-if1 c =
-    let fit = c.before.before.requires.0 in
+    let fit = c.requires.0 in
     omega (arith, fit 0, fit 1, fit 2, fit 3)
 
 total-of-requires : tie.Need-total_of-requires
@@ -27,9 +27,9 @@ total-of-requires c κs = search rules
 
 returns : tie.Need-returns-then-free_before-x
 returns c =
-    let widths = c.before.before.before.before.before.args.widths in
-    let e = steps-rest _ _ _ _ c.before.before.before.free_before.ensures.0 c.before.if-free_before-x.true
-    c.before.before.total_of.ensures.0 in
+    let widths = c.args.widths in
+    let e = steps-rest _ _ _ _ c.free_before.ensures.0 c.if-free_before-x.true
+    c.total_of.ensures.0 in
     c.fixed_bits_before.ensures ∙ ap (fixed_bits (width_list widths)) e
 
 place-of-requires : tie.Need-place_of-requires
@@ -40,8 +40,8 @@ fixed-bits-before-requires-2 c κs = search rules
 
 returns-2 : tie.Need-returns
 returns-2 c =
-    let widths = c.before.before.before.before.before.before.args.widths in
-    c.fixed_bits_before-2.ensures ∙ ap (fixed_bits (width_list widths)) c.before.place_of.ensures.before
+    let widths = c.args.widths in
+    c.fixed_bits_before-2.ensures ∙ ap (fixed_bits (width_list widths)) c.place_of.ensures.before
 
 pub fixed_bits_spec : {M : Type 1} → statement M
 fixed_bits_spec =

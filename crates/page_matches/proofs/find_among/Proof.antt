@@ -17,7 +17,7 @@ decreases-loop page k key place₀ i₀ place i = i
 loop-holds : tie.Need-loop-i-init invariant-loop decreases-loop
 unfolding key_place
 loop-holds c =
-    let a = c.before.args in
+    let a = c.args in
     let none : a.k - a.k ≡ 0 = omega arith in
     (omega arith, sym (ap (λ m. key_place a.key a.page.now m a.k) none))
 
@@ -32,11 +32,11 @@ loop-less c = omega arith
 
 loop-again : tie.Need-loop-i-preserved-then-key_at-key invariant-loop decreases-loop
 loop-again c =
-    let loop = c.before.before.before.loop-i in
-    let a = c.before.before.before.before.before.args in (
+    let loop = c.loop-i in
+    let a = c.args in (
       omega arith,
-      key_place-below-same a.key a.page.now a.k loop.i _ c.before.before.loop-i-test.true
-          loop.invariant.0 c.before.key_at.ensures c.if-key_at-key.true,
+      key_place-below-same a.key a.page.now a.k loop.i _ c.loop-i-test.true
+          loop.invariant.0 c.key_at.ensures c.if-key_at-key.true,
     )
 
 loop-less-2 : tie.Need-loop-i-smaller invariant-loop decreases-loop
@@ -44,18 +44,18 @@ loop-less-2 c = omega arith
 
 loop-again-2 : tie.Need-loop-i-preserved invariant-loop decreases-loop
 loop-again-2 c =
-    let loop = c.before.before.before.loop-i in
-    let a = c.before.before.before.before.before.args in (
+    let loop = c.loop-i in
+    let a = c.args in (
       omega arith,
       loop.invariant.1
-          ∙ key_place-below-other a.key a.page.now a.k loop.i _ c.before.before.loop-i-test.true
-          loop.invariant.0 c.before.key_at.ensures c.if-key_at-key.false,
+          ∙ key_place-below-other a.key a.page.now a.k loop.i _ c.loop-i-test.true
+          loop.invariant.0 c.key_at.ensures c.if-key_at-key.false,
     )
 
 returns : tie.Need-returns invariant-loop decreases-loop
 returns c =
-    let loop = c.before.loop-i in
-    let a = c.before.before.before.args in
+    let loop = c.loop-i in
+    let a = c.args in
     let end : loop.i ≡ 0 = omega arith in
     let all : a.k - 0 ≡ a.k = omega arith in
     loop.invariant.1

@@ -22,7 +22,7 @@ find-among-requires-2 c κs = search rules
 
 -- of 16 records, or of those that the page has room for
 cut : (c : tie.Joined-page-eq-SIXTEEN_RECORDS)
-    → let a = c.before.before.args in
+    → let a = c.args in
     key_place a.key a.page.now a.n 0 ≡ min c.if-page-eq-SIXTEEN_RECORDS.place a.n
 cut c =
     let s = c.before.before in

@@ -5,7 +5,7 @@ use Rattle.page_matches.proofs.gives_nothing.Statement.{statement}
 use Rattle.page_matches.proofs.gives_nothing.Tie as tie
 
 returns : tie.Need-returns
-returns c = gives_nothing-or c.before.args.pattern
+returns c = gives_nothing-or c.args.pattern
 
 pub gives_nothing_spec : {M : Type 1} → statement M
 gives_nothing_spec = tie.close (tie.spec returns)

@@ -19,7 +19,7 @@ decreases-loop page k bias low high mask₀ i₀ mask i = i
 loop-holds : tie.Need-loop-i-init invariant-loop decreases-loop
 unfolding match_mask
 loop-holds c =
-    let a = c.before.args in
+    let a = c.args in
     let none : a.k - a.k ≡ 0 = omega arith in
     (omega arith, sym (ap (λ m. match_mask (lies_in a.bias a.low a.high) a.page.now m a.k % 2 ^ 64) none))
 
@@ -41,21 +41,21 @@ loop-less c = omega arith
 loop-again : tie.Need-loop-i-preserved invariant-loop decreases-loop
 unfolding lies_in
 loop-again c =
-    let loop = c.before.before.before.loop-i in
-    let a = c.before.before.before.before.before.args in
+    let loop = c.loop-i in
+    let a = c.args in
     let bias = a.bias in
     let low = a.low in
     let high = a.high in (
       omega arith,
       match_mask-below (lies_in bias low high) a.page.now a.k loop.i loop.mask _
-          c.before.before.loop-i-test.true loop.invariant.0 loop.invariant.1
-          (c.lies_between-between.ensures ∙ ap (lies_between low high) c.before.code_at.ensures),
+          c.loop-i-test.true loop.invariant.0 loop.invariant.1
+          (c.lies_between-between.ensures ∙ ap (lies_between low high) c.code_at.ensures),
     )
 
 returns : tie.Need-returns invariant-loop decreases-loop
 returns c =
-    let loop = c.before.loop-i in
-    let a = c.before.before.before.args in
+    let loop = c.loop-i in
+    let a = c.args in
     let end : loop.i ≡ 0 = omega arith in
     let all : a.k - 0 ≡ a.k = omega arith in
     loop.invariant.1

@@ -20,7 +20,7 @@ decreases-loop page k pattern mask₀ i₀ mask i = i
 loop-holds : tie.Need-loop-i-init invariant-loop decreases-loop
 unfolding match_mask
 loop-holds c =
-    let a = c.before.args in
+    let a = c.args in
     let none : a.k - a.k ≡ 0 = omega arith in
     (omega arith, sym (ap (λ m. match_mask (passes a.pattern) a.page.now m a.k % 2 ^ 64) none))
 
@@ -39,19 +39,19 @@ loop-less c = omega arith
 loop-again : tie.Need-loop-i-preserved invariant-loop decreases-loop
 unfolding passes
 loop-again c =
-    let loop = c.before.before.before.before.loop-i in
-    let a = c.before.before.before.before.before.before.args in
+    let loop = c.loop-i in
+    let a = c.args in
     let p = a.pattern in (
       omega arith,
       match_mask-below (passes p) a.page.now a.k loop.i loop.mask _
-          c.before.before.before.loop-i-test.true loop.invariant.0 loop.invariant.1
-          (ap (λ k. eqb (bit_and k p.mask) p.value) c.before.before.key_at.ensures),
+          c.loop-i-test.true loop.invariant.0 loop.invariant.1
+          (ap (λ k. eqb (bit_and k p.mask) p.value) c.key_at.ensures),
     )
 
 returns : tie.Need-returns invariant-loop decreases-loop
 returns c =
-    let loop = c.before.loop-i in
-    let a = c.before.before.before.args in
+    let loop = c.loop-i in
+    let a = c.args in
     let end : loop.i ≡ 0 = omega arith in
     let all : a.k - 0 ≡ a.k = omega arith in
     loop.invariant.1

@@ -36,37 +36,37 @@ bits-at-requires-4 c κs = search rules
 pack-key-requires : tie.Need-pack_key-requires
 pack-key-requires c κs =
     let m = c.before.before.before.before in
-    let e0 = m.before.before.before.mask_at-m0.ensures in
-    let e1 = m.before.before.mask_at-m1.ensures in
-    let e2 = m.before.mask_at-m2.ensures in
+    let e0 = m.mask_at-m0.ensures in
+    let e1 = m.mask_at-m1.ensures in
+    let e2 = m.mask_at-m2.ensures in
     let e3 = m.mask_at-m3.ensures in
-    let q = wanted_values m.before.before.before.before.args.query in
+    let q = wanted_values m.args.query in
     subst SixteenBits (sym (λ i. e0 i ∷ e1 i ∷ e2 i ∷ e3 i ∷ [])) (masks_of-lt q)
 
 pack-key-requires-2 : tie.Need-pack_key-requires-2
 pack-key-requires-2 c κs =
     let b = c.before in
-    let d0 = b.before.before.before.bits_at-v0.ensures in
-    let d1 = b.before.before.bits_at-v1.ensures in
-    let d2 = b.before.bits_at-v2.ensures in
+    let d0 = b.bits_at-v0.ensures in
+    let d1 = b.bits_at-v1.ensures in
+    let d2 = b.bits_at-v2.ensures in
     let d3 = b.bits_at-v3.ensures in
-    let q = wanted_values b.before.before.before.before.before.before.before.before.args.query in
+    let q = wanted_values b.args.query in
     subst SixteenBits (sym (λ i. d0 i ∷ d1 i ∷ d2 i ∷ d3 i ∷ [])) (fields_wanted-lt q)
 
 returns : tie.Need-returns
 unfolding pattern_of
 returns c =
     let b = c.before.before in
-    let d0 = b.before.before.before.bits_at-v0.ensures in
-    let d1 = b.before.before.bits_at-v1.ensures in
-    let d2 = b.before.bits_at-v2.ensures in
+    let d0 = b.bits_at-v0.ensures in
+    let d1 = b.bits_at-v1.ensures in
+    let d2 = b.bits_at-v2.ensures in
     let d3 = b.bits_at-v3.ensures in
     let m = b.before.before.before.before in
-    let e0 = m.before.before.before.mask_at-m0.ensures in
-    let e1 = m.before.before.mask_at-m1.ensures in
-    let e2 = m.before.mask_at-m2.ensures in
+    let e0 = m.mask_at-m0.ensures in
+    let e1 = m.mask_at-m1.ensures in
+    let e2 = m.mask_at-m2.ensures in
     let e3 = m.mask_at-m3.ensures in
-    let mask = c.before.pack_key.ensures ∙ ap packed_key (λ i. e0 i ∷ e1 i ∷ e2 i ∷ e3 i ∷ []) in
+    let mask = c.pack_key.ensures ∙ ap packed_key (λ i. e0 i ∷ e1 i ∷ e2 i ∷ e3 i ∷ []) in
     let value = c.pack_key-2.ensures ∙ ap packed_key (λ i. d0 i ∷ d1 i ∷ d2 i ∷ d3 i ∷ []) in
     λ i. record { mask = mask i; value = value i }
 

@@ -20,7 +20,7 @@ returns : tie.Need-returns-then-room-total
 returns c =
     let start = c.before.before.before in
     let a = start.args in
-    let known = c.before.before.shared_slice_known-1.given in
+    let known = c.shared_slice_known-1.given in
     let none = emit-none a.page.now a.out.now a.n a.total (λ i. omega (arith, known i)) start.requires.0 in
     (refl, sym (none c.if-room-total.true))
 
@@ -32,8 +32,8 @@ mul-copy-records c = search rules
 
 fits : (c : lts.After-copy-records-arg (copy-records-reads.Asked, copy-records-reads.Learnt) reads.Pre reads.Post)
     → let a = c.before.before.before.before.before.args in
-    c.before.if-n-fit.fit ≡ min a.n (length a.out.now / record_size - a.total)
-fits c = ⊎_elim (λ w. w.1 ∙ omega arith) (λ w. w.1 ∙ omega arith) c.before.if-n-fit.branch
+    c.before.if2.fit ≡ min a.n (length a.out.now / record_size - a.total)
+fits c = ⊎_elim (λ w. w.1 ∙ omega arith) (λ w. w.1 ∙ omega arith) c.before.if2.branch
 
 copy-records-requires : tie.Need-copy_records-requires
 copy-records-requires c κs = let most = fits c in (omega arith, omega arith)
@@ -48,7 +48,7 @@ returns-2 : tie.Need-returns
 returns-2 c =
     let copied = c.before.before in
     let start = copied.before.before.before.before.before.before in
-    let known = copied.before.before.before.before.before.shared_slice_known-1.given in
+    let known = copied.shared_slice_known-1.given in
     let a = start.args in (
       refl,
       emit-all a.page.now a.out.now a.n a.total (λ i. omega (arith, known i)) start.requires.0 _

@@ -25,10 +25,10 @@ same_length c = search rules
 
 returns : tie.Need-returns-then-gives_nothing
 returns c =
-    let put = c.before.before.put_all.ensures in
+    let put = c.put_all.ensures in
     let test = c.before.before.before.before in
-    let a = test.before.before.before.before.args in
-    let nothing = sym test.before.gives_nothing.ensures ∙ test.if-gives_nothing.true in
+    let a = test.args in
+    let nothing = sym test.gives_nothing.ensures ∙ test.if-gives_nothing.true in
     let all = sym (hits-all a.pattern a.n a.page.now nothing) in (
       put.0
           ∙ ap (λ k. a.total + k) (sym (length-fields_from a.n 2 a.page.now))
@@ -41,7 +41,7 @@ match-mask-requires c κs = search rules
 
 -- the mask picks the records that match
 picks : (c : tie.After-match_mask)
-    → let a = c.before.before.before.before.before.args in
+    → let a = c.args in
     picked_by c.match_mask.result a.page.now ≡ hits (passes a.pattern) a.n a.page.now
 picks c =
     let s = c.before.before.before.before.before in
@@ -55,7 +55,7 @@ put-picked-requires c κs =
     let a = s.args in
     let page = a.page.now in
     let few = ap length (picks c.before) in (
-      subst (λ m. m < 2 ^ slots_of page) (sym c.before.match_mask.ensures)
+      subst (λ m. m < 2 ^ slots_of page) (sym c.match_mask.ensures)
           (match_mask-lt-slots (passes a.pattern) page a.n s.requires.1),
       omega (arith, few, length-hits-le (passes a.pattern) a.n page),
     )
@@ -65,9 +65,9 @@ same-length-2 c = search rules
 
 returns-2 : tie.Need-returns
 returns-2 c =
-    let put = c.before.before.put_picked.ensures in
+    let put = c.put_picked.ensures in
     let mask = c.before.before.before.before in
-    let a = mask.before.before.before.before.before.args in (
+    let a = mask.args in (
       put.0 ∙ ap (λ l. a.total + length l) (picks mask),
       put.1 ∙ ap (emit a.out.now a.total) (picks mask),
     )

@@ -27,11 +27,11 @@ loop-holds : tie.Need-loop-left-init invariant-loop decreases-loop
 loop-holds c = (omega arith, refl, refl, refl)
 
 cast-put-record : tie.Need-overflow_cast-left invariant-loop decreases-loop
-cast-put-record c = record { fits = omega (arith, trailing_le 64 c.before.loop-left.left) }
+cast-put-record c = record { fits = omega (arith, trailing_le 64 c.loop-left.left) }
 
 put-record-requires : tie.Need-put_record-requires invariant-loop decreases-loop
 put-record-requires c κs =
-    let loop = c.before.before.loop-left in
+    let loop = c.loop-left in
     let s = c.before.before.before.before.before in
     let page = s.args.page.now in
     let some : 0 < loop.left = omega arith in
@@ -49,14 +49,14 @@ sub-left c = omega arith
 
 loop-less : tie.Need-loop-left-smaller invariant-loop decreases-loop
 loop-less c =
-    let left = c.before.before.before.before.before.loop-left.left in
+    let left = c.loop-left.left in
     omega (arith, and_le_r left (left - 1))
 
 loop-again : tie.Need-loop-left-preserved invariant-loop decreases-loop
 unfolding emit
 loop-again c =
-    let put = c.before.before.put_record in
-    let loop = c.before.before.before.before.before.loop-left in
+    let put = c.put_record in
+    let loop = c.loop-left in
     let s = c.before.before.before.before.before.before.before.before in
     let page = s.args.page.now in
     let some : 0 < loop.left = omega arith in
@@ -70,21 +70,21 @@ loop-again c =
       put.auto.1.1.0 ∙ loop.invariant.1,
       loop.invariant.2 ∙ ap (λ l. loop.found + length l) next ∙ count,
       loop.invariant.3
-          ∙ ap (emit loop.out-1 loop.found) next
+          ∙ ap (emit loop.out loop.found) next
           ∙ (λ k. emit (sym put.ensures k) (sym (add-one loop.found) k) rest),
     )
 
 same_length : tie.Need-shape_of-out invariant-loop decreases-loop
-same_length c = c.before.loop-left.invariant.1
+same_length c = c.loop-left.invariant.1
 
 returns : tie.Need-returns invariant-loop decreases-loop
 unfolding emit
 returns c =
-    let loop = c.before.loop-left in
-    let page = c.before.before.before.before.args.page.now in
+    let loop = c.loop-left in
+    let page = c.args.page.now in
     let none = ap (λ m. picked_by m page) c.loop-left-test.false ∙ picked_none page (slots_of page) 0 in (
       sym (loop.invariant.2 ∙ ap (λ l. loop.found + length l) none ∙ add-zero loop.found),
-      sym (loop.invariant.3 ∙ ap (emit loop.out-1 loop.found) none),
+      sym (loop.invariant.3 ∙ ap (emit loop.out loop.found) none),
     )
 
 pub put_picked_spec : {M : Type 1} → statement M

@@ -25,15 +25,15 @@ returns : tie.Need-returns-then-place-out
 returns c =
     let read = c.before.before.before.before in
     let start = read.before.before.before.before.before in
-    let known = read.before.before.before.before.shared_slice_known-1.given in
+    let known = read.shared_slice_known-1.given in
     let a = start.args in
     emit_one-put a.page.now a.out.now a.i a.place (λ i. omega (arith, known i)) start.requires.0
-    read.before.before.if-place-out.true _ read.key_at.ensures _ c.before.before.before.content_at.ensures
-    _ c.before.before.write_record.ensures
+    read.if-place-out.true _ read.key_at.ensures _ c.content_at.ensures
+    _ c.write_record.ensures
 
 returns-2 : tie.Need-returns-else-place-out
 returns-2 c =
-    let a = c.before.before.before.args in
+    let a = c.args in
     sym (emit_one-full a.page.now a.out.now a.i a.place (omega arith))
 
 pub put_record_spec : {M : Type 1} → statement M

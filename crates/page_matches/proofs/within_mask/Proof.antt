@@ -37,7 +37,7 @@ returns c =
     ⊎_elim
     (λ w. match_mask-cut test page a.n 16 _ s.requires.0 (omega (arith, w.0.taken)) (w.2 ∙ w.1.ensures))
     (λ w. match_mask-cut test page a.n slots _ s.requires.0 (omega arith) (w.2 ∙ w.1.ensures))
-    c.before.if-page-eq-SIXTEEN_RECORDS.branch
+    c.if-page-eq-SIXTEEN_RECORDS.branch
 
 pub within_mask_spec : {M : Type 1} → statement M
 within_mask_spec =

@@ -33,36 +33,36 @@ code-at-requires : tie.Need-code_at-requires invariant-loop decreases-loop
 code-at-requires c κs = omega arith
 
 compare-requires : tie.Need-compare-order-requires invariant-loop decreases-loop
-compare-requires c κs = c.before.before.before.before.requires.1
+compare-requires c κs = c.requires.1
 
 enum_told : tie.Need-enum_told-1 invariant-loop decreases-loop
 enum_told c = c.in-Same.keys1
 
 returns : tie.Need-returns-in-Same invariant-loop decreases-loop
 returns c =
-    let call = c.before.before in
-    let a = call.before.before.before.before.before.args in
+    let call = c.before in
+    let a = call.args in
     let read =
-    ap (λ k. compared (width_list a.widths) (unpacked_key a.key) (unpacked_key k)) call.before.code_at.ensures in
-    (omega arith, sym read ∙ sym call.compare-order.ensures ∙ c.enum_told-1.given.1)
+    ap (λ k. compared (width_list a.widths) (unpacked_key a.key) (unpacked_key k)) call.code_at.ensures in
+    (omega arith, sym read ∙ sym call.compare-order.ensures ∙ c.in-Same.is)
 
 enum-told-2 : tie.Need-enum_told-in-Before invariant-loop decreases-loop
-enum-told-2 c = c.in-Same.keys2
+enum-told-2 c = c.in-Before.keys2
 
 loop-less : tie.Need-loop-low-smaller-in-Before invariant-loop decreases-loop
 loop-less c = omega arith
 
 loop-again : tie.Need-loop-low-preserved-in-Before invariant-loop decreases-loop
 loop-again c =
-    let call = c.before.before in
-    let loop = call.before.before.before.loop-low in
-    let a = call.before.before.before.before.before.args in
+    let call = c.before in
+    let loop = call.loop-low in
+    let a = call.args in
     let read =
-    ap (λ k. compared (width_list a.widths) (unpacked_key a.key) (unpacked_key k)) call.before.code_at.ensures in
-    (omega arith, omega arith, loop.invariant.2, (λ l. sym read ∙ sym call.compare-order.ensures ∙ c.enum_told-in-Before-1.given.1))
+    ap (λ k. compared (width_list a.widths) (unpacked_key a.key) (unpacked_key k)) call.code_at.ensures in
+    (omega arith, omega arith, loop.invariant.2, (λ l. sym read ∙ sym call.compare-order.ensures ∙ c.in-Before.is))
 
 enum-told-3 : tie.Need-enum_told-in-After invariant-loop decreases-loop
-enum-told-3 c = c.in-Same.keys3
+enum-told-3 c = c.in-After.keys3
 
 add_low : tie.Need-overflow_add-low invariant-loop decreases-loop
 add_low c = omega arith
@@ -72,23 +72,23 @@ loop-less-2 c = omega arith
 
 loop-again-2 : tie.Need-loop-low-preserved invariant-loop decreases-loop
 loop-again-2 c =
-    let call = c.before.before in
-    let loop = call.before.before.before.loop-low in
-    let a = call.before.before.before.before.before.args in
+    let call = c.before in
+    let loop = call.loop-low in
+    let a = call.args in
     let mid = loop.low + (loop.high - loop.low) / 2 in
     let ws = width_list a.widths in
     let key = unpacked_key a.key in
-    let read = ap (λ k. compared ws key (unpacked_key k)) call.before.code_at.ensures in
+    let read = ap (λ k. compared ws key (unpacked_key k)) call.code_at.ensures in
     let after : order_to ws a.bias key a.page.now mid ≡ After =
-    sym read ∙ sym call.compare-order.ensures ∙ c.enum_told-in-After-1.given.1 in
+    sym read ∙ sym call.compare-order.ensures ∙ c.in-After.is in
     let behind : (k : ℕ) → suc k ≡ mid + 1 → order_to ws a.bias key a.page.now k ≡ After =
     λ k e. subst (λ i. order_to ws a.bias key a.page.now i ≡ After) (let same : mid ≡ k = omega arith in same) after in
     (omega arith, omega arith, behind, loop.invariant.3)
 
 returns-2 : tie.Need-returns invariant-loop decreases-loop
 returns-2 c =
-    let loop = c.before.loop-low in
-    let a = c.before.before.before.args in
+    let loop = c.loop-low in
+    let a = c.args in
     let ws = width_list a.widths in
     let met : loop.high ≡ loop.low = omega arith in (
       omega arith,

@@ -18,7 +18,7 @@ decreases-loop page n widths bias g i₀ i = n - i
 
 loop-holds : tie.Need-loop-i-init invariant-loop decreases-loop
 loop-holds c =
-    let all : c.before.args.n - 0 ≡ c.before.args.n = omega arith in
+    let all : c.args.n - 0 ≡ c.args.n = omega arith in
     (omega arith, rw all)
 
 code-at-requires : tie.Need-code_at-requires invariant-loop decreases-loop
@@ -26,18 +26,18 @@ code-at-requires c κs = omega arith
 
 pair-bit-requires : tie.Need-pair_bit-requires invariant-loop decreases-loop
 pair-bit-requires c κs =
-    let pre = c.before.before.before.before.requires in
+    let pre = c.requires in
     (pre.0.1, pre.1.0, pre.1.1)
 
 returns : tie.Need-returns-then-pair_bit invariant-loop decreases-loop
 returns c =
     let read = c.before.before in
-    let loop = read.before.before.loop-i in
-    let a = read.before.before.before.before.args in
+    let loop = read.loop-i in
+    let a = read.args in
     sym
     (loop.invariant.1
-    ∙ first_one-here (width_list a.widths) a.bias a.g a.page.now a.n loop.i read.before.loop-i-test.true
-    read.code_at.result read.code_at.ensures c.before.pair_bit.result c.before.pair_bit.ensures
+    ∙ first_one-here (width_list a.widths) a.bias a.g a.page.now a.n loop.i read.loop-i-test.true
+    read.code_at.result read.code_at.ensures c.pair_bit.result c.pair_bit.ensures
     c.if-pair_bit.true)
 
 add-i : tie.Need-overflow_add-i invariant-loop decreases-loop
@@ -49,20 +49,20 @@ loop-less c = omega arith
 loop-again : tie.Need-loop-i-preserved invariant-loop decreases-loop
 loop-again c =
     let read = c.before.before in
-    let loop = read.before.before.loop-i in
-    let a = read.before.before.before.before.args in (
+    let loop = read.loop-i in
+    let a = read.args in (
       omega arith,
       loop.invariant.1
           ∙ first_one-next (width_list a.widths) a.bias a.g a.page.now a.n loop.i
-          read.before.loop-i-test.true
-          read.code_at.result read.code_at.ensures c.before.pair_bit.result c.before.pair_bit.ensures
+          read.loop-i-test.true
+          read.code_at.result read.code_at.ensures c.pair_bit.result c.pair_bit.ensures
           c.if-pair_bit.false,
     )
 
 returns-2 : tie.Need-returns invariant-loop decreases-loop
 returns-2 c =
-    let loop = c.before.loop-i in
-    let a = c.before.before.before.args in
+    let loop = c.loop-i in
+    let a = c.args in
     sym (loop.invariant.1 ∙ first_one-end (width_list a.widths) a.bias a.g a.page.now a.n loop.i (omega arith))
 
 pub first_one_spec : {M : Type 1} → statement M

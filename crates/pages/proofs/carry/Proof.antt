@@ -85,8 +85,8 @@ returns c =
     let a = start.args in
     put_mid-carried a.capacity a.p a.m a.n a.q a.j a.pages.now start.requires.0.0
     start.requires.0.1
-    start.requires.1.0 start.requires.1.1 start.requires.1.2 _ _ _ from.page_start-from.ensures
-    to.page_start-to.ensures from.before.page_size-size.ensures _ _ _ _ copied.copy_records.ensures
+    start.requires.1.0 start.requires.1.1 start.requires.1.2 _ _ _ from.page-start.ensures
+    to.page_start-to.ensures from.page-size.ensures _ _ _ _ copied.copy_records.ensures
     counted.set_count.ensures
     appended.append.ensures
 

@@ -30,8 +30,8 @@ count-requires c κs = search rules
 returns : tie.Need-returns
 returns c =
     let size = c.before.before in
-    let a = size.before.before.before.args in
-    let page = mid_of-page a.capacity a.p _ _ a.pages.now size.before.page_start-start.ensures
+    let a = size.args in
+    let page = mid_of-page a.capacity a.p _ _ a.pages.now size.page_start-start.ensures
     size.page_size.ensures in
     (c.count.ensures.0 ∙ ap count_of page, c.count.ensures.1)
 

@@ -12,7 +12,7 @@ free-from-requires c κs = search rules
 
 returns : tie.Need-returns
 returns c =
-    let a = c.before.before.args in
+    let a = c.args in
     let all : a.n - 0 ≡ a.n = omega arith in
     c.free_from.ensures ∙ ap (λ k. first_free a.capacity a.pages.now k 0) all
 

@@ -21,15 +21,15 @@ loop-holds c = refl
 
 count-at-requires : tie.Need-count_at-requires invariant-loop decreases-loop
 count-at-requires c κs =
-    let a = c.before.before.before.args in
-    let end = page-end-le a.capacity c.before.loop-p.p a.n c.loop-p-test.true in
+    let a = c.args in
+    let end = page-end-le a.capacity c.loop-p.p a.n c.loop-p-test.true in
     record { capacity-le = omega arith; number_lt = omega arith; whole = omega arith }
 
 returns : tie.Need-returns-then-count_at-eq0 invariant-loop decreases-loop
 returns c =
-    let a = c.before.before.before.before.before.args in
-    let loop = c.before.before.before.loop-p in
-    let free = sym c.before.count_at.ensures.0 ∙ c.if-count_at-eq0.true in
+    let a = c.args in
+    let loop = c.loop-p in
+    let free = sym c.count_at.ensures.0 ∙ c.if-count_at-eq0.true in
     sym (loop.invariant ∙ first_free-here a.capacity a.pages.now a.n loop.p (omega arith) free)
 
 add-p : tie.Need-overflow_add-p invariant-loop decreases-loop
@@ -40,16 +40,16 @@ loop-less c = omega arith
 
 loop-again : tie.Need-loop-p-preserved invariant-loop decreases-loop
 loop-again c =
-    let a = c.before.before.before.before.before.args in
-    let loop = c.before.before.before.loop-p in
+    let a = c.args in
+    let loop = c.loop-p in
     let next = first_free-next a.capacity a.pages.now a.n loop.p (omega arith)
-    (λ z. c.if-count_at-eq0.false (c.before.count_at.ensures.0 ∙ z)) in
+    (λ z. c.if-count_at-eq0.false (c.count_at.ensures.0 ∙ z)) in
     loop.invariant ∙ next
 
 returns-2 : tie.Need-returns invariant-loop decreases-loop
 returns-2 c =
-    let a = c.before.before.before.args in
-    let loop = c.before.loop-p in
+    let a = c.args in
+    let loop = c.loop-p in
     sym (loop.invariant ∙ first_free-end a.capacity a.pages.now a.n loop.p (omega arith))
 
 pub free_from_spec : {M : Type 1} → statement M

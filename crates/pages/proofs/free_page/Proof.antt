@@ -11,8 +11,8 @@ free-from-requires c κs = search rules
 
 returns : tie.Need-returns-then-p-n
 returns c =
-    let a = c.before.before.before.args in
-    let e = c.before.free_from-p.ensures in
+    let a = c.args in
+    let e = c.free_from-p.ensures in
     e ∙ sym (free_page-from a.capacity a.pages.now a.n a.start (subst (λ g. g < a.n) e c.if-p-n.true))
 
 first-free-requires : tie.Need-first_free-requires
@@ -20,11 +20,11 @@ first-free-requires c κs = search rules
 
 returns-2 : tie.Need-returns
 returns-2 c =
-    let a = c.before.before.before.before.args in
-    let e = c.before.before.free_from-p.ensures in
+    let a = c.args in
+    let e = c.free_from-p.ensures in
     c.first_free.ensures
     ∙ sym (free_page-first a.capacity a.pages.now a.n a.start
-    (subst (λ g. a.n ≤ g) e c.before.if-p-n.false))
+    (subst (λ g. a.n ≤ g) e c.if-p-n.false))
 
 pub free_page_spec : {M : Type 1} → statement M
 free_page_spec = tie.close (tie.spec free-from-requires returns first-free-requires returns-2)

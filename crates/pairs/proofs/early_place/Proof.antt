@@ -17,7 +17,7 @@ returns c =
 
 mul-result : tie.Need-overflow_mul-result
 mul-result c =
-    let p = c.before.before.before.before.requires in
+    let p = c.requires in
     record { fits = omega (arith, p.1, p.0 0, p.0 1, p.0 2) }
 
 returns-2 : tie.Need-returns-then-widths-ne0-2
@@ -35,7 +35,7 @@ mul-result-2 c = search rules
 
 add-result : tie.Need-overflow_add-result
 add-result c =
-    let p = c.before.before.before.before.before.before.requires in
+    let p = c.requires in
     record { fits = omega (arith, p.1, p.0 0, p.0 1) }
 
 returns-3 : tie.Need-returns-then-widths-ne0-3
@@ -49,7 +49,7 @@ returns-3 c =
 
 mul-result-3 : tie.Need-overflow_mul-result-2
 mul-result-3 c =
-    let p = c.before.before.before.before.before.before.requires in
+    let p = c.requires in
     record { fits = omega (arith, p.1, p.0 0) }
 
 returns-4 : tie.Need-returns

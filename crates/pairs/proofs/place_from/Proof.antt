@@ -17,11 +17,11 @@ abbrev decreases-loop : tie.decreases-loop-before
 decreases-loop widths t start n g₀ before₀ g before = 64 - g
 
 -- a step is left
-next : (c : tie.In-loop-before invariant-loop decreases-loop) → c.before.loop-before.g < 64
+next : (c : tie.In-loop-before invariant-loop decreases-loop) → c.loop-before.g < 64
 next c =
     let s = c.before.before in
     let w = s.args.widths in
-    let l = c.before.loop-before in
+    let l = c.loop-before in
     steps_before-lt w.w0 w.w1 w.w2 w.w3 l.before l.g s.requires.0
     (omega (arith, c.loop-before-test.true, s.requires.1)) l.invariant.1
 
@@ -34,7 +34,7 @@ width-at-requires c κs = omega arith
 add-before : tie.Need-overflow_add-before invariant-loop decreases-loop
 add-before c =
     let l = c.before.before.before in
-    record { fits = omega (arith, c.before.before.loop-before-test.true, l.before.ranges.t.fits) }
+    record { fits = omega (arith, c.loop-before-test.true, l.ranges.t.fits) }
 
 add-g : tie.Need-overflow_add-g invariant-loop decreases-loop
 add-g c = record { fits = omega (arith, next c.before.before) }
@@ -44,12 +44,12 @@ loop-less c = omega (arith, next c.before.before)
 
 loop-again : tie.Need-loop-before-preserved invariant-loop decreases-loop
 loop-again c =
-    let l = c.before.before.before.loop-before in
-    let ws = width_list c.before.before.before.before.args.widths in
-    let width = c.before.width_at.ensures in
+    let l = c.loop-before in
+    let ws = width_list c.args.widths in
+    let width = c.width_at.ensures in
     ⊎_elim
     (λ w. rw w.1 (
-      omega (arith, c.before.before.loop-before-test.true),
+      omega (arith, c.loop-before-test.true),
       steps_before-step ws l.before l.g l.invariant.1
           (next c.before.before) (subst (λ x. l.g / 4 < x) width w.0.taken),
     ))
@@ -62,8 +62,8 @@ loop-again c =
 
 returns : tie.Need-returns invariant-loop decreases-loop
 returns c =
-    let l = c.before.loop-before in
-    let s = c.before.before.args in
+    let l = c.loop-before in
+    let s = c.args in
     let e : l.before ≡ s.t = omega (arith, c.loop-before-test.false, l.invariant.0) in
     subst (λ n. StepsBefore (width_list s.widths) n l.g) e l.invariant.1
 

@@ -23,30 +23,30 @@ width-at-requires c κs = omega arith
 
 returns : tie.Need-returns-then-g-width_at invariant-loop decreases-loop
 returns c =
-    let l = c.before.before.before.loop-g in
+    let l = c.loop-g in
     record {
-      low = c.before.before.loop-g-test.true;
-      live = subst (λ x. l.g / 4 < x) c.before.width_at.ensures c.if-g-width_at.true;
+      low = c.loop-g-test.true;
+      live = subst (λ x. l.g / 4 < x) c.width_at.ensures c.if-g-width_at.true;
       before = l.invariant.before;
     }
 
 add-g : tie.Need-overflow_add-g invariant-loop decreases-loop
-add-g c = record { fits = omega (arith, c.before.before.loop-g-test.true) }
+add-g c = record { fits = omega (arith, c.loop-g-test.true) }
 
 loop-less : tie.Need-loop-g-smaller invariant-loop decreases-loop
-loop-less c = omega (arith, c.before.before.loop-g-test.true)
+loop-less c = omega (arith, c.loop-g-test.true)
 
 loop-again : tie.Need-loop-g-preserved invariant-loop decreases-loop
 loop-again c =
-    let l = c.before.before.before.loop-g in
-    steps_before-skip _ _ l.g l.invariant c.before.before.loop-g-test.true
-    (subst (λ x. x ≤ l.g / 4) c.before.width_at.ensures c.if-g-width_at.false)
+    let l = c.loop-g in
+    steps_before-skip _ _ l.g l.invariant c.loop-g-test.true
+    (subst (λ x. x ≤ l.g / 4) c.width_at.ensures c.if-g-width_at.false)
 
 returns-2 : tie.Need-returns invariant-loop decreases-loop
 returns-2 c =
     let s = c.before.before in
     let w = s.args.widths in
-    let l = c.before.loop-g in
+    let l = c.loop-g in
     let next = steps_before-lt w.w0 w.w1 w.w2 w.w3 s.args.t l.g s.requires.0 s.requires.1 l.invariant in
     absurd (omega (arith, next, c.loop-g-test.false))
 

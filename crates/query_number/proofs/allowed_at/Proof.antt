@@ -16,7 +16,7 @@ cast-if1 c = search rules
 
 returns : tie.Need-returns-then-j-shape
 returns c =
-    let a = c.before.before.args in
+    let a = c.args in
     sym (ap (λ b. b || not (is_given (get_or (wanted_values a.t2) a.j none)))
     (lt-ltb a.j a.shape.attributes c.if-j-shape.true))
 
@@ -34,23 +34,23 @@ enum-told-2 c = search rules
 
 returns-2 : tie.Need-returns-in-Free
 returns-2 c =
-    let s = c.before.before.before.before.before in
+    let s = c.before.before.before.before in
     let a = s.args in
     sym
     (ap (λ b. b || not (is_given (get_or (wanted_values a.t2) a.j none)))
-    (le-ltb a.j a.shape.attributes (omega (arith, c.before.before.before.if-j-shape.false)))
+    (le-ltb a.j a.shape.attributes (omega (arith, c.if-j-shape.false)))
     ∙ ap (λ w. not (is_given w)) (get_d-wanted_values a.t2 a.j s.requires)
-    ∙ ap (λ w. not (is_given (wanted_value w))) c.enum_told-1.given.1)
+    ∙ ap (λ w. not (is_given (wanted_value w))) c.in-Free.is)
 
 returns-3 : tie.Need-returns-in-Given
 returns-3 c =
-    let s = c.before.before.before.before.before in
+    let s = c.before.before.before.before in
     let a = s.args in
     sym
     (ap (λ b. b || not (is_given (get_or (wanted_values a.t2) a.j none)))
-    (le-ltb a.j a.shape.attributes (omega (arith, c.before.before.before.if-j-shape.false)))
+    (le-ltb a.j a.shape.attributes (omega (arith, c.if-j-shape.false)))
     ∙ ap (λ w. not (is_given w)) (get_d-wanted_values a.t2 a.j s.requires)
-    ∙ ap (λ w. not (is_given (wanted_value w))) c.enum_told-in-Given-1.given.1)
+    ∙ ap (λ w. not (is_given (wanted_value w))) c.in-Given.is)
 
 pub allowed_at_spec : {M : Type 1} → statement M
 allowed_at_spec =

@@ -31,22 +31,22 @@ allowed-at-requires c κs = c.loop-j-test.true
 returns : tie.Need-returns-then-not-allowed_at invariant-loop decreases-loop
 unfolding names_unused
 returns c =
-    sym (ap not (all_below-fails (λ i. ltb i c.before.before.before.before.args.shape.attributes
-    || not (is_given (get_or (wanted_values c.before.before.before.before.args.query) i none))) 4
-    c.before.before.before.loop-j.j c.before.before.loop-j-test.true
-    (sym c.before.allowed_at.ensures ∙ not-true _ c.if-not-allowed_at.true-raw)))
+    sym (ap not (all_below-fails (λ i. ltb i c.args.shape.attributes
+    || not (is_given (get_or (wanted_values c.args.query) i none))) 4
+    c.loop-j.j c.loop-j-test.true
+    (sym c.allowed_at.ensures ∙ not-true _ c.if-not-allowed_at.true-raw)))
 
 add-j : tie.Need-overflow_add-j invariant-loop decreases-loop
-add-j c = record { fits = omega (arith, c.before.before.loop-j-test.true) }
+add-j c = record { fits = omega (arith, c.loop-j-test.true) }
 
 loop-less : tie.Need-loop-j-smaller invariant-loop decreases-loop
-loop-less c = omega (arith, c.before.before.loop-j-test.true)
+loop-less c = omega (arith, c.loop-j-test.true)
 
 loop-again : tie.Need-loop-j-preserved invariant-loop decreases-loop
 loop-again c =
-    let loop = c.before.before.before.loop-j in
-    let allowed = sym c.before.allowed_at.ensures ∙ not-false _ c.if-not-allowed_at.false-raw in (
-      omega (arith, c.before.before.loop-j-test.true),
+    let loop = c.loop-j in
+    let allowed = sym c.allowed_at.ensures ∙ not-false _ c.if-not-allowed_at.false-raw in (
+      omega (arith, c.loop-j-test.true),
       rw (add-one loop.j)
           (all_below-suc _ loop.j loop.invariant.1 allowed),
     )
@@ -54,7 +54,7 @@ loop-again c =
 returns-2 : tie.Need-returns invariant-loop decreases-loop
 unfolding names_unused
 returns-2 c =
-    let loop = c.before.loop-j in
+    let loop = c.loop-j in
     let end : loop.j ≡ 4 = omega (arith, loop.invariant.0, c.loop-j-test.false) in
     sym (ap not (rw end at loop.invariant.1))
 

@@ -39,10 +39,10 @@ returns c =
     let v3 = v4.before in
     let v2 = v3.before in
     let v1 = v2.before in
-    let encoded = v1.before.encode_query-encoded in
-    let a = v1.before.before.args in
+    let encoded = v1.encode_query-encoded in
+    let a = v1.args in
     c.index_fits.ensures
-    ∙ (λ i. index_fits (c.before.widths_of.ensures i)
+    ∙ (λ i. index_fits (c.widths_of.ensures i)
     (v1.value_at-i0.ensures i ∷ v2.value_at-i1.ensures i ∷ v3.value_at-i2.ensures i ∷ v4.value_at-i3.ensures i ∷ []))
     ∙ ap (λ q. index_fits (widths_of a.shape) (bits_of q)) encoded.ensures
     ∙ index_fits-query a.shape (wanted_values a.query)

@@ -13,8 +13,8 @@ lent-number-requires c κs = search rules
 
 returns : tie.Need-returns-then-number-ne0
 returns c =
-    let a = c.before.before.args in
-    let n = c.before.lent_number-number in
+    let a = c.args in
+    let n = c.lent_number-number in
     n.ensures ∙ query_number_by-lent a.state a.words a.bytes (wanted_values a.query)
     (λ e. c.if-number-ne0.true (n.ensures ∙ e))
 
@@ -24,33 +24,33 @@ names-unused-requires c κs = search rules
 returns-2 : tie.Need-returns-then-names_unused
 returns-2 c =
     let e = c.before.before.before in
-    let a = e.before.before.args in
+    let a = e.args in
     query_number_by-unused a.state a.words a.bytes (wanted_values a.query)
-    (sym e.before.lent_number-number.ensures ∙ e.if-number-ne0.false) (sym c.before.names_unused.ensures ∙ c.if-names_unused.true)
+    (sym e.lent_number-number.ensures ∙ e.if-number-ne0.false) (sym c.names_unused.ensures ∙ c.if-names_unused.true)
 
 query-fits-requires : tie.Need-query_fits-requires
 query-fits-requires c κs =
     let e = c.before.before.before in
-    let a = e.before.before.args in
-    (memory_lent a.state a.words a.bytes (sym e.before.lent_number-number.ensures ∙ e.if-number-ne0.false)).shape
+    let a = e.args in
+    (memory_lent a.state a.words a.bytes (sym e.lent_number-number.ensures ∙ e.if-number-ne0.false)).shape
 
 returns-3 : tie.Need-returns-then-query_fits
 returns-3 c =
     let u = c.before.before in
     let e = u.before.before.before in
-    let a = e.before.before.args in
+    let a = e.args in
     query_number_by-fits a.state a.words a.bytes (wanted_values a.query)
-    (sym e.before.lent_number-number.ensures ∙ e.if-number-ne0.false) (sym u.before.names_unused.ensures ∙ u.if-names_unused.false)
-    (sym c.before.query_fits.ensures ∙ c.if-query_fits.true)
+    (sym e.lent_number-number.ensures ∙ e.if-number-ne0.false) (sym u.names_unused.ensures ∙ u.if-names_unused.false)
+    (sym c.query_fits.ensures ∙ c.if-query_fits.true)
 
 returns-4 : tie.Need-returns-else-query_fits
 returns-4 c =
     let u = c.before.before in
     let e = u.before.before.before in
-    let a = e.before.before.args in
+    let a = e.args in
     query_number_by-out a.state a.words a.bytes (wanted_values a.query)
-    (sym e.before.lent_number-number.ensures ∙ e.if-number-ne0.false) (sym u.before.names_unused.ensures ∙ u.if-names_unused.false)
-    (sym c.before.query_fits.ensures ∙ c.if-query_fits.false)
+    (sym e.lent_number-number.ensures ∙ e.if-number-ne0.false) (sym u.names_unused.ensures ∙ u.if-names_unused.false)
+    (sym c.query_fits.ensures ∙ c.if-query_fits.false)
 
 pub query_number_spec : {M : Type 1} → statement M
 query_number_spec =

@@ -24,17 +24,17 @@ cast-result c = search rules
 
 returns : tie.Need-returns-in-Free
 returns c =
-    let s = c.before.before.before in
+    let s = c.before.before in
     sym
-    (ap wanted_bits (get_d-wanted_values s.args.t1 s.args.j s.requires)
-    ∙ ap (λ w. wanted_bits (wanted_value w)) c.enum_told-1.given.1)
+    (ap wanted_bits (get_d-wanted_values s.args.query s.args.j s.requires)
+    ∙ ap (λ w. wanted_bits (wanted_value w)) c.in-Free.is)
 
 returns-2 : tie.Need-returns-in-Given
 returns-2 c =
-    let s = c.before.before.before.before in
+    let s = c.before.before in
     sym
-    (ap wanted_bits (get_d-wanted_values s.args.t1 s.args.j s.requires)
-    ∙ ap (λ w. wanted_bits (wanted_value w)) c.before.wanted-1.given.1)
+    (ap wanted_bits (get_d-wanted_values s.args.query s.args.j s.requires)
+    ∙ ap (λ w. wanted_bits (wanted_value w)) c.in-Given.is)
 
 pub value_at_spec : {M : Type 1} → statement M
 value_at_spec =

@@ -37,7 +37,7 @@ returns c =
     let page = page_at a.capacity a.pages.now a.g in
     let n : c.count.result ≡ count_of page =
     c.count.ensures.0
-    ∙ ap count_of (mid_of-page a.capacity a.g _ _ a.pages.now sized.before.page_start-start.ensures
+    ∙ ap count_of (mid_of-page a.capacity a.g _ _ a.pages.now sized.page_start-start.ensures
     sized.page_size.ensures) in
     (n ∙ sym (length-fields_from (count_of page) 2 page), omega (arith, n, s.requires.0, s.requires.1.counted))
 

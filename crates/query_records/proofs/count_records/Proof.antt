@@ -17,7 +17,7 @@ decreases-loop pages capacity list n total₀ i₀ total i = n - i
 
 loop-holds : tie.Need-loop-i-init invariant-loop decreases-loop
 loop-holds c =
-    let a = c.before.before.args in
+    let a = c.args in
     (omega arith, counted_to-none (page_fields a.capacity a.pages.now) a.list.now)
 
 mul-count-at : tie.Need-offset_bounds-list-i invariant-loop decreases-loop
@@ -27,36 +27,36 @@ mul-count-at c =
 
 shared-slice-read-count-at : tie.Need-bounds-list-i invariant-loop decreases-loop
 shared-slice-read-count-at c =
-    omega (arith, c.before.before.before.before.before.requires.within, c.before.loop-i-test.true)
+    omega (arith, c.requires.within, c.loop-i-test.true)
 
 cast-count-at : tie.Need-overflow_cast-list invariant-loop decreases-loop
-cast-count-at c = omega (arith, c.shared_slice_known-in-loop-i-1.given c.before.before.loop-i.i)
+cast-count-at c = omega (arith, c.shared_slice_known-in-loop-i-1.given c.loop-i.i)
 
 count-at-requires : tie.Need-count_at-total-requires invariant-loop decreases-loop
 count-at-requires c κs =
     let s = c.before.before.before.before.before in
-    (s.requires.capacity, s.requires.each c.before.before.loop-i.i c.before.loop-i-test.true)
+    (s.requires.capacity, s.requires.each c.loop-i.i c.loop-i-test.true)
 
 add_total : tie.Need-overflow_add-total invariant-loop decreases-loop
 add_total c =
     let s = c.before.before.before.before.before.before in
-    let loop = c.before.before.before.loop-i in
+    let loop = c.loop-i in
     record {
-      fits = omega (arith, loop.invariant.1.0, c.count_at-total.ensures.1, s.requires.few, c.before.before.loop-i-test.true);
+      fits = omega (arith, loop.invariant.1.0, c.count_at-total.ensures.1, s.requires.few, c.loop-i-test.true);
     }
 
 add-i : tie.Need-overflow_add-i invariant-loop decreases-loop
 add-i c =
     let s = c.before.before.before.before.before.before in
-    record { fits = omega (arith, s.requires.few, c.before.before.loop-i-test.true) }
+    record { fits = omega (arith, s.requires.few, c.loop-i-test.true) }
 
 loop-less : tie.Need-loop-i-smaller invariant-loop decreases-loop
-loop-less c = let lt = c.before.before.loop-i-test.true in omega (arith, lt)
+loop-less c = let lt = c.loop-i-test.true in omega (arith, lt)
 
 loop-again : tie.Need-loop-i-preserved invariant-loop decreases-loop
 loop-again c =
-    let loop = c.before.before.before.loop-i in
-    let lt = c.before.before.loop-i-test.true in
+    let loop = c.loop-i in
+    let lt = c.loop-i-test.true in
     let s = c.before.before.before.before.before.before in
     let a = s.args in
     let few = length-page_fields-le a.capacity a.pages.now _ s.requires.capacity (s.requires.each loop.i lt) in (
@@ -69,7 +69,7 @@ returns : tie.Need-returns invariant-loop decreases-loop
 returns c =
     let s = c.before.before.before.before in
     let a = s.args in
-    let loop = c.before.loop-i in
+    let loop = c.loop-i in
     counted_to-all (page_fields a.capacity a.pages.now) a.list.now a.n loop.i loop.total
     loop.invariant.0 c.loop-i-test.false s.requires.few loop.invariant.1
 

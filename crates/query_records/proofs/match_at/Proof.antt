@@ -18,12 +18,12 @@ use Rattle.query_records.proofs.match_at.Tie as tie
 
 -- the part is the page
 part : (c : tie.After-page_size)
-    → let a = c.before.before.before.args in
-    let start = c.before.page_start-start.result in
+    → let a = c.args in
+    let start = c.page_start-start.result in
     mid_of start (start + c.page_size.result - start) a.pages.now ≡ page_at a.capacity a.pages.now a.g
 part c =
-    let a = c.before.before.before.args in
-    mid_of-page a.capacity a.g _ _ a.pages.now c.before.page_start-start.ensures c.page_size.ensures
+    let a = c.args in
+    mid_of-page a.capacity a.g _ _ a.pages.now c.page_start-start.ensures c.page_size.ensures
 
 page-start-requires : tie.Need-page_start-start-requires
 page-start-requires c κs = search rules
@@ -60,13 +60,13 @@ match-mask-requires c κs =
     let sized = c.before.before.before in
     let s = sized.before.before.before in
     let a = s.args in
-    let n = c.before.count-n.ensures.0 ∙ ap count_of (part sized) in
+    let n = c.count-n.ensures.0 ∙ ap count_of (part sized) in
     let lent = records-lent a.capacity a.pages.now a.g s.requires.1 in
     rw (part sized, n) (omega (arith, s.requires.0, s.requires.1.counted), lent)
 
 -- the mask is that of the page, below 2 ^ b
 masked : (c : tie.After-match_mask)
-    → let a = c.before.before.before.before.before.before.before.args in
+    → let a = c.args in
     let mask = c.match_mask.result in
     (mask ≡ page_mask (passes a.pattern) (page_at a.capacity a.pages.now a.g)) × (mask < 2 ^ a.capacity)
 masked c =
@@ -74,7 +74,7 @@ masked c =
     let s = sized.before.before.before in
     let a = s.args in
     let page = page_at a.capacity a.pages.now a.g in
-    let n = c.before.before.count-n.ensures.0 ∙ ap count_of (part sized) in
+    let n = c.count-n.ensures.0 ∙ ap count_of (part sized) in
     let same : c.match_mask.result ≡ page_mask (passes a.pattern) page =
     c.match_mask.ensures ∙ (λ i. match_mask (passes a.pattern) (part sized i) (n i) 0) in
     let below = lt_of_lt_of_le (match_mask-lt (passes a.pattern) page (count_of page) 0)

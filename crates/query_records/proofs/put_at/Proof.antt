@@ -15,12 +15,12 @@ use Rattle.query_records.proofs.put_at.Tie as tie
 
 -- the part is the page
 part : (c : tie.After-page_size)
-    → let a = c.before.before.before.before.args in
-    let start = c.before.page_start-start.result in
+    → let a = c.args in
+    let start = c.page_start-start.result in
     mid_of start (start + c.page_size.result - start) a.pages.now ≡ page_at a.capacity a.pages.now a.g
 part c =
-    let a = c.before.before.before.before.args in
-    mid_of-page a.capacity a.g _ _ a.pages.now c.before.page_start-start.ensures c.page_size.ensures
+    let a = c.args in
+    mid_of-page a.capacity a.g _ _ a.pages.now c.page_start-start.ensures c.page_size.ensures
 
 page-start-requires : tie.Need-page_start-start-requires
 page-start-requires c κs = search rules
@@ -57,7 +57,7 @@ put-all-requires c κs =
     let sized = c.before.before.before.before in
     let s = sized.before.before.before.before in
     let a = s.args in
-    let n = c.before.before.count-n.ensures.0 ∙ ap count_of (part sized) in
+    let n = c.count-n.ensures.0 ∙ ap count_of (part sized) in
     let lent = records-lent a.capacity a.pages.now a.g s.requires.page in
     rw (part sized, n) (lent, omega (arith, s.requires.capacity, s.requires.page.counted, s.requires.before))
 
@@ -66,10 +66,10 @@ same_length c = search rules
 
 returns : tie.Need-returns
 returns c =
-    let put = c.before.before.put_all.ensures in
+    let put = c.put_all.ensures in
     let counted = c.before.before.before.before.before in
     let sized = counted.before.before in
-    let a = sized.before.before.before.before.args in
+    let a = sized.args in
     let page = page_at a.capacity a.pages.now a.g in
     let n = counted.count-n.ensures.0 ∙ ap count_of (part sized) in (
       put.0 ∙ ap (λ k. a.total + k) (n ∙ sym (length-fields_from (count_of page) 2 page)),

@@ -16,13 +16,13 @@ use Rattle.query_records.proofs.put_matched_page.Tie as tie
 
 -- the part is the matched page
 part : (c : tie.After-page_size)
-    → let a = c.before.before.before.before.args in
-    let start = c.before.page_start-start.result in
+    → let a = c.args in
+    let start = c.page_start-start.result in
     mid_of start (start + c.page_size.result - start) a.pages.now
     ≡ page_at a.capacity a.pages.now (matched_page a.matched)
 part c =
-    let a = c.before.before.before.before.args in
-    mid_of-page a.capacity (matched_page a.matched) _ _ a.pages.now c.before.page_start-start.ensures
+    let a = c.args in
+    mid_of-page a.capacity (matched_page a.matched) _ _ a.pages.now c.page_start-start.ensures
     c.page_size.ensures
 
 cast-page-start : tie.Need-overflow_cast-matched
@@ -63,9 +63,9 @@ same_length c = search rules
 
 returns : tie.Need-returns
 returns c =
-    let put = c.before.before.put_picked.ensures in
+    let put = c.put_picked.ensures in
     let sized = c.before.before.before.before.before in
-    let a = sized.before.before.before.before.args in
+    let a = sized.args in
     let mask = matched_mask a.matched in (
       put.0 ∙ ap (λ l. a.total + length (picked_by mask l)) (part sized),
       put.1 ∙ ap (λ l. emit a.out.now a.total (picked_by mask l)) (part sized),

@@ -25,9 +25,9 @@ returns : tie.Need-returns-then-gives_nothing
 returns c =
     let test = c.before.before.before.before.before in
     let a = test.before.before.before.before.before.args in
-    let nothing = sym test.before.gives_nothing.ensures ∙ test.if-gives_nothing.true in
+    let nothing = sym test.Gives-nothing.ensures ∙ test.if1.true in
     emitted-as (page_fields a.capacity a.pages.now) (take a.n a.list.now) a.out.now _ _ _
-    c.before.before.put_whole.ensures
+    c.put_whole.ensures
     (list_hits-all a.capacity a.pages.now a.pattern nothing (take a.n a.list.now))
 
 match-pages-requires : tie.Need-match_pages-m-requires
@@ -47,7 +47,7 @@ returns-2 c =
     let matched = c.before.before.before.before.before.before.before in
     let a = matched.before.before.before.before.before.before.before.args in
     emitted-as (matched_fields a.capacity a.pages.now) _ a.out.now _ _ _
-    c.before.before.put_matched.ensures matched.match_pages-m.ensures.1
+    c.put_matched.ensures matched.match-pages.ensures.1
 
 pub put_pages_spec : {M : Type 1} → statement M
 put_pages_spec =

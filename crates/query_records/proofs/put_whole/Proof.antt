@@ -17,7 +17,7 @@ decreases-loop pages capacity list n out₀ total₀ i₀ out total i = n - i
 
 loop-holds : tie.Need-loop-i-init invariant-loop decreases-loop
 loop-holds c =
-    let a = c.before.before.before.args in
+    let a = c.args in
     (omega arith, emitted_to-none (page_fields a.capacity a.pages.now) a.list.now a.out.now)
 
 mul-put-at : tie.Need-offset_bounds-list-i invariant-loop decreases-loop
@@ -27,16 +27,16 @@ mul-put-at c =
 
 shared-slice-read-put-at : tie.Need-bounds-list-i invariant-loop decreases-loop
 shared-slice-read-put-at c =
-    omega (arith, c.before.before.before.before.before.before.requires.within, c.before.loop-i-test.true)
+    omega (arith, c.requires.within, c.loop-i-test.true)
 
 cast-put-at : tie.Need-overflow_cast-list invariant-loop decreases-loop
-cast-put-at c = omega (arith, c.shared_slice_known-in-loop-i-1.given c.before.before.loop-i.i)
+cast-put-at c = omega (arith, c.shared_slice_known-in-loop-i-1.given c.loop-i.i)
 
 put-at-requires : tie.Need-put_at-total-requires invariant-loop decreases-loop
 put-at-requires c κs =
     let s = c.before.before.before.before.before.before.before in
-    let loop = c.before.before.before.loop-i in
-    let lt = c.before.before.loop-i-test.true in
+    let loop = c.loop-i in
+    let lt = c.loop-i-test.true in
     record {
       capacity = s.requires.capacity;
       page = s.requires.each loop.i lt;
@@ -46,35 +46,35 @@ put-at-requires c κs =
 add-i : tie.Need-overflow_add-i invariant-loop decreases-loop
 add-i c =
     let s = c.before.before.before.before.before.before.before.before.before.before in
-    record { fits = omega (arith, s.requires.few, c.before.before.before.before.before.loop-i-test.true) }
+    record { fits = omega (arith, s.requires.few, c.loop-i-test.true) }
 
 loop-less : tie.Need-loop-i-smaller invariant-loop decreases-loop
-loop-less c = let lt = c.before.before.before.before.before.loop-i-test.true in omega (arith, lt)
+loop-less c = let lt = c.loop-i-test.true in omega (arith, lt)
 
 loop-again : tie.Need-loop-i-preserved invariant-loop decreases-loop
 loop-again c =
-    let put = c.before.before.put_at-total in
-    let loop = c.before.before.before.before.before.before.loop-i in
-    let lt = c.before.before.before.before.before.loop-i-test.true in
+    let put = c.put_at-total in
+    let loop = c.loop-i in
+    let lt = c.loop-i-test.true in
     let s = c.before.before.before.before.before.before.before.before.before.before in
     let a = s.args in
     let f = page_fields a.capacity a.pages.now in
     let few = length-page_fields-le a.capacity a.pages.now _ s.requires.capacity (s.requires.each loop.i lt) in (
       omega (arith, lt),
-      emitted_to-next f a.list.now a.out.now loop.i loop.total loop.out-1 loop.invariant.1
+      emitted_to-next f a.list.now a.out.now loop.i loop.total loop.out loop.invariant.1
           (omega (arith, s.requires.within, lt)) few _ put.ensures.0 _ put.ensures.1 put.auto.1.1.1.0,
     )
 
 same_length : tie.Need-shape_of-out invariant-loop decreases-loop
-same_length c = c.before.loop-i.invariant.1.1
+same_length c = c.loop-i.invariant.1.1
 
 returns : tie.Need-returns invariant-loop decreases-loop
 returns c =
     let s = c.before.before.before.before.before in
     let a = s.args in
-    let loop = c.before.loop-i in
+    let loop = c.loop-i in
     emitted_to-all (page_fields a.capacity a.pages.now) a.list.now a.out.now a.n loop.i
-    loop.total loop.out-1 loop.invariant.0 c.loop-i-test.false s.requires.few loop.invariant.1
+    loop.total loop.out loop.invariant.0 c.loop-i-test.false s.requires.few loop.invariant.1
 
 pub put_whole_spec : {M : Type 1} → statement M
 put_whole_spec =

@@ -18,9 +18,9 @@ element-copy-out-low c = search rules
 
 mul-low-2 : tie.Need-overflow_mul-low
 mul-low-2 c =
-    let a = c.before.args in
+    let a = c.args in
     let half = and_mask a.index 32 in
-    record { fits = half-product-lt _ _ (omega arith) c.before.requires.low }
+    record { fits = half-product-lt _ _ (omega arith) c.requires.low }
 
 add-high : tie.Need-overflow_add-high
 add-high c = search rules
@@ -32,18 +32,18 @@ element-copy-out-high : tie.Need-bounds-rows-at-2
 element-copy-out-high c = search rules
 
 mul-high-2 : tie.Need-overflow_mul-high
-mul-high-2 c = record { fits = half-product-lt _ _ (omega arith) c.before.before.requires.high }
+mul-high-2 c = record { fits = half-product-lt _ _ (omega arith) c.requires.high }
 
 -- the two halves
 halves : (c : tie.After-high-1)
-    → let a = c.before.before.args in
+    → let a = c.args in
     let rows = a.rows.now in
     (bit_and (bit_and a.index 4294967295 * get_or rows a.at 0 / 65536) 65535
     ≡ half_address (a.index % 2 ^ 32) (get_or rows a.at 0))
     × (bit_and (a.index / 4294967296 * get_or rows (a.at + 1) 0 / 65536) 65535
     ≡ half_address (a.index / 2 ^ 32) (get_or rows (a.at + 1) 0))
 halves c =
-    let a = c.before.before.args in
+    let a = c.args in
     let rows = a.rows.now in (
       and_mask (bit_and a.index 4294967295 * get_or rows a.at 0 / 65536) 16
           ∙ ap (λ v. half_address v (get_or rows a.at 0)) (and_mask a.index 32),

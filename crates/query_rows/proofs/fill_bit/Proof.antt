@@ -48,31 +48,31 @@ loop-holds c =
     )
 
 width-at-requires : tie.Need-width_at-requires invariant-loop decreases-loop
-width-at-requires c κs = omega (arith, c.before.loop-z-test.true)
+width-at-requires c κs = omega (arith, c.loop-z-test.true)
 
 mul-put-row : tie.Need-overflow_mul-x invariant-loop decreases-loop
 mul-put-row c =
     let test = c.before.before.before in
-    omega (arith, test.if-x-t.true, test.before.before.before.requires.deep)
+    omega (arith, test.if-x-t.true, test.requires.deep)
 
 mul-row-at : tie.Need-overflow_mul-bit invariant-loop decreases-loop
-mul-row-at c = omega (arith, c.before.before.before.before.before.before.requires.low)
+mul-row-at c = omega (arith, c.requires.low)
 
 add-row-at : tie.Need-overflow_add-bit invariant-loop decreases-loop
 add-row-at c =
     let loop = c.before.before.before.before in
-    omega (arith, loop.before.before.requires.low, loop.loop-z-test.true)
+    omega (arith, loop.requires.low, loop.loop-z-test.true)
 
 row-at-requires : tie.Need-row_at-requires invariant-loop decreases-loop
 row-at-requires c κs =
     let s = c.before.before.before.before.before.before in
     let test = c.before.before.before in
-    let z = test.before.loop-z-test.true in
-    let counted = test.before.before.loop-z.invariant.2.counted test.if-x-t.true in record {
+    let z = test.loop-z-test.true in
+    let counted = test.loop-z.invariant.2.counted test.if-x-t.true in record {
       fit = s.requires.fit;
       low = omega (arith, s.requires.low, z);
-      live = live s.args.bit _ z (width_list s.args.widths) _ c.before.before.width_at.ensures
-          c.before.if-bit-width_at.true;
+      live = live s.args.bit _ z (width_list s.args.widths) _ c.width_at.ensures
+          c.if-bit-width_at.true;
       deep = omega (arith, counted, test.if-x-t.true, s.requires.deep);
     }
 
@@ -83,27 +83,27 @@ put-row-requires c κs =
     let s = loop.before in (
       omega (arith, test.if-x-t.true, s.requires.deep),
       fixed-fits _ _ _ _ _ _ loop.loop-z.invariant.2 test.if-x-t.true s.requires.fit
-          (live s.args.bit _ test.before.loop-z-test.true (width_list s.args.widths) _
-          c.before.before.before.width_at.ensures c.before.before.if-bit-width_at.true) _ c.row_at.ensures,
+          (live s.args.bit _ test.loop-z-test.true (width_list s.args.widths) _
+          c.width_at.ensures c.if-bit-width_at.true) _ c.row_at.ensures,
     )
 
 add-x : tie.Need-overflow_add-x invariant-loop decreases-loop
 add-x c =
     let test = c.before.before.before.before.before in
-    omega (arith, test.if-x-t.true, test.before.before.before.requires.deep)
+    omega (arith, test.if-x-t.true, test.requires.deep)
 
 add-z : tie.Need-overflow_add-z invariant-loop decreases-loop
-add-z c = omega (arith, c.before.loop-z-test.true)
+add-z c = omega (arith, c.loop-z-test.true)
 
 loop-less : tie.Need-loop-z-smaller invariant-loop decreases-loop
-loop-less c = omega (arith, c.before.loop-z-test.true)
+loop-less c = omega (arith, c.loop-z-test.true)
 
 loop-again : tie.Need-loop-z-preserved invariant-loop decreases-loop
 loop-again c =
     let s = c.before.before.before in
     let a = s.args in
-    let l = c.before.before.loop-z in
-    let z = c.before.loop-z-test.true in
+    let l = c.loop-z in
+    let z = c.loop-z-test.true in
     let ws = width_list a.widths in
     let low : 4 * a.bit + l.z < 64 = omega (arith, s.requires.low, z) in
     let next : 4 * a.bit + l.z + 1 ≡ 4 * a.bit + (l.z + 1) = omega arith in
@@ -130,8 +130,8 @@ loop-again c =
 
 returns : tie.Need-returns invariant-loop decreases-loop
 returns c =
-    let a = c.before.before.args in
-    let l = c.before.loop-z in
+    let a = c.args in
+    let l = c.loop-z in
     let ws = width_list a.widths in
     let all : 4 * a.bit + l.z ≡ 4 * a.bit + 4 = omega (arith, c.loop-z-test.false, l.invariant.0) in
     let q = wanted_at ws (wanted_values a.query) in

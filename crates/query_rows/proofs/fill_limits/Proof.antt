@@ -36,7 +36,7 @@ element-write-rows-5 c = search rules
 
 returns : tie.Need-returns
 unfolding limited
-returns c = rw (c.before.tallied_depths.ensures, c.bias_key.ensures)
+returns c = rw (c.tallied_depths.ensures, c.bias_key.ensures)
 
 pub fill_limits_spec : {M : Type 1} → statement M
 fill_limits_spec =

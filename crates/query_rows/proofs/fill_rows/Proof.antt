@@ -28,7 +28,7 @@ widths-of-requires c κs = tt
 
 -- the widths fit and have t steps
 fits : (c : tie.After-widths_of-widths invariant-loop decreases-loop) → let ws = width_list c.widths_of-widths.result in
-    (Fit ws) × (c.before.args.t ≤ length (steps ws))
+    (Fit ws) × (c.args.t ≤ length (steps ws))
 fits c =
     let s = c.before in
     let w = c.widths_of-widths.result in
@@ -50,18 +50,18 @@ loop-holds c =
       filled_zero _ _ _ _ (get_or-set_same s.args.rows.now 5 _ 0 five ∙ c.fixed_bits_before.ensures),
     )
 
-live : (c : tie.In-loop-x invariant-loop decreases-loop) → c.before.loop-x.bit < 16
+live : (c : tie.In-loop-x invariant-loop decreases-loop) → c.loop-x.bit < 16
 live c =
     omega (
       arith,
-      filled_live _ _ _ _ _ _ c.before.loop-x.invariant.1 c.loop-x-test.true (fits c.before.before.before).1,
+      filled_live _ _ _ _ _ _ c.loop-x.invariant.1 c.loop-x-test.true (fits c.before.before.before).1,
     )
 
 fill-bit-requires : tie.Need-fill_bit-x-requires invariant-loop decreases-loop
 fill-bit-requires c κs =
     let test = c.before in
     let s = test.before.before.before.before in
-    let loop = test.before.loop-x in
+    let loop = test.loop-x in
     let lent = loop.invariant.0 ∙ length-set s.args.rows.now 5 _ in
     record {
       fit = (fits test.before.before.before).0;
@@ -79,9 +79,9 @@ loop-less c = omega (arith, live c.before.before)
 
 loop-again : tie.Need-loop-x-preserved invariant-loop decreases-loop
 loop-again c =
-    let a = c.before.before.before.before.before.before.args in
-    let ws = width_list c.before.before.before.before.before.widths_of-widths.result in
-    let l = c.before.before.before.loop-x in
+    let a = c.args in
+    let ws = width_list c.widths_of-widths.result in
+    let l = c.loop-x in
     let next : 4 * l.bit + 4 ≡ 4 * (l.bit + 1) = omega arith in (
       c.fill_bit-x.ensures.0 ∙ l.invariant.0,
       subst (λ g. RowsFilled ws (wanted_at ws (wanted_values a.query)) a.t g c.fill_bit-x.result
@@ -90,13 +90,13 @@ loop-again c =
 
 returns : tie.Need-returns invariant-loop decreases-loop
 returns c =
-    let a = c.before.before.before.before.args in
-    let l = c.before.loop-x in
+    let a = c.args in
+    let l = c.loop-x in
     let wanted = wanted_values a.query in (
       l.invariant.0 ∙ length-set a.rows.now 5 _,
       rows-filled _ _ a.t (4 * l.bit) l.x l.rows
           (subst (λ ws. RowsFilled ws (wanted_at ws wanted) a.t (4 * l.bit) l.x l.rows)
-          c.before.before.before.widths_of-widths.ensures l.invariant.1)
+          c.widths_of-widths.ensures l.invariant.1)
           c.loop-x-test.false,
     )
 

@@ -19,13 +19,13 @@ enum-told-2 c = search rules
 
 returns : tie.Need-returns-in-Free
 returns c =
-    let s = c.before.before.before in
-    ((wanted-free s.args.t1 s.args.j s.requires c.enum_told-1.given.1).1, omega arith)
+    let s = c.before.before in
+    ((wanted-free s.args.query s.args.j s.requires c.in-Free.is).1, omega arith)
 
 returns-2 : tie.Need-returns-in-Given
 returns-2 c =
-    let s = c.before.before.before in
-    ((wanted-given s.args.t1 s.args.j s.requires _ c.enum_told-in-Given-1.given.1).1, omega arith)
+    let s = c.before.before in
+    ((wanted-given s.args.query s.args.j s.requires _ c.in-Given.is).1, omega arith)
 
 pub free_mark_spec : {M : Type 1} → statement M
 free_mark_spec =

@@ -25,8 +25,8 @@ sub-x : tie.Need-overflow_sub-x invariant-loop decreases-loop
 sub-x c = omega (arith, c.loop-x-test.true)
 
 -- the row lies in the table
-row-lent : (c : tie.In-loop-x invariant-loop decreases-loop) → (c.before.loop-x.x - 1) * 6 + 6 ≤ 72
-row-lent c = omega (arith, c.loop-x-test.true, c.before.loop-x.invariant.0, c.before.before.requires)
+row-lent : (c : tie.In-loop-x invariant-loop decreases-loop) → (c.loop-x.x - 1) * 6 + 6 ≤ 72
+row-lent c = omega (arith, c.loop-x-test.true, c.loop-x.invariant.0, c.requires)
 
 mul-if1 : tie.Need-overflow_mul-x invariant-loop decreases-loop
 mul-if1 c = omega (arith, row-lent c)
@@ -43,39 +43,39 @@ element-copy-out-if1 c = omega (arith, row-lent c)
 mul_most : tie.Need-overflow_mul-most invariant-loop decreases-loop
 mul_most c =
     let s = c.before.before.before.before in
-    let loop = c.before.before.before.loop-x in
+    let loop = c.loop-x in
     let left = s.args.t - loop.x in
     let few : 2 ^ left ≤ 2 ^ 12 = pow_mono {i = left} {j = 12} (omega (arith, s.requires)) in
     omega (arith, loop.invariant.1, most_pages-le s.args.rows.now left loop.x, few)
 
 loop-less : tie.Need-loop-x-smaller-then-rows-x-gt1 invariant-loop decreases-loop
-loop-less c = omega (arith, c.before.before.loop-x-test.true)
+loop-less c = omega (arith, c.loop-x-test.true)
 
 loop-again : tie.Need-loop-x-preserved-then-rows-x-gt1 invariant-loop decreases-loop
 loop-again c =
-    let a = c.before.before.before.before.args in
-    let loop = c.before.before.before.loop-x in (
+    let a = c.args in
+    let loop = c.loop-x in (
       omega (arith, loop.invariant.0),
-      counted-free a.rows.now a.t loop.x loop.most c.before.before.loop-x-test.true loop.invariant.0
+      counted-free a.rows.now a.t loop.x loop.most c.loop-x-test.true loop.invariant.0
           loop.invariant.1 c.if-rows-x-gt1.true,
     )
 
 loop-less-2 : tie.Need-loop-x-smaller invariant-loop decreases-loop
-loop-less-2 c = omega (arith, c.before.before.loop-x-test.true)
+loop-less-2 c = omega (arith, c.loop-x-test.true)
 
 loop-again-2 : tie.Need-loop-x-preserved invariant-loop decreases-loop
 loop-again-2 c =
-    let a = c.before.before.before.before.args in
-    let loop = c.before.before.before.loop-x in (
+    let a = c.args in
+    let loop = c.loop-x in (
       omega (arith, loop.invariant.0),
-      counted-given a.rows.now a.t loop.x loop.most c.before.before.loop-x-test.true loop.invariant.0
+      counted-given a.rows.now a.t loop.x loop.most c.loop-x-test.true loop.invariant.0
           loop.invariant.1 c.if-rows-x-gt1.false,
     )
 
 returns : tie.Need-returns invariant-loop decreases-loop
 returns c =
-    let a = c.before.before.args in
-    let loop = c.before.loop-x in
+    let a = c.args in
+    let loop = c.loop-x in
     let none : loop.x ≡ 0 = omega (arith, c.loop-x-test.false) in
     let all : a.t - loop.x ≡ a.t = omega (arith, none) in
     loop.invariant.1

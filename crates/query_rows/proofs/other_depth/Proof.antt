@@ -12,7 +12,7 @@ depth-before-requires : tie.Need-depth_before-requires
 depth-before-requires c κs = search rules
 
 returns-2 : tie.Need-returns
-returns-2 c = rw (ne_eqb _ _ c.before.if-j-g.false) (c.depth_before.ensures, omega arith)
+returns-2 c = rw (ne_eqb _ _ c.if-j-g.false) (c.depth_before.ensures, omega arith)
 
 pub other_depth_spec : {M : Type 1} → statement M
 other_depth_spec = tie.close (tie.spec returns depth-before-requires returns-2)

@@ -41,7 +41,7 @@ width-at-requires : tie.Need-width_at-width-requires
 width-at-requires c κs = search rules
 
 -- the step's bit is one of its attribute's
-width-live : (c : tie.After-width_at-width) → c.before.before.before.before.before.args.g / 4 < c.width_at-width.result
+width-live : (c : tie.After-width_at-width) → c.args.g / 4 < c.width_at-width.result
 width-live c =
     let s = c.before.before.before.before.before in
     subst (λ w. s.args.g / 4 < w) (sym c.width_at-width.ensures) s.requires.live
@@ -68,9 +68,9 @@ shift-of-requires-4 : tie.Need-shift_of-s3-requires
 shift-of-requires-4 c κs = search rules
 
 -- no shift passes 12
-small : (c : tie.After-shift_of-s3) → (c.before.before.before.shift_of-s0.result ≤ 12)
-    × (c.before.before.shift_of-s1.result ≤ 12)
-    × (c.before.shift_of-s2.result ≤ 12)
+small : (c : tie.After-shift_of-s3) → (c.shift_of-s0.result ≤ 12)
+    × (c.shift_of-s1.result ≤ 12)
+    × (c.shift_of-s2.result ≤ 12)
     × (c.shift_of-s3.result ≤ 12)
 small c =
     let h4 = c.before.before.before.before.before in
@@ -78,10 +78,10 @@ small c =
     let w = s.args.widths in
     shifts-le w.w0 w.w1 w.w2 w.w3 s.requires.fit s.args.g s.requires.low s.requires.live s.requires.deep
     _ _ _ _ _ _ _ _
-    h4.before.before.before.other_depth-h0.ensures.0 h4.before.before.other_depth-h1.ensures.0
-    h4.before.other_depth-h2.ensures.0 h4.other_depth-h3.ensures.0
-    c.before.before.before.shift_of-s0.ensures c.before.before.shift_of-s1.ensures
-    c.before.shift_of-s2.ensures c.shift_of-s3.ensures
+    h4.other_depth-h0.ensures.0 h4.other_depth-h1.ensures.0
+    h4.other_depth-h2.ensures.0 h4.other_depth-h3.ensures.0
+    c.shift_of-s0.ensures c.shift_of-s1.ensures
+    c.shift_of-s2.ensures c.shift_of-s3.ensures
 
 multiplier-of-requires : tie.Need-multiplier_of-requires
 multiplier-of-requires c κs = ((small c).0, (small c).1)
@@ -139,11 +139,11 @@ returns c =
     let w = start.args.widths in
     step_row-pair w.w0 w.w1 w.w2 w.w3 start.requires.fit start.args.g start.requires.low start.requires.live
     (wanted_values start.args.query) _ _ _ _ _ _ _ _ _ _ _ _
-    h4.before.before.before.other_depth-h0.ensures.0 h4.before.before.other_depth-h1.ensures.0
-    h4.before.other_depth-h2.ensures.0 h4.other_depth-h3.ensures.0
-    s4.before.before.before.shift_of-s0.ensures s4.before.before.shift_of-s1.ensures
-    s4.before.shift_of-s2.ensures s4.shift_of-s3.ensures
-    c.before.before.multiplier_of.ensures c.before.multiplier_of-2.ensures
+    h4.other_depth-h0.ensures.0 h4.other_depth-h1.ensures.0
+    h4.other_depth-h2.ensures.0 h4.other_depth-h3.ensures.0
+    s4.shift_of-s0.ensures s4.shift_of-s1.ensures
+    s4.shift_of-s2.ensures s4.shift_of-s3.ensures
+    c.multiplier_of.ensures c.multiplier_of-2.ensures
     measured.width_at-width.ensures c.wanted_bit.ensures
 
 pub row_at_spec : {M : Type 1} → statement M

@@ -17,14 +17,14 @@ abbrev decreases-loop : tie.decreases-loop-x
 decreases-loop tally depths₀ x₀ depths x = x
 
 -- the tally's list
-thirteen : (c : tie.Start invariant-loop decreases-loop) → length c.args.t1.leaves ≡ 13
-thirteen c = sym (length-map c.args.t1.leaves (λ v. v)) ∙ c.well-formed.0.1.1.0.1.0.1
+thirteen : (c : tie.Start invariant-loop decreases-loop) → length c.args.tally.leaves ≡ 13
+thirteen c = sym (length-map c.args.tally.leaves (λ v. v)) ∙ c.well_formed.0.1.1.0.1.0.1
 
 loop-holds : tie.Need-loop-x-init invariant-loop decreases-loop
 unfolding tallied_depths
 loop-holds c =
-    let end : drop 13 c.args.t1.leaves ≡ [] =
-    drop_of_length-le c.args.t1.leaves {i = 13} (omega (arith, thirteen c)) in
+    let end : drop 13 c.args.tally.leaves ≡ [] =
+    drop_of_length-le c.args.tally.leaves {i = 13} (omega (arith, thirteen c)) in
     (omega arith, sym (ap tallied_depths end))
 
 sub-x : tie.Need-overflow_sub-x invariant-loop decreases-loop
@@ -45,18 +45,18 @@ loop-less c = omega arith
 loop-again : tie.Need-loop-x-preserved invariant-loop decreases-loop
 loop-again c =
     let s = c.before.before.before in
-    let l = c.before.before.loop-x in
+    let l = c.loop-x in
     let lent = thirteen s in (
       omega arith,
-      tallied_depths-before s.args.t1.leaves l.x l.depths-1 c.before.loop-x-test.true
+      tallied_depths-before s.args.tally.leaves l.x l.depths c.loop-x-test.true
           (omega (arith, l.invariant.0)) (omega arith) l.invariant.1,
     )
 
 returns : tie.Need-returns invariant-loop decreases-loop
 returns c =
-    let l = c.before.loop-x in
+    let l = c.loop-x in
     let none : l.x ≡ 0 = omega (arith, c.loop-x-test.false) in
-    l.invariant.1 ∙ ap (λ x. tallied_depths (drop x c.before.before.args.t1.leaves)) none
+    l.invariant.1 ∙ ap (λ x. tallied_depths (drop x c.args.tally.leaves)) none
 
 pub tallied_depths_spec : {M : Type 1} → statement M
 tallied_depths_spec =

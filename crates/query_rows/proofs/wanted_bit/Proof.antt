@@ -29,20 +29,20 @@ free-mark-requires c κs = search rules
 
 add-result : tie.Need-overflow_add-result
 add-result c =
-    let a = c.before.before.args in
+    let a = c.args in
     record {
       fits = omega (
         arith,
         c.free_mark.ensures.1,
-        and_mask (c.before.given_value-value.result / 2 ^ (a.width - 1 - a.bit)) 1,
+        and_mask (c.given_value-value.result / 2 ^ (a.width - 1 - a.bit)) 1,
       );
     }
 
 returns : tie.Need-returns
 returns c =
-    let a = c.before.before.args in
+    let a = c.args in
     let o = get_or (wanted_values a.query) a.j none in
-    (λ i. bit_and (c.before.given_value-value.ensures i / 2 ^ (a.width - 1 - a.bit)) 1 + c.free_mark.ensures.0 i)
+    (λ i. bit_and (c.given_value-value.ensures i / 2 ^ (a.width - 1 - a.bit)) 1 + c.free_mark.ensures.0 i)
     ∙ wanted_number-sum a.width a.bit o
 
 pub wanted_bit_spec : {M : Type 1} → statement M

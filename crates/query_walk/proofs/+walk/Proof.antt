@@ -78,8 +78,8 @@ here : (t : ℕ) (c : Past t)
     a.x a.n a.word
 here t c =
     let h = (start t c).requires.1 in
-    inside_of h.0 h.1 _ c.before.before.before.depth_of-depth.ensures.0 c.before.before.if-depth-x.false
-    c.if-t-depth.false
+    inside_of h.0 h.1 _ c.before.before.before.depth-of.ensures.0 c.before.before.if1.false
+    c.if2.false
 
 -- what is seen of a leaf
 abbrev own : (t : ℕ) → Past t → ℕ → ℕ → ℕ → Seen
@@ -120,14 +120,14 @@ walk-depth-of-requires : (t : ℕ) → walk-lts.Need-depth-of-requires (near t) 
 walk-depth-of-requires t c κs = tt
 
 walk-cast-depth : (t : ℕ) → walk-lts.Need-overflow-cast-depth (near t) (walk_at t) walk.Post
-walk-cast-depth t c = omega (arith, c.depth_of-depth.ensures.1)
+walk-cast-depth t c = omega (arith, c.depth-of.ensures.1)
 
 walk-returns : (t : ℕ) → walk-lts.Need-returns (near t) (walk_at t) walk.Post
 walk-returns t c =
     let a = c.before.before.before.before.before.args in
     Wrote-above a.rows.now a.dir.now (leaf_by a.rows.now a.pages.now) (deepest_in a.rows.now) a.x
     a.index a.corner a.word a.list.now a.n
-    (subst (λ d. d < a.x) c.before.depth_of-depth.ensures.0 c.if-depth-x.true)
+    (subst (λ d. d < a.x) c.before.depth-of.ensures.0 c.if1.true)
 
 walk-element-copy-out-t : (t : ℕ) → walk-lts.Need-element-copy-out-t (near t) (walk_at t) walk.Post
 walk-element-copy-out-t t c = omega arith
@@ -136,12 +136,12 @@ walk-returns-2 : (t : ℕ) → walk-lts.Need-returns-2 (near t) (walk_at t) walk
 walk-returns-2 t c =
     let s = c.before.before.before.before.before.before.before in
     let a = s.args in
-    let depth = c.before.before.before.depth_of-depth.ensures.0 in
+    let depth = c.before.before.before.depth-of.ensures.0 in
     Wrote-deep a.rows.now a.dir.now (leaf_by a.rows.now a.pages.now) (deepest_in a.rows.now) a.x
     a.index a.corner a.word a.list.now a.n
-    (subst (λ d. a.x ≤ d) depth c.before.before.if-depth-x.false)
+    (subst (λ d. a.x ≤ d) depth c.before.before.if1.false)
     s.requires.1.1
-    (subst (λ d. deepest_in a.rows.now < d) depth c.if-t-depth.true)
+    (subst (λ d. deepest_in a.rows.now < d) depth c.if2.true)
 
 walk-add-deeper : (t : ℕ) → walk-lts.Need-overflow-add-deeper (near t) (walk_at t) walk.Post
 walk-add-deeper t c = omega (arith, (row-lent (here t c)).0)
@@ -186,14 +186,14 @@ walk-address-by-requires : (t : ℕ) → walk-lts.Need-address-by-requires (near
 walk-address-by-requires t c κs = upper-addressable (here t c.before.before.before)
 
 walk-mul-other : (t : ℕ) → walk-lts.Need-overflow-mul-other (near t) (walk_at t) walk.Post
-walk-mul-other t c = omega (arith, c.address_by.ensures, (upper-room (here t c.before.before.before.before)).1)
+walk-mul-other t c = omega (arith, c.address-by.ensures, (upper-room (here t c.before.before.before.before)).1)
 
 walk-shared-slice-read-other : (t : ℕ) → walk-lts.Need-shared-slice-read-other (near t) (walk_at t) walk.Post
 walk-shared-slice-read-other t c =
     let at_address = c.before in
     omega (
       arith,
-      at_address.address_by.ensures,
+      at_address.address-by.ensures,
       (upper-room (here t at_address.before.before.before.before)).0,
     )
 
@@ -221,27 +221,27 @@ given-past t c = c.before.before.before.before.before.before.before.before.befor
 given-turn : (t : ℕ) (c : Given t)
     → let a = (start t (given-past t c)).args in
     Turn a.rows.now a.dir.now (length a.pages.now) (length a.list.now)
-    c.before.before.given_side-side.result c.before.given_side-low.result (a.x + 1) a.n
+    c.before.before.given-side.result c.before.given-side2.result (a.x + 1) a.n
 given-turn t c =
     let a = (start t (given-past t c)).args in
     Turn-given (here t (given-past t c)) (wanted_bit_in a.rows.now a.x) _ _
-    c.before.before.given_side-side.ensures c.before.given_side-low.ensures
+    c.before.before.given-side.ensures c.before.given-side2.ensures
 
 -- what the side wrote is what is seen of the region
 given-wrote : (t : ℕ) (c : Given t) (later : List ℕ) (r : ℕ)
     → let past = given-past t c in
     let a = (start t past).args in
     Wrote a.list.now a.n
-    (below t past c.before.before.given_side-side.result c.before.given_side-low.result c.given_word-own.result)
+    (below t past c.before.before.given-side.result c.before.given-side2.result c.given_word.result)
     r later
     → Wrote a.list.now a.n (whole t past) r later
 given-wrote t c later r =
     let past = given-past t c in
     let at-if3 = c.before.before.before in
-    let address = at-if3.before.before.address_by in
-    Wrote-given (here t past) (own t past) (own-page t past) _ refl at-if3.if-wanted-lt2.true (start t past).args.list.now
-    later r address.result _ _ _ address.ensures c.before.before.given_side-side.ensures
-    c.before.given_side-low.ensures c.given_word-own.ensures
+    let address = at-if3.before.before.address-by in
+    Wrote-given (here t past) (own t past) (own-page t past) _ refl at-if3.if3.true (start t past).args.list.now
+    later r address.result _ _ _ address.ensures c.before.before.given-side.ensures
+    c.before.given-side2.ensures c.given_word.ensures
 
 walk-note-requires : (t : ℕ) → walk-lts.Need-note-requires (near t) (walk_at t) walk.Post
 walk-note-requires t c κs = leaf-asked (given-turn t c.before.before.before)
@@ -254,7 +254,7 @@ walk-returns-3 t c =
     let at-if4 = c.before.before.before.before in
     let at-word = at-if4.before.before in
     given-wrote t at-word _ _
-    (side-noted t (given-past t at-word) _ _ _ at-if4.before.is_Is_leaf.ensures at-if4.if-is_leaf.true
+    (side-noted t (given-past t at-word) _ _ _ at-if4.before.is_Is_leaf.ensures at-if4.if4.true
     c.before.before.note.ensures)
 
 walk-walk-requires : (t : ℕ) → walk-lts.Need-walk-requires (near t) (walk_at t) walk.Post
@@ -262,7 +262,7 @@ walk-walk-requires t c κs =
     let at-if4 = c.before in
     let at-word = at-if4.before.before in (
       falling t (given-past t at-word),
-      (given-turn t at-word, eqb-false _ _ (sym at-if4.before.is_Is_leaf.ensures ∙ at-if4.if-is_leaf.false)),
+      (given-turn t at-word, eqb-false _ _ (sym at-if4.before.is_Is_leaf.ensures ∙ at-if4.if4.false)),
     )
 
 walk-same-length-2 : (t : ℕ) → walk-lts.Need-same-length-2 (near t) (walk_at t) walk.Post
@@ -289,7 +289,7 @@ walk-walk-requires-2 t c κs =
     let at-if3 = at-if5.before.before in
     let past = at-if3.before.before.before.before.before.before in (
       falling t past,
-      (Turn-lower (here t past), eqb-false _ _ (sym at-if5.before.is_leaf-2.ensures ∙ at-if5.if-is_leaf-2.false)),
+      (Turn-lower (here t past), eqb-false _ _ (sym at-if5.before.is-leaf2.ensures ∙ at-if5.if5.false)),
     )
 
 -- past the 0-side
@@ -301,19 +301,19 @@ lower-past t c = c.before.before.before.before.before.before.before.before
 
 lower-wrote : (t : ℕ) (c : Lower t)
     → let a = (start t (lower-past t c)).args in
-    Wrote a.list.now a.n (below t (lower-past t c) a.index a.corner a.word) c.if-is_leaf-2.m c.if-is_leaf-2.list-1
+    Wrote a.list.now a.n (below t (lower-past t c) a.index a.corner a.word) c.if5.m c.if5.list
 lower-wrote t c =
     ⊎_elim
     (λ w. Wrote-same w.6 w.5
-    (side-noted t (lower-past t c) _ _ _ c.before.is_leaf-2.ensures w.0.taken w.2.ensures))
+    (side-noted t (lower-past t c) _ _ _ c.before.is-leaf2.ensures w.0.taken w.2.ensures))
     (λ w. Wrote-same w.6 w.5 w.2.ensures)
-    c.if-is_leaf-2.branch
+    c.if5.branch
 
 lower-length : (t : ℕ) (c : Lower t)
-    → length c.if-is_leaf-2.list-1 ≡ length (start t (lower-past t c)).args.list.now
+    → length c.if5.list ≡ length (start t (lower-past t c)).args.list.now
 lower-length t c =
     ⊎_elim (λ w. ap length w.5 ∙ w.2.kept.1.1.0) (λ w. ap length w.5 ∙ w.2.kept.1.1.1.0)
-    c.if-is_leaf-2.branch
+    c.if5.branch
 
 walk-same-length-3 : (t : ℕ) → walk-lts.Need-same-length-3 (near t) (walk_at t) walk.Post
 walk-same-length-3 t c = lower-length t c.before
@@ -321,8 +321,8 @@ walk-same-length-3 t c = lower-length t c.before
 walk-returns-5 : (t : ℕ) → walk-lts.Need-returns-5 (near t) (walk_at t) walk.Post
 walk-returns-5 t c =
     let past = lower-past t c.before in
-    Wrote-first (here t past) (own t past) (own-page t past) c.before.before.before.if-wanted-lt2.false
-    (start t past).args.list.now _ _ (lower-wrote t c.before) c.if-m-gt-MOST_PAGES.true
+    Wrote-first (here t past) (own t past) (own-page t past) c.before.before.before.if3.false
+    (start t past).args.list.now _ _ (lower-wrote t c.before) c.if6.true
 
 walk-is-leaf-requires-3 : (t : ℕ) → walk-lts.Need-is-leaf-requires-3 (near t) (walk_at t) walk.Post
 walk-is-leaf-requires-3 t c κs = tt
@@ -337,27 +337,27 @@ upper-past t c = lower-past t c.before
 upper-turn : (t : ℕ) (c : Upper t)
     → let past = upper-past t c in
     let a = (start t past).args in
-    Turn a.rows.now a.dir.now (length a.pages.now) (length c.before.if-is_leaf-2.list-1)
-    (upper_vector (here t past)) (upper_corner (here t past)) (a.x + 1) c.before.if-is_leaf-2.m
+    Turn a.rows.now a.dir.now (length a.pages.now) (length c.before.if5.list)
+    (upper_vector (here t past)) (upper_corner (here t past)) (a.x + 1) c.before.if5.m
 upper-turn t c =
     let past = upper-past t c in
-    Turn-upper-next (here t past) (own t past) (own-page t past) c.before.before.before.if-wanted-lt2.false
-    (start t past).args.list.now _ _ (lower-wrote t c.before) _ (lower-length t c.before) c.if-m-gt-MOST_PAGES.false
+    Turn-upper-next (here t past) (own t past) (own-page t past) c.before.before.before.if3.false
+    (start t past).args.list.now _ _ (lower-wrote t c.before) _ (lower-length t c.before) c.if6.false
 
 -- what the 1-side wrote ends what is seen of the region
 upper-wrote : (t : ℕ) (c : Upper t) (later : List ℕ) (z : ℕ)
     → let past = upper-past t c in
     let a = (start t past).args in
-    let address = c.before.before.before.before.before.address_by.result in
-    Wrote c.before.if-is_leaf-2.list-1 c.before.if-is_leaf-2.m
+    let address = c.before.before.before.before.before.address-by.result in
+    Wrote c.before.if5.list c.before.if5.m
     (below t past (upper_vector (here t past)) (upper_corner (here t past)) (get_or a.dir.now address 0)) z later
     → Wrote a.list.now a.n (whole t past) z later
 upper-wrote t c later z =
     let past = upper-past t c in
     let at-if3 = c.before.before.before in
-    let address = at-if3.before.before.address_by in
-    Wrote-both (here t past) (own t past) (own-page t past) at-if3.if-wanted-lt2.false (start t past).args.list.now _ _
-    (lower-wrote t c.before) later z address.result address.ensures c.if-m-gt-MOST_PAGES.false
+    let address = at-if3.before.before.address-by in
+    Wrote-both (here t past) (own t past) (own-page t past) at-if3.if3.false (start t past).args.list.now _ _
+    (lower-wrote t c.before) later z address.result address.ensures c.if6.false
 
 walk-note-requires-3 : (t : ℕ) → walk-lts.Need-note-requires-3 (near t) (walk_at t) walk.Post
 walk-note-requires-3 t c κs = leaf-asked (upper-turn t c.before.before.before)
@@ -365,32 +365,32 @@ walk-note-requires-3 t c κs = leaf-asked (upper-turn t c.before.before.before)
 walk-same-length-4 : (t : ℕ) → walk-lts.Need-same-length-4 (near t) (walk_at t) walk.Post
 walk-same-length-4 t c =
     let at_join = c.before.before.before.before.before.before.before in
-    c.before.before.note-then-is_leaf-3.auto.1.1.0 ∙ lower-length t at_join
+    c.before.before.note3.auto.1.1.0 ∙ lower-length t at_join
 
 walk-returns-6 : (t : ℕ) → walk-lts.Need-returns-6 (near t) (walk_at t) walk.Post
 walk-returns-6 t c =
     let at-if7 = c.before.before.before.before in
     let at-if6 = at-if7.before.before in
     upper-wrote t at-if6 _ _
-    (side-noted t (upper-past t at-if6) _ _ _ at-if7.before.is_leaf-3.ensures at-if7.if-is_leaf-3.true
-    c.before.before.note-then-is_leaf-3.ensures)
+    (side-noted t (upper-past t at-if6) _ _ _ at-if7.before.is-leaf3.ensures at-if7.if7.true
+    c.before.before.note3.ensures)
 
 walk-walk-requires-3 : (t : ℕ) → walk-lts.Need-walk-requires-3 (near t) (walk_at t) walk.Post
 walk-walk-requires-3 t c κs =
     let at-if7 = c.before in
     let at-if6 = at-if7.before.before in (
       falling t (upper-past t at-if6),
-      (upper-turn t at-if6, eqb-false _ _ (sym at-if7.before.is_leaf-3.ensures ∙ at-if7.if-is_leaf-3.false)),
+      (upper-turn t at-if6, eqb-false _ _ (sym at-if7.before.is-leaf3.ensures ∙ at-if7.if7.false)),
     )
 
 walk-same-length-5 : (t : ℕ) → walk-lts.Need-same-length-5 (near t) (walk_at t) walk.Post
 walk-same-length-5 t c =
     let at_join = c.before.before.before.before.before.before.before in
-    c.before.before.walk-2.auto.1.1.1.0 ∙ lower-length t at_join
+    c.before.before.walk3.auto.1.1.1.0 ∙ lower-length t at_join
 
 walk-returns-7 : (t : ℕ) → walk-lts.Need-returns-7 (near t) (walk_at t) walk.Post
 walk-returns-7 t c =
-    upper-wrote t c.before.before.before.before.before.before _ _ c.before.before.walk-2.ensures
+    upper-wrote t c.before.before.before.before.before.before _ _ c.before.before.walk3.ensures
 
 pub +walk-spec : {M : Type 1} → statement M
 +walk-spec = close μ-walk λ t. walk-lts.spec (near t)

@@ -12,7 +12,7 @@ cast-depth : tie.Need-overflow_cast-depth
 cast-depth c = search rules
 
 returns : tie.Need-returns
-returns c = ap (λ d. eqb d c.before.args.x) c.depth_of-depth.ensures.0
+returns c = ap (λ d. eqb d c.args.x) c.depth_of-depth.ensures.0
 
 pub is_leaf_spec : {M : Type 1} → statement M
 is_leaf_spec = tie.close (tie.spec depth-of-requires cast-depth returns)

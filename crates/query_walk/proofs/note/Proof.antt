@@ -16,10 +16,10 @@ use Rattle.query_walk.proofs.note.Tie as tie
 
 -- its depth is one that the tally has
 told : (c : tie.Else-depths-x-eq0)
-    → let a = c.before.before.before.before.args in
+    → let a = c.args in
     has_depth (tallied_in a.rows.now) a.x ≡ true
 told c =
-    let a = c.before.before.before.before.args in
+    let a = c.args in
     has_depth-some (tallied_in a.rows.now) a.x c.if-depths-x-eq0.false
 
 -- which pages may be read
@@ -51,7 +51,7 @@ returns-2 c =
     let s = test.before.before.before.before in
     let a = s.args in
     Wrote-noted-none a.list.now a.n (pages_in a.rows.now) _ (fair s) a.word _ (told test)
-    c.before.field_of-field.ensures.0 c.if-field-eq0.true
+    c.field_of-field.ensures.0 c.if-field-eq0.true
 
 element-copy-out-p : tie.Need-bounds-rows-78
 element-copy-out-p c = search rules
@@ -62,7 +62,7 @@ returns-3 c =
     let s = test.before.before.before.before in
     let a = s.args in
     Wrote-noted-past a.list.now a.n (pages_in a.rows.now) _ (fair s) a.word _ (told test)
-    c.before.before.before.field_of-field.ensures.0 c.if-p-field.true
+    c.field_of-field.ensures.0 c.if-p-field.true
 
 sub-page : tie.Need-overflow_sub-page
 sub-page c = search rules
@@ -70,7 +70,7 @@ sub-page c = search rules
 page-fair-requires : tie.Need-page_fair-requires
 page-fair-requires c κs =
     let s = c.before.before.before.before.before.before.before.before in
-    let field = c.before.before.if-field-eq0.false in
+    let field = c.if-field-eq0.false in
     record { deep = s.requires.deep; lent = s.requires.lent; named = omega (arith, c.if-p-field.false, field) }
 
 returns-4 : tie.Need-returns-then-not-page_fair
@@ -80,8 +80,8 @@ returns-4 c =
     let s = test.before.before.before.before in
     let a = s.args in
     Wrote-noted-unfair a.list.now a.n (pages_in a.rows.now) _ (fair s) a.word _ (told test)
-    test3.before.before.before.field_of-field.ensures.0 test3.before.before.if-field-eq0.false test3.if-p-field.false
-    (sym c.before.page_fair.ensures ∙ not-true _ c.if-not-page_fair.true-raw)
+    test3.field_of-field.ensures.0 test3.if-field-eq0.false test3.if-p-field.false
+    (sym c.page_fair.ensures ∙ not-true _ c.if-not-page_fair.true-raw)
 
 cast-list : tie.Need-overflow_cast-list
 cast-list c = search rules
@@ -105,8 +105,8 @@ returns-5 c =
     let s = test.before.before.before.before in
     let a = s.args in
     Wrote-noted-fair a.list.now a.n (pages_in a.rows.now) _ (fair s) a.word _ (told test)
-    test3.before.before.before.field_of-field.ensures.0 test3.before.before.if-field-eq0.false test3.if-p-field.false
-    (sym c.before.page_fair.ensures ∙ not-false _ c.if-not-page_fair.false-raw)
+    test3.field_of-field.ensures.0 test3.if-field-eq0.false test3.if-p-field.false
+    (sym c.page_fair.ensures ∙ not-false _ c.if-not-page_fair.false-raw)
 
 pub note_spec : {M : Type 1} → statement M
 note_spec =

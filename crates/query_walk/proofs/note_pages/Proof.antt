@@ -35,18 +35,18 @@ wrote : (c : tie.Joined-is_leaf)
     Wrote a.list.now 0
     (by_rows a.state a.rows.now a.dir.now a.pages.now (length a.list.now) (start c).requires
     (deepest_in a.rows.now))
-    c.if-is_leaf.count c.if-is_leaf.list-1
+    c.if-is_leaf.count c.if-is_leaf.list
 wrote c =
     let a = (start c).args in
     ⊎_elim
     (λ w. Wrote-same w.6 w.5
     (Wrote-leaf a.rows.now a.dir.now (leaf_by a.rows.now a.pages.now) (deepest_in a.rows.now) 0 0 0
     (get_or a.dir.now 0 0) a.list.now 0 _ _
-    (eqb-true _ _ (sym c.before.is_Is_leaf.ensures ∙ w.0.taken)) w.2.ensures))
+    (eqb-true _ _ (sym c.is_Is_leaf.ensures ∙ w.0.taken)) w.2.ensures))
     (λ w. Wrote-same w.6 w.5 w.2.ensures)
     c.if-is_leaf.branch
 
-same : (c : tie.Joined-is_leaf) → length c.if-is_leaf.list-1 ≡ length (start c).args.list.now
+same : (c : tie.Joined-is_leaf) → length c.if-is_leaf.list ≡ length (start c).args.list.now
 same c =
     ⊎_elim (λ w. ap length w.5 ∙ w.2.kept.1.1.0) (λ w. ap length w.5 ∙ w.2.kept.1.1.1.0)
     c.if-is_leaf.branch
@@ -65,7 +65,7 @@ note-requires c κs = leaf-asked (turn c.before.before.before.before.before.befo
 walk-requires : tie.Need-walk-count-requires
 walk-requires c κs = (
   turn c.before.before.before.before.before.before.before,
-  eqb-false _ _ (sym c.before.before.is_Is_leaf.ensures ∙ c.before.if-is_leaf.false),
+  eqb-false _ _ (sym c.is_Is_leaf.ensures ∙ c.if-is_leaf.false),
 )
 
 same_length : tie.Need-shape_of-list-then-count-gt-MOST_PAGES
@@ -75,11 +75,11 @@ same_length c = same c.before
 seen-wrote : (c : tie.Joined-is_leaf) (q : ℕ → QueryBit)
     → let a = (start c).args in
     Table a.state q a.rows.now
-    → Wrote a.list.now 0 (walk_seen a.state a.dir.now a.pages.now q) c.if-is_leaf.count c.if-is_leaf.list-1
+    → Wrote a.list.now 0 (walk_seen a.state a.dir.now a.pages.now q) c.if-is_leaf.count c.if-is_leaf.list
 seen-wrote c q table =
     let s = start c in
     let a = s.args in
-    subst (λ u. Wrote a.list.now 0 u c.if-is_leaf.count c.if-is_leaf.list-1)
+    subst (λ u. Wrote a.list.now 0 u c.if-is_leaf.count c.if-is_leaf.list)
     (by_rows-walk_seen a.state a.rows.now a.dir.now a.pages.now (length a.list.now) s.pre q table)
     (wrote c)
 

@@ -26,27 +26,27 @@ element-copy-out-b : tie.Need-bounds-rows-79
 element-copy-out-b c = omega arith
 
 mul-fixed : tie.Need-overflow_mul-fixed
-mul-fixed c = omega (arith, c.before.before.requires.deep)
+mul-fixed c = omega (arith, c.requires.deep)
 
 add-fixed : tie.Need-overflow_add-fixed
-add-fixed c = omega (arith, c.before.before.requires.deep)
+add-fixed c = omega (arith, c.requires.deep)
 
 mul-fixed-2 : tie.Need-offset_bounds-rows-x
-mul-fixed-2 c = omega (arith, c.before.before.requires.deep)
+mul-fixed-2 c = omega (arith, c.requires.deep)
 
 element-copy-out-fixed : tie.Need-bounds-rows-x
-element-copy-out-fixed c = omega (arith, c.before.before.requires.deep)
+element-copy-out-fixed c = omega (arith, c.requires.deep)
 
 element-copy-out-bias : tie.Need-bounds-rows-82
 element-copy-out-bias c = omega arith
 
 page-start-requires : tie.Need-page_start-start-requires
 page-start-requires c κs =
-    let h = c.before.before.before.before.requires in
+    let h = c.requires in
     (omega (arith, h.lent.capacity), omega (arith, h.named, h.lent.most-pages))
 
 page-size-requires : tie.Need-page_size-requires
-page-size-requires c κs = omega (arith, c.before.before.before.before.before.requires.lent.capacity)
+page-size-requires c κs = omega (arith, c.requires.lent.capacity)
 
 add-end : tie.Need-overflow_add-end
 add-end c =
@@ -54,9 +54,9 @@ add-end c =
     omega (
       arith,
       ends s,
-      c.before.page_start-start.ensures,
+      c.page_start-start.ensures,
       c.page_size.ensures,
-      s.well-formed,
+      s.well_formed,
     )
 
 sub-fair-count : tie.Need-slice_bounds-fair_count-count
@@ -68,19 +68,19 @@ part-fair-count-start c = search rules
 part-fair-count-end : tie.Need-slice_bounds-fair_count-end
 part-fair-count-end c =
     let s = c.before.before.before.before.before.before in
-    omega (arith, ends s, c.before.page_start-start.ensures, c.page_size.ensures)
+    omega (arith, ends s, c.page_start-start.ensures, c.page_size.ensures)
 
 -- the part is the page
 part : (c : tie.After-page_size)
     → let s = c.before.before.before.before.before.before in
-    let start = c.before.page_start-start.result in
+    let start = c.page_start-start.result in
     let size = c.page_size.result in
     let b = capacity_in s.args.rows.now in
     mid_of start (start + size - start) s.args.pages.now ≡ page_at b s.args.pages.now s.args.page
 part c =
     let s = c.before.before.before.before.before.before in
     mid_of-page (capacity_in s.args.rows.now) s.args.page _ _ s.args.pages.now
-    c.before.page_start-start.ensures c.page_size.ensures
+    c.page_start-start.ensures c.page_size.ensures
 
 fair-count-requires : tie.Need-fair_count-requires
 fair-count-requires c κs =
@@ -99,7 +99,7 @@ returns c =
     let s = c.before.before.before.before.before.before.before.before.before in
     let rows = s.args.rows.now in
     fair_by-zero (capacity_in rows) (bias_in rows) (fixed_in rows s.args.x) s.args.corner _ _
-    c.before.fair_count.ensures
+    c.fair_count.ensures
     c.if-fair_count-eq0.true
     ∙ ap (fair_by (capacity_in rows) (bias_in rows) (fixed_in rows s.args.x) s.args.corner)
     (part c.before.before.before)
@@ -109,7 +109,7 @@ returns-2 c =
     let s = c.before.before.before.before.before.before.before.before.before in
     let rows = s.args.rows.now in
     fair_by-some (capacity_in rows) (bias_in rows) (fixed_in rows s.args.x) s.args.corner _ _
-    c.before.fair_count.ensures
+    c.fair_count.ensures
     c.if-fair_count-eq0.false
     ∙ ap (fair_by (capacity_in rows) (bias_in rows) (fixed_in rows s.args.x) s.args.corner)
     (part c.before.before.before)

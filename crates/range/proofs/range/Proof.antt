@@ -27,39 +27,39 @@ refuse-list-requires c κs = search rules
 returns : tie.Need-returns-then-number-ne0
 returns c =
     let e = c.before in
-    let a = e.before.before.before.before.before.args in
+    let a = e.args in
     rw c.refuse_list.ensures
     (promise-early a.state a.dir.now a.pages.now (range_intervals a.range) a.out.now _
-    e.before.range_number-number.ensures e.if-number-ne0.true)
+    e.range_number-number.ensures e.if-number-ne0.true)
 
 limits-hold-requires : tie.Need-limits_hold-requires
 limits-hold-requires c κs =
-    let a = c.before.before.before.before.before.args in
+    let a = c.args in
     shape-of-none a.state a.dir.now a.pages.now (range_intervals a.range)
-    (sym c.before.range_number-number.ensures ∙ c.if-number-ne0.false)
+    (sym c.range_number-number.ensures ∙ c.if-number-ne0.false)
 
 returns-2 : tie.Need-returns-then-not-limits_hold
 unfolding listed_answer
 returns-2 c =
-    let a = c.before.before.before.before.before.before.before.args in
+    let a = c.args in
     nine-limits a.state a.dir.now a.pages.now (range_intervals a.range)
-    (sym c.before.before.before.range_number-number.ensures ∙ c.before.before.if-number-ne0.false) a.out.now
-    (sym c.before.limits_hold.ensures ∙ not-true _ c.if-not-limits_hold.true-raw)
+    (sym c.range_number-number.ensures ∙ c.if-number-ne0.false) a.out.now
+    (sym c.limits_hold.ensures ∙ not-true _ c.if-not-limits_hold.true-raw)
 
 -- past the tests: nothing is refused, and the limits hold
 none : (c : tie.Else-not-limits_hold)
-    → let a = c.before.before.before.before.before.before.before.args in
+    → let a = c.args in
     range_number_by a.state (length a.dir.now) (length a.pages.now) (range_intervals a.range) ≡ 0
-none c = sym c.before.before.before.range_number-number.ensures ∙ c.before.before.if-number-ne0.false
+none c = sym c.range_number-number.ensures ∙ c.if-number-ne0.false
 
-can : (c : tie.Else-not-limits_hold) → limits_hold c.before.before.before.before.before.before.before.args.state ≡ true
-can c = sym c.before.limits_hold.ensures ∙ not-false _ c.if-not-limits_hold.false-raw
+can : (c : tie.Else-not-limits_hold) → limits_hold c.args.state ≡ true
+can c = sym c.limits_hold.ensures ∙ not-false _ c.if-not-limits_hold.false-raw
 
 limits : (c : tie.Else-not-limits_hold)
-    → let a = c.before.before.before.before.before.before.before.args in
+    → let a = c.args in
     LimitsLent a.state (length a.dir.now) (length a.pages.now)
 limits c =
-    let a = c.before.before.before.before.before.before.before.args in
+    let a = c.args in
     limits-lent a.state a.dir.now a.pages.now (range_intervals a.range) (none c) (can c)
 
 cast-depth : tie.Need-overflow_cast-depth
@@ -75,7 +75,7 @@ fill-rows-requires c κs =
 
 -- the rows are those of a query, and the list has the room
 tested : (c : tie.After-fill_rows) (room : ℕ)
-    → let a = c.before.before.before.before.before.before.before.before.before.before.before.args in
+    → let a = c.args in
     let rows = c.fill_rows.new.1.1.1.0 in (2 ^ a.state.deepest ≤ room
     → Tested a.state (range_intervals a.range) rows (length a.dir.now) (length a.pages.now) room)
 tested c room l =
@@ -95,7 +95,7 @@ slice-aggregate-read-pages c = search rules
 read-pages-requires : tie.Need-read_pages-requires
 read-pages-requires c κs =
     let filled = c.before.before.before.before in
-    tested filled _ (pow_mono {j = 4} c.before.before.before.if-depth-le4.true)
+    tested filled _ (pow_mono {j = 4} c.if-depth-le4.true)
 
 same_length : tie.Need-shape_of-out-then-depth-le4
 same_length c = search rules
@@ -109,7 +109,7 @@ slice-aggregate-read-pages-2 c = search rules
 read-pages-requires-2 : tie.Need-read_pages-requires-then-depth-le6
 read-pages-requires-2 c κs =
     let filled = c.before.before.before.before.before in
-    tested filled _ (pow_mono {j = 6} c.before.before.before.if-depth-le6.true)
+    tested filled _ (pow_mono {j = 6} c.if-depth-le6.true)
 
 same-length-2 : tie.Need-shape_of-out-then-depth-le6
 same-length-2 c = search rules
@@ -123,7 +123,7 @@ slice-aggregate-read-pages-3 c = search rules
 read-pages-requires-3 : tie.Need-read_pages-requires-then-depth-le8
 read-pages-requires-3 c κs =
     let filled = c.before.before.before.before.before.before in
-    tested filled _ (pow_mono {j = 8} c.before.before.before.if-depth-le8.true)
+    tested filled _ (pow_mono {j = 8} c.if-depth-le8.true)
 
 same-length-3 : tie.Need-shape_of-out-then-depth-le8
 same-length-3 c = search rules

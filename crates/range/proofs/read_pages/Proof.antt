@@ -65,14 +65,14 @@ note-met-requires c κs =
 
 -- the walk was by the range's packed ends
 met : (c : tie.After-note_met-noted)
-    → let a = c.before.before.before.before.before.before.before.before.before.before.before.args in
+    → let a = c.args in
     let r = range_intervals a.range in
     Meeting a.state (low_key a.state.shape r) (high_key a.state.shape r) a.dir.now a.pages.now
     a.list.now c.note_met-noted.result c.note_met-noted.new.1.1.1.1.1.1.0
 met c =
     let high = c.before.before.before.before.before in
     let low = high.before in
-    let a = low.before.before.before.before.before.args in
+    let a = low.args in
     let r = range_intervals a.range in
     let later = c.note_met-noted.new.1.1.1.1.1.1.0 in
     subst
@@ -82,7 +82,7 @@ met c =
     (subst
     (λ k. Meeting a.state low.low_key-low.result k a.dir.now a.pages.now a.list.now c.note_met-noted.result
     later)
-    high.high_key-high.ensures
+    high.high-key.ensures
     c.note_met-noted.ensures)
 
 enum-known-noted : tie.Need-enum_known-noted
@@ -97,32 +97,32 @@ same_length c = search rules
 returns : tie.Need-returns-in_default
 unfolding listed_answer
 returns c =
-    let walk = c.before.before.before.before in
+    let walk = c.before.before.before in
     let s = walk.before.before.before.before.before.before.before.before.before.before.before in
     let a = s.args in
     nine-damaged a.state a.dir.now a.pages.now (range_intervals a.range) s.requires.none s.requires.can
-    a.list.now _ _ (met walk) a.out.now c.enum_told-1.given.1
+    a.list.now _ _ (met walk) a.out.now c.in_default.is
 
 cast-put-within : tie.Need-overflow_cast-shape
 cast-put-within c = search rules
 
 bias-key-requires : tie.Need-bias_key-requires
 bias-key-requires c κs =
-    let noted-at = c.before.before.before in
-    let walk = noted-at.before.before.before.before in
+    let noted-at = c in
+    let walk = noted-at.before.before.before.before.before in
     let s = walk.before.before.before.before.before.before.before.before.before.before.before in
     let a = s.args in
     shape-of-none a.state a.dir.now a.pages.now (range_intervals a.range) s.requires.none
 
 put-within-requires : tie.Need-put_within-total-requires
 put-within-requires c κs =
-    let noted-at = c.before.before.before.before.before.before in
-    let walk = noted-at.before.before.before.before in
+    let noted-at = c in
+    let walk = noted-at.before.before.before.before.before.before.before.before in
     let s = walk.before.before.before.before.before.before.before.before.before.before.before in
     let a = s.args in
     pages-within a.state a.dir.now a.pages.now (range_intervals a.range) s.requires.none s.requires.can
-    a.list.now _ _ (met walk) walk.note_met-noted.auto.1.1.1.1.1.1.0 s.requires.room-left _
-    noted-at.noted-1.given.1
+    a.list.now _ _ (met walk) walk.note-met.auto.1.1.1.1.1.1.0 s.requires.room-left _
+    noted-at.noted.given.1
 
 smaller-length-requires : tie.Need-smaller_length-requires
 smaller-length-requires c κs = search rules
@@ -139,25 +139,25 @@ returns-2 c =
     let put-at = c.before.before.before in
     let put = put-at.put_within-total in
     let bias = put-at.before.before.before in
-    let noted-at = bias.before.before.before.before in
-    let found = noted-at.noted-1.given in
-    let walk = noted-at.before.before.before.before in
+    let noted-at = bias in
+    let found = noted-at.noted.given in
+    let walk = noted-at.before.before.before.before.before.before in
     let high = walk.before.before.before.before.before in
     let low = high.before in
     let s = low.before.before.before.before.before in
     let a = s.args in
-    let known = low.before.before.before.shared_slice_known-2-1.given in
-    let noted = take found.0.0 walk.note_met-noted.new.1.1.1.1.1.1.0 in
+    let known = low.shared_slice_known-2-1.given in
+    let noted = take found.0.0 walk.note-met.new.1.1.1.1.1.1.0 in
     promise-of-pages a.state a.dir.now a.pages.now (range_intervals a.range) s.requires.none s.requires.can
-    a.list.now _ _ (met walk) walk.note_met-noted.auto.1.1.1.1.1.1.0 s.requires.room-left _ found.1
+    a.list.now _ _ (met walk) walk.note-met.auto.1.1.1.1.1.1.0 s.requires.room-left _ found.1
     (λ i. omega (arith, known i)) a.out.now _ _ _
     (put.ensures.0.0
-    ∙ (λ i. length (list_hits (lies_in (bias.bias_key.ensures i) (low.low_key-low.ensures i) (high.high_key-high.ensures i)) a.state.shape.capacity
+    ∙ (λ i. length (list_hits (lies_in (bias.bias-key.ensures i) (low.low-key.ensures i) (high.high-key.ensures i)) a.state.shape.capacity
     a.pages.now noted)))
     (c.smaller_length.ensures ∙ ap (λ k. min put.result (k / record_size)) put.auto.1.1.1.1.1.1.1.0)
     (put.ensures.1
     ∙ (λ i. emit a.out.now 0
-    (list_hits (lies_in (bias.bias_key.ensures i) (low.low_key-low.ensures i) (high.high_key-high.ensures i)) a.state.shape.capacity
+    (list_hits (lies_in (bias.bias-key.ensures i) (low.low-key.ensures i) (high.high-key.ensures i)) a.state.shape.capacity
     a.pages.now noted)))
 
 pub read_pages_spec : {M : Type 1} → statement M

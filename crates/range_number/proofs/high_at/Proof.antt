@@ -21,17 +21,17 @@ enum-known-span c = search rules
 
 returns : tie.Need-returns-in-Free
 returns c =
-    let s = c.before.before.before in
+    let s = c.before.before in
     sym
-    (ap high_end (get_d-range_intervals s.args.t1 s.args.j s.requires)
-    ∙ ap (λ x. high_end (span_interval x)) c.enum_told-1.given.1)
+    (ap high_end (get_d-range_intervals s.args.range s.args.j s.requires)
+    ∙ ap (λ x. high_end (span_interval x)) c.in-Free.is)
 
 returns-2 : tie.Need-returns-in-Within
 returns-2 c =
-    let s = c.before.before.before.before in
+    let s = c.before.before in
     sym
-    (ap high_end (get_d-range_intervals s.args.t1 s.args.j s.requires)
-    ∙ ap (λ x. high_end (span_interval x)) c.before.span-1.given.1)
+    (ap high_end (get_d-range_intervals s.args.range s.args.j s.requires)
+    ∙ ap (λ x. high_end (span_interval x)) c.in-Within.is)
 
 pub high_at_spec : {M : Type 1} → statement M
 high_at_spec =

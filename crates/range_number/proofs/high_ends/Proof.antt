@@ -23,9 +23,9 @@ unfolding wanted_values high_ends
 returns c =
     let two = c.before.before in
     rw (
-      two.before.high_at-a0.ensures,
+      two.high_at-a0.ensures,
       two.high_at-a1.ensures,
-      c.before.high_at-a2.ensures,
+      c.high_at-a2.ensures,
       c.high_at-a3.ensures,
     ) refl
 

@@ -14,16 +14,16 @@ high-ends-requires : tie.Need-high_ends-requires
 high-ends-requires c κs = search rules
 
 encode-query-requires : tie.Need-encode_query-requires
-encode-query-requires c κs = c.before.requires.0
+encode-query-requires c κs = c.requires.0
 
 -- what the query gives
 given : (c : tie.After-encode_query)
-    → let a = c.before.before.args in
+    → let a = c.args in
     wanted_values c.encode_query.result ≡ encoded_wanted a.shape (high_ends (range_intervals a.range))
-given c = c.encode_query.ensures ∙ ap (encoded_wanted c.before.before.args.shape) c.before.high_ends.ensures
+given c = c.encode_query.ensures ∙ ap (encoded_wanted c.args.shape) c.high_ends.ensures
 
 key-or-requires : tie.Need-key_or-requires
-key-or-requires c κs = (subst (λ q. GivenSixteenBits q) (sym (given c)) c.before.before.requires.1, omega arith)
+key-or-requires c κs = (subst (λ q. GivenSixteenBits q) (sym (given c)) c.requires.1, omega arith)
 
 returns : tie.Need-returns
 unfolding high_key

@@ -22,9 +22,9 @@ value-or-requires-4 c κs = search rules
 
 pack-key-requires : tie.Need-pack_key-requires
 pack-key-requires c κs =
-    let d0 = c.before.before.before.value_or-v0.ensures in
-    let d1 = c.before.before.value_or-v1.ensures in
-    let d2 = c.before.value_or-v2.ensures in
+    let d0 = c.value_or-v0.ensures in
+    let d1 = c.value_or-v1.ensures in
+    let d2 = c.value_or-v2.ensures in
     let d3 = c.value_or-v3.ensures in
     let s = c.before.before.before.before in
     subst SixteenBits (sym (λ i. d0 i ∷ d1 i ∷ d2 i ∷ d3 i ∷ []))
@@ -33,9 +33,9 @@ pack-key-requires c κs =
 returns : tie.Need-returns
 returns c =
     let b = c.before in
-    let d0 = b.before.before.before.value_or-v0.ensures in
-    let d1 = b.before.before.value_or-v1.ensures in
-    let d2 = b.before.value_or-v2.ensures in
+    let d0 = b.value_or-v0.ensures in
+    let d1 = b.value_or-v1.ensures in
+    let d2 = b.value_or-v2.ensures in
     let d3 = b.value_or-v3.ensures in
     c.pack_key.ensures ∙ ap packed_key (λ i. d0 i ∷ d1 i ∷ d2 i ∷ d3 i ∷ [])
 

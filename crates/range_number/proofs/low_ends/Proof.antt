@@ -23,9 +23,9 @@ unfolding wanted_values low_ends
 returns c =
     let two = c.before.before in
     rw (
-      two.before.low_at-a0.ensures,
+      two.low_at-a0.ensures,
       two.low_at-a1.ensures,
-      c.before.low_at-a2.ensures,
+      c.low_at-a2.ensures,
       c.low_at-a3.ensures,
     ) refl
 

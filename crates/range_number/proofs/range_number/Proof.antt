@@ -25,28 +25,28 @@ query-number-requires c κs = search rules
 
 -- the number of the low ends
 low-number : (c : tie.After-query_number-number)
-    → let a = c.before.before.args in
+    → let a = c.args in
     c.query_number-number.result ≡ query_number_by a.state a.words a.bytes (low_ends (range_intervals a.range))
 low-number c =
-    let a = c.before.before.args in
+    let a = c.args in
     c.query_number-number.ensures
-    ∙ ap (λ q. query_number_by a.state a.words a.bytes q) c.before.low_ends-lows.ensures
+    ∙ ap (λ q. query_number_by a.state a.words a.bytes q) c.low_ends-lows.ensures
 
 returns : tie.Need-returns-then-number-ne0
 returns c =
     let n = low-number c.before in
-    let a = c.before.before.before.args in
+    let a = c.args in
     n ∙ range_number_by-low a.state a.words a.bytes (range_intervals a.range) (λ e. c.if-number-ne0.true (n ∙ e))
 
 -- it is none
 low-none : (c : tie.Else-number-ne0)
-    → let a = c.before.before.before.args in
+    → let a = c.args in
     query_number_by a.state a.words a.bytes (low_ends (range_intervals a.range)) ≡ 0
 low-none c = sym (low-number c.before) ∙ c.if-number-ne0.false
 
-shaped : (c : tie.Else-number-ne0) → shape_number c.before.before.before.args.state.shape ≡ 0
+shaped : (c : tie.Else-number-ne0) → shape_number c.args.state.shape ≡ 0
 shaped c =
-    let a = c.before.before.before.args in
+    let a = c.args in
     (parts-of-query_number_by a.state a.words a.bytes (low_ends (range_intervals a.range)) (low-none c)).0.shape
 
 high-ends-requires : tie.Need-high_ends-highs-requires
@@ -57,41 +57,41 @@ query-fits-requires c κs = shaped c.before
 
 -- whether the high ends fit
 high-fit : (c : tie.After-query_fits)
-    → let a = c.before.before.before.before.before.args in
+    → let a = c.args in
     c.query_fits.result ≡ query_fits a.state.shape (high_ends (range_intervals a.range))
 high-fit c =
-    let a = c.before.before.before.before.before.args in
-    c.query_fits.ensures ∙ ap (λ q. query_fits a.state.shape q) c.before.high_ends-highs.ensures
+    let a = c.args in
+    c.query_fits.ensures ∙ ap (λ q. query_fits a.state.shape q) c.high_ends-highs.ensures
 
 returns-2 : tie.Need-returns-then-not-query_fits
 returns-2 c =
     let low = c.before.before.before in
-    let a = low.before.before.before.args in
+    let a = low.args in
     range_number_by-out a.state a.words a.bytes (range_intervals a.range) (low-none low)
     (sym (high-fit c.before) ∙ not-true _ c.if-not-query_fits.true-raw)
 
 -- both fit, so they have 16 bits
 high_fits : (c : tie.Else-not-query_fits)
-    → let a = c.before.before.before.before.before.before.args in
+    → let a = c.args in
     query_fits a.state.shape (high_ends (range_intervals a.range)) ≡ true
 high_fits c = sym (high-fit c.before) ∙ not-false _ c.if-not-query_fits.false-raw
 
 sixteen-low : (c : tie.Else-not-query_fits)
-    → let a = c.before.before.before.before.before.before.args in
+    → let a = c.args in
     GivenSixteenBits (encoded_wanted a.state.shape (low_ends (range_intervals a.range)))
 sixteen-low c =
     let low = c.before.before.before in
-    let a = low.before.before.before.args in
+    let a = low.args in
     let q = low_ends (range_intervals a.range) in
     sixteen-of-fits a.state.shape (shaped low) q
     (parts-of-query_number_by a.state a.words a.bytes q (low-none low)).1
 
 sixteen-high : (c : tie.Else-not-query_fits)
-    → let a = c.before.before.before.before.before.before.args in
+    → let a = c.args in
     GivenSixteenBits (encoded_wanted a.state.shape (high_ends (range_intervals a.range)))
 sixteen-high c =
     let low = c.before.before.before in
-    let a = low.before.before.before.args in
+    let a = low.args in
     sixteen-of-fits a.state.shape (shaped low) (high_ends (range_intervals a.range)) (high_fits c)
 
 low-key-requires : tie.Need-low_key-low-requires
@@ -105,14 +105,14 @@ lies-between-requires c κs = search rules
 
 -- whether the ends rise
 rising : (c : tie.After-lies_between)
-    → let a = c.before.before.before.before.before.before.before.before.before.args in
+    → let a = c.args in
     c.lies_between.result ≡ range_rises a.state.shape (range_intervals a.range)
 rising c =
     let keyed = c.before.before in
     let low = keyed.low_key-low.ensures in
-    let high = c.before.high_key.ensures in
+    let high = c.high_key.ensures in
     let fit = keyed.before in
-    let a = fit.before.before.before.before.before.before.args in
+    let a = fit.args in
     c.lies_between.ensures
     ∙ (λ i. lies_between (low i) (high i) (low i))
     ∙ range_rises-ends a.state.shape (range_intervals a.range) (sixteen-low fit) (sixteen-high fit)
@@ -121,7 +121,7 @@ returns-3 : tie.Need-returns-then-lies_between
 returns-3 c =
     let fit = c.before.before.before.before in
     let low = fit.before.before.before in
-    let a = low.before.before.before.args in
+    let a = low.args in
     range_number_by-rises a.state a.words a.bytes (range_intervals a.range) (low-none low) (high_fits fit)
     (sym (rising c.before) ∙ c.if-lies_between.true)
 
@@ -129,7 +129,7 @@ returns-4 : tie.Need-returns-else-lies_between
 returns-4 c =
     let fit = c.before.before.before.before in
     let low = fit.before.before.before in
-    let a = low.before.before.before.args in
+    let a = low.args in
     range_number_by-falls a.state a.words a.bytes (range_intervals a.range) (low-none low) (high_fits fit)
     (sym (rising c.before) ∙ c.if-lies_between.false)
 

@@ -21,12 +21,12 @@ use Rattle.range_records.proofs.put_within_page.Tie as tie
 
 -- the part is the page
 part : (c : tie.After-page_size)
-    → let a = c.before.before.before.before.args in
-    let start = c.before.page_start-start.result in
+    → let a = c.args in
+    let start = c.page_start-start.result in
     mid_of start (start + c.page_size.result - start) a.pages.now ≡ page_at a.capacity a.pages.now a.g
 part c =
-    let a = c.before.before.before.before.args in
-    mid_of-page a.capacity a.g _ _ a.pages.now c.before.page_start-start.ensures c.page_size.ensures
+    let a = c.args in
+    mid_of-page a.capacity a.g _ _ a.pages.now c.page_start-start.ensures c.page_size.ensures
 
 page-start-requires : tie.Need-page_start-start-requires
 page-start-requires c κs = search rules
@@ -61,7 +61,7 @@ part-within-mask-end c = search rules
 -- its count
 counted : (c : tie.After-count-n)
     → let sized = c.before.before in
-    let a = sized.before.before.before.before.args in
+    let a = sized.args in
     c.count-n.result ≡ count_of (page_at a.capacity a.pages.now a.g)
 counted c = c.count-n.ensures.0 ∙ ap count_of (part c.before.before)
 
@@ -86,17 +86,17 @@ sub-if1 c = one-le-bit _ (few c.before.before)
 
 -- the mask is that of the page
 masked : (c : tie.After-within_mask-mask)
-    → let a = c.before.before.before.before.before.before.before.before.args in
+    → let a = c.args in
     c.within_mask-mask.result ≡ page_mask (lies_in a.bias a.low a.high) (page_at a.capacity a.pages.now a.g)
 masked c =
     let sized = c.before.before.before.before in
-    let a = sized.before.before.before.before.args in
+    let a = sized.args in
     c.within_mask-mask.ensures
     ∙ (λ i. match_mask (lies_in a.bias a.low a.high) (part sized i) (counted c.before.before i) 0)
 
 -- it picks the records that lie between
 picks : (c : tie.After-within_mask-mask)
-    → let a = c.before.before.before.before.before.before.before.before.args in
+    → let a = c.args in
     let page = page_at a.capacity a.pages.now a.g in
     picked_by c.within_mask-mask.result page ≡ page_hits (lies_in a.bias a.low a.high) page
 picks c =
@@ -109,9 +109,9 @@ picks c =
 -- a mask of all records: they are all that lie between
 all-between : (c : tie.Then-mask-n)
     → let sized = c.before.before.before.before.before in
-    let a = sized.before.before.before.before.args in
+    let a = sized.args in
     let page = page_at a.capacity a.pages.now a.g in
-    fields_from c.before.before.before.count-n.result 2 page ≡ page_hits (lies_in a.bias a.low a.high) page
+    fields_from c.count-n.result 2 page ≡ page_hits (lies_in a.bias a.low a.high) page
 all-between c =
     let mask = c.before in
     let at_count = mask.before.before in
@@ -149,10 +149,10 @@ same_length c = search rules
 returns : tie.Need-returns-then-mask-n
 returns c =
     let then = c.before.before.before.before.before in
-    let put = c.before.before.put_all.ensures in
+    let put = c.put_all.ensures in
     let at_count = then.before.before.before in
     let sized = at_count.before.before in
-    let a = sized.before.before.before.before.args in
+    let a = sized.args in
     let n = at_count.count-n.result in
     let found = ap (fields_from n 2) (part sized) ∙ all-between then in (
       put.0 ∙ ap (λ k. a.total + k) (sym (length-fields_from n 2 _) ∙ ap length (all-between then)),
@@ -186,10 +186,10 @@ same-length-2 c = search rules
 
 returns-2 : tie.Need-returns
 returns-2 c =
-    let put = c.before.before.put_picked.ensures in
+    let put = c.put_picked.ensures in
     let mask = c.before.before.before.before.before.before in
     let sized = mask.before.before.before.before in
-    let a = sized.before.before.before.before.args in
+    let a = sized.args in
     let found = ap (picked_by mask.within_mask-mask.result) (part sized) ∙ picks mask in (
       put.0 ∙ ap (λ l. a.total + length l) found,
       put.1 ∙ ap (emit a.out.now a.total) found,

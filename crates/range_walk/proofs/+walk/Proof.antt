@@ -75,8 +75,8 @@ here : (t : ℕ) (c : Past t)
     a.x a.n a.word
 here t c =
     let h = (start t c).requires.1 in
-    inside_of h.0 h.1.1 _ c.before.before.before.depth_of-depth.ensures.0 c.before.before.if-depth-x.false
-    c.if-t-depth.false
+    inside_of h.0 h.1.1 _ c.before.before.before.depth-of.ensures.0 c.before.before.if1.false
+    c.if2.false
 
 -- there is room for what is left
 left : (t : ℕ) (c : Past t)
@@ -129,7 +129,7 @@ walk-depth-of-requires : (t : ℕ) → walk-lts.Need-depth-of-requires (near t) 
 walk-depth-of-requires t c κs = tt
 
 walk-cast-depth : (t : ℕ) → walk-lts.Need-overflow-cast-depth (near t) (walk_at t) walk.Post
-walk-cast-depth t c = omega (arith, c.depth_of-depth.ensures.1)
+walk-cast-depth t c = omega (arith, c.depth-of.ensures.1)
 
 walk-returns : (t : ℕ) → walk-lts.Need-returns (near t) (walk_at t) walk.Post
 walk-returns t c =
@@ -137,7 +137,7 @@ walk-returns t c =
     Wrote-above a.rows.now a.dir.now (leaf_by a.rows.now a.pages.now)
     (meets_by_row a.rows.now a.low a.high) (deepest_in a.rows.now) a.x a.index a.corner a.word
     a.list.now a.n
-    (subst (λ d. d < a.x) c.before.depth_of-depth.ensures.0 c.if-depth-x.true)
+    (subst (λ d. d < a.x) c.before.depth-of.ensures.0 c.if1.true)
 
 walk-element-copy-out-t : (t : ℕ) → walk-lts.Need-element-copy-out-t (near t) (walk_at t) walk.Post
 walk-element-copy-out-t t c = omega arith
@@ -146,13 +146,13 @@ walk-returns-2 : (t : ℕ) → walk-lts.Need-returns-2 (near t) (walk_at t) walk
 walk-returns-2 t c =
     let s = c.before.before.before.before.before.before.before in
     let a = s.args in
-    let depth = c.before.before.before.depth_of-depth.ensures.0 in
+    let depth = c.before.before.before.depth-of.ensures.0 in
     Wrote-deep a.rows.now a.dir.now (leaf_by a.rows.now a.pages.now)
     (meets_by_row a.rows.now a.low a.high) (deepest_in a.rows.now) a.x a.index a.corner a.word
     a.list.now a.n
-    (subst (λ d. a.x ≤ d) depth c.before.before.if-depth-x.false)
+    (subst (λ d. a.x ≤ d) depth c.before.before.if1.false)
     s.requires.1.1.1
-    (subst (λ d. deepest_in a.rows.now < d) depth c.if-t-depth.true)
+    (subst (λ d. deepest_in a.rows.now < d) depth c.if2.true)
 
 walk-add-deeper : (t : ℕ) → walk-lts.Need-overflow-add-deeper (near t) (walk_at t) walk.Post
 walk-add-deeper t c = omega (arith, (row-lent (here t c)).0)
@@ -218,7 +218,7 @@ walk-walk-requires t c κs =
         Turn-lower (here t past),
         (
           lower-left (here t past) (left t past) (own t past) (own-page t past) (enters t past),
-          eqb-false _ _ (sym at-if4.before.is_Is_leaf.ensures ∙ at-if4.if-is_leaf.false),
+          eqb-false _ _ (sym at-if4.before.is_Is_leaf.ensures ∙ at-if4.if4.false),
         ),
       ),
     )
@@ -236,13 +236,13 @@ Noted t c =
     let past = lower-past t c in
     let a = (start t past).args in
     Wrote a.list.now a.n (lower_side (here t past) (left t past) (own t past) (own-page t past) (enters t past))
-    c.if-not-lies_between.m c.if-not-lies_between.list-1
+    c.if3.m c.if3.list
 
 lower-wrote : (t : ℕ) (c : Lower t) → Noted t c
 lower-wrote t c =
     let past = lower-past t c in
     let a = (start t past).args in
-    let told = sym c.before.lies_between.ensures in
+    let told = sym c.before.lies-between.ensures in
     ⊎_elim {C = Noted t c}
     (λ w. Wrote-same w.2 w.1 (Wrote-closed a.list.now a.n _ (told ∙ not-true _ w.0.taken)))
     (⊎_elim {C = Noted t c}
@@ -250,15 +250,15 @@ lower-wrote t c =
     (Wrote-entered (told ∙ not-false _ w.0.left)
     (side-noted t past _ _ _ w.1.ensures w.2.taken w.4.ensures)))
     (λ w. Wrote-same w.8 w.7 (Wrote-entered (told ∙ not-false _ w.0.left) w.4.ensures)))
-    c.if-not-lies_between.branch
+    c.if3.branch
 
 lower-length : (t : ℕ) (c : Lower t)
-    → length c.if-not-lies_between.list-1 ≡ length (start t (lower-past t c)).args.list.now
+    → length c.if3.list ≡ length (start t (lower-past t c)).args.list.now
 lower-length t c =
     ⊎_elim (λ w. ap length w.1)
     (⊎_elim (λ w. ap length w.7 ∙ w.4.kept.1.1.0)
     (λ w. ap length w.7 ∙ w.4.kept.1.1.1.1.1.0))
-    c.if-not-lies_between.branch
+    c.if3.branch
 
 walk-same-length : (t : ℕ) → walk-lts.Need-same-length (near t) (walk_at t) walk.Post
 walk-same-length t c = lower-length t c.before
@@ -267,7 +267,7 @@ walk-returns-3 : (t : ℕ) → walk-lts.Need-returns-3 (near t) (walk_at t) walk
 walk-returns-3 t c =
     let past = lower-past t c.before in
     Wrote-first (here t past) (left t past) (own t past) (own-page t past) (enters t past)
-    (start t past).args.list.now _ _ (lower-wrote t c.before) c.if-m-gt-MOST_PAGES.true
+    (start t past).args.list.now _ _ (lower-wrote t c.before) c.if5.true
 
 -- ---- the 1-side
 
@@ -283,7 +283,7 @@ walk-returns-4 t c =
     let past = lower-past t at_join in
     Wrote-lower (here t past) (left t past) (own t past) (own-page t past) (enters t past)
     (start t past).args.list.now _ _ (lower-wrote t at_join)
-    (sym c.before.lies_between-2.ensures ∙ not-true _ c.if-not-lies_between-2.true-raw)
+    (sym c.before.lies-between2.ensures ∙ not-true _ c.if6.true)
 
 walk-address-by-requires : (t : ℕ) → walk-lts.Need-address-by-requires (near t) (walk_at t) walk.Post
 walk-address-by-requires t c κs = upper-addressable (here t (lower-past t c.before.before.before))
@@ -299,11 +299,11 @@ abbrev upper-past : (t : ℕ) → Upper t → Past t
 upper-past t c = lower-past t (upper-join t c)
 
 walk-mul-other : (t : ℕ) → walk-lts.Need-overflow-mul-other (near t) (walk_at t) walk.Post
-walk-mul-other t c = omega (arith, c.address_by.ensures, (upper-room (here t (upper-past t c))).1)
+walk-mul-other t c = omega (arith, c.address-by.ensures, (upper-room (here t (upper-past t c))).1)
 
 walk-shared-slice-read-other : (t : ℕ) → walk-lts.Need-shared-slice-read-other (near t) (walk_at t) walk.Post
 walk-shared-slice-read-other t c =
-    omega (arith, c.before.address_by.ensures, (upper-room (here t (upper-past t c.before))).0)
+    omega (arith, c.before.address-by.ensures, (upper-room (here t (upper-past t c.before))).0)
 
 walk-is-leaf-requires-2 : (t : ℕ) → walk-lts.Need-is-leaf-requires-2 (near t) (walk_at t) walk.Post
 walk-is-leaf-requires-2 t c κs = tt
@@ -317,7 +317,7 @@ upper-turn t c =
     let past = upper-past t c in
     Turn-upper-next (here t past) (left t past) (own t past) (own-page t past) (enters t past)
     (start t past).args.list.now _ _ (lower-wrote t (upper-join t c)) _ (lower-length t (upper-join t c))
-    c.before.before.before.if-m-gt-MOST_PAGES.false
+    c.before.before.before.if5.false
 
 -- what the 1-side wrote ends what is seen of the region
 upper-wrote : (t : ℕ) (c : Upper t) (later : List ℕ) (z : ℕ)
@@ -325,16 +325,16 @@ upper-wrote : (t : ℕ) (c : Upper t) (later : List ℕ) (z : ℕ)
     let a = (start t past).args in
     Wrote (upper-join t c).if3.list (upper-join t c).if3.m
     (below t past (upper_vector (here t past)) (upper_corner (here t past))
-    (get_or a.dir.now c.address_by.result 0))
+    (get_or a.dir.now c.address-by.result 0))
     z later
     → Wrote a.list.now a.n (whole t past) z later
 upper-wrote t c later z =
     let past = upper-past t c in
     let at-if6 = c.before in
     Wrote-both (here t past) (left t past) (own t past) (own-page t past) (enters t past)
-    (start t past).args.list.now _ _ (lower-wrote t (upper-join t c)) later z c.address_by.result
-    c.address_by.ensures at-if6.before.before.if-m-gt-MOST_PAGES.false
-    (sym at-if6.before.lies_between-2.ensures ∙ not-false _ at-if6.if-not-lies_between-2.false-raw)
+    (start t past).args.list.now _ _ (lower-wrote t (upper-join t c)) later z c.address-by.result
+    c.address-by.ensures at-if6.before.before.if5.false
+    (sym at-if6.before.lies-between2.ensures ∙ not-false _ at-if6.if6.false)
 
 walk-note-requires-2 : (t : ℕ) → walk-lts.Need-note-requires-2 (near t) (walk_at t) walk.Post
 walk-note-requires-2 t c κs = leaf-asked (upper-turn t c.before.before.before.before)
@@ -342,15 +342,15 @@ walk-note-requires-2 t c κs = leaf-asked (upper-turn t c.before.before.before.b
 walk-same-length-3 : (t : ℕ) → walk-lts.Need-same-length-3 (near t) (walk_at t) walk.Post
 walk-same-length-3 t c =
     let at_address = c.before.before.before.before.before.before.before in
-    c.before.before.note-then-is_leaf-2.auto.1.1.0 ∙ lower-length t (upper-join t at_address)
+    c.before.before.note2.auto.1.1.0 ∙ lower-length t (upper-join t at_address)
 
 walk-returns-5 : (t : ℕ) → walk-lts.Need-returns-5 (near t) (walk_at t) walk.Post
 walk-returns-5 t c =
     let at-if7 = c.before.before.before.before in
     let at_address = at-if7.before.before.before in
     upper-wrote t at_address _ _
-    (side-noted t (upper-past t at_address) _ _ _ at-if7.before.is_leaf-2.ensures at-if7.if-is_leaf-2.true
-    c.before.before.note-then-is_leaf-2.ensures)
+    (side-noted t (upper-past t at_address) _ _ _ at-if7.before.is-leaf2.ensures at-if7.if7.true
+    c.before.before.note2.ensures)
 
 walk-walk-requires-2 : (t : ℕ) → walk-lts.Need-walk-requires-2 (near t) (walk_at t) walk.Post
 walk-walk-requires-2 t c κs =
@@ -363,8 +363,8 @@ walk-walk-requires-2 t c κs =
         (
           upper-left (here t past) (left t past) (own t past) (own-page t past) (enters t past)
               (start t past).args.list.now _ _ (lower-wrote t (upper-join t at_address)) _
-              (lower-length t (upper-join t at_address)) at_address.before.before.before.if-m-gt-MOST_PAGES.false,
-          eqb-false _ _ (sym at-if7.before.is_leaf-2.ensures ∙ at-if7.if-is_leaf-2.false),
+              (lower-length t (upper-join t at_address)) at_address.before.before.before.if5.false,
+          eqb-false _ _ (sym at-if7.before.is-leaf2.ensures ∙ at-if7.if7.false),
         ),
       ),
     )
@@ -372,11 +372,11 @@ walk-walk-requires-2 t c κs =
 walk-same-length-4 : (t : ℕ) → walk-lts.Need-same-length-4 (near t) (walk_at t) walk.Post
 walk-same-length-4 t c =
     let at_address = c.before.before.before.before.before.before.before in
-    c.before.before.walk-2.auto.1.1.1.1.1.0 ∙ lower-length t (upper-join t at_address)
+    c.before.before.walk2.auto.1.1.1.1.1.0 ∙ lower-length t (upper-join t at_address)
 
 walk-returns-6 : (t : ℕ) → walk-lts.Need-returns-6 (near t) (walk_at t) walk.Post
 walk-returns-6 t c =
-    upper-wrote t c.before.before.before.before.before.before.before _ _ c.before.before.walk-2.ensures
+    upper-wrote t c.before.before.before.before.before.before.before _ _ c.before.before.walk2.ensures
 
 pub +walk-spec : {M : Type 1} → statement M
 +walk-spec = close μ-walk λ t. walk-lts.spec (near t)

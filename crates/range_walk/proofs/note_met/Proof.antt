@@ -27,7 +27,7 @@ turn : (s : tie.Start)
     → Turn s.args.rows.now s.args.dir.now (length s.args.pages.now) (length s.args.list.now) 0 0 0 0
 turn s =
     Turn-start s.args.state s.args.rows.now s.args.dir.now s.args.pages.now
-    (length s.args.list.now) s.requires.0
+    (length s.args.list.now) s.requires.walkable
 
 -- where the call began
 abbrev start : tie.Joined-is_leaf → tie.Start
@@ -39,7 +39,7 @@ wrote : (c : tie.Joined-is_leaf)
     Wrote a.list.now 0
     (met_by_rows a.state a.rows.now a.dir.now a.pages.now (length a.list.now) (start c).requires.0
     a.low a.high)
-    c.if-is_leaf.count c.if-is_leaf.list-1
+    c.if-is_leaf.count c.if-is_leaf.list
 wrote c =
     let a = (start c).args in
     ⊎_elim
@@ -47,11 +47,11 @@ wrote c =
     (Wrote-leaf a.rows.now a.dir.now (leaf_by a.rows.now a.pages.now)
     (meets_by_row a.rows.now a.low a.high) (deepest_in a.rows.now) 0 0 0
     (get_or a.dir.now 0 0) a.list.now 0 _ _
-    (eqb-true _ _ (sym c.before.is_Is_leaf.ensures ∙ w.0.taken)) w.2.ensures))
+    (eqb-true _ _ (sym c.is_Is_leaf.ensures ∙ w.0.taken)) w.2.ensures))
     (λ w. Wrote-same w.6 w.5 w.2.ensures)
     c.if-is_leaf.branch
 
-same : (c : tie.Joined-is_leaf) → length c.if-is_leaf.list-1 ≡ length (start c).args.list.now
+same : (c : tie.Joined-is_leaf) → length c.if-is_leaf.list ≡ length (start c).args.list.now
 same c =
     ⊎_elim (λ w. ap length w.5 ∙ w.2.kept.1.1.0)
     (λ w. ap length w.5 ∙ w.2.kept.1.1.1.1.1.0)
@@ -61,11 +61,11 @@ same c =
 seen-wrote : (c : tie.Joined-is_leaf) (enter : ℕ → (ℕ → Bool) → Bool)
     → let a = (start c).args in
     TellsMeeting (widths_of a.state.shape) a.state.deepest a.low a.high enter
-    → Wrote a.list.now 0 (walk_seen_by a.state a.dir.now a.pages.now enter) c.if-is_leaf.count c.if-is_leaf.list-1
+    → Wrote a.list.now 0 (walk_seen_by a.state a.dir.now a.pages.now enter) c.if-is_leaf.count c.if-is_leaf.list
 seen-wrote c enter tells =
     let s = start c in
     let a = s.args in
-    subst (λ u. Wrote a.list.now 0 u c.if-is_leaf.count c.if-is_leaf.list-1)
+    subst (λ u. Wrote a.list.now 0 u c.if-is_leaf.count c.if-is_leaf.list)
     (met_by_rows-walk_seen_by a.state a.rows.now a.dir.now a.pages.now (length a.list.now) s.pre.0
     a.low a.high enter tells)
     (wrote c)
@@ -73,7 +73,7 @@ seen-wrote c enter tells =
 shared-slice-read-word : tie.Need-bounds-dir-0
 shared-slice-read-word c =
     let s = c.before.before.before.before in
-    omega (arith, s.requires.0.words-lent, pow_pos s.args.state.deepest)
+    omega (arith, s.requires.walkable.words-lent, pow_pos s.args.state.deepest)
 
 is-leaf-requires : tie.Need-is_leaf-requires
 is-leaf-requires c κs = tt
@@ -85,11 +85,11 @@ walk-requires : tie.Need-walk-count-requires
 walk-requires c κs =
     let s = c.before.before.before.before.before.before.before in
     let a = s.args in
-    let all : deepest_in a.rows.now - 0 ≡ a.state.deepest = omega (arith, s.requires.0.table.depth-of) in (
+    let all : deepest_in a.rows.now - 0 ≡ a.state.deepest = omega (arith, s.requires.walkable.table.depth-of) in (
       turn s,
       (
-        rw all (omega (arith, s.requires.1)),
-        eqb-false _ _ (sym c.before.before.is_Is_leaf.ensures ∙ c.before.if-is_leaf.false),
+        rw all (omega (arith, s.requires.deepest_in_bounds)),
+        eqb-false _ _ (sym c.is_Is_leaf.ensures ∙ c.if-is_leaf.false),
       ),
     )
 

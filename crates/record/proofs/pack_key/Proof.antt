@@ -29,7 +29,7 @@ cast-high-2 : tie.Need-overflow_cast-high-2
 cast-high-2 c = search rules
 
 returns : tie.Need-returns
-returns c = or-packed_key c.before.args.key.values c.before.requires
+returns c = or-packed_key c.args.key.values c.requires
 
 pub pack_key_spec : {M : Type 1} → statement M
 pack_key_spec =

@@ -16,7 +16,7 @@ cast-t5 c = search rules
 
 returns : tie.Need-returns
 returns c =
-    let a = c.before.before.args in
+    let a = c.args in
     ap (λ n. record { payload = n }) c.read32.ensures.0 ∙ sym (content_in-field a.bytes.now a.at)
 
 pub read_content_spec : {M : Type 1} → statement M

@@ -33,9 +33,9 @@ returns : tie.Need-returns
 unfolding unpacked_key
 returns c =
     rw (
-      c.before.before.before.value_at-v0.ensures,
-      c.before.before.value_at-v1.ensures,
-      c.before.value_at-v2.ensures,
+      c.value_at-v0.ensures,
+      c.value_at-v1.ensures,
+      c.value_at-v2.ensures,
       c.value_at-v3.ensures,
     )
 

@@ -24,7 +24,7 @@ returns c =
     let start = c.before.before.before.before.before.before.before.before.before.before in
     let a = start.args in
     paste-packed_bytes a.bytes.now _ _ a.at a.key a.content start.requires
-    c.before.before.before.before.before.before.before.write64.ensures c.before.before.write32.ensures
+    c.write64.ensures c.write32.ensures
 
 pub write_record_spec : {M : Type 1} → statement M
 write_record_spec =

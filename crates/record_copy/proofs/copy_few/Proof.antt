@@ -19,7 +19,7 @@ decreases-loop source from target₀ to n last k₀ target k = record_size * n -
 
 returns : tie.Need-returns-then-n-eq0 invariant-loop decreases-loop
 returns c =
-    let a = c.before.before.before.args in
+    let a = c.args in
     let none : record_size * a.n ≡ 0 = omega arith in
     paste-zero a.target.now a.to (drop a.from a.source.now)
     ∙ ap (paste a.target.now a.to (drop a.from a.source.now)) (sym none)
@@ -32,7 +32,7 @@ sub-last c = omega arith
 
 loop-holds : tie.Need-loop-k-init invariant-loop decreases-loop
 loop-holds c =
-    let a = c.before.before.before.args in
+    let a = c.args in
     (omega arith, refl, paste-zero a.target.now a.to (drop a.from a.source.now))
 
 add-copy-eight : tie.Need-overflow_add-from invariant-loop decreases-loop
@@ -52,13 +52,13 @@ loop-less c = omega arith
 
 loop-again : tie.Need-loop-k-preserved invariant-loop decreases-loop
 loop-again c =
-    let eight = c.before.before.copy_eight in
-    let loop = c.before.before.before.before.before.loop-k in
-    let a = c.before.before.before.before.before.before.before.before.before.args in (
+    let eight = c.copy_eight in
+    let loop = c.loop-k in
+    let a = c.args in (
       omega arith,
       eight.auto.1.1.0 ∙ loop.invariant.1,
       paste-part 8 a.source.now a.target.now a.from a.to loop.k loop.k (omega arith) (omega arith)
-          (omega arith) (omega arith) loop.target-1 _ loop.invariant.2 eight.ensures,
+          (omega arith) (omega arith) loop.target _ loop.invariant.2 eight.ensures,
     )
 
 add-copy-eight-3 : tie.Need-overflow_add-from-2 invariant-loop decreases-loop
@@ -71,17 +71,17 @@ copy-eight-requires-2 : tie.Need-copy_eight-requires-2 invariant-loop decreases-
 copy-eight-requires-2 c κs = (omega arith, omega arith)
 
 same_length : tie.Need-shape_of-target invariant-loop decreases-loop
-same_length c = c.before.before.copy_eight-2.auto.1.1.0 ∙ c.before.before.before.before.before.loop-k.invariant.1
+same_length c = c.copy_eight-2.auto.1.1.0 ∙ c.loop-k.invariant.1
 
 returns-2 : tie.Need-returns invariant-loop decreases-loop
 returns-2 c =
-    let eight = c.before.before.copy_eight-2 in
-    let loop = c.before.before.before.before.before.loop-k in
-    let a = c.before.before.before.before.before.before.before.before.before.args in
+    let eight = c.copy_eight-2 in
+    let loop = c.loop-k in
+    let a = c.args in
     let last = record_size * a.n - 8 in
     let whole : last + 8 ≡ record_size * a.n = omega arith in
     paste-part 8 a.source.now a.target.now a.from a.to loop.k last (omega arith) (omega arith)
-    (omega arith) (omega arith) loop.target-1 _ loop.invariant.2 eight.ensures
+    (omega arith) (omega arith) loop.target _ loop.invariant.2 eight.ensures
     ∙ ap (paste a.target.now a.to (drop a.from a.source.now)) whole
 
 pub copy_few_spec : {M : Type 1} → statement M

@@ -24,23 +24,23 @@ copy-few-requires : tie.Need-copy_few-requires invariant-loop decreases-loop
 copy-few-requires c κs = (omega arith, omega arith)
 
 same_length : tie.Need-shape_of-target-then-size-lt-BLOCK invariant-loop decreases-loop
-same_length c = c.before.before.copy_few.auto.1.1.0
+same_length c = c.copy_few.auto.1.1.0
 
 returns : tie.Need-returns-then-size-lt-BLOCK invariant-loop decreases-loop
-returns c = c.before.before.copy_few.ensures
+returns c = c.copy_few.ensures
 
 copy-page-requires : tie.Need-copy_page-requires invariant-loop decreases-loop
 copy-page-requires c κs = (omega arith, omega arith, omega arith, omega arith)
 
 same-length-2 : tie.Need-shape_of-target-then-n-le16 invariant-loop decreases-loop
-same-length-2 c = c.before.before.copy_page.auto.1.1.0
+same-length-2 c = c.copy_page.auto.1.1.0
 
 returns-2 : tie.Need-returns-then-n-le16 invariant-loop decreases-loop
-returns-2 c = c.before.before.copy_page.ensures
+returns-2 c = c.copy_page.ensures
 
 loop-holds : tie.Need-loop-k-init invariant-loop decreases-loop
 loop-holds c =
-    let a = c.before.before.before.before.args in
+    let a = c.args in
     (omega arith, refl, paste-zero a.target.now a.to (drop a.from a.source.now))
 
 add-copy-block : tie.Need-overflow_add-from invariant-loop decreases-loop
@@ -60,13 +60,13 @@ loop-less c = omega arith
 
 loop-again : tie.Need-loop-k-preserved invariant-loop decreases-loop
 loop-again c =
-    let block = c.before.before.copy_block in
-    let loop = c.before.before.before.before.before.loop-k in
-    let a = c.before.before.before.before.before.before.before.before.before.before.args in (
+    let block = c.copy_block in
+    let loop = c.loop-k in
+    let a = c.args in (
       omega arith,
       block.auto.1.1.0 ∙ loop.invariant.1,
       paste-part 48 a.source.now a.target.now a.from a.to loop.k loop.k (omega arith)
-          (omega arith) (omega arith) (omega arith) loop.target-1 _ loop.invariant.2 block.ensures,
+          (omega arith) (omega arith) (omega arith) loop.target _ loop.invariant.2 block.ensures,
     )
 
 add-copy-block-3 : tie.Need-overflow_add-from-2 invariant-loop decreases-loop
@@ -80,17 +80,17 @@ copy-block-requires-2 c κs = (omega arith, omega arith)
 
 same-length-3 : tie.Need-shape_of-target invariant-loop decreases-loop
 same-length-3 c =
-    c.before.before.copy_block-2.auto.1.1.0 ∙ c.before.before.before.before.before.loop-k.invariant.1
+    c.copy_block-2.auto.1.1.0 ∙ c.loop-k.invariant.1
 
 returns-3 : tie.Need-returns invariant-loop decreases-loop
 returns-3 c =
-    let block = c.before.before.copy_block-2 in
-    let loop = c.before.before.before.before.before.loop-k in
-    let a = c.before.before.before.before.before.before.before.before.before.before.args in
+    let block = c.copy_block-2 in
+    let loop = c.loop-k in
+    let a = c.args in
     let last = record_size * a.n - 48 in
     let whole : last + 48 ≡ record_size * a.n = omega arith in
     paste-part 48 a.source.now a.target.now a.from a.to loop.k last (omega arith)
-    (omega arith) (omega arith) (omega arith) loop.target-1 _ loop.invariant.2 block.ensures
+    (omega arith) (omega arith) (omega arith) loop.target _ loop.invariant.2 block.ensures
     ∙ ap (paste a.target.now a.to (drop a.from a.source.now)) whole
 
 pub copy_records_spec : {M : Type 1} → statement M

@@ -36,7 +36,7 @@ returns c =
     let low = high.before in
     let start = low.before.before.before in
     let a = start.args in
-    let bytes = low.before.before.shared_slice_known-1.given in
+    let bytes = low.shared_slice_known-1.given in
     let are : AreBytes a.source.now = λ i. omega (arith, bytes i) in
     paste-part 8 a.source.now a.target.now a.from a.to 8 8 (omega arith) (omega arith)
     start.requires.0 start.requires.1 _ _

@@ -13,7 +13,7 @@ use Rattle.refusals.proofs.encodings_fit.Tie as tie
 
 -- the array of a key's numbers has four: what owning the key tells
 four : (c : tie.Start) → length c.args.encoded.values ≡ 4
-four c = sym (length-map c.args.encoded.values (λ v. v)) ∙ c.well-formed.1.0.1.1.0.1.0.1
+four c = sym (length-map c.args.encoded.values (λ v. v)) ∙ c.well_formed.1.0.1.1.0.1.0.1
 
 fit : (c : tie.After-widths_of-widths) → Fit (width_list c.widths_of-widths.result)
 fit c =
@@ -56,7 +56,7 @@ array-read-high-2 c = search rules
 cast-high-2 : tie.Need-overflow_cast-high-2
 cast-high-2 c =
     let s = c.before.before.before.before.before in
-    elem_fits_field w32 w64 s.args.encoded.values _ 3 s.well-formed.1.0.1.1.0.1.1 tt
+    elem_fits_field w32 w64 s.args.encoded.values _ 3 s.well_formed.1.0.1.1.0.1.1 tt
 
 shr-high-2 : tie.Need-overflow_shr-high-2
 shr-high-2 c = omega (arith, fit c.before.before.before.before 3)
@@ -64,7 +64,7 @@ shr-high-2 c = omega (arith, fit c.before.before.before.before 3)
 returns : tie.Need-returns
 returns c =
     let w = c.before.before.before.before in
-    let a = w.before.before.args in
+    let a = w.args in
     index_fits-past a.shape a.encoded.values (four w.before.before) (width_list w.widths_of-widths.result)
     w.widths_of-widths.ensures
 

@@ -30,7 +30,7 @@ returns-2 c =
     let s = c.before.before.before.before.before in
     let depth = s.args.state.limits.depth in
     let few : s.args.words < 2 ^ depth =
-    rw (one_shifted depth (omega (arith, c.before.before.if-limits-gt63.false))) at c.if-words-limits.true in
+    rw (one_shifted depth (omega (arith, c.if-limits-gt63.false))) at c.if-words-limits.true in
     rw (lt-ltb s.args.words (2 ^ depth) few) refl
 
 cast-page-start : tie.Need-overflow_cast-shape
@@ -50,7 +50,7 @@ returns-3 c =
     let s = left.before.before.before.before.before in
     let depth = s.args.state.limits.depth in
     let enough : 2 ^ depth ≤ s.args.words =
-    rw (one_shifted depth (omega (arith, left.before.before.if-limits-gt63.false))) at left.if-words-limits.false in
+    rw (one_shifted depth (omega (arith, left.if-limits-gt63.false))) at left.if-words-limits.false in
     rw (c.page_start.ensures, le-ltb s.args.words (2 ^ depth) enough) refl
 
 pub lacks_memory_spec : {M : Type 1} → statement M

@@ -13,18 +13,18 @@ use Rattle.refusals.proofs.limits_hold.Tie as tie
 -- what is computed is W
 bits : (c : tie.After-total_of)
     → c.total_of.result
-    ≡ total (widths_of c.before.before.before.before.before.before.before.before.before.args.state.shape)
-bits c = c.total_of.ensures.0 ∙ ap total c.before.widths_of.ensures
+    ≡ total (widths_of c.args.state.shape)
+bits c = c.total_of.ensures.0 ∙ ap total c.widths_of.ensures
 
 returns : tie.Need-returns-then-limits-lt1
-returns c = limits_hold-no-page c.before.before.before.args.state c.if-limits-lt1.true
+returns c = limits_hold-no-page c.args.state c.if-limits-lt1.true
 
 returns-2 : tie.Need-returns-then-limits-gt4096
-returns-2 c = limits_hold-pages c.before.before.before.before.before.args.state c.if-limits-gt4096.true
+returns-2 c = limits_hold-pages c.args.state c.if-limits-gt4096.true
 
 returns-3 : tie.Need-returns-then-limits-gt12
 returns-3 c =
-    let st = c.before.before.before.before.before.before.before.args.state in
+    let st = c.args.state in
     limits_hold-deep st (omega arith) (omega arith) c.if-limits-gt12.true
 
 widths-of-requires : tie.Need-widths_of-requires
@@ -41,13 +41,13 @@ cast-if4 c = search rules
 returns-4 : tie.Need-returns-then-total_of-limits
 returns-4 c =
     let t = c.before.before in
-    let st = t.before.before.before.before.before.before.before.before.before.args.state in
+    let st = t.args.state in
     limits_hold-bits st (omega arith) (omega arith) (omega arith) (omega (arith, bits t))
 
 returns-5 : tie.Need-returns
 returns-5 c =
     let t = c.before.before.before.before in
-    let st = t.before.before.before.before.before.before.before.before.before.args.state in
+    let st = t.args.state in
     limits_hold-depth st (omega arith) (omega arith) (omega arith) (omega (arith, bits t))
 
 pub limits_hold_spec : {M : Type 1} → statement M

@@ -23,9 +23,9 @@ same-length-2 c = search rules
 returns : tie.Need-returns-in_default
 returns c =
     let call = c.before.before.before.before.before in
-    let a = call.before.before.before.before.before.before.before.before.args in
+    let a = call.args in
     replayed-refused a.shape (memory a.dir.now a.pages.now) a.calls.now a.answers.now a.out.now
-    (made_answer call.fresh-made.result.answer) _ (refused-of-tag call.fresh-made.result.answer c.in-Done.keys2)
+    (made_answer call.fresh-made.result.answer) _ (refused-of-tag call.fresh-made.result.answer c.in_default.keys2)
     call.fresh-made.ensures
 
 run-calls-requires : tie.Need-run_calls-state-requires
@@ -48,10 +48,10 @@ unfolding made_answer
 returns-2 c =
     let ran = c.before.before.before.before.before.before.before.before in
     let told = ran.before.before.before.before.before.before in
-    let call = told.before.before.before.before.before.before in
-    let a = call.before.before.before.before.before.before.before.before.args in
+    let call = told.before.before.before.before.before in
+    let a = call.args in
     replayed-accepted a.shape (memory a.dir.now a.pages.now) a.calls.now a.answers.now a.out.now
-    (made_answer call.fresh-made.result.answer) _ _ _ _ (ap made_answer told.enum_told-1.given.1)
+    (made_answer call.fresh-made.result.answer) _ _ _ _ (ap made_answer told.in-Done.is)
     call.fresh-made.ensures ran.run_calls-state.ensures
 
 pub replay_spec : {M : Type 1} → statement M

@@ -29,7 +29,7 @@ smaller-length-requires c κs = search rules
 loop-holds : tie.Need-loop-i-init invariant-loop decreases-loop
 unfolding output_start
 loop-holds c =
-    let a = c.before.before.before.before.before.before.args in (
+    let a = c.args in (
       omega arith,
       refl,
       refl,
@@ -43,18 +43,18 @@ loop-holds c =
 read-request-requires : tie.Need-read_request-request-requires invariant-loop decreases-loop
 read-request-requires c κs =
     let s = c.before.before in
-    let a = s.before.before.before.before.before.before.args in
+    let a = s.args in
     call_fits a.calls.now a.answers.now _ _ s.smaller_length-n.ensures c.loop-i-test.true
 
 sub-request-size : tie.Need-overflow_sub-out invariant-loop decreases-loop
-sub-request-size c = let inv = c.before.before.loop-i.invariant in omega (arith, inv.4, inv.5)
+sub-request-size c = let inv = c.loop-i.invariant in omega (arith, inv.4, inv.5)
 
 request-size-requires : tie.Need-request_size-requires invariant-loop decreases-loop
 request-size-requires c κs = search rules
 
 add-end : tie.Need-overflow_add-end invariant-loop decreases-loop
 add-end c =
-    let inv = c.before.before.before.loop-i.invariant in
+    let inv = c.loop-i.invariant in
     record { fits = omega (arith, inv.4, inv.5, c.request_size.ensures.1) }
 
 sub-run-call : tie.Need-slice_bounds-run_call-count invariant-loop decreases-loop
@@ -65,24 +65,24 @@ part-run-call-start c = omega arith
 
 part-run-call-end : tie.Need-slice_bounds-run_call-end invariant-loop decreases-loop
 part-run-call-end c =
-    let inv = c.before.before.before.before.before.loop-i.invariant in
-    omega (arith, inv.4, inv.5, c.before.before.request_size.ensures.1)
+    let inv = c.loop-i.invariant in
+    omega (arith, inv.4, inv.5, c.request_size.ensures.1)
 
 run-call-requires : tie.Need-run_call-step-requires invariant-loop decreases-loop
 run-call-requires c κs =
     let sized = c.before.before.before in
-    let loop = sized.before.before.before.loop-i in
+    let loop = sized.loop-i in
     let size = sized.request_size.ensures in
-    part-lent sized.before.read_request-request.result loop.start _ (length loop.out-1 - loop.start) loop.out-1
+    part-lent sized.read_request-request.result loop.start _ (length loop.out - loop.start) loop.out
     (ap (λ n. loop.start + n) size.0) (omega (arith, loop.invariant.4, loop.invariant.5, size.1))
 
 put-answer-requires : tie.Need-put_answer-requires invariant-loop decreases-loop
 put-answer-requires c κs =
     let call = c.before.before.before.before.before.before.before.before in
     let test = call.before.before.before.before.before.before in
-    let loop = test.before.loop-i in
+    let loop = test.loop-i in
     let counted = test.before.before in
-    let a = counted.before.before.before.before.before.before.args in
+    let a = counted.args in
     let fits = answer-fits a.calls.now a.answers.now _ loop.i counted.smaller_length-n.ensures
     test.loop-i-test.true in
     subst (λ (k : ℕ). answer_size * loop.i + answer_size ≤ k) (sym loop.invariant.3) fits
@@ -102,54 +102,54 @@ loop-again c =
     let call = put.before.before.before.before.before.before.before.before.before in
     let sized = call.before.before.before.before in
     let test = sized.before.before in
-    let loop = test.before.loop-i in
+    let loop = test.loop-i in
     let inv = loop.invariant in
-    let a = test.before.before.before.before.before.before.before.before.args in
-    let request = sized.before.read_request-request in
+    let a = test.args in
+    let request = sized.read_request-request in
     let size = sized.request_size.ensures in
     let kept = call.run_call-step.auto in
     let part = call.run_call-step.new.1.1.1.1.0 in
     let end = loop.start + sized.request_size.result in
     let e-size = size.0 ∙ ap (λ n. request_size request.result (n - loop.start)) inv.4 in
-    let within : end ≤ length loop.out-1 = omega (arith, inv.4, inv.5, size.1) in
-    let whole = kept.1.1.1.1.0 ∙ mid_len loop.start end loop.out-1 within in
+    let within : end ≤ length loop.out = omega (arith, inv.4, inv.5, size.1) in
+    let whole = kept.1.1.1.1.0 ∙ mid_len loop.start end loop.out within in
     let more = ran-more (store a.state a.dir.now a.pages.now)
-    (store loop.current-1 loop.dir-1 loop.pages-1) _ a.calls.now a.answers.now a.out.now
-    loop.answers-1 loop.out-1 _ _ loop.i loop.start _ request.result inv.7 request.ensures
+    (store loop.current loop.dir loop.pages) _ a.calls.now a.answers.now a.out.now
+    loop.answers loop.out _ _ loop.i loop.start _ request.result inv.7 request.ensures
     inv.6 (ap (λ n. loop.start + n) e-size) call.run_call-step.ensures whole _ put.put_answer.ensures in (
       omega (arith, test.loop-i-test.true),
       kept.1.0 ∙ inv.1,
       kept.1.1.0 ∙ inv.2,
       put.put_answer.auto.0 ∙ inv.3,
-      same_len_mid loop.start (end - loop.start) loop.out-1 part kept.1.1.1.1.0 ∙ inv.4,
+      same_len_mid loop.start (end - loop.start) loop.out part kept.1.1.1.1.0 ∙ inv.4,
       omega (arith, inv.4, within),
       more.0,
       more.1,
     )
 
 same_length : tie.Need-shape_of-dir invariant-loop decreases-loop
-same_length c = c.before.loop-i.invariant.1
+same_length c = c.loop-i.invariant.1
 
 same-length-2 : tie.Need-shape_of-pages invariant-loop decreases-loop
-same-length-2 c = c.before.loop-i.invariant.2
+same-length-2 c = c.loop-i.invariant.2
 
 same-length-3 : tie.Need-shape_of-answers invariant-loop decreases-loop
-same-length-3 c = c.before.loop-i.invariant.3
+same-length-3 c = c.loop-i.invariant.3
 
 same-length-4 : tie.Need-shape_of-out invariant-loop decreases-loop
-same-length-4 c = c.before.loop-i.invariant.4
+same-length-4 c = c.loop-i.invariant.4
 
 returns : tie.Need-returns invariant-loop decreases-loop
 returns c =
-    let loop = c.before.loop-i in
+    let loop = c.loop-i in
     let counted = c.before.before in
-    let a = counted.before.before.before.before.before.before.args in
+    let a = counted.args in
     let n = counted.smaller_length-n.result in
     let all : loop.i ≡ n = omega (arith, loop.invariant.0, c.loop-i-test.false) in
     subst
     (λ (k : ℕ). CallsRan (store a.state a.dir.now a.pages.now) a.calls.now a.answers.now
     a.out.now k
-    (store loop.current-1 loop.dir-1 loop.pages-1) loop.answers-1 loop.out-1)
+    (store loop.current loop.dir loop.pages) loop.answers loop.out)
     (all ∙ call_count-as a.calls.now a.answers.now n counted.smaller_length-n.ensures) loop.invariant.7
 
 pub run_calls_spec : {M : Type 1} → statement M

@@ -69,7 +69,7 @@ returns-3 c =
     let s = test.before.before.before.before.before.before.before.before.before.before in
     let a = s.args in
     kept-lookup (store a.state a.dir.now a.pages.now) a.request a.out.now _ _
-    c.found_words-words.ensures s.requires test.if-request-eq2.true c.before.lookup.ensures
+    c.found_words-words.ensures s.requires test.if3.true c.lookup.ensures
 
 query-of-requires : tie.Need-query_of-requires
 query-of-requires c κs = search rules
@@ -97,7 +97,7 @@ returns-4 c =
     let s = test.before.before.before.before.before.before.before.before.before.before.before.before in
     let a = s.args in
     kept-query (store a.state a.dir.now a.pages.now) a.request a.out.now _ _
-    c.listed_words-words.ensures (wanted_values asked.query_of.result) _ test.if-request-eq3.true
+    c.listed_words-words.ensures (wanted_values asked.query_of.result) _ test.if4.true
     asked.query_of.ensures call.query.ensures
 
 range-of-requires : tie.Need-range_of-requires
@@ -130,7 +130,7 @@ returns-5 c =
     let a = s.args in
     kept-range (store a.state a.dir.now a.pages.now) a.request a.out.now _ _
     c.listed_words-words-2.ensures (range_intervals asked.range_of.result) _
-    insert-test.if-request-eq0.false delete-test.if-request-eq1.false lookup-test.if-request-eq2.false test.if-request-eq3.false
+    insert-test.if1.false delete-test.if2.false lookup-test.if3.false test.if4.false
     asked.range_of.ensures call.range.ensures
 
 pub run_call_spec : {M : Type 1} → statement M

@@ -8,7 +8,7 @@ returns : tie.Need-returns-then-given-eq0
 returns c = search rules
 
 returns-2 : tie.Need-returns
-returns-2 c = value_if-given c.before.args.given c.before.args.value c.if-given-eq0.false
+returns-2 c = value_if-given c.args.given c.args.value c.if-given-eq0.false
 
 pub attribute_of_spec : {M : Type 1} → statement M
 attribute_of_spec = tie.close (tie.spec returns returns-2)

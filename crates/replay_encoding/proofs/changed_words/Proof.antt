@@ -32,19 +32,19 @@ cast-t10 c = search rules
 
 returns : tie.Need-returns-in-Done
 unfolding answer_words changed_answer
-returns c = ap (λ a. answer_words (changed_answer a)) (sym c.before.answer-1.given.1)
+returns c = ap (λ a. answer_words (changed_answer a)) (sym c.in-Done.is)
 
 returns-2 : tie.Need-returns-in-Absent
 unfolding answer_words changed_answer
-returns-2 c = ap (λ a. answer_words (changed_answer a)) (sym c.before.answer-in-Absent-1.given.1)
+returns-2 c = ap (λ a. answer_words (changed_answer a)) (sym c.in-Absent.is)
 
 returns-3 : tie.Need-returns-in-Refused
 unfolding answer_words changed_answer
-returns-3 c = ap (λ a. answer_words (changed_answer a)) (sym c.before.answer-in-Refused-1.given.1)
+returns-3 c = ap (λ a. answer_words (changed_answer a)) (sym c.in-Refused.is)
 
 returns-4 : tie.Need-returns-in-Width
 unfolding answer_words changed_answer
-returns-4 c = ap (λ a. answer_words (changed_answer a)) (sym c.before.answer-in-Width-1.given.1)
+returns-4 c = ap (λ a. answer_words (changed_answer a)) (sym c.in-Width.is)
 
 pub changed_words_spec : {M : Type 1} → statement M
 changed_words_spec =

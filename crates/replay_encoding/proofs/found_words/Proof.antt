@@ -38,19 +38,19 @@ cast-t14 c = search rules
 
 returns : tie.Need-returns-in-Content
 unfolding answer_words found_answer
-returns c = ap (λ a. answer_words (found_answer a)) (sym c.before.before.answer-1.given.1)
+returns c = ap (λ a. answer_words (found_answer a)) (sym c.in-Content.is)
 
 returns-2 : tie.Need-returns-in-Absent
 unfolding answer_words found_answer
-returns-2 c = ap (λ a. answer_words (found_answer a)) (sym c.before.answer-in-Absent-1.given.1)
+returns-2 c = ap (λ a. answer_words (found_answer a)) (sym c.in-Absent.is)
 
 returns-3 : tie.Need-returns-in-Refused
 unfolding answer_words found_answer
-returns-3 c = ap (λ a. answer_words (found_answer a)) (sym c.before.answer-in-Refused-1.given.1)
+returns-3 c = ap (λ a. answer_words (found_answer a)) (sym c.in-Refused.is)
 
 returns-4 : tie.Need-returns-in-Width
 unfolding answer_words found_answer
-returns-4 c = ap (λ a. answer_words (found_answer a)) (sym c.before.answer-in-Width-1.given.1)
+returns-4 c = ap (λ a. answer_words (found_answer a)) (sym c.in-Width.is)
 
 pub found_words_spec : {M : Type 1} → statement M
 found_words_spec =

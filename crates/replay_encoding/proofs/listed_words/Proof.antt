@@ -23,15 +23,15 @@ cast-t7 c = search rules
 
 returns : tie.Need-returns-in-Records
 unfolding answer_words listed_answer
-returns c = ap (λ a. answer_words (listed_answer a)) (sym c.before.answer-1.given.1)
+returns c = ap (λ a. answer_words (listed_answer a)) (sym c.in-Records.is)
 
 returns-2 : tie.Need-returns-in-Refused
 unfolding answer_words listed_answer
-returns-2 c = ap (λ a. answer_words (listed_answer a)) (sym c.before.answer-in-Refused-1.given.1)
+returns-2 c = ap (λ a. answer_words (listed_answer a)) (sym c.in-Refused.is)
 
 returns-3 : tie.Need-returns-in-Width
 unfolding answer_words listed_answer
-returns-3 c = ap (λ a. answer_words (listed_answer a)) (sym c.before.answer-in-Width-1.given.1)
+returns-3 c = ap (λ a. answer_words (listed_answer a)) (sym c.in-Width.is)
 
 pub listed_words_spec : {M : Type 1} → statement M
 listed_words_spec =

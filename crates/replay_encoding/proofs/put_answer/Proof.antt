@@ -59,7 +59,7 @@ same_length : tie.Need-shape_of-answers
 same_length c = search rules
 
 returns : tie.Need-returns
-returns c = four-sets c.args.answers.now c.args.t3 (4 * c.args.i) c.requires
+returns c = four-sets c.args.answers.now c.args.words (4 * c.args.i) c.requires
 
 pub put_answer_spec : {M : Type 1} → statement M
 put_answer_spec =

@@ -45,9 +45,9 @@ attribute-of-requires-4 c κs = search rules
 returns : tie.Need-returns
 unfolding wanted_values wanted_in
 returns c =
-    let e0 = c.before.before.before.attribute_of.ensures in
-    let e1 = c.before.before.attribute_of-2.ensures in
-    let e2 = c.before.attribute_of-3.ensures in
+    let e0 = c.attribute_of.ensures in
+    let e1 = c.attribute_of-2.ensures in
+    let e2 = c.attribute_of-3.ensures in
     let e3 = c.attribute_of-4.ensures in
     λ k. e0 k ∷ e1 k ∷ e2 k ∷ e3 k ∷ []
 

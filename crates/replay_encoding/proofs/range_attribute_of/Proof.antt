@@ -9,7 +9,7 @@ returns c = search rules
 
 returns-2 : tie.Need-returns
 returns-2 c =
-    let a = c.before.args in
+    let a = c.args in
     interval_if-given a.given a.low a.high c.if-given-eq0.false
 
 pub range_attribute_of_spec : {M : Type 1} → statement M

@@ -56,9 +56,9 @@ range-attribute-of-requires-4 c κs = search rules
 returns : tie.Need-returns
 unfolding range_intervals intervals_of
 returns c =
-    let e0 = c.before.before.before.range_attribute_of.ensures in
-    let e1 = c.before.before.range_attribute_of-2.ensures in
-    let e2 = c.before.range_attribute_of-3.ensures in
+    let e0 = c.range_attribute_of.ensures in
+    let e1 = c.range_attribute_of-2.ensures in
+    let e2 = c.range_attribute_of-3.ensures in
     let e3 = c.range_attribute_of-4.ensures in
     λ k. e0 k ∷ e1 k ∷ e2 k ∷ e3 k ∷ []
 

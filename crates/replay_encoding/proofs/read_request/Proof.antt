@@ -53,7 +53,7 @@ returns : tie.Need-returns
 returns c =
     let given = c.before.before.before in
     let values = given.before in
-    let a = values.before.before.before.args in
+    let a = values.args in
     request_at-read a.calls.now _ _ _ a.i values.four_words.ensures given.four_words-2.ensures
     c.four_words-3.ensures
 

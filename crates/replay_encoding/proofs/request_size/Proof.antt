@@ -9,7 +9,7 @@ use Rattle.replay_encoding.proofs.request_size.Tie as tie
 
 returns : tie.Need-returns-then-request-lt3
 returns c =
-    let a = c.before.before.args in
+    let a = c.args in
     (sym (request_size-none a.request a.room c.if-request-lt3.taken), omega arith)
 
 cast-smaller-length : tie.Need-overflow_cast-request
@@ -20,8 +20,8 @@ smaller-length-requires c κs = search rules
 
 returns-2 : tie.Need-returns
 returns-2 c =
-    let a = c.before.before.before.before.args in
-    let listed : a.request.kind < 3 → ⊥ = λ h. omega (arith, h, c.before.before.if-request-lt3.left) in (
+    let a = c.args in
+    let listed : a.request.kind < 3 → ⊥ = λ h. omega (arith, h, c.if-request-lt3.left) in (
       c.smaller_length.ensures ∙ sym (request_size-listed a.request a.room listed),
       omega (arith, c.smaller_length.ensures),
     )

@@ -14,11 +14,11 @@ use Rattle.save.proofs.note_all.Tie as tie
 
 -- the table, once the limits are put behind the rows
 tabled : (c : tie.After-fill_limits)
-    → Table c.before.before.before.before.before.before.before.before.before.args.state free_bits
+    → Table c.args.state free_bits
     c.fill_limits.new.1.0
 tabled c =
     let filled = c.before.before in
-    let free = filled.before.before.before.free_query in
+    let free = filled.free_query in
     let s = filled.before.before.before.before.before.before.before in
     let st = s.args.state in
     let ws = widths_of st.shape in

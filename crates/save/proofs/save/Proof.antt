@@ -24,32 +24,32 @@ refuse-save-requires c κs = search rules
 returns : tie.Need-returns-then-number-ne0
 returns c =
     let n = c.before.before in
-    let a = n.before.before.before.before.args in
+    let a = n.args in
     rw c.refuse_save.ensures
     (promise-early a.state a.dir.now a.pages.now a.out.now _ n.lent_number-number.ensures
-    c.before.if-number-ne0.true)
+    c.if-number-ne0.true)
 
 limits-hold-requires : tie.Need-limits_hold-requires
 limits-hold-requires c κs =
-    let a = c.before.before.before.before.before.args in
-    shape-of-none a.state a.dir.now a.pages.now (sym c.before.lent_number-number.ensures ∙ c.if-number-ne0.false)
+    let a = c.args in
+    shape-of-none a.state a.dir.now a.pages.now (sym c.lent_number-number.ensures ∙ c.if-number-ne0.false)
 
 returns-2 : tie.Need-returns-then-not-limits_hold
 unfolding saved_answer
 returns-2 c =
-    let a = c.before.before.before.before.before.before.before.args in
+    let a = c.args in
     nine-limits a.state a.dir.now a.pages.now
-    (sym c.before.before.before.lent_number-number.ensures ∙ c.before.before.if-number-ne0.false) a.out.now
-    (sym c.before.limits_hold.ensures ∙ not-true _ c.if-not-limits_hold.true-raw)
+    (sym c.lent_number-number.ensures ∙ c.if-number-ne0.false) a.out.now
+    (sym c.limits_hold.ensures ∙ not-true _ c.if-not-limits_hold.true-raw)
 
 -- past the tests: nothing is refused, and the limits hold
 none : (c : tie.Else-not-limits_hold)
-    → let a = c.before.before.before.before.before.before.before.args in
+    → let a = c.args in
     lent_number_by a.state (length a.dir.now) (length a.pages.now) ≡ 0
-none c = sym c.before.before.before.lent_number-number.ensures ∙ c.before.before.if-number-ne0.false
+none c = sym c.lent_number-number.ensures ∙ c.if-number-ne0.false
 
-can : (c : tie.Else-not-limits_hold) → limits_hold c.before.before.before.before.before.before.before.args.state ≡ true
-can c = sym c.before.limits_hold.ensures ∙ not-false _ c.if-not-limits_hold.false-raw
+can : (c : tie.Else-not-limits_hold) → limits_hold c.args.state ≡ true
+can c = sym c.limits_hold.ensures ∙ not-false _ c.if-not-limits_hold.false-raw
 
 slice-aggregate-note-all : tie.Need-slice_bounds-note_all-end
 slice-aggregate-note-all c = search rules
@@ -57,7 +57,7 @@ slice-aggregate-note-all c = search rules
 note-all-requires : tie.Need-note_all-noted-requires
 note-all-requires c κs =
     let w = c.before in
-    let a = w.before.before.before.before.before.before.before.args in
+    let a = w.args in
     (limits-lent a.state a.dir.now a.pages.now (none w) (can w), omega arith)
 
 enum-known-noted : tie.Need-enum_known-noted
@@ -69,11 +69,11 @@ enum_told c = search rules
 returns-3 : tie.Need-returns-in_default
 unfolding saved_answer
 returns-3 c =
-    let walk = c.before.before.before in
+    let walk = c.before.before in
     let w = walk.before.before in
-    let a = w.before.before.before.before.before.before.before.args in
+    let a = w.args in
     nine-damaged a.state a.dir.now a.pages.now (none w) (can w) _ _ _ walk.note_all-noted.ensures a.out.now
-    c.enum_told-1.given.1
+    c.in_default.is
 
 slice-aggregate-write-file : tie.Need-slice_bounds-write_file-end
 slice-aggregate-write-file c = search rules
@@ -81,12 +81,12 @@ slice-aggregate-write-file c = search rules
 write-file-requires : tie.Need-write_file-requires
 write-file-requires c κs =
     let noted = c.before.before.before in
-    let walk = noted.before.before.before in
+    let walk = noted.before in
     let w = walk.before.before in
-    let a = w.before.before.before.before.before.before.before.args in (
+    let a = w.args in (
       shape-of-none a.state a.dir.now a.pages.now (none w),
       pages-within a.state a.dir.now a.pages.now (none w) (can w) _ _ _ walk.note_all-noted.ensures
-          walk.note_all-noted.auto.1.1.1.0 (omega arith) _ noted.noted-1.given.1,
+          walk.note_all-noted.auto.1.1.1.0 (omega arith) _ noted.in-Pages.is,
     )
 
 same_length : tie.Need-shape_of-out
@@ -96,12 +96,12 @@ returns-4 : tie.Need-returns
 returns-4 c =
     let written = c.before.before in
     let noted = written.before.before.before.before in
-    let walk = noted.before.before.before in
+    let walk = noted.before in
     let w = walk.before.before in
-    let a = w.before.before.before.before.before.before.before.args in
-    let known = w.before.before.before.before.before.shared_slice_known-2-1.given in
+    let a = w.args in
+    let known = w.shared_slice_known-2-1.given in
     promise-of-pages a.state a.dir.now a.pages.now (none w) (can w) _ _ _ walk.note_all-noted.ensures
-    walk.note_all-noted.auto.1.1.1.0 (omega arith) _ noted.noted-1.given.1 (λ i. omega (arith, known i))
+    walk.note_all-noted.auto.1.1.1.0 (omega arith) _ noted.in-Pages.is (λ i. omega (arith, known i))
     a.out.now _ _ written.write_file.ensures
 
 pub save_spec : {M : Type 1} → statement M

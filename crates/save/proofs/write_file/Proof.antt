@@ -25,7 +25,7 @@ returns : tie.Need-returns-then-out-size
 unfolding saved_answer
 returns c =
     let counted = c.before in
-    let a = counted.before.before.before.before.before.args in
+    let a = counted.args in
     filed-short a.shape (flat_map (page_fields a.shape.capacity a.pages.now) (take a.n a.list.now))
     a.out.now _ counted.count_records-total.ensures.0 counted.count_records-total.ensures.1
     (omega (arith, c.if-out-size.true))
@@ -52,7 +52,7 @@ returns-2 c =
     let put = ended.before.before.before.before in
     let test = put.before.before in
     let counted = test.before in
-    let a = counted.before.before.before.before.before.args in
+    let a = counted.args in
     filed-fits a.shape (flat_map (page_fields a.shape.capacity a.pages.now) (take a.n a.list.now))
     a.out.now _ counted.count_records-total.ensures.0 counted.count_records-total.ensures.1
     (omega (arith, test.if-out-size.false)) _

@@ -29,8 +29,8 @@ cast-result c = search rules
 returns : tie.Need-returns-then-is_bad invariant-loop decreases-loop
 returns c =
     let at = c.before.before.before in
-    sym (lowest_bad-found at.before.args.shape at.loop-j.j (omega arith)
-    (sym c.before.is_bad.ensures ∙ c.if-is_bad.true) at.loop-j.invariant.1)
+    sym (lowest_bad-found at.args.shape at.loop-j.j (omega arith)
+    (sym c.is_bad.ensures ∙ c.if-is_bad.true) at.loop-j.invariant.1)
 
 add-j : tie.Need-overflow_add-j invariant-loop decreases-loop
 add-j c = search rules
@@ -41,15 +41,15 @@ loop-less c = search rules
 loop-again : tie.Need-loop-j-preserved invariant-loop decreases-loop
 loop-again c =
     let at = c.before.before.before in
-    let last = sym c.before.is_bad.ensures ∙ c.if-is_bad.false in (
+    let last = sym c.is_bad.ensures ∙ c.if-is_bad.false in (
       omega arith,
-      rw (add-one at.loop-j.j) (below_suc (bad_width at.before.args.shape) at.loop-j.j at.loop-j.invariant.1 last),
+      rw (add-one at.loop-j.j) (below_suc (bad_width at.args.shape) at.loop-j.j at.loop-j.invariant.1 last),
     )
 
 returns-2 : tie.Need-returns invariant-loop decreases-loop
 returns-2 c =
-    let loop = c.before.loop-j in
-    sym (lowest_bad-four c.before.before.args.shape (λ i l. loop.invariant.1 i (omega arith)))
+    let loop = c.loop-j in
+    sym (lowest_bad-four c.args.shape (λ i l. loop.invariant.1 i (omega arith)))
 
 pub bad_width_spec : {M : Type 1} → statement M
 bad_width_spec =

@@ -11,7 +11,7 @@ cast-d c = search rules
 
 returns : tie.Need-returns-then-d-j
 returns c =
-    let args = c.before.before.before.args in
+    let args = c.args in
     sym (bad_width-unused args.shape args.j c.if-d-j.true)
 
 mul-in-range : tie.Need-offset_bounds-widths-j
@@ -25,7 +25,7 @@ in-range-requires c κs = search rules
 
 returns-2 : tie.Need-returns
 returns-2 c =
-    let args = c.before.before.before.before.args in
+    let args = c.args in
     sym (bad_width-used args.shape args.j (omega arith) _ (sym c.in_range.ensures))
 
 pub is_bad_spec : {M : Type 1} → statement M

@@ -9,14 +9,14 @@ use Rattle.shape.proofs.BoundsLaws.{within-le}
 use Rattle.shape.proofs.shape_number.Statement.{statement}
 use Rattle.shape.proofs.shape_number.Tie as tie
 
-count-fits : (c : tie.Else-not-in_range) → count_fits c.before.before.args.shape ≡ true
-count-fits c = sym c.before.in_range.ensures ∙ not-false _ c.if-not-in_range.false-raw
+count-fits : (c : tie.Else-not-in_range) → count_fits c.args.shape ≡ true
+count-fits c = sym c.in_range.ensures ∙ not-false _ c.if-not-in_range.false-raw
 
 in-range-requires : tie.Need-in_range-requires
 in-range-requires c κs = search rules
 
 returns : tie.Need-returns-then-not-in_range
-returns c = sym (shape_number-count _ (sym c.before.in_range.ensures ∙ not-true _ c.if-not-in_range.true-raw))
+returns c = sym (shape_number-count _ (sym c.in_range.ensures ∙ not-true _ c.if-not-in_range.true-raw))
 
 widths-fit-requires : tie.Need-widths_fit-requires
 widths-fit-requires c κs = within-le 1 4 _ (count-fits c)
@@ -33,15 +33,15 @@ returns-3 : tie.Need-returns-then-in_range
 returns-3 c =
     let fit = c.before.before.before in
     sym (shape_number-capacity _ (count-fits fit.before)
-    (sym fit.widths_fit.ensures ∙ not-false _ c.before.before.if-not-widths_fit.false-raw) _
-    (sym c.before.in_range-2.ensures ∙ c.if-in_range.true))
+    (sym fit.widths_fit.ensures ∙ not-false _ c.if-not-widths_fit.false-raw) _
+    (sym c.in_range-2.ensures ∙ c.if-in_range.true))
 
 returns-4 : tie.Need-returns-else-in_range
 returns-4 c =
     let fit = c.before.before.before in
     sym (shape_number-capacity _ (count-fits fit.before)
-    (sym fit.widths_fit.ensures ∙ not-false _ c.before.before.if-not-widths_fit.false-raw) _
-    (sym c.before.in_range-2.ensures ∙ c.if-in_range.false))
+    (sym fit.widths_fit.ensures ∙ not-false _ c.if-not-widths_fit.false-raw) _
+    (sym c.in_range-2.ensures ∙ c.if-in_range.false))
 
 pub shape_number_spec : {M : Type 1} → statement M
 shape_number_spec =

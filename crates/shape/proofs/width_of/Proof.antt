@@ -18,10 +18,10 @@ cast-result : tie.Need-overflow_cast-result
 cast-result c = search rules
 
 returns : tie.Need-returns-then-j-shape
-returns c = let args = c.before.before.before.args in sym (width_of-used args.shape args.j c.if-j-shape.true)
+returns c = let args = c.args in sym (width_of-used args.shape args.j c.if-j-shape.true)
 
 returns-2 : tie.Need-returns
-returns-2 c = let args = c.before.before.before.args in sym (width_of-unused args.shape args.j c.if-j-shape.false)
+returns-2 c = let args = c.args in sym (width_of-unused args.shape args.j c.if-j-shape.false)
 
 pub width_of_spec : {M : Type 1} → statement M
 width_of_spec =

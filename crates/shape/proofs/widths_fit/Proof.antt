@@ -23,7 +23,7 @@ cast-count : tie.Need-overflow_cast-count invariant-loop decreases-loop
 cast-count c = search rules
 
 loop-holds : tie.Need-loop-j-init invariant-loop decreases-loop
-loop-holds c = (omega arith, c.before.before.requires, refl)
+loop-holds c = (omega arith, c.requires, refl)
 
 mul-in-range : tie.Need-offset_bounds-widths-j invariant-loop decreases-loop
 mul-in-range c = search rules
@@ -36,10 +36,10 @@ in-range-requires c κs = search rules
 
 returns : tie.Need-returns-then-not-in_range invariant-loop decreases-loop
 returns c =
-    let loop = c.before.before.before.loop-j in
-    let args = c.before.before.before.before.before.before.args in
+    let loop = c.loop-j in
+    let args = c.args in
     sym (all_below-fails (λ j. within 1 16 (get_or args.shape.widths j 0)) args.shape.attributes loop.j
-    (omega arith) (sym c.before.in_range.ensures ∙ not-true _ c.if-not-in_range.true-raw))
+    (omega arith) (sym c.in_range.ensures ∙ not-true _ c.if-not-in_range.true-raw))
 
 add-j : tie.Need-overflow_add-j invariant-loop decreases-loop
 add-j c = search rules
@@ -49,14 +49,14 @@ loop-less c = search rules
 
 loop-again : tie.Need-loop-j-preserved invariant-loop decreases-loop
 loop-again c =
-    let loop = c.before.before.before.loop-j in
-    let in-range = sym c.before.in_range.ensures ∙ not-false _ c.if-not-in_range.false-raw in
+    let loop = c.loop-j in
+    let in-range = sym c.in_range.ensures ∙ not-false _ c.if-not-in_range.false-raw in
     (omega arith, loop.invariant.1, rw (add-one loop.j) (all_below-suc _ loop.j loop.invariant.2 in-range))
 
 returns-2 : tie.Need-returns invariant-loop decreases-loop
 returns-2 c =
-    let loop = c.before.loop-j in
-    let end : loop.j ≡ c.before.before.before.before.args.shape.attributes = omega arith in
+    let loop = c.loop-j in
+    let end : loop.j ≡ c.args.shape.attributes = omega arith in
     sym (rw end at loop.invariant.2)
 
 pub widths_fit_spec : {M : Type 1} → statement M

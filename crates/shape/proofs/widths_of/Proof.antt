@@ -20,9 +20,9 @@ returns : tie.Need-returns
 unfolding widths_of
 returns c =
     rw (
-      c.before.before.before.width_of-w0.ensures,
-      c.before.before.width_of-w1.ensures,
-      c.before.width_of-w2.ensures,
+      c.width_of-w0.ensures,
+      c.width_of-w1.ensures,
+      c.width_of-w2.ensures,
       c.width_of-w3.ensures,
     )
 

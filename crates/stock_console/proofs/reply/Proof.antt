@@ -54,28 +54,28 @@ same_length c = search rules
 
 returns : tie.Need-returns-in-Nothing
 returns c =
-    let at-command-of = c.before.before.before.before.before.before in
+    let at-command-of = c.before.before.before.before.before in
     let at-args = at-command-of.before.before.before.before.before in
     let a = at-args.args in
     reply-asked a.session a.line _ _ _ _ _ _ _
     (ap (asked_as a.line a.session.state.shape.attributes)
-    (sym c.before.before.before.before.enum_told-1.given.1)
+    (sym c.in-Nothing.is)
     ∙ at-command-of.command_of-command.ensures)
-    (c.before.before.reply_bad.ensures _)
+    (c.reply_bad.ensures _)
 
 same-length-2 : tie.Need-shape_of-text-in-NoShape
 same-length-2 c = search rules
 
 returns-2 : tie.Need-returns-in-NoShape
 returns-2 c =
-    let at-command-of = c.before.before.before.before.before.before in
+    let at-command-of = c.before.before.before.before.before in
     let at-args = at-command-of.before.before.before.before.before in
     let a = at-args.args in
     reply-asked a.session a.line _ _ _ _ _ _ _
     (ap (asked_as a.line a.session.state.shape.attributes)
-    (sym c.before.before.before.before.enum_told-in-NoShape-1.given.1)
+    (sym c.in-NoShape.is)
     ∙ at-command-of.command_of-command.ensures)
-    (c.before.before.reply_outside.ensures _)
+    (c.reply_outside.ensures _)
 
 same-length-3 : tie.Need-shape_of-dir-in-NewShape
 same-length-3 c = search rules
@@ -91,13 +91,13 @@ returns-3 c =
     let at-reply-shape = c.before.before.before.before.before.before in
     let at-shape-of = at-reply-shape.before.before.before.before in
     let at-enum-told3 = at-shape-of.before in
-    let at-command-of = at-enum-told3.before.before in
+    let at-command-of = at-enum-told3.before in
     let at-args = at-command-of.before.before.before.before.before in
     let a = at-args.args in
     reply-asked a.session a.line _ _ _ _ _ _ _
     (ap new_shape at-shape-of.shape_of.ensures
     ∙ (ap (asked_as a.line a.session.state.shape.attributes)
-    (sym at-enum-told3.enum_told-in-NewShape-1.given.1)
+    (sym at-enum-told3.in-NewShape.is)
     ∙ at-command-of.command_of-command.ensures))
     (at-reply-shape.reply_shape.ensures _)
 
@@ -114,12 +114,12 @@ returns-4 : tie.Need-returns-in-Put
 returns-4 c =
     let at-reply-put = c.before.before.before.before.before.before in
     let at-enum-told4 = at-reply-put.before.before.before.before in
-    let at-command-of = at-enum-told4.before.before in
+    let at-command-of = at-enum-told4.before in
     let at-args = at-command-of.before.before.before.before.before in
     let a = at-args.args in
     reply-asked a.session a.line _ _ _ _ _ _ _
     (ap (asked_as a.line a.session.state.shape.attributes)
-    (sym at-enum-told4.enum_told-in-Put-1.given.1)
+    (sym at-enum-told4.in-Put.is)
     ∙ at-command-of.command_of-command.ensures)
     (at-reply-put.reply_put.ensures _)
 
@@ -136,12 +136,12 @@ returns-5 : tie.Need-returns-in-Cut
 returns-5 c =
     let at-reply-cut = c.before.before.before.before.before.before in
     let at-enum-told5 = at-reply-cut.before.before.before.before in
-    let at-command-of = at-enum-told5.before.before in
+    let at-command-of = at-enum-told5.before in
     let at-args = at-command-of.before.before.before.before.before in
     let a = at-args.args in
     reply-asked a.session a.line _ _ _ _ _ _ _
     (ap (asked_as a.line a.session.state.shape.attributes)
-    (sym at-enum-told5.enum_told-in-Cut-1.given.1)
+    (sym at-enum-told5.in-Cut.is)
     ∙ at-command-of.command_of-command.ensures)
     (at-reply-cut.reply_cut.ensures _)
 
@@ -159,15 +159,15 @@ same-length-15 c = search rules
 
 returns-6 : tie.Need-returns-in-List
 returns-6 c =
-    let at-enum-told6 = c.before.before.before.before.before.before.before.before.before in
+    let at-enum-told6 = c.before.before.before.before.before.before.before.before in
     let at-command-of = at-enum-told6.before.before in
     let at-args = at-command-of.before.before.before.before.before in
     let a = at-args.args in
     reply-asked a.session a.line _ _ _ _ _ _ _
     (ap (asked_as a.line a.session.state.shape.attributes)
-    (sym at-enum-told6.enum_told-in-List-1.given.1)
-    ∙ at-command-of.command_of-command.ensures)
-    c.before.before.before.before.reply_list.ensures
+    (sym at-enum-told6.enum-told6.given.1)
+    ∙ at-command-of.command-of.ensures)
+    c.reply_list.ensures
 
 pub reply_spec : {M : Type 1} → statement M
 reply_spec =

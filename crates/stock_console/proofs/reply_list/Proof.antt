@@ -22,7 +22,7 @@ put-listed-requires c κs =
     let a = s.args in (
       omega (arith, s.requires.0),
       printable a.session.state a.dir.now a.pages.now _ a.out.now _ s.requires.1 _
-          c.before.before.before.before.query-listed.ensures,
+          c.query.ensures,
     )
 
 same_length : tie.Need-shape_of-out
@@ -36,9 +36,9 @@ returns c =
     let call = c.before.before.before.before.before.before.before in
     let at-args = call.before.before.before.before.before.before.before.before.before.before in
     let a = at-args.args in
-    reply-list a.session a.line _ _ _ _ _ _ _ _ _ _ call.before.before.query_of.ensures
-    call.query-listed.ensures
-    c.before.before.put_listed-end.ensures
+    reply-list a.session a.line _ _ _ _ _ _ _ _ _ _ call.query-of.ensures
+    call.query.ensures
+    c.put_listed-end.ensures
 
 pub reply_list_spec : {M : Type 1} → statement M
 reply_list_spec =

@@ -34,8 +34,8 @@ returns c =
     let at-args = call.before.before.before.before.before.before.before.before.before.before.before in
     let a = at-args.args in
     let content = call.before.before.before in
-    reply-put a.session a.line _ _ _ _ _ _ _ _ _ _ _ content.before.key_of-key.ensures
-    c.before.before.before.put_changed-end.ensures _ content.content_of-content.ensures call.insert-change.ensures
+    reply-put a.session a.line _ _ _ _ _ _ _ _ _ _ _ content.key_of-key.ensures
+    c.put_changed-end.ensures _ content.content_of-content.ensures call.insert-change.ensures
 
 pub reply_put_spec : {M : Type 1} → statement M
 reply_put_spec =

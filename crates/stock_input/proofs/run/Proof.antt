@@ -27,31 +27,31 @@ loop-holds c =
     (refl, refl, refl, s.requires.2, running-start a.piece.now a.from a.progress _ _ s.requires.1 s.requires.0)
 
 sub-if1 : tie.Need-overflow_sub-text invariant-loop decreases-loop
-sub-if1 c = c.before.before.loop-next.invariant.4.stands.within
+sub-if1 c = c.loop-next.invariant.4.stands.within
 
 same_length : tie.Need-shape_of-dir-then-text-here-lt-REPLY_SIZE invariant-loop decreases-loop
-same_length c = c.before.before.before.loop-next.invariant.0
+same_length c = c.loop-next.invariant.0
 
 same-length-2 : tie.Need-shape_of-pages-then-text-here-lt-REPLY_SIZE invariant-loop decreases-loop
-same-length-2 c = c.before.before.before.loop-next.invariant.1
+same-length-2 c = c.loop-next.invariant.1
 
 same-length-3 : tie.Need-shape_of-out-then-text-here-lt-REPLY_SIZE invariant-loop decreases-loop
-same-length-3 c = c.before.before.before.loop-next.invariant.2
+same-length-3 c = c.loop-next.invariant.2
 
 same-length-4 : tie.Need-shape_of-text-then-text-here-lt-REPLY_SIZE invariant-loop decreases-loop
-same-length-4 c = c.before.before.before.loop-next.invariant.4.same_length
+same-length-4 c = c.loop-next.invariant.4.same_length
 
 returns : tie.Need-returns-then-text-here-lt-REPLY_SIZE invariant-loop decreases-loop
 returns c =
     let at-args = c.before.before.before.before.before.before.before.before.before in
     let a = at-args.args in
-    let loop = c.before.before.before.loop-next in
-    run-promise a.piece.now a.from a.progress _ a.text.now loop.next loop.here _ loop.text-1
+    let loop = c.loop-next in
+    run-promise a.piece.now a.from a.progress _ a.text.now loop.next loop.here _ loop.text
     loop.invariant.4
     (inr (omega (arith, c.if-text-here-lt-REPLY_SIZE.true, loop.invariant.4.stands.within)))
 
 shared-slice-read-step : tie.Need-bounds-piece-next invariant-loop decreases-loop
-shared-slice-read-step c = c.before.before.before.loop-next-test.true
+shared-slice-read-step c = c.loop-next-test.true
 
 step-requires : tie.Need-step-here-requires invariant-loop decreases-loop
 step-requires c κs =
@@ -66,7 +66,7 @@ add-next c =
     let between = c.before.before.before.before.before.before.before.before.before.before.before in
     let at-loop-test = between.before.before.before.before.before in
     let at-good = at-loop-test.before.before.before.before.before.before.before in
-    record { fits = omega (arith, at-loop-test.loop-next-test.true, at-good.well-formed.1.0) }
+    record { fits = omega (arith, at-loop-test.loop-next-test.true, at-good.well_formed.1.0) }
 
 loop-less : tie.Need-loop-next-smaller invariant-loop decreases-loop
 loop-less c =
@@ -88,29 +88,29 @@ loop-again c =
       call.auto.1.1.1.0 ∙ inv.1,
       call.auto.1.1.1.1.0 ∙ inv.2,
       inv.3,
-      running-step a.piece.now a.from a.progress _ a.text.now loop.next loop.here _ loop.text-1
+      running-step a.piece.now a.from a.progress _ a.text.now loop.next loop.here _ loop.text
           inv.4 _ _ _ at-loop-test.loop-next-test.true call.ensures.0 call.ensures.1
           call.auto.1.1.1.1.1.0,
     )
 
 same-length-5 : tie.Need-shape_of-dir invariant-loop decreases-loop
-same-length-5 c = c.before.loop-next.invariant.0
+same-length-5 c = c.loop-next.invariant.0
 
 same-length-6 : tie.Need-shape_of-pages invariant-loop decreases-loop
-same-length-6 c = c.before.loop-next.invariant.1
+same-length-6 c = c.loop-next.invariant.1
 
 same-length-7 : tie.Need-shape_of-out invariant-loop decreases-loop
-same-length-7 c = c.before.loop-next.invariant.2
+same-length-7 c = c.loop-next.invariant.2
 
 same-length-8 : tie.Need-shape_of-text invariant-loop decreases-loop
-same-length-8 c = c.before.loop-next.invariant.4.same_length
+same-length-8 c = c.loop-next.invariant.4.same_length
 
 returns-2 : tie.Need-returns invariant-loop decreases-loop
 returns-2 c =
     let at-args = c.before.before.before.before.before.before.before in
     let a = at-args.args in
-    let loop = c.before.loop-next in
-    run-promise a.piece.now a.from a.progress _ a.text.now loop.next loop.here _ loop.text-1
+    let loop = c.loop-next in
+    run-promise a.piece.now a.from a.progress _ a.text.now loop.next loop.here _ loop.text
     loop.invariant.4
     (inl (omega (arith, c.loop-next-test.false)))
 

@@ -35,7 +35,7 @@ returns c =
     let line = call.before.before.before.before.before in
     let p = s.args.progress in (
       inl (
-        line.before.if-byte-eq-NEWLINE.true,
+        line.if-byte-eq-NEWLINE.true,
         line-ended p _ _ _ _ _ _ _ line.end.ensures c.begin-nothing.ensures
             call.reply-next.ensures,
       ),
@@ -50,7 +50,7 @@ returns-2 : tie.Need-returns
 returns-2 c =
     let s = c.before.before.before.before.before.before.before.before in
     let p = s.args.progress in (
-      inr (c.before.if-byte-eq-NEWLINE.false, byte-read p _ _ _ _ c.feed-more.ensures),
+      inr (c.if-byte-eq-NEWLINE.false, byte-read p _ _ _ _ c.feed-more.ensures),
       byte-stands p _ _ _ c.feed-more.ensures s.requires.0 (omega (arith, s.requires.1)),
     )
 

@@ -29,11 +29,11 @@ unfolding closed
 returns-2 c =
     let k = c.before.before.before.before in
     rw (
-      ne_eqb _ _ k.before.before.if-reading-eq0.false,
-      k.before.kept_word-word.ensures,
+      ne_eqb _ _ k.if-reading-eq0.false,
+      k.kept_word-word.ensures,
       k.is_any-star.ensures,
       lt-ltb _ _
-          c.before.if-reading-lt7.true,
+          c.if-reading-lt7.true,
     )
 
 returns-3 : tie.Need-returns-else-reading-lt7
@@ -41,8 +41,8 @@ unfolding closed
 returns-3 c =
     let k = c.before.before.before in
     rw (
-      ne_eqb _ _ k.before.before.if-reading-eq0.false,
-      k.before.kept_word-word.ensures,
+      ne_eqb _ _ k.if-reading-eq0.false,
+      k.kept_word-word.ensures,
       k.is_any-star.ensures,
       le-ltb _ _
           c.if-reading-lt7.false,

@@ -51,19 +51,19 @@ put-decimal-returns : (t : ℕ) → put-decimal-lts.Need-returns (near t) (put-d
 put-decimal-returns t c =
     let call = c.before.before in
     let test = call.before.before in
-    rw (decimal-one test.before.before.args.n (omega (arith, test.if-n-lt10.true))) call.put_byte.ensures
+    rw (decimal-one test.before.before.args.n (omega (arith, test.if1.true))) call.put_byte.ensures
 
 put-decimal-put-decimal-requires : (t : ℕ)
     → put-decimal-lts.Need-put-decimal-requires (near t) (put-decimal-at t) put-decimal.Post
 put-decimal-put-decimal-requires t c κs =
     let s = c.before.before.before in
-    (omega (arith, s.requires.0, c.before.if-n-lt10.false), s.requires.1)
+    (omega (arith, s.requires.0, c.before.if1.false), s.requires.1)
 
 put-decimal-put-byte-requires-2 : (t : ℕ)
     → put-decimal-lts.Need-put-byte-requires-2 (near t) (put-decimal-at t) put-decimal.Post
 put-decimal-put-byte-requires-2 t c κs =
     let s = c.before.before.before.before.before.before.before in
-    let tenth = c.before.before.before.put_decimal-end in
+    let tenth = c.before.before.before.put-decimal in
     let fits : s.args.n / 10 < 10000000000000000000 = omega (arith, s.ranges.n.fits) in
     omega (
       arith,
@@ -76,7 +76,7 @@ put-decimal-put-byte-requires-2 t c κs =
 put-decimal-same-length-2 : (t : ℕ) → put-decimal-lts.Need-same-length-2 (near t) (put-decimal-at t) put-decimal.Post
 put-decimal-same-length-2 t c =
     let call = c.before.before in
-    call.put_byte-2.ensures.length-is ∙ call.before.before.before.before.put_decimal-end.ensures.length-is
+    call.put-byte2.ensures.length-is ∙ call.before.before.before.before.put-decimal.ensures.length-is
 
 put-decimal-returns-2 : (t : ℕ) → put-decimal-lts.Need-returns-2 (near t) (put-decimal-at t) put-decimal.Post
 put-decimal-returns-2 t c =
@@ -84,8 +84,8 @@ put-decimal-returns-2 t c =
     let tenth = call.before.before.before.before in
     let test = tenth.before.before in
     let s = test.before.before in
-    rw (decimal-more s.args.n (omega (arith, test.if-n-lt10.false)) s.ranges.n.fits)
-    (Grown-then _ _ _ _ _ _ _ _ tenth.put_decimal-end.ensures call.put_byte-2.ensures)
+    rw (decimal-more s.args.n (omega (arith, test.if1.false)) s.ranges.n.fits)
+    (Grown-then _ _ _ _ _ _ _ _ tenth.put-decimal.ensures call.put-byte2.ensures)
 
 pub +put-decimal-spec : {M : Type 1} → statement M
 +put-decimal-spec = close μ-put-decimal λ t. put-decimal-lts.spec (near t)

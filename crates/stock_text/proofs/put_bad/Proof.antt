@@ -15,7 +15,7 @@ same_length c = search rules
 
 returns : tie.Need-returns
 unfolding bad_text
-returns c = c.before.before.put_bytes.ensures
+returns c = c.put_bytes.ensures
 
 pub put_bad_spec : {M : Type 1} → statement M
 put_bad_spec = tie.close (tie.spec slice-aggregate-put-bytes put-bytes-requires same_length returns)

@@ -18,7 +18,7 @@ put-decimal-requires c κs = search rules
 put-byte-requires : tie.Need-put_byte-requires
 put-byte-requires c κs =
     let s = c.before.before.before.before.before.before in
-    let number = c.before.before.before.put_decimal-end.ensures in
+    let number = c.put_decimal-end.ensures in
     omega (arith, s.requires, number.end_is, number.length-is, most s)
 
 same_length : tie.Need-shape_of-text

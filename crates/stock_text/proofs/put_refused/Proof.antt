@@ -21,7 +21,7 @@ returns : tie.Need-returns
 unfolding refused_text
 returns c =
     let call = c.before.before in
-    Grown-then _ _ _ _ _ _ _ _ call.before.before.before.before.put_bytes-end.ensures call.put_field.ensures.0
+    Grown-then _ _ _ _ _ _ _ _ call.put_bytes-end.ensures call.put_field.ensures.grown
 
 pub put_refused_spec : {M : Type 1} → statement M
 put_refused_spec =

@@ -27,7 +27,7 @@ returns c =
     let total = reads.before.before.before.before in
     let first = total.before.before.before.before in
     Grown-then _ _ _ _ _ _ _ _ first.put_bytes-start.ensures
-    (Grown-then _ _ _ _ _ _ _ _ total.put_field-end.ensures.0 reads.put_field.ensures.0)
+    (Grown-then _ _ _ _ _ _ _ _ total.put_field-end.ensures.grown reads.put_field.ensures.grown)
 
 pub put_sum_spec : {M : Type 1} → statement M
 put_sum_spec =

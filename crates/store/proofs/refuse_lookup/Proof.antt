@@ -13,13 +13,13 @@ bad-width-requires c κs = search rules
 returns : tie.Need-returns-then-number-eq14
 unfolding found_answer
 returns c =
-    let args = c.before.before.args in
+    let args = c.args in
     ap (refused_with 14) c.bad_width.ensures
-    ∙ sym (refused_for-width args.shape args.number c.before.if-number-eq14.true)
+    ∙ sym (refused_for-width args.shape args.number c.if-number-eq14.true)
 
 returns-2 : tie.Need-returns
 unfolding found_answer
-returns-2 c = let args = c.before.args in sym (refused_for-other args.shape args.number c.if-number-eq14.false)
+returns-2 c = let args = c.args in sym (refused_for-other args.shape args.number c.if-number-eq14.false)
 
 pub refuse_lookup_spec : {M : Type 1} → statement M
 refuse_lookup_spec = tie.close (tie.spec bad-width-requires returns returns-2)

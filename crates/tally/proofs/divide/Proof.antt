@@ -26,12 +26,12 @@ loop-holds c =
     (omega arith, rw (add-zero x, sub-zero n) refl, λ y l. refl)
 
 add-divide-once : tie.Need-overflow_add-x invariant-loop decreases-loop
-add-divide-once c = omega (arith, c.loop-i-test.true, c.before.before.requires.0)
+add-divide-once c = omega (arith, c.loop-i-test.true, c.requires.0)
 
 divide-once-requires : tie.Need-divide_once-divided-requires invariant-loop decreases-loop
 divide-once-requires c κs =
     let s = c.before.before in
-    let l = c.before.loop-i in
+    let l = c.loop-i in
     let deep : s.args.x + l.i < 12 = omega (arith, c.loop-i-test.true, s.requires.0) in
     let next = s.args.x + l.i + 1 in (
       deep,
@@ -43,18 +43,18 @@ divide-once-requires c κs =
     )
 
 add-i : tie.Need-overflow_add-i invariant-loop decreases-loop
-add-i c = omega (arith, c.before.loop-i-test.true, c.before.before.before.requires.0)
+add-i c = omega (arith, c.loop-i-test.true, c.requires.0)
 
 loop-less : tie.Need-loop-i-smaller invariant-loop decreases-loop
-loop-less c = omega (arith, c.before.loop-i-test.true)
+loop-less c = omega (arith, c.loop-i-test.true)
 
 loop-again : tie.Need-loop-i-preserved invariant-loop decreases-loop
 loop-again c =
-    let s = c.before.before.before.args in
-    let l = c.before.before.loop-i in
+    let s = c.args in
+    let l = c.loop-i in
     let leaves = l.divided.leaves in
     let once = c.divide_once-divided.ensures in
-    let more : l.i < s.n = c.before.loop-i-test.true in (
+    let more : l.i < s.n = c.loop-i-test.true in (
       omega arith,
       ap (divided_tally (s.x + (l.i + 1)) (s.n - (l.i + 1))) once
           ∙ divided_tally-next leaves s.x s.n l.i more
@@ -67,8 +67,8 @@ loop-again c =
 returns : tie.Need-returns invariant-loop decreases-loop
 unfolding divided_tally
 returns c =
-    let n = c.before.before.args.n in
-    let l = c.before.loop-i in
+    let n = c.args.n in
+    let l = c.loop-i in
     let end : n - l.i ≡ 0 = omega (arith, c.loop-i-test.false) in
     rw end at l.invariant.1
 

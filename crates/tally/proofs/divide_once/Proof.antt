@@ -34,9 +34,9 @@ array-read-leaves c = search rules
 
 add-leaves-2 : tie.Need-overflow_add-leaves-2
 add-leaves-2 c =
-    let s = c.before.before.args in
+    let s = c.args in
     let same = get_or-set_other s.tally.leaves s.x (s.x + 1) c.less.result 0 (λ e. omega arith) in
-    omega (arith, same, c.before.before.requires.1)
+    omega (arith, same, c.requires.1)
 
 add-leaves-3 : tie.Need-overflow_add-leaves-3
 add-leaves-3 c = search rules

@@ -17,29 +17,29 @@ loop-holds : tie.Need-loop-x-init invariant-loop decreases-loop
 loop-holds c = (omega arith, refl)
 
 mul-if1 : tie.Need-offset_bounds-leaves-x invariant-loop decreases-loop
-mul-if1 c = omega (arith, c.before.loop-x.invariant.0, c.before.before.before.requires)
+mul-if1 c = omega (arith, c.loop-x.invariant.0, c.requires)
 
 array-read-if1 : tie.Need-bounds-leaves-x invariant-loop decreases-loop
-array-read-if1 c = omega (arith, c.before.loop-x.invariant.0, c.before.before.before.requires)
+array-read-if1 c = omega (arith, c.loop-x.invariant.0, c.requires)
 
 returns : tie.Need-returns-then-leaves-x-ne0 invariant-loop decreases-loop
 returns c =
-    let l = c.before.before.loop-x in
-    let leaves = c.before.before.before.before.args.tally.leaves in
-    let deep : 0 < l.x = omega (arith, c.before.loop-x-test.true) in
+    let l = c.loop-x in
+    let leaves = c.args.tally.leaves in
+    let deep : 0 < l.x = omega (arith, c.loop-x-test.true) in
     sym (tally_depth-some leaves l.x deep c.if-leaves-x-ne0.true) ∙ l.invariant.1
 
 sub-x : tie.Need-overflow_sub-x invariant-loop decreases-loop
-sub-x c = omega (arith, c.before.loop-x-test.true)
+sub-x c = omega (arith, c.loop-x-test.true)
 
 loop-less : tie.Need-loop-x-smaller invariant-loop decreases-loop
-loop-less c = omega (arith, c.before.loop-x-test.true)
+loop-less c = omega (arith, c.loop-x-test.true)
 
 loop-again : tie.Need-loop-x-preserved invariant-loop decreases-loop
 loop-again c =
-    let l = c.before.before.loop-x in
-    let leaves = c.before.before.before.before.args.tally.leaves in
-    let deep : 0 < l.x = omega (arith, c.before.loop-x-test.true) in (
+    let l = c.loop-x in
+    let leaves = c.args.tally.leaves in
+    let deep : 0 < l.x = omega (arith, c.loop-x-test.true) in (
       omega (arith, l.invariant.0),
       sym (tally_depth-none leaves l.x deep c.if-leaves-x-ne0.false) ∙ l.invariant.1,
     )
@@ -47,7 +47,7 @@ loop-again c =
 returns-2 : tie.Need-returns invariant-loop decreases-loop
 unfolding tally_depth
 returns-2 c =
-    let l = c.before.loop-x in
+    let l = c.loop-x in
     let end : l.x ≡ 0 = omega (arith, c.loop-x-test.false) in
     rw end at l.invariant.1
 

@@ -31,7 +31,7 @@ sub-y c = omega (arith, c.loop-y-test.true)
 join-once-requires : tie.Need-join_once-joined-requires invariant-loop decreases-loop
 join-once-requires c κs =
     let s = c.before.before in
-    let l = c.before.loop-y in
+    let l = c.loop-y in
     let y = l.y - 1 in
     let leaves = s.args.tally.leaves in
     let deep : y < 12 = omega (arith, c.loop-y-test.true, l.invariant.1, s.requires.0) in (
@@ -45,14 +45,14 @@ join-once-requires c κs =
     )
 
 loop-less : tie.Need-loop-y-smaller invariant-loop decreases-loop
-loop-less c = omega (arith, c.before.loop-y-test.true)
+loop-less c = omega (arith, c.loop-y-test.true)
 
 loop-again : tie.Need-loop-y-preserved invariant-loop decreases-loop
 loop-again c =
-    let s = c.before.before.before.args in
-    let l = c.before.before.loop-y in
+    let s = c.args in
+    let l = c.loop-y in
     let y = l.y - 1 in
-    let above : s.x < l.y = c.before.loop-y-test.true in
+    let above : s.x < l.y = c.loop-y-test.true in
     let lower : suc y ≡ l.y = omega arith in (
       omega arith,
       omega (arith, l.invariant.1),
@@ -63,8 +63,8 @@ loop-again c =
 
 returns : tie.Need-returns invariant-loop decreases-loop
 returns c =
-    let s = c.before.before.args in
-    let l = c.before.loop-y in
+    let s = c.args in
+    let l = c.loop-y in
     let end : l.y ≡ s.x = omega (arith, c.loop-y-test.false, l.invariant.0) in
     let all : s.x + s.n - s.x ≡ s.n = omega arith in
     l.invariant.2 ∙ rw (end, all) refl

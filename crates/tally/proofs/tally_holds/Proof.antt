@@ -39,24 +39,24 @@ cast-if1 c = search rules
 returns : tie.Need-returns-then-x-leaves invariant-loop decreases-loop
 unfolding tally_holds
 returns c =
-    let leaves = c.before.before.before.before.args.tally.leaves in
-    let x = c.before.before.loop-x.x in
-    let short : x < 13 = omega (arith, c.before.loop-x-test.true) in
+    let leaves = c.args.tally.leaves in
+    let x = c.loop-x.x in
+    let short : x < 13 = omega (arith, c.loop-x-test.true) in
     let over : 2 ^ x < get_or leaves x 0 = omega (arith, c.if-x-leaves.true, one_shifted x (omega arith)) in
     sym (all_below-fails (within leaves) 13 x short (lt-leb (get_or leaves x 0) (2 ^ x) over))
 
 add-x : tie.Need-overflow_add-x invariant-loop decreases-loop
-add-x c = omega (arith, c.before.loop-x-test.true)
+add-x c = omega (arith, c.loop-x-test.true)
 
 loop-less : tie.Need-loop-x-smaller invariant-loop decreases-loop
-loop-less c = omega (arith, c.before.loop-x-test.true)
+loop-less c = omega (arith, c.loop-x-test.true)
 
 loop-again : tie.Need-loop-x-preserved invariant-loop decreases-loop
 loop-again c =
-    let leaves = c.before.before.before.before.args.tally.leaves in
-    let l = c.before.before.loop-x in
+    let leaves = c.args.tally.leaves in
+    let l = c.loop-x in
     let x = l.x in
-    let short : x < 13 = omega (arith, c.before.loop-x-test.true) in
+    let short : x < 13 = omega (arith, c.loop-x-test.true) in
     let not-over : get_or leaves x 0 ≤ 2 ^ x = omega (arith, c.if-x-leaves.false, one_shifted x (omega arith)) in (
       omega arith,
       ap (λ n. all_below n (within leaves)) (add-one x)
@@ -66,7 +66,7 @@ loop-again c =
 returns-2 : tie.Need-returns invariant-loop decreases-loop
 unfolding tally_holds
 returns-2 c =
-    let l = c.before.loop-x in
+    let l = c.loop-x in
     let end : l.x ≡ 13 = omega (arith, c.loop-x-test.false, l.invariant.0) in
     sym (rw end at l.invariant.1)
 

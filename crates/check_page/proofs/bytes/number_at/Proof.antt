@@ -21,8 +21,8 @@ byte-requires-2 c κs = search rules
 
 returns : tie.Need-returns
 returns c =
-    let s = c.before.before.before.before.before.args in
-    let lo = c.before.before.byte.ensures in
+    let s = c.args in
+    let lo = c.byte.ensures in
     let hi = c.byte-2.ensures in
     number-of-bytes s.page.now s.at _ _ lo.0 hi.0 lo.1 hi.1
 

@@ -25,11 +25,11 @@ few : (c : tie.Start invariant-loop decreases-loop) → c.args.x ≤ 64
 few c = omega (arith, c.requires.1, total-le (width_list c.args.widths) refl c.requires.0)
 
 -- a step is left
-next : (c : tie.In-loop-n invariant-loop decreases-loop) → c.before.loop-n.g < 64
+next : (c : tie.In-loop-n invariant-loop decreases-loop) → c.loop-n.g < 64
 next c =
     let s = c.before.before in
     let w = s.args.widths in
-    let l = c.before.loop-n in
+    let l = c.loop-n in
     steps_before-lt w.w0 w.w1 w.w2 w.w3 l.n l.g s.requires.0
     (omega (arith, c.loop-n-test.true, s.requires.1)) l.invariant.place
 
@@ -45,8 +45,8 @@ value-at-requires c κs = omega arith
 bit-of-requires : tie.Need-bit_of-requires invariant-loop decreases-loop
 bit-of-requires c κs =
     let e = c.before in
-    let g = e.before.before.before.loop-n.g in
-    (e.if-g-w.true, omega (arith, e.before.width_at-w.ensures, e.before.before.before.before.requires.0 (g % 4)))
+    let g = e.loop-n.g in
+    (e.if-g-w.true, omega (arith, e.width_at-w.ensures, e.requires.0 (g % 4)))
 
 add-n : tie.Need-overflow_add-n invariant-loop decreases-loop
 add-n c =
@@ -63,10 +63,10 @@ loop-again : tie.Need-loop-n-preserved invariant-loop decreases-loop
 loop-again c =
     let turn = c.before.before in
     let s = turn.before.before in
-    let l = turn.before.loop-n in
+    let l = turn.loop-n in
     let ws = width_list s.args.widths in
     let key = unpacked_key s.args.key in
-    let width = c.before.width_at-w.ensures in
+    let width = c.width_at-w.ensures in
     let j : l.g % 4 < 4 = omega arith in
     ⊎_elim
     (λ w.
@@ -83,8 +83,8 @@ loop-again c =
 
 returns : tie.Need-returns invariant-loop decreases-loop
 returns c =
-    let a = c.before.before.args in
-    let l = c.before.loop-n in
+    let a = c.args in
+    let l = c.loop-n in
     coded-end (width_list a.widths) (unpacked_key a.key) a.x l.code l.n l.g l.invariant
     c.loop-n-test.false
 

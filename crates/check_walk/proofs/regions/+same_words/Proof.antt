@@ -56,15 +56,15 @@ same-words-sides-of-requires : (t : ℕ)
 same-words-sides-of-requires t c κs =
     let s = c.before.before.before in
     let q = s.requires.1 in
-    (q.0.fit, omega (arith, c.if-region-t.true, q.0.deep), q.2)
+    (q.0.fit, omega (arith, c.if1.true, q.0.deep), q.2)
 
 same-words-same-words-requires : (t : ℕ)
     → same-words-lts.Need-same-words-requires (near t) (same-words-at t) same-words.Post
 same-words-same-words-requires t c κs =
     let s = c.before.before.before.before in
     let q = s.requires.1 in
-    let l = c.before.if-region-t.true in
-    let d = c.sides_of-sides.ensures in
+    let l = c.before.if1.true in
+    let d = c.sides-of.ensures in
     (omega (arith, s.requires.0, l, d.lower-depth), (q.0, omega (arith, l, d.lower-depth), d.lower_in))
 
 same-words-returns : (t : ℕ) → same-words-lts.Need-returns (near t) (same-words-at t) same-words.Post
@@ -72,19 +72,19 @@ same-words-returns t c =
     let first = c.before in
     let sides = first.before in
     let a = sides.before.before.before.before.args in
-    let d = sides.sides_of-sides.ensures in
+    let d = sides.sides-of.ensures in
     λ p n.
     same_words-lower-fails (words t sides.before.before.before.before) a.t a.region.depth p a.word
-    sides.before.if-region-t.true _
-    d.lower-depth (sym (first.same_words.ensures _ (d.lower-names p n)) ∙ not-true _ c.if-not-same_words.true-raw)
+    sides.before.if1.true _
+    d.lower-depth (sym (first.same-words.ensures _ (d.lower-names p n)) ∙ not-true _ c.if2.true)
 
 same-words-same-words-requires-2 : (t : ℕ)
     → same-words-lts.Need-same-words-requires-2 (near t) (same-words-at t) same-words.Post
 same-words-same-words-requires-2 t c κs =
     let s = c.before.before.before.before.before.before in
     let q = s.requires.1 in
-    let l = c.before.before.before.if-region-t.true in
-    let d = c.before.before.sides_of-sides.ensures in
+    let l = c.before.before.before.if1.true in
+    let d = c.before.before.sides-of.ensures in
     (omega (arith, s.requires.0, l, d.upper-depth), (q.0, omega (arith, l, d.upper-depth), d.upper_in))
 
 same-words-returns-2 : (t : ℕ) → same-words-lts.Need-returns-2 (near t) (same-words-at t) same-words.Post
@@ -92,12 +92,12 @@ same-words-returns-2 t c =
     let first = c.before.before in
     let sides = first.before in
     let a = sides.before.before.before.before.args in
-    let d = sides.sides_of-sides.ensures in
+    let d = sides.sides-of.ensures in
     λ p n.
     same_words-upper (words t sides.before.before.before.before) a.t a.region.depth p a.word
-    sides.before.if-region-t.true _
-    d.lower-depth (sym (first.same_words.ensures _ (d.lower-names p n)) ∙ not-false _ c.before.if-not-same_words.false-raw) _
-    d.upper-depth _ (c.same_words-then-region-t.ensures _ (d.upper-names p n))
+    sides.before.if1.true _
+    d.lower-depth (sym (first.same-words.ensures _ (d.lower-names p n)) ∙ not-false _ c.before.if2.false) _
+    d.upper-depth _ (c.same-words2.ensures _ (d.upper-names p n))
 
 same-words-mul-result : (t : ℕ) → same-words-lts.Need-overflow-mul-result (near t) (same-words-at t) same-words.Post
 same-words-mul-result t c = record { fits = omega (arith, (low t c.before.before.before).1) }
@@ -113,7 +113,7 @@ same-words-returns-3 t c =
     let w = a.widths in
     let k = s.requires.1 in
     λ p n.
-    same_words-cell (words t s) a.t a.region.depth p a.word c.before.if-region-t.false k.1 _
+    same_words-cell (words t s) a.t a.region.depth p a.word c.before.if1.false k.1 _
     (cell_word-first w.w0 w.w1 w.w2 w.w3 a.region k.2 a.t _ k.0 k.1 a.dir.now p n)
 
 pub +same-words-spec : {M : Type 1} → statement M

@@ -32,7 +32,7 @@ locate-requires : tie.Need-locate-requires
 locate-requires c κs =
     let step = c.before.before.before in
     let s = step.before.before in
-    upper-in_box _ _ s.requires.2 s.requires.0 _ step.step_from-step.ensures _ c.before.before.with_bit-set.ensures
+    upper-in_box _ _ s.requires.2 s.requires.0 _ step.step_from-step.ensures _ c.with_bit-set.ensures
 
 add-t10-2 : tie.Need-overflow_add-upper
 add-t10-2 c = search rules
@@ -45,9 +45,9 @@ returns c =
     let set = c.before.before.before.before in
     let s = set.before.before.before in
     let low = string-lt _ _ s.requires.2 in
-    sides_of-parts _ s.args.region s.requires.2 s.requires.0 _ set.before.step_from-step.ensures _ refl refl refl refl
+    sides_of-parts _ s.args.region s.requires.2 s.requires.0 _ set.step_from-step.ensures _ refl refl refl refl
     (string-lower _ _ low (few s)) (string-upper _ _ low (few s)) refl set.with_bit-set.ensures refl
-    c.before.locate.ensures
+    c.locate.ensures
 
 pub sides_of_spec : {M : Type 1} → statement M
 sides_of_spec =

@@ -28,17 +28,17 @@ deep : (s : tie.Start invariant-loop decreases-loop) → s.args.t ≤ length (st
 deep s = let w = s.args.widths in fits-steps w.w0 w.w1 w.w2 w.w3 _ _ s.requires.0
 
 loop-holds : tie.Need-loop-s-init invariant-loop decreases-loop
-loop-holds c = folded_from-start _ _ _ _ _ c.before.requires.1
+loop-holds c = folded_from-start _ _ _ _ _ c.requires.1
 
 locate-cell-requires : tie.Need-locate_cell-own-requires invariant-loop decreases-loop
 locate-cell-requires c κs =
-    let f = c.before.before.before.requires.0 in
+    let f = c.requires.0 in
     (f.fit, omega (arith, f.deep, c.loop-s-test.true))
 
 step-folds-requires : tie.Need-step_folds-requires invariant-loop decreases-loop
 step-folds-requires c κs =
-    let f = c.before.before.before.before.requires.0 in
-    let l = c.before.loop-s-test.true in
+    let f = c.requires.0 in
+    let l = c.loop-s-test.true in
     record {
       fit = f.fit;
       deep = omega (arith, f.deep, l);
@@ -51,27 +51,27 @@ returns c =
     let found = c.before.before in
     let turn = found.before in
     let s = turn.before.before.before in
-    fold_told-no (ws s) _ _ _ _ _ turn.before.loop-s.invariant s.requires.0.fit turn.loop-s-test.true (deep s) _
-    found.locate_cell-own.ensures _ c.before.step_folds.ensures (not-true _ c.if-not-step_folds.true-raw)
+    fold_told-no (ws s) _ _ _ _ _ turn.loop-s.invariant s.requires.0.fit turn.loop-s-test.true (deep s) _
+    found.locate_cell-own.ensures _ c.step_folds.ensures (not-true _ c.if-not-step_folds.true-raw)
 
 add-s : tie.Need-overflow_add-s invariant-loop decreases-loop
 add-s c =
     let turn = c.before.before.before in
-    record { fits = omega (arith, turn.loop-s-test.true, turn.before.before.before.requires.0.short) }
+    record { fits = omega (arith, turn.loop-s-test.true, turn.requires.0.short) }
 
 loop-less : tie.Need-loop-s-smaller invariant-loop decreases-loop
-loop-less c = omega (arith, c.before.before.before.loop-s-test.true)
+loop-less c = omega (arith, c.loop-s-test.true)
 
 loop-again : tie.Need-loop-s-preserved invariant-loop decreases-loop
 loop-again c =
     let found = c.before.before in
     let turn = found.before in
     let s = turn.before.before.before in
-    folded_from-suc (ws s) _ _ _ _ _ turn.before.loop-s.invariant s.requires.0.fit turn.loop-s-test.true (deep s) _
-    found.locate_cell-own.ensures _ c.before.step_folds.ensures (not-false _ c.if-not-step_folds.false-raw)
+    folded_from-suc (ws s) _ _ _ _ _ turn.loop-s.invariant s.requires.0.fit turn.loop-s-test.true (deep s) _
+    found.locate_cell-own.ensures _ c.step_folds.ensures (not-false _ c.if-not-step_folds.false-raw)
 
 returns-2 : tie.Need-returns invariant-loop decreases-loop
-returns-2 c = fold_told-yes _ _ _ _ _ _ c.before.loop-s.invariant c.loop-s-test.false
+returns-2 c = fold_told-yes _ _ _ _ _ _ c.loop-s.invariant c.loop-s-test.false
 
 pub folds_spec : {M : Type 1} → statement M
 folds_spec =

@@ -23,7 +23,7 @@ shared-slice-read-result-2 c = search rules
 
 returns-2 : tie.Need-returns
 returns-2 c =
-    record { yes = λ e n. eqb-true _ _ e; no = λ e. (c.before.before.if-whole-own.false, eqb-false _ _ e) }
+    record { yes = λ e n. eqb-true _ _ e; no = λ e. (c.if-whole-own.false, eqb-false _ _ e) }
 
 pub pair_folds_spec : {M : Type 1} → statement M
 pair_folds_spec =

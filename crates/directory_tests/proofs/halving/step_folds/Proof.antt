@@ -41,29 +41,29 @@ small : (c : Found) → 2 ^ suc (t c) ≤ 4096
 small c = le_trans (pow_mono c.before.before.requires.short) (omega arith)
 
 deep : (c : Found) → t c < length (steps (ws c))
-deep c = step_pair-lt (ws c) (t c) _ c.step_place-g.ensures c.before.before.requires.fit
+deep c = step_pair-lt (ws c) (t c) _ c.step-place.ensures c.before.before.requires.fit
 
 below : (c : tie.In-loop-r invariant-loop decreases-loop) → let s = c.before.before in
-    (1 * 2 ^ t s) % 2 ^ 64 + c.before.loop-r.r < 2 ^ suc (t s)
+    (1 * 2 ^ t s) % 2 ^ 64 + c.loop-r.r < 2 ^ suc (t s)
 below c = omega (arith, size_is c.before.before, c.loop-r-test.true)
 
 -- the whole cell's address
 low : (c : tie.After-whole_of-whole invariant-loop decreases-loop) → c.whole_of-whole.result < 2 ^ t c.before.before.before
 low c =
     let s = c.before.before.before in
-    upper_half-lt (ws s) s.before.before.requires.fit (t s) (deep s) _ _ c.whole_of-whole.ensures
+    upper_half-lt (ws s) s.requires.fit (t s) (deep s) _ _ c.whole_of-whole.ensures
 
 step-place-requires : tie.Need-step_place-g-requires invariant-loop decreases-loop
-step-place-requires c κs = (c.before.requires.fit, c.before.requires.deep)
+step-place-requires c κs = (c.requires.fit, c.requires.deep)
 
 shl-size : tie.Need-overflow_shl-size invariant-loop decreases-loop
-shl-size c = omega (arith, c.before.before.requires.short)
+shl-size c = omega (arith, c.requires.short)
 
 loop-holds : tie.Need-loop-r-init invariant-loop decreases-loop
 loop-holds c =
     let start : 2 ^ t c ≡ (1 * 2 ^ t c) % 2 ^ 64 + 0 = omega (arith, size_is c) in
     subst (FoldedTo (ws c) (t c) _ _) start
-    (folded_to-none (ws c) c.before.before.requires.fit (t c) _ (deep c) _)
+    (folded_to-none (ws c) c.requires.fit (t c) _ (deep c) _)
 
 add_a : tie.Need-overflow_add-a invariant-loop decreases-loop
 add_a c = record { fits = omega (arith, below c, small c.before.before) }
@@ -72,16 +72,16 @@ whole-of-requires : tie.Need-whole_of-whole-requires invariant-loop decreases-lo
 whole-of-requires c κs =
     let s = c.before.before in
     record {
-      fit = s.before.before.requires.fit;
-      from = c.before.loop-r.invariant.low;
-      past = subst (λ n. (1 * 2 ^ t s) % 2 ^ 64 + c.before.loop-r.r < 2 ^ n) (sym (add-one (t s))) (below c);
+      fit = s.requires.fit;
+      from = c.loop-r.invariant.low;
+      past = subst (λ n. (1 * 2 ^ t s) % 2 ^ 64 + c.loop-r.r < 2 ^ n) (sym (add-one (t s))) (below c);
       pair = s.step_place-g.ensures;
     }
 
 pair-folds-requires : tie.Need-pair_folds-requires invariant-loop decreases-loop
 pair-folds-requires c κs =
     let s = c.before.before.before in
-    let room = s.before.before.requires.room in (
+    let room = s.requires.room in (
       omega (arith, below c.before, room),
       omega (arith, low c, room),
       omega (arith, below c.before, small s),
@@ -92,8 +92,8 @@ returns : tie.Need-returns-then-not-pair_folds invariant-loop decreases-loop
 returns c =
     let w = c.before.before in
     let s = w.before.before.before in
-    step_told-no (ws s) s.before.before.requires.fit (t s) _ (deep s) _ _ _ w.whole_of-whole.ensures _
-    (not-true _ c.if-not-pair_folds.true-raw) c.before.pair_folds.ensures
+    step_told-no (ws s) s.requires.fit (t s) _ (deep s) _ _ _ w.whole_of-whole.ensures _
+    (not-true _ c.if-not-pair_folds.true-raw) c.pair_folds.ensures
 
 add_r : tie.Need-overflow_add-r invariant-loop decreases-loop
 add_r c =
@@ -101,24 +101,24 @@ add_r c =
     record { fits = omega (arith, below turn, small turn.before.before) }
 
 loop-less : tie.Need-loop-r-smaller invariant-loop decreases-loop
-loop-less c = omega (arith, c.before.before.before.loop-r-test.true)
+loop-less c = omega (arith, c.loop-r-test.true)
 
 loop-again : tie.Need-loop-r-preserved invariant-loop decreases-loop
 loop-again c =
     let w = c.before.before in
-    let l = w.before.before.loop-r in
+    let l = w.loop-r in
     let s = w.before.before.before in
     let a = (1 * 2 ^ t s) % 2 ^ 64 + l.r in
     let next : a + 1 ≡ (1 * 2 ^ t s) % 2 ^ 64 + (l.r + 1) = omega arith in
     subst (FoldedTo (ws s) (t s) _ _) next
-    (folded_to-suc (ws s) s.before.before.requires.fit (t s) _ (deep s) _ a l.invariant _ (below w.before)
-    w.whole_of-whole.ensures _ (not-false _ c.if-not-pair_folds.false-raw) c.before.pair_folds.ensures)
+    (folded_to-suc (ws s) s.requires.fit (t s) _ (deep s) _ a l.invariant _ (below w.before)
+    w.whole_of-whole.ensures _ (not-false _ c.if-not-pair_folds.false-raw) c.pair_folds.ensures)
 
 returns-2 : tie.Need-returns invariant-loop decreases-loop
 returns-2 c =
-    let l = c.before.loop-r in
+    let l = c.loop-r in
     let s = c.before.before in
-    step_told-yes (ws s) s.before.before.requires.fit (t s) _ (deep s) _ _ l.invariant
+    step_told-yes (ws s) s.requires.fit (t s) _ (deep s) _ _ l.invariant
     (omega (arith, size_is s, c.loop-r-test.false))
 
 pub step_folds_spec : {M : Type 1} → statement M

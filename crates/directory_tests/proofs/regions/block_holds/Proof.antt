@@ -19,8 +19,8 @@ mask-holds-requires c κs = search rules
 
 returns : tie.Need-returns
 returns c =
-    let first = c.before.before.address_before-base.ensures in
-    let last = c.before.address_before-end.ensures in
+    let first = c.address_before-base.ensures in
+    let last = c.address_before-end.ensures in
     rw (sym first, sym last) c.mask_holds.ensures
 
 pub block_holds_spec : {M : Type 1} → statement M

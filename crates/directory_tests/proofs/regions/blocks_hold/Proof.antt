@@ -24,32 +24,32 @@ deep : (s : tie.Start invariant-loop decreases-loop) → s.args.t ≤ length (st
 deep s = let w = s.args.widths in fits-steps w.w0 w.w1 w.w2 w.w3 _ _ s.requires.fits
 
 loop-holds : tie.Need-loop-y-init invariant-loop decreases-loop
-loop-holds c = filled_to-start _ _ _ _ _ _ _ c.before.requires
+loop-holds c = filled_to-start _ _ _ _ _ _ _ c.requires
 
 step-from-requires : tie.Need-step_from-step-requires invariant-loop decreases-loop
 step-from-requires c κs =
-    let f = c.before.before.before.requires.fits in
-    let l = c.before.loop-y.invariant in
+    let f = c.requires.fits in
+    let l = c.loop-y.invariant in
     (f.fit, omega (arith, c.loop-y-test.true, f.deep), l.place)
 
 with-bit-requires : tie.Need-with_bit-first-requires invariant-loop decreases-loop
 with-bit-requires c κs =
     let pair = c.step_from-step.ensures in
-    let l = c.before.before.loop-y in
-    (pair.low, first_small _ _ _ _ _ _ _ c.before.before.before.before.requires _ _ _ _ l.invariant _ pair)
+    let l = c.loop-y in
+    (pair.low, first_small _ _ _ _ _ _ _ c.requires _ _ _ _ l.invariant _ pair)
 
 with-bit-requires-2 : tie.Need-with_bit-last-requires invariant-loop decreases-loop
 with-bit-requires-2 c κs =
-    let pair = c.before.step_from-step.ensures in
-    let l = c.before.before.before.loop-y in
-    (pair.low, last-small _ _ _ _ _ _ _ c.before.before.before.before.before.requires _ _ _ _ l.invariant _ pair)
+    let pair = c.step_from-step.ensures in
+    let l = c.loop-y in
+    (pair.low, last-small _ _ _ _ _ _ _ c.requires _ _ _ _ l.invariant _ pair)
 
 block-holds-requires : tie.Need-block_holds-requires invariant-loop decreases-loop
 block-holds-requires c κs =
     let step = c.before.before in
     let turn = step.before in
-    block-fits _ _ _ _ _ _ _ turn.before.before.before.requires _ _ _ _ turn.before.loop-y.invariant _
-    step.step_from-step.ensures turn.loop-y-test.true _ _ c.before.with_bit-first.ensures c.with_bit-last.ensures
+    block-fits _ _ _ _ _ _ _ turn.requires _ _ _ _ turn.loop-y.invariant _
+    step.step_from-step.ensures turn.loop-y-test.true _ _ c.with_bit-first.ensures c.with_bit-last.ensures
 
 returns : tie.Need-returns-then-not-block_holds invariant-loop decreases-loop
 returns c =
@@ -57,35 +57,35 @@ returns c =
     let step = bits.before.before in
     let turn = step.before in
     let s = turn.before.before.before in
-    blocks_told-no _ _ _ _ _ _ _ s.requires (deep s) _ _ _ turn.before.loop-y.invariant _ step.step_from-step.ensures
-    turn.loop-y-test.true _ _ bits.before.with_bit-first.ensures bits.with_bit-last.ensures _
-    (not-true _ c.if-not-block_holds.true-raw) c.before.block_holds.ensures
+    blocks_told-no _ _ _ _ _ _ _ s.requires (deep s) _ _ _ turn.loop-y.invariant _ step.step_from-step.ensures
+    turn.loop-y-test.true _ _ bits.with_bit-first.ensures bits.with_bit-last.ensures _
+    (not-true _ c.if-not-block_holds.true-raw) c.block_holds.ensures
 
 add-g : tie.Need-overflow_add-g invariant-loop decreases-loop
-add-g c = record { fits = omega (arith, c.before.before.before.before.step_from-step.ensures.low) }
+add-g c = record { fits = omega (arith, c.step_from-step.ensures.low) }
 
 add-y : tie.Need-overflow_add-y invariant-loop decreases-loop
 add-y c =
     let turn = c.before.before.before.before.before in
-    record { fits = omega (arith, turn.loop-y-test.true, turn.before.before.before.requires.fits.short) }
+    record { fits = omega (arith, turn.loop-y-test.true, turn.requires.fits.short) }
 
 loop-less : tie.Need-loop-y-smaller invariant-loop decreases-loop
-loop-less c = omega (arith, c.before.before.before.before.before.loop-y-test.true)
+loop-less c = omega (arith, c.loop-y-test.true)
 
 loop-again : tie.Need-loop-y-preserved invariant-loop decreases-loop
 loop-again c =
     let bits = c.before.before in
     let step = bits.before.before in
     let turn = step.before in
-    let told = c.before.block_holds.ensures in
-    filled_to-suc _ _ _ _ _ _ _ turn.before.before.before.requires _ _ _ _ turn.before.loop-y.invariant _
-    step.step_from-step.ensures turn.loop-y-test.true _ _ bits.before.with_bit-first.ensures
+    let told = c.block_holds.ensures in
+    filled_to-suc _ _ _ _ _ _ _ turn.requires _ _ _ _ turn.loop-y.invariant _
+    step.step_from-step.ensures turn.loop-y-test.true _ _ bits.with_bit-first.ensures
     bits.with_bit-last.ensures _ (block_filled _ _ _ _ _ _ (not-false _ c.if-not-block_holds.false-raw) told)
 
 returns-2 : tie.Need-returns invariant-loop decreases-loop
 returns-2 c =
     let s = c.before.before.before in
-    blocks_told-yes _ _ _ _ _ _ _ s.requires (deep s) _ _ _ c.before.loop-y.invariant c.loop-y-test.false
+    blocks_told-yes _ _ _ _ _ _ _ s.requires (deep s) _ _ _ c.loop-y.invariant c.loop-y-test.false
 
 pub blocks_hold_spec : {M : Type 1} → statement M
 blocks_hold_spec =

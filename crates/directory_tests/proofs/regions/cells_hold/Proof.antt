@@ -24,7 +24,7 @@ ws s = width_list s.args.widths
 deep : (s : tie.Start) → s.args.t ≤ length (steps (ws s))
 deep s = let w = s.args.widths in fits-steps w.w0 w.w1 w.w2 w.w3 _ _ s.requires.fits
 
-low : (c : tie.After-locate-own) → c.locate-own.result < 2 ^ c.before.before.args.t
+low : (c : tie.After-locate-own) → c.locate-own.result < 2 ^ c.args.t
 unfolding cell_address
 low c =
     let s = c.before.before in
@@ -37,7 +37,7 @@ low c =
 at : (c : tie.After-locate-own) → let s = c.before.before in
     get_or s.args.dir.now (address (ws s) (index_list s.args.index)) 0
     ≡ get_or s.args.dir.now c.locate-own.result 0
-at c = ap (λ a. get_or c.before.before.args.dir.now a 0) (sym c.locate-own.ensures)
+at c = ap (λ a. get_or c.args.dir.now a 0) (sym c.locate-own.ensures)
 
 locate-requires : tie.Need-locate-own-requires
 locate-requires c κs =
@@ -51,7 +51,7 @@ mul-if1 c =
     record { fits = omega (arith, low c) }
 
 shared-slice-read-if1 : tie.Need-bounds-dir-own
-shared-slice-read-if1 c = omega (arith, low c.before, c.before.before.before.requires.fits.room)
+shared-slice-read-if1 c = omega (arith, low c.before, c.requires.fits.room)
 
 returns : tie.Need-returns-then-dir-own
 returns c =
@@ -66,7 +66,7 @@ returns-2 : tie.Need-returns
 returns-2 c =
     let l = c.before.before.before in
     let s = l.before.before in
-    cells_told-blocks (ws s) s.requires.fits.fit _ _ s.requires.within (deep s) _ _ _ _ (at l ∙ c.before.if-dir-own.false)
+    cells_told-blocks (ws s) s.requires.fits.fit _ _ s.requires.within (deep s) _ _ _ _ (at l ∙ c.if-dir-own.false)
     c.blocks_hold.ensures
 
 pub cells_hold_spec : {M : Type 1} → statement M

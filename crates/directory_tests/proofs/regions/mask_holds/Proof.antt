@@ -21,11 +21,11 @@ mul-if1 : tie.Need-offset_bounds-dir-base invariant-loop decreases-loop
 mul-if1 c = record { fits = omega (arith, c.requires.1) }
 
 shared-slice-read-if1 : tie.Need-bounds-dir-base invariant-loop decreases-loop
-shared-slice-read-if1 c = c.before.requires.0
+shared-slice-read-if1 c = c.requires.0
 
 returns : tie.Need-returns-then-dir-base invariant-loop decreases-loop
 returns c =
-    let a = c.before.before.args in
+    let a = c.args in
     mask_told-no a.base a.mask a.word _ a.mask (and_self a.mask) c.if-dir-base.true
 
 loop-holds : tie.Need-loop-v-init invariant-loop decreases-loop
@@ -37,35 +37,35 @@ sub-v c = omega (arith, c.loop-v-test.true)
 add-if2 : tie.Need-overflow_add-base-in-loop-v invariant-loop decreases-loop
 add-if2 c =
     let s = c.before.before.before.before in
-    record { fits = omega (arith, s.requires.1, and_le_r (c.before.loop-v.v - 1) s.args.mask) }
+    record { fits = omega (arith, s.requires.1, and_le_r (c.loop-v.v - 1) s.args.mask) }
 
 mul-if2 : tie.Need-offset_bounds-dir-base-in-loop-v invariant-loop decreases-loop
 mul-if2 c =
     let s = c.before.before.before.before in
-    record { fits = omega (arith, s.requires.1, and_le_r (c.before.loop-v.v - 1) s.args.mask) }
+    record { fits = omega (arith, s.requires.1, and_le_r (c.loop-v.v - 1) s.args.mask) }
 
 shared-slice-read-if2 : tie.Need-bounds-dir-base-in-loop-v invariant-loop decreases-loop
 shared-slice-read-if2 c =
     let s = c.before.before.before.before.before in
-    omega (arith, s.requires.0, and_le_r (c.before.before.loop-v.v - 1) s.args.mask)
+    omega (arith, s.requires.0, and_le_r (c.loop-v.v - 1) s.args.mask)
 
 returns-2 : tie.Need-returns-then-dir-base-2 invariant-loop decreases-loop
 returns-2 c =
-    let a = c.before.before.before.before.before.before.args in
-    mask_told-no a.base a.mask a.word _ _ (among-and (c.before.before.before.loop-v.v - 1) a.mask)
+    let a = c.args in
+    mask_told-no a.base a.mask a.word _ _ (among-and (c.loop-v.v - 1) a.mask)
     c.if-dir-base-2.true
 
 loop-less : tie.Need-loop-v-smaller invariant-loop decreases-loop
 loop-less c =
-    let l = c.before.before.before.loop-v in
-    let a = c.before.before.before.before.before.before.args in
-    omega (arith, c.before.before.loop-v-test.true, and_le_l (l.v - 1) a.mask)
+    let l = c.loop-v in
+    let a = c.args in
+    omega (arith, c.loop-v-test.true, and_le_l (l.v - 1) a.mask)
 
 loop-again : tie.Need-loop-v-preserved invariant-loop decreases-loop
-loop-again c = held_from-next _ _ _ _ _ c.before.before.before.loop-v.invariant c.if-dir-base-2.false
+loop-again c = held_from-next _ _ _ _ _ c.loop-v.invariant c.if-dir-base-2.false
 
 returns-3 : tie.Need-returns invariant-loop decreases-loop
-returns-3 c = mask_told-yes _ _ _ _ _ c.loop-v-test.false c.before.loop-v.invariant
+returns-3 c = mask_told-yes _ _ _ _ _ c.loop-v-test.false c.loop-v.invariant
 
 pub mask_holds_spec : {M : Type 1} → statement M
 mask_holds_spec =

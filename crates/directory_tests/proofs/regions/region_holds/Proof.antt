@@ -22,7 +22,7 @@ named : (c : tie.After-cell_before-index) → let s = c.before.before.before in
     cell (ws s) s.args.x (string s) ≡ index_list c.cell_before-index.result
 named c =
     let s = c.before.before.before in
-    ap (λ n. cell (ws s) n (string s)) (sym c.before.place_of-start.ensures.before) ∙ sym c.cell_before-index.ensures
+    ap (λ n. cell (ws s) n (string s)) (sym c.place_of-start.ensures.before) ∙ sym c.cell_before-index.ensures
 
 place-of-requires : tie.Need-place_of-start-requires
 place-of-requires c κs = search rules
@@ -35,7 +35,7 @@ cells-hold-requires c κs =
     let s = c.before.before.before in
     record {
       string = (string s, named c);
-      place = c.before.place_of-start.ensures;
+      place = c.place_of-start.ensures;
       within = s.requires.1;
       fits = s.requires.0;
     }

@@ -39,13 +39,13 @@ named : (c : tie.After-cell_before-index) → let s = start c in
     cell (ws s) s.args.z (string s) ≡ index_list c.cell_before-index.result
 named c =
     let s = start c in
-    ap (λ n. cell (ws s) n (string s)) (sym c.before.step_place-g.ensures.before) ∙ sym c.cell_before-index.ensures
+    ap (λ n. cell (ws s) n (string s)) (sym c.step_place-g.ensures.before) ∙ sym c.cell_before-index.ensures
 
 -- the bit is that of step z
 bit_is : (c : tie.After-bit_at) → let s = start c.before in string s s.args.z ≡ c.bit_at.result
 bit_is c =
     let s = start c.before in
-    ap (string s) (sym c.before.before.step_place-g.ensures.before) ∙ sym c.bit_at.ensures
+    ap (string s) (sym c.step_place-g.ensures.before) ∙ sym c.bit_at.ensures
 
 -- with bit 1 the sibling's vector is that one
 zero-half : (c : tie.Then-bit_at) → let at = c.before.before in let s = start at in
@@ -53,7 +53,7 @@ zero-half : (c : tie.Then-bit_at) → let at = c.before.before in let s = start 
 zero-half c =
     let s = start c.before.before in
     ap (λ n. cell (ws s) n (other s)) (add-one s.args.z)
-    ∙ cell-sibling-zero (ws s) s.pre.0.fit _ _ c.before.before.before.step_place-g.ensures (string s)
+    ∙ cell-sibling-zero (ws s) s.pre.0.fit _ _ c.step_place-g.ensures (string s)
     (bit_is c.before ∙ c.if-bit_at.true)
     ∙ named c.before.before
 
@@ -63,10 +63,10 @@ one-half : (c : tie.After-with_bit-other) → let s = start c.before.before.befo
 one-half c =
     let at = c.before.before.before in
     let s = start at in
-    let g = at.before.step_place-g.result in
+    let g = at.step_place-g.result in
     ap (λ n. cell (ws s) n (other s)) (add-one s.args.z)
-    ∙ cell-sibling-one (ws s) s.pre.0.fit _ g at.before.step_place-g.ensures (string s)
-    (bit_is c.before.before ∙ c.before.if-bit_at.false)
+    ∙ cell-sibling-one (ws s) s.pre.0.fit _ g at.step_place-g.ensures (string s)
+    (bit_is c.before.before ∙ c.if-bit_at.false)
     ∙ ap (bit_set g) (named at)
     ∙ sym c.with_bit-other.ensures
 
@@ -82,7 +82,7 @@ bit-at-requires : tie.Need-bit_at-requires
 bit-at-requires c κs = search rules
 
 add-cells-hold : tie.Need-overflow_add-g
-add-cells-hold c = record { fits = omega (arith, c.before.before.before.step_place-g.ensures.low) }
+add-cells-hold c = record { fits = omega (arith, c.step_place-g.ensures.low) }
 
 add-cells-hold-2 : tie.Need-overflow_add-z
 add-cells-hold-2 c =
@@ -94,7 +94,7 @@ cells-hold-requires c κs =
     let s = start c.before.before in
     record {
       string = (other s, zero-half c);
-      place = steps_before-pair (ws s) _ _ c.before.before.before.step_place-g.ensures;
+      place = steps_before-pair (ws s) _ _ c.step_place-g.ensures;
       within = omega (arith, s.pre.1);
       fits = s.pre.0;
     }
@@ -109,15 +109,15 @@ with-bit-requires : tie.Need-with_bit-other-requires
 with-bit-requires c κs =
     let at = c.before.before in
     let s = start at in
-    let g = at.before.step_place-g.result in
-    let pair = at.before.step_place-g.ensures in (
+    let g = at.step_place-g.result in
+    let pair = at.step_place-g.ensures in (
       pair.low,
       subst (λ v. get_or v (g % 4) 0 < 2 ^ (g / 4)) (named at) (get_d-cell-lt (ws s) s.pre.0.fit _ g pair (string s)),
     )
 
 add-cells-hold-3 : tie.Need-overflow_add-g-2
 add-cells-hold-3 c =
-    record { fits = omega (arith, c.before.before.before.before.step_place-g.ensures.low) }
+    record { fits = omega (arith, c.step_place-g.ensures.low) }
 
 add-cells-hold-4 : tie.Need-overflow_add-z-2
 add-cells-hold-4 c =
@@ -129,7 +129,7 @@ cells-hold-requires-2 c κs =
     let s = start c.before.before.before in
     record {
       string = (other s, one-half c);
-      place = steps_before-pair (ws s) _ _ c.before.before.before.before.step_place-g.ensures;
+      place = steps_before-pair (ws s) _ _ c.step_place-g.ensures;
       within = omega (arith, s.pre.1);
       fits = s.pre.0;
     }

@@ -18,19 +18,19 @@ enum-known-answer-2 c = search rules
 returns : tie.Need-returns-in-Done
 unfolding made_answer
 returns c =
-    let e = sym c.enum_told-1.given.1 in
+    let e = sym c.in-Done.is in
     (ap (λ a. number_told (made_answer a)) e, ap (λ a. carried_beside 14 (made_answer a)) e, refl)
 
 returns-2 : tie.Need-returns-in-Refused
 unfolding made_answer
 returns-2 c =
-    let e = sym c.before.answer-1.given.1 in
+    let e = sym c.in-Refused.is in
     (ap (λ a. number_told (made_answer a)) e, ap (λ a. carried_beside 14 (made_answer a)) e, refl)
 
 returns-3 : tie.Need-returns-in-Width
 unfolding made_answer
 returns-3 c =
-    let e = sym c.before.answer-in-Width-1.given.1 in
+    let e = sym c.in-Width.is in
     (ap (λ a. number_told (made_answer a)) e, ap (λ a. carried_beside 14 (made_answer a)) e, refl)
 
 pub fields_of_spec : {M : Type 1} → statement M

@@ -27,7 +27,7 @@ same-length-4 c = search rules
 
 returns : tie.Need-returns
 returns c =
-    let ran = c.before.before.before.before.before.before.before.before.before.replay in
+    let ran = c.replay in
     let told = c.fields_of.ensures in
     rw told.2
     (replayed-told _ _ (named-fresh _ _) (answered_by-fresh _ _) _ _ _ _ _ _ _ _ _ (made_answer ran.result.answer) _ _

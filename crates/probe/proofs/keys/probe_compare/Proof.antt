@@ -18,13 +18,13 @@ enum-told-3 : tie.Need-enum_told-in-After
 enum-told-3 c = search rules
 
 returns : tie.Need-returns-in-Same
-returns c = sym (ap order_number (sym c.before.before.compare-order.ensures ∙ c.enum_told-1.given.1))
+returns c = sym (ap order_number (sym c.compare-order.ensures ∙ c.in-Same.is))
 
 returns-2 : tie.Need-returns-in-Before
-returns-2 c = sym (ap order_number (sym c.before.before.compare-order.ensures ∙ c.enum_told-in-Before-1.given.1))
+returns-2 c = sym (ap order_number (sym c.compare-order.ensures ∙ c.in-Before.is))
 
 returns-3 : tie.Need-returns-in-After
-returns-3 c = sym (ap order_number (sym c.before.before.compare-order.ensures ∙ c.enum_told-in-After-1.given.1))
+returns-3 c = sym (ap order_number (sym c.compare-order.ensures ∙ c.in-After.is))
 
 pub probe_compare_spec : {M : Type 1} → statement M
 probe_compare_spec =

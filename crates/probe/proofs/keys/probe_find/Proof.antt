@@ -18,15 +18,15 @@ enum-known-found-2 c = search rules
 
 returns : tie.Need-returns-in-Before
 returns c =
-    let s = c.before.before.before.before.before.args in
-    subst (Placed (width_list s.widths) 0 (unpacked_key s.key) s.page.now s.n) c.before.found-1.given.1
-    c.before.before.before.find-found.ensures
+    let s = c.args in
+    subst (Placed (width_list s.widths) 0 (unpacked_key s.key) s.page.now s.n) c.in-Before.is
+    c.find-found.ensures
 
 returns-2 : tie.Need-returns-in-At
 returns-2 c =
-    let s = c.before.before.before.before.before.args in
-    subst (Placed (width_list s.widths) 0 (unpacked_key s.key) s.page.now s.n) c.before.found-in-At-1.given.1
-    c.before.before.before.find-found.ensures
+    let s = c.args in
+    subst (Placed (width_list s.widths) 0 (unpacked_key s.key) s.page.now s.n) c.in-At.is
+    c.find-found.ensures
 
 pub probe_find_spec : {M : Type 1} → statement M
 probe_find_spec =

@@ -13,7 +13,7 @@ pattern-of-requires : tie.Need-pattern_of-requires
 pattern-of-requires c κs = search rules
 
 returns : tie.Need-returns
-returns c = c.pattern_of.ensures ∙ ap pattern_of c.before.store_query.ensures
+returns c = c.pattern_of.ensures ∙ ap pattern_of c.store_query.ensures
 
 pub probe_pattern_of_spec : {M : Type 1} → statement M
 probe_pattern_of_spec = tie.close (tie.spec store-query-requires pattern-of-requires returns)

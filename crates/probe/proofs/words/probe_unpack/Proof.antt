@@ -15,10 +15,10 @@ enum-known-leaf-2 : tie.Need-enum_known-leaf-in-Page-1
 enum-known-leaf-2 c = search rules
 
 returns : tie.Need-returns-in-Empty
-returns c = sym (ap leaf_fields (sym c.before.before.before.unpack-leaf.ensures ∙ c.before.leaf-1.given.1))
+returns c = sym (ap leaf_fields (sym c.unpack-leaf.ensures ∙ c.in-Empty.is))
 
 returns-2 : tie.Need-returns-in-Page
-returns-2 c = sym (ap leaf_fields (sym c.before.before.before.unpack-leaf.ensures ∙ c.before.leaf-in-Page-1.given.1))
+returns-2 c = sym (ap leaf_fields (sym c.unpack-leaf.ensures ∙ c.in-Page.is))
 
 pub probe_unpack_spec : {M : Type 1} → statement M
 probe_unpack_spec =

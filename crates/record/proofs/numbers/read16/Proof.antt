@@ -22,7 +22,7 @@ wide-requires-2 c κs = search rules
 returns : tie.Need-returns
 returns c =
     let start = c.before.before.before.before.before in
-    let low = c.before.before.wide in
+    let low = c.wide in
     let high = c.wide-2 in
     read-two start.args.bytes.now start.args.at low.result high.result low.ensures.0
     low.ensures.1

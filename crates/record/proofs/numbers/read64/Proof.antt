@@ -16,7 +16,7 @@ read32-requires-2 c κs = search rules
 returns : tie.Need-returns
 returns c =
     let start = c.before.before.before in
-    let low = c.before.read32 in
+    let low = c.read32 in
     let high = c.read32-2 in
     read-eight start.args.bytes.now start.args.at low.result high.result low.ensures.0
     low.ensures.1

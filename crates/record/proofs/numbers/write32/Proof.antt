@@ -21,7 +21,7 @@ returns c =
     let start = c.before.before.before.before.before.before.before.before.before in
     let a = start.args in
     write-four a.bytes.now _ _ a.at a.x start.requires
-    c.before.before.before.before.before.before.write16.ensures c.before.before.write16-2.ensures
+    c.write16.ensures c.write16-2.ensures
 
 pub write32_spec : {M : Type 1} → statement M
 write32_spec =

@@ -21,7 +21,7 @@ returns c =
     let start = c.before.before.before.before.before.before.before.before.before in
     let a = start.args in
     write-eight a.bytes.now _ _ a.at a.x start.requires
-    c.before.before.before.before.before.before.write32.ensures c.before.before.write32-2.ensures
+    c.write32.ensures c.write32-2.ensures
 
 pub write64_spec : {M : Type 1} → statement M
 write64_spec =

@@ -23,7 +23,7 @@ returns c =
     let three = c.before in
     let two = three.before in
     rw (
-      two.before.attribute_at-a0.ensures,
+      two.attribute_at-a0.ensures,
       two.attribute_at-a1.ensures,
       three.attribute_at-a2.ensures,
       c.attribute_at-a3.ensures,
