@@ -136,6 +136,7 @@ pub In-put_among : (Js v : List ℕ) (z x : ℕ) → z < length Js → x < get_o
     → (In Js (put_among z x v)) × (get_or (put_among z x v) z 0 ≡ x) × (without z (put_among z x v) ≡ v)
 In-put_among [] v z x h l n = absurd (omega arith)
 In-put_among (J ∷ Js) v zero x h l n = (also l n, refl, refl)
+In-put_among (J ∷ Js) [] (suc z) x h l n = elim n [ ]
 In-put_among (J ∷ Js) (y ∷ v) (suc z) x h l (also m n) =
     let r = In-put_among Js v z x (omega arith) l n in
     (also m r.0, r.1, ap (λ u. y ∷ u) r.2)

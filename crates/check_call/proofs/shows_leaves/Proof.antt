@@ -14,7 +14,7 @@ use Rattle.check_call.proofs.shows_leaves.Tie as tie
 -- what the walk has told
 walked : (c : tie.After-walk-seen) → let a = c.args in
     let lent = store a.state a.dir.now a.pages.now in
-    Tells 0 (replicate 13 0) c.walk-seen.result c.walk-seen.new.1.1.1.1.1.0 (walk_test lent) (shown_division lent)
+    Tells 0 (replicate 13 0) c.walk-seen.result c.walk-seen.new.tally (walk_test lent) (shown_division lent)
 walked c =
     let a = c.args in
     tells-whole a.state a.dir.now a.pages.now _ c.widths_of-widths.ensures _

@@ -83,7 +83,7 @@ fill-blocks-requires c κs =
 same_length : tie.Need-shape_of-dir
 same_length c =
     let s = c.before.before.before.before.before.before.before.before in
-    c.fill_blocks.auto.1.1.1.1.1.1.0
+    c.fill_blocks.auto.dir
     ∙ length-set s.args.dir.now c.locate-own.result s.args.word
 
 returns : tie.Need-returns

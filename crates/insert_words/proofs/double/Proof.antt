@@ -57,7 +57,7 @@ returns c =
     let w = c.before.before.before.before in
     let g = w.before in
     let a = (start g).args in
-    let words = d.new.1.1.1.0 in
+    let words = d.new.dir in
     let depth : g.greater-depth.result ≡ max a.state.deepest (suc a.split.step) =
     omega (arith, g.greater-depth.ensures) in
     let deepened : Deepened (widths_of a.state.shape) a.state.deepest g.greater-depth.result a.dir.now words =

@@ -44,7 +44,7 @@ returns c =
     let a = w.args in
     subst
     (λ ws. LeavesSet ws a.state.deepest a.split.depth a.split.step (split_bit ws a.encoded)
-    a.split.page a.free a.dir.now set.new.1.1.1.1.1.1.1.1.0)
+    a.split.page a.free a.dir.now set.new.dir)
     w.widths_of-widths.ensures set.ensures
 
 pub set_words_spec : {M : Type 1} → statement M

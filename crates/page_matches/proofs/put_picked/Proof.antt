@@ -67,7 +67,7 @@ loop-again c =
     let rest = picked_by (bit_and loop.left (loop.left - 1)) page in
     let count : loop.found + suc (length rest) ≡ loop.found + 1 + length rest = omega arith in (
       omega arith,
-      put.auto.1.1.0 ∙ loop.invariant.1,
+      put.auto.out ∙ loop.invariant.1,
       loop.invariant.2 ∙ ap (λ l. loop.found + length l) next ∙ count,
       loop.invariant.3
           ∙ ap (emit loop.out loop.found) next

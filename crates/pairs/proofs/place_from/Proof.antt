@@ -2,12 +2,12 @@
 -- fall. Assumes nothing.
 use Prim.Native.Nat.{◌-◌, ◌/◌, ◌≤◌, ◌<◌}
 use mathlib.Core.Path.{◌≡◌, subst}
-use mathlib.Core.Logic.{⊎_elim}
 use native.Mathlib.Omega.{arith}
 use Rattle.shape.specs.Shape.{width_list}
 use Rattle.pairs.specs.Pairs.{StepsBefore}
 use Rattle.pairs.proofs.PlaceLaws.{steps_before-step, steps_before-skip, steps_before-lt}
 use Rattle.pairs.proofs.place_from.Statement.{statement}
+use Rattle.pairs.proofs.place_from.Lts.{then-g-width_at, else-g-width_at}
 use Rattle.pairs.proofs.place_from.Tie as tie
 
 abbrev invariant-loop : tie.invariant-loop-before
@@ -47,18 +47,18 @@ loop-again c =
     let l = c.loop-before in
     let ws = width_list c.args.widths in
     let width = c.width_at.ensures in
-    ⊎_elim
-    (λ w. rw w.1 (
-      omega (arith, c.loop-before-test.true),
-      steps_before-step ws l.before l.g l.invariant.1
-          (next c.before.before) (subst (λ x. l.g / 4 < x) width w.0.taken),
-    ))
-    (λ w. rw w.1 (
-      l.invariant.0,
-      steps_before-skip ws l.before l.g l.invariant.1
-          (next c.before.before) (subst (λ x. x ≤ l.g / 4) width w.0.left),
-    ))
-    c.if-g-width_at.branch
+    elim c.if-g-width_at.branch [
+      then-g-width_at w ↦ rw w.before-is (
+        omega (arith, c.loop-before-test.true),
+        steps_before-step ws l.before l.g l.invariant.1
+            (next c.before.before) (subst (λ x. l.g / 4 < x) width w.if-g-width_at.true),
+      )
+    | else-g-width_at w ↦ rw w.before-is (
+        l.invariant.0,
+        steps_before-skip ws l.before l.g l.invariant.1
+            (next c.before.before) (subst (λ x. x ≤ l.g / 4) width w.if-g-width_at.false),
+      )
+    ]
 
 returns : tie.Need-returns invariant-loop decreases-loop
 returns c =

@@ -62,7 +62,7 @@ loop-again c =
     let few = length-page_fields-le a.capacity a.pages.now _ s.requires.capacity (s.requires.each loop.i lt) in (
       omega (arith, lt),
       emitted_to-next f a.list.now a.out.now loop.i loop.total loop.out loop.invariant.1
-          (omega (arith, s.requires.within, lt)) few _ put.ensures.0 _ put.ensures.1 put.auto.1.1.1.0,
+          (omega (arith, s.requires.within, lt)) few _ put.ensures.value _ put.ensures.out_after put.auto.out,
     )
 
 same_length : tie.Need-shape_of-out invariant-loop decreases-loop

@@ -85,7 +85,7 @@ loop-again c =
     let next : 4 * l.bit + 4 ≡ 4 * (l.bit + 1) = omega arith in (
       c.fill_bit-x.ensures.0 ∙ l.invariant.0,
       subst (λ g. RowsFilled ws (wanted_at ws (wanted_values a.query)) a.t g c.fill_bit-x.result
-          c.fill_bit-x.new.1.1.1.1.0) next c.fill_bit-x.ensures.1,
+          c.fill_bit-x.new.rows) next c.fill_bit-x.ensures.1,
     )
 
 returns : tie.Need-returns invariant-loop decreases-loop

@@ -76,7 +76,7 @@ fill-rows-requires c κs =
 -- the rows are those of a query, and the list has the room
 tested : (c : tie.After-fill_rows) (room : ℕ)
     → let a = c.args in
-    let rows = c.fill_rows.new.1.1.1.0 in (2 ^ a.state.deepest ≤ room
+    let rows = c.fill_rows.new.rows in (2 ^ a.state.deepest ≤ room
     → Tested a.state (range_intervals a.range) rows (length a.dir.now) (length a.pages.now) room)
 tested c room l =
     let w = c.before.before.before.before in

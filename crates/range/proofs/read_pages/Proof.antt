@@ -44,7 +44,7 @@ fill-limits-requires c κs =
 -- the table, once the limits are put behind the rows
 tabled : (c : tie.After-fill_limits)
     → let s = c.before.before.before.before.before.before.before.before in
-    Table s.args.state s.requires.query c.fill_limits.new.1.0
+    Table s.args.state s.requires.query c.fill_limits.new.rows
 tabled c =
     let s = c.before.before.before.before.before.before.before.before in
     let a = s.args in
@@ -68,13 +68,13 @@ met : (c : tie.After-note_met-noted)
     → let a = c.args in
     let r = range_intervals a.range in
     Meeting a.state (low_key a.state.shape r) (high_key a.state.shape r) a.dir.now a.pages.now
-    a.list.now c.note_met-noted.result c.note_met-noted.new.1.1.1.1.1.1.0
+    a.list.now c.note_met-noted.result c.note_met-noted.new.list
 met c =
     let high = c.before.before.before.before.before in
     let low = high.before in
     let a = low.args in
     let r = range_intervals a.range in
-    let later = c.note_met-noted.new.1.1.1.1.1.1.0 in
+    let later = c.note_met-noted.new.list in
     subst
     (λ k. Meeting a.state k (high_key a.state.shape r) a.dir.now a.pages.now a.list.now
     c.note_met-noted.result later)
@@ -151,11 +151,11 @@ returns-2 c =
     promise-of-pages a.state a.dir.now a.pages.now (range_intervals a.range) s.requires.none s.requires.can
     a.list.now _ _ (met walk) walk.note-met.auto.1.1.1.1.1.1.0 s.requires.room-left _ found.1
     (λ i. omega (arith, known i)) a.out.now _ _ _
-    (put.ensures.0.0
+    (put.ensures.value.0
     ∙ (λ i. length (list_hits (lies_in (bias.bias-key.ensures i) (low.low-key.ensures i) (high.high-key.ensures i)) a.state.shape.capacity
     a.pages.now noted)))
-    (c.smaller_length.ensures ∙ ap (λ k. min put.result (k / record_size)) put.auto.1.1.1.1.1.1.1.0)
-    (put.ensures.1
+    (c.smaller_length.ensures ∙ ap (λ k. min put.result (k / record_size)) put.auto.out)
+    (put.ensures.out_after
     ∙ (λ i. emit a.out.now 0
     (list_hits (lies_in (bias.bias-key.ensures i) (low.low-key.ensures i) (high.high-key.ensures i)) a.state.shape.capacity
     a.pages.now noted)))

@@ -56,7 +56,7 @@ loop-again c =
     let loop = c.loop-k in
     let a = c.args in (
       omega arith,
-      eight.auto.1.1.0 ∙ loop.invariant.1,
+      eight.auto.target ∙ loop.invariant.1,
       paste-part 8 a.source.now a.target.now a.from a.to loop.k loop.k (omega arith) (omega arith)
           (omega arith) (omega arith) loop.target _ loop.invariant.2 eight.ensures,
     )
@@ -71,7 +71,7 @@ copy-eight-requires-2 : tie.Need-copy_eight-requires-2 invariant-loop decreases-
 copy-eight-requires-2 c κs = (omega arith, omega arith)
 
 same_length : tie.Need-shape_of-target invariant-loop decreases-loop
-same_length c = c.copy_eight-2.auto.1.1.0 ∙ c.loop-k.invariant.1
+same_length c = c.copy_eight-2.auto.target ∙ c.loop-k.invariant.1
 
 returns-2 : tie.Need-returns invariant-loop decreases-loop
 returns-2 c =

@@ -69,9 +69,9 @@ returns c =
     let start = second.before.before.before in
     let a = start.args in
     let last = record_size * a.n - 48 in
-    let whole : last + 48 ≡ record_size * a.n = omega (arith, start.pre.0) in
-    paste-four a.source.now a.target.now a.from a.to last (omega (arith, start.pre.1))
-    (omega (arith, whole, start.pre.2)) (omega (arith, whole, start.pre.3)) _ _ second.smaller_length-second.ensures
+    let whole : last + 48 ≡ record_size * a.n = omega (arith, start.requires.0) in
+    paste-four a.source.now a.target.now a.from a.to last (omega (arith, start.requires.1))
+    (omega (arith, whole, start.requires.2)) (omega (arith, whole, start.requires.3)) _ _ second.smaller_length-second.ensures
     third.smaller_length-third.ensures _ _ _ _ c1.copy_block.ensures c2.copy_block-2.ensures
     c3.copy_block-3.ensures c4.copy_block-4.ensures
     ∙ ap (paste a.target.now a.to (drop a.from a.source.now)) whole

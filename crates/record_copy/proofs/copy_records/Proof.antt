@@ -24,7 +24,7 @@ copy-few-requires : tie.Need-copy_few-requires invariant-loop decreases-loop
 copy-few-requires c κs = (omega arith, omega arith)
 
 same_length : tie.Need-shape_of-target-then-size-lt-BLOCK invariant-loop decreases-loop
-same_length c = c.copy_few.auto.1.1.0
+same_length c = c.copy_few.auto.target
 
 returns : tie.Need-returns-then-size-lt-BLOCK invariant-loop decreases-loop
 returns c = c.copy_few.ensures
@@ -33,7 +33,7 @@ copy-page-requires : tie.Need-copy_page-requires invariant-loop decreases-loop
 copy-page-requires c κs = (omega arith, omega arith, omega arith, omega arith)
 
 same-length-2 : tie.Need-shape_of-target-then-n-le16 invariant-loop decreases-loop
-same-length-2 c = c.copy_page.auto.1.1.0
+same-length-2 c = c.copy_page.auto.target
 
 returns-2 : tie.Need-returns-then-n-le16 invariant-loop decreases-loop
 returns-2 c = c.copy_page.ensures
@@ -64,7 +64,7 @@ loop-again c =
     let loop = c.loop-k in
     let a = c.args in (
       omega arith,
-      block.auto.1.1.0 ∙ loop.invariant.1,
+      block.auto.target ∙ loop.invariant.1,
       paste-part 48 a.source.now a.target.now a.from a.to loop.k loop.k (omega arith)
           (omega arith) (omega arith) (omega arith) loop.target _ loop.invariant.2 block.ensures,
     )
@@ -80,7 +80,7 @@ copy-block-requires-2 c κs = (omega arith, omega arith)
 
 same-length-3 : tie.Need-shape_of-target invariant-loop decreases-loop
 same-length-3 c =
-    c.copy_block-2.auto.1.1.0 ∙ c.loop-k.invariant.1
+    c.copy_block-2.auto.target ∙ c.loop-k.invariant.1
 
 returns-3 : tie.Need-returns invariant-loop decreases-loop
 returns-3 c =

@@ -108,7 +108,7 @@ loop-again c =
     let request = sized.read_request-request in
     let size = sized.request_size.ensures in
     let kept = call.run_call-step.auto in
-    let part = call.run_call-step.new.1.1.1.1.0 in
+    let part = call.run_call-step.new.out in
     let end = loop.start + sized.request_size.result in
     let e-size = size.0 ∙ ap (λ n. request_size request.result (n - loop.start)) inv.4 in
     let within : end ≤ length loop.out = omega (arith, inv.4, inv.5, size.1) in
@@ -120,7 +120,7 @@ loop-again c =
       omega (arith, test.loop-i-test.true),
       kept.1.0 ∙ inv.1,
       kept.1.1.0 ∙ inv.2,
-      put.put_answer.auto.0 ∙ inv.3,
+      put.put_answer.auto.answers ∙ inv.3,
       same_len_mid loop.start (end - loop.start) loop.out part kept.1.1.1.1.0 ∙ inv.4,
       omega (arith, inv.4, within),
       more.0,

@@ -15,14 +15,14 @@ use Rattle.save.proofs.note_all.Tie as tie
 -- the table, once the limits are put behind the rows
 tabled : (c : tie.After-fill_limits)
     → Table c.args.state free_bits
-    c.fill_limits.new.1.0
+    c.fill_limits.new.rows
 tabled c =
     let filled = c.before.before in
     let free = filled.free_query in
     let s = filled.before.before.before.before.before.before.before in
     let st = s.args.state in
     let ws = widths_of st.shape in
-    let rows = filled.fill_rows.new.1.1.1.0 in
+    let rows = filled.fill_rows.new.rows in
     rw c.fill_limits.ensures
     (Table-limited st rows s.requires.0.depth-twelve free_bits
     (rows-free ws st.deepest rows

@@ -86,7 +86,7 @@ write-file-requires c κs =
     let a = w.args in (
       shape-of-none a.state a.dir.now a.pages.now (none w),
       pages-within a.state a.dir.now a.pages.now (none w) (can w) _ _ _ walk.note_all-noted.ensures
-          walk.note_all-noted.auto.1.1.1.0 (omega arith) _ noted.in-Pages.is,
+          walk.note_all-noted.auto.list (omega arith) _ noted.in-Pages.is,
     )
 
 same_length : tie.Need-shape_of-out
@@ -101,7 +101,7 @@ returns-4 c =
     let a = w.args in
     let known = w.shared_slice_known-2-1.given in
     promise-of-pages a.state a.dir.now a.pages.now (none w) (can w) _ _ _ walk.note_all-noted.ensures
-    walk.note_all-noted.auto.1.1.1.0 (omega arith) _ noted.in-Pages.is (λ i. omega (arith, known i))
+    walk.note_all-noted.auto.list (omega arith) _ noted.in-Pages.is (λ i. omega (arith, known i))
     a.out.now _ _ written.write_file.ensures
 
 pub save_spec : {M : Type 1} → statement M

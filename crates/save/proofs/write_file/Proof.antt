@@ -40,7 +40,7 @@ put-end-requires c κs =
     let test = put.before.before in
     let counted = test.before in
     let s = counted.before.before.before.before.before in
-    (s.requires.0, counted.count_records-total.ensures.1, omega (arith, test.if-out-size.false, put.put_whole.auto.1.1.1.1.0))
+    (s.requires.0, counted.count_records-total.ensures.1, omega (arith, test.if-out-size.false, put.put_whole.auto.out))
 
 same_length : tie.Need-shape_of-out
 same_length c = search rules

@@ -84,13 +84,13 @@ loop-again c =
     let loop = at-loop.loop-next in
     let inv = loop.invariant in
     let a = at-args.args in (
-      call.auto.1.1.0 ∙ inv.0,
-      call.auto.1.1.1.0 ∙ inv.1,
-      call.auto.1.1.1.1.0 ∙ inv.2,
+      call.auto.dir ∙ inv.0,
+      call.auto.pages ∙ inv.1,
+      call.auto.out ∙ inv.2,
       inv.3,
       running-step a.piece.now a.from a.progress _ a.text.now loop.next loop.here _ loop.text
-          inv.4 _ _ _ at-loop-test.loop-next-test.true call.ensures.0 call.ensures.1
-          call.auto.1.1.1.1.1.0,
+          inv.4 _ _ _ at-loop-test.loop-next-test.true call.ensures.stepped call.ensures.standable
+          call.auto.text,
     )
 
 same-length-5 : tie.Need-shape_of-dir invariant-loop decreases-loop
