@@ -24,7 +24,7 @@ use Rattle.delete.proofs.delete.Tie as tie
 
 -- the tally has thirteen counts: what owning the state tells
 thirteen : (c : tie.Start) → length c.args.state.tally.leaves ≡ 13
-thirteen c = sym (length-map c.args.state.tally.leaves (λ v. v)) ∙ c.well_formed.0.1.1.1.1.1.0.1.1.0.1.0.1
+thirteen c = c.well_formed.0.1.1.1.1.1.0.1.1.0.1.0.1
 
 abbrev given : tie.Start → Store
 given s = store s.args.state s.args.dir.now s.args.pages.now

@@ -11,14 +11,10 @@ use Rattle.host_results.proofs.settle.Tie as tie
 
 -- the state's arrays: what owning the making tells
 four : (c : tie.Start) → length c.args.making.state.shape.widths ≡ 4
-four c =
-    sym (length-map c.args.making.state.shape.widths (λ v. v))
-    ∙ c.well_formed.1.0.1.1.1.0.1.1.0.1.1.1.0.1.0.1
+four c = c.well_formed.1.0.1.1.1.0.1.1.0.1.1.1.0.1.0.1
 
 thirteen : (c : tie.Start) → length c.args.making.state.tally.leaves ≡ 13
-thirteen c =
-    sym (length-map c.args.making.state.tally.leaves (λ v. v))
-    ∙ c.well_formed.1.0.1.1.1.0.1.1.1.1.1.0.1.1.0.1.0.1
+thirteen c = c.well_formed.1.0.1.1.1.0.1.1.1.1.1.0.1.1.0.1.0.1
 
 -- equal answers tell the same
 numbers : (a b : Made) → a ≡ b

@@ -12,14 +12,10 @@ use Rattle.host_results.proofs.settle_change.Tie as tie
 
 -- the state's arrays: what owning the change tells
 four : (c : tie.Start) → length c.args.change.state.shape.widths ≡ 4
-four c =
-    sym (length-map c.args.change.state.shape.widths (λ v. v))
-    ∙ c.well_formed.1.0.1.1.1.0.1.1.0.1.1.1.0.1.0.1
+four c = c.well_formed.1.0.1.1.1.0.1.1.0.1.1.1.0.1.0.1
 
 thirteen : (c : tie.Start) → length c.args.change.state.tally.leaves ≡ 13
-thirteen c =
-    sym (length-map c.args.change.state.tally.leaves (λ v. v))
-    ∙ c.well_formed.1.0.1.1.1.0.1.1.1.1.1.0.1.1.0.1.0.1
+thirteen c = c.well_formed.1.0.1.1.1.0.1.1.1.1.1.0.1.1.0.1.0.1
 
 -- equal answers tell the same
 numbers : (a b : Changed) → a ≡ b

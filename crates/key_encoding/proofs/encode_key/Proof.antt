@@ -9,7 +9,7 @@ use Rattle.key_encoding.proofs.encode_key.Tie as tie
 
 -- the array of a key's values has four: what owning the key tells
 four : (c : tie.Start) → length c.args.key.values ≡ 4
-four c = sym (length-map c.args.key.values (λ v. v)) ∙ c.well_formed.1.0.1.1.0.1.0.1
+four c = c.well_formed.1.0.1.1.0.1.0.1
 
 returns : tie.Need-returns-then-shape-eq0
 returns c =

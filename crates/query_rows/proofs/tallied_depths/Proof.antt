@@ -18,7 +18,7 @@ decreases-loop tally depths₀ x₀ depths x = x
 
 -- the tally's list
 thirteen : (c : tie.Start invariant-loop decreases-loop) → length c.args.tally.leaves ≡ 13
-thirteen c = sym (length-map c.args.tally.leaves (λ v. v)) ∙ c.well_formed.0.1.1.0.1.0.1
+thirteen c = c.well_formed.0.1.1.0.1.0.1
 
 loop-holds : tie.Need-loop-x-init invariant-loop decreases-loop
 unfolding tallied_depths

@@ -13,7 +13,7 @@ use Rattle.refusals.proofs.encodings_fit.Tie as tie
 
 -- the array of a key's numbers has four: what owning the key tells
 four : (c : tie.Start) → length c.args.encoded.values ≡ 4
-four c = sym (length-map c.args.encoded.values (λ v. v)) ∙ c.well_formed.1.0.1.1.0.1.0.1
+four c = c.well_formed.1.0.1.1.0.1.0.1
 
 fit : (c : tie.After-widths_of-widths) → Fit (width_list c.widths_of-widths.result)
 fit c =
