@@ -46,35 +46,26 @@ only-at-requires-4 c κs = search rules
 
 add-t9 : tie.Need-overflow_add-result
 add-t9 c =
-    let d = c.before.before.before.before in
-    record { fits = less d.before 0 _ d.only_at-d0.ensures c.struct_known-1.given.0.fits }
+    record { fits = less c.before.before.before.before.before 0 _ c.only_at-d0.ensures c.struct_known-1.given.0.fits }
 
 add-t10 : tie.Need-overflow_add-result-2
 add-t10 c =
-    let d = c.before.before.before.before in
-    record { fits = less d.before.before 1 _ d.only_at-d1.ensures c.struct_known-2-1.given.1.0.fits }
+    record { fits = less c.before.before.before.before.before.before 1 _ c.only_at-d1.ensures c.struct_known-2-1.given.1.0.fits }
 
 add-t11 : tie.Need-overflow_add-result-3
 add-t11 c =
-    let d = c.before.before.before.before in
     let i = c.struct_known-3-1.given.1.1.0.fits in
-    record { fits = less d.before.before.before 2 _ d.only_at-d2.ensures i }
+    record { fits = less c.before.before.before.before.before.before.before 2 _ c.only_at-d2.ensures i }
 
 add-t12 : tie.Need-overflow_add-result-4
 add-t12 c =
-    let d = c.before.before.before.before in
     let i = c.struct_known-4-1.given.1.1.1.0.fits in
-    record { fits = less d.before.before.before.before 3 _ d.only_at-d3.ensures i }
+    record { fits = less c.before.before.before.before.before.before.before.before 3 _ c.only_at-d3.ensures i }
 
 returns : tie.Need-returns
 returns c =
-    let d3 = c.before.before.before.before in
-    let d2 = d3.before in
-    let d1 = d2.before in
-    let d0 = d1.before in
-    let s = d0.before in
-    bit_set-each _ s.args.g _ _ _ _ _ _ _ _ (bit_is s) d0.only_at-d0.ensures d1.only_at-d1.ensures
-    d2.only_at-d2.ensures d3.only_at-d3.ensures
+    bit_set-each _ c.args.g _ _ _ _ _ _ _ _ (bit_is c.before.before.before.before.before.before.before.before) c.only_at-d0.ensures c.only_at-d1.ensures
+    c.only_at-d2.ensures c.only_at-d3.ensures
 
 pub with_bit_spec : {M : Type 1} → statement M
 with_bit_spec =

@@ -43,33 +43,24 @@ only-at-requires-4 c κs = search rules
 
 sub-t9 : tie.Need-overflow_sub-result
 sub-t9 c =
-    let d = c.before.before.before.before in
-    less d.before 0 _ d.only_at-d0.ensures
+    less c.before.before.before.before.before 0 _ c.only_at-d0.ensures
 
 sub-t10 : tie.Need-overflow_sub-result-2
 sub-t10 c =
-    let d = c.before.before.before.before in
-    less d.before.before 1 _ d.only_at-d1.ensures
+    less c.before.before.before.before.before.before 1 _ c.only_at-d1.ensures
 
 sub-t11 : tie.Need-overflow_sub-result-3
 sub-t11 c =
-    let d = c.before.before.before.before in
-    less d.before.before.before 2 _ d.only_at-d2.ensures
+    less c.before.before.before.before.before.before.before 2 _ c.only_at-d2.ensures
 
 sub-t12 : tie.Need-overflow_sub-result-4
 sub-t12 c =
-    let d = c.before.before.before.before in
-    less d.before.before.before.before 3 _ d.only_at-d3.ensures
+    less c.before.before.before.before.before.before.before.before 3 _ c.only_at-d3.ensures
 
 returns : tie.Need-returns
 returns c =
-    let d3 = c.before.before.before.before in
-    let d2 = d3.before in
-    let d1 = d2.before in
-    let d0 = d1.before in
-    let s = d0.before in
-    bit_cleared-each _ s.args.g _ _ _ _ _ _ _ _ (bit_is s) d0.only_at-d0.ensures d1.only_at-d1.ensures
-    d2.only_at-d2.ensures d3.only_at-d3.ensures
+    bit_cleared-each _ c.args.g _ _ _ _ _ _ _ _ (bit_is c.before.before.before.before.before.before.before.before) c.only_at-d0.ensures c.only_at-d1.ensures
+    c.only_at-d2.ensures c.only_at-d3.ensures
 
 pub without_bit_spec : {M : Type 1} → statement M
 without_bit_spec =

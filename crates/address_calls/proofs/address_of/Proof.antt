@@ -26,9 +26,8 @@ bad-width-requires c κs = search rules
 returns : tie.Need-returns-then-number-eq14
 unfolding address_answer_of
 returns c =
-    let n = c.before.before in
-    let s = n.args in
-    let width : shape_number s.shape ≡ 14 = sym n.shape_number-number.ensures ∙ c.if-number-eq14.true in
+    let s = c.args in
+    let width : shape_number s.shape ≡ 14 = sym c.shape_number-number.ensures ∙ c.if-number-eq14.true in
     ap (refused_with 14) c.bad_width.ensures
     ∙ sym (refused_for-width s.shape (shape_number s.shape) width)
     ∙ address_answer-shape-out s.shape (index_list s.index) (λ e. omega (arith, width, e))
@@ -36,9 +35,8 @@ returns c =
 returns-2 : tie.Need-returns-then-number-ne0
 unfolding address_answer_of
 returns-2 c =
-    let n = c.before.before in
-    let s = n.args in
-    let k = n.shape_number-number.ensures in
+    let s = c.args in
+    let k = c.shape_number-number.ensures in
     ap refused k
     ∙ sym (refused_for-other s.shape (shape_number s.shape) (λ e. c.if-number-eq14.false (k ∙ e)))
     ∙ address_answer-shape-out s.shape (index_list s.index) (λ e. c.if-number-ne0.true (k ∙ e))
@@ -55,18 +53,16 @@ index-fits-requires c κs =
 returns-3 : tie.Need-returns-then-not-index_fits
 unfolding address_answer_of
 returns-3 c =
-    let w = c.before.before in
-    let s = w.args in
-    address_answer-index-out s.shape (width_list w.widths_of-widths.result) (in_bounds w.before)
-    w.widths_of-widths.ensures (index_list s.index) (sym c.index_fits.ensures ∙ not-true _ c.if-not-index_fits.true-raw)
+    let s = c.args in
+    address_answer-index-out s.shape (width_list c.widths_of-widths.result) (in_bounds c.before.before.before)
+    c.widths_of-widths.ensures (index_list s.index) (sym c.index_fits.ensures ∙ not-true _ c.if-not-index_fits.true-raw)
 
 locate-requires : tie.Need-locate-requires
 locate-requires c κs =
-    let w = c.before.before in
-    let s = w.args in
-    let ws = w.widths_of-widths.result in
+    let s = c.args in
+    let ws = c.widths_of-widths.result in
     record {
-      fit = widths-fit s.shape (width_list ws) (in_bounds w.before) w.widths_of-widths.ensures;
+      fit = widths-fit s.shape (width_list ws) (in_bounds c.before.before.before) c.widths_of-widths.ensures;
       below =
           index_fits-below (width_list ws) (index_list s.index)
           (sym c.index_fits.ensures ∙ not-false _ c.if-not-index_fits.false-raw);
@@ -75,11 +71,9 @@ locate-requires c κs =
 returns-4 : tie.Need-returns
 unfolding address_answer_of
 returns-4 c =
-    let f = c.before.before in
-    let w = f.before in
-    let s = w.args in
-    address_answer-address s.shape (width_list w.widths_of-widths.result) (in_bounds w.before) w.widths_of-widths.ensures
-    (index_list s.index) c.locate.result (sym f.index_fits.ensures ∙ not-false _ c.if-not-index_fits.false-raw)
+    let s = c.args in
+    address_answer-address s.shape (width_list c.widths_of-widths.result) (in_bounds c.before.before.before.before) c.widths_of-widths.ensures
+    (index_list s.index) c.locate.result (sym c.index_fits.ensures ∙ not-false _ c.if-not-index_fits.false-raw)
     c.locate.ensures
 
 pub address_of_spec : {M : Type 1} → statement M

@@ -20,8 +20,8 @@ in_bounds : (c : tie.Else-number-ne0) → shape_number c.args.shape ≡ 0
 in_bounds c = sym c.shape_number-number.ensures ∙ c.if-number-ne0.false
 
 -- the test of the address, by the sum of the widths
-test : (c : tie.After-address_fits) → let w = c.before.before in
-    ltb w.args.address (2 ^ total (width_list w.widths_of-widths.result))
+test : (c : tie.After-address_fits) →
+    ltb c.args.address (2 ^ total (width_list c.widths_of-widths.result))
     ≡ c.address_fits.result
 test c =
     let a = c.args.address in
@@ -36,9 +36,8 @@ bad-width-requires c κs = search rules
 returns : tie.Need-returns-then-number-eq14
 unfolding index_answer_of
 returns c =
-    let n = c.before.before in
-    let s = n.args in
-    let width : shape_number s.shape ≡ 14 = sym n.shape_number-number.ensures ∙ c.if-number-eq14.true in
+    let s = c.args in
+    let width : shape_number s.shape ≡ 14 = sym c.shape_number-number.ensures ∙ c.if-number-eq14.true in
     ap (refused_with 14) c.bad_width.ensures
     ∙ sym (refused_for-width s.shape (shape_number s.shape) width)
     ∙ index_answer-shape-out s.shape s.address (λ e. omega (arith, width, e))
@@ -46,9 +45,8 @@ returns c =
 returns-2 : tie.Need-returns-then-number-ne0
 unfolding index_answer_of
 returns-2 c =
-    let n = c.before.before in
-    let s = n.args in
-    let k = n.shape_number-number.ensures in
+    let s = c.args in
+    let k = c.shape_number-number.ensures in
     ap refused k
     ∙ sym (refused_for-other s.shape (shape_number s.shape) (λ e. c.if-number-eq14.false (k ∙ e)))
     ∙ index_answer-shape-out s.shape s.address (λ e. c.if-number-ne0.true (k ∙ e))
@@ -67,31 +65,27 @@ address-fits-requires c κs = search rules
 returns-3 : tie.Need-returns-then-not-address_fits
 unfolding index_answer_of
 returns-3 c =
-    let w = c.before.before.before in
-    let s = w.args in
-    index_answer-address-out s.shape (width_list w.widths_of-widths.result) (in_bounds w.before)
-    w.widths_of-widths.ensures s.address (test c.before ∙ not-true _ c.if-not-address_fits.true-raw)
+    let s = c.args in
+    index_answer-address-out s.shape (width_list c.widths_of-widths.result) (in_bounds c.before.before.before.before)
+    c.widths_of-widths.ensures s.address (test c.before ∙ not-true _ c.if-not-address_fits.true-raw)
 
 vector-at-requires : tie.Need-vector_at-requires
 vector-at-requires c κs =
-    let w = c.before.before.before in
-    let s = w.args in (
-      widths-fit s.shape (width_list w.widths_of-widths.result) (in_bounds w.before) w.widths_of-widths.ensures,
+    let s = c.args in (
+      widths-fit s.shape (width_list c.widths_of-widths.result) (in_bounds c.before.before.before.before) c.widths_of-widths.ensures,
       ltb-true _ _ (test c.before ∙ not-false _ c.if-not-address_fits.false-raw),
     )
 
 returns-4 : tie.Need-returns
 unfolding index_answer_of
 returns-4 c =
-    let f = c.before.before in
-    let w = f.before.before in
-    let ws = w.widths_of-widths.result in
-    let s = w.args in
+    let ws = c.widths_of-widths.result in
+    let s = c.args in
     let v = c.vector_at.result in
-    let fit = widths-fit s.shape (width_list ws) (in_bounds w.before) w.widths_of-widths.ensures in
-    index_answer-index s.shape (width_list ws) (in_bounds w.before) w.widths_of-widths.ensures s.address
+    let fit = widths-fit s.shape (width_list ws) (in_bounds c.before.before.before.before.before) c.widths_of-widths.ensures in
+    index_answer-index s.shape (width_list ws) (in_bounds c.before.before.before.before.before) c.widths_of-widths.ensures s.address
     (index_list v)
-    (test f ∙ not-false _ c.if-not-address_fits.false-raw)
+    (test c.before.before ∙ not-false _ c.if-not-address_fits.false-raw)
     (get_d-index_at ws.w0 ws.w1 ws.w2 ws.w3 s.address v.i0 v.i1 v.i2 v.i3 fit
     c.vector_at.ensures)
 

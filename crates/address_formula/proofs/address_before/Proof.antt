@@ -25,14 +25,13 @@ digits : (c : tie.After-index_of-a0) (a1 a2 a3 : ℕ)
     → Appended (width_list s.widths) z h0 h1 h2 h3 i.i0 i.i1 i.i2 i.i3 a0 a1 a2 a3)
 unfolding depth_before
 digits c a1 a2 a3 e1 e2 e3 =
-    let s = c.before.before.before.before.before in
-    let i = s.args.index in
+    let i = c.args.index in
     let h0 = c.depth_before-h0 in
     let h1 = c.depth_before-h1 in
     let h2 = c.depth_before-h2 in
     let h3 = c.depth_before-h3 in
-    appended-digits (width_list s.args.widths) i.i0 i.i1 i.i2 i.i3 s.args.g h0.result h1.result
-    h2.result h3.result c.index_of-a0.result a1 a2 a3 s.requires.1 s.requires.2 h0.ensures h1.ensures
+    appended-digits (width_list c.args.widths) i.i0 i.i1 i.i2 i.i3 c.args.g h0.result h1.result
+    h2.result h3.result c.index_of-a0.result a1 a2 a3 c.requires.1 c.requires.2 h0.ensures h1.ensures
     h2.ensures h3.ensures c.index_of-a0.ensures e1 e2 e3
 
 depth-before-requires : tie.Need-depth_before-h0-requires

@@ -16,9 +16,8 @@ below-requires-2 c κs = c.requires 1
 
 returns-2 : tie.Need-returns-then-not-below-2
 returns-2 c =
-    let s = c.before.before in
     rw (
-      sym s.below.ensures ∙ not-false _ s.if-not-below.false-raw,
+      sym c.below.ensures ∙ not-false _ c.if-not-below.false-raw,
       sym c.below-2.ensures ∙ not-true _ c.if-not-below-2.true-raw,
     )
 
@@ -27,11 +26,9 @@ below-requires-3 c κs = c.requires 2
 
 returns-3 : tie.Need-returns-then-not-below-3
 returns-3 c =
-    let s2 = c.before.before in
-    let s1 = s2.before.before in
     rw (
-      sym s1.below.ensures ∙ not-false _ s1.if-not-below.false-raw,
-      sym s2.below-2.ensures ∙ not-false _ s2.if-not-below-2.false-raw,
+      sym c.below.ensures ∙ not-false _ c.if-not-below.false-raw,
+      sym c.below-2.ensures ∙ not-false _ c.if-not-below-2.false-raw,
       sym c.below-3.ensures ∙ not-true _ c.if-not-below-3.true-raw,
     )
 
@@ -40,13 +37,10 @@ below-requires-4 c κs = c.requires 3
 
 returns-4 : tie.Need-returns
 returns-4 c =
-    let s3 = c.before in
-    let s2 = s3.before.before in
-    let s1 = s2.before.before in
     rw (
-      sym s1.below.ensures ∙ not-false _ s1.if-not-below.false-raw,
-      sym s2.below-2.ensures ∙ not-false _ s2.if-not-below-2.false-raw,
-      sym s3.below-3.ensures ∙ not-false _ s3.if-not-below-3.false-raw,
+      sym c.below.ensures ∙ not-false _ c.if-not-below.false-raw,
+      sym c.below-2.ensures ∙ not-false _ c.if-not-below-2.false-raw,
+      sym c.below-3.ensures ∙ not-false _ c.if-not-below-3.false-raw,
     )
     (c.below-4.ensures ∙ sym (and-true _))
 

@@ -12,13 +12,9 @@ use Rattle.address_formula.proofs.latest_pair.Tie as tie
 least : (c : tie.After-smaller-n) → let index = c.args.index in
     latest_pair (index_list index) ≡ 256 - c.smaller-n.result
 least c =
-    let p4 = c.before.before.before in
-    let p3 = p4.before in
-    let p2 = p3.before in
-    let p1 = p2.before in
     rw (c.smaller-n.ensures, c.smaller-2.ensures, c.smaller.ensures)
-    (latest_pair-after (index_list p1.args.index) _ _ _ _ p1.pairs_after-n0.ensures
-    p2.pairs_after-n1.ensures p3.pairs_after-n2.ensures p4.pairs_after-n3.ensures)
+    (latest_pair-after (index_list c.args.index) _ _ _ _ c.pairs_after-n0.ensures
+    c.pairs_after-n1.ensures c.pairs_after-n2.ensures c.pairs_after-n3.ensures)
 
 pairs-after-requires : tie.Need-pairs_after-n0-requires
 pairs-after-requires c κs = search rules

@@ -59,21 +59,12 @@ digit-of-requires-4 c κs = (deep c.before.before.before.before.before.before.be
 returns : tie.Need-returns
 unfolding depth_before
 returns c =
-    let a0 = c.before.before.before.before in
-    let a1 = a0.before in
-    let a2 = a1.before in
-    let a3 = a2.before in
-    let h3 = a3.before in
-    let h2 = h3.before in
-    let h1 = h2.before in
-    let h0 = h1.before in
-    let s = h0.before in
-    index_at-digits (width_list s.args.widths) s.args.a s.args.t s.args.g
-    h0.depth_before-h0.result h1.depth_before-h1.result h2.depth_before-h2.result h3.depth_before-h3.result
-    s.requires
-    h0.depth_before-h0.ensures h1.depth_before-h1.ensures h2.depth_before-h2.ensures h3.depth_before-h3.ensures
-    a3.drop_digit-a3.result a2.drop_digit-a2.result a1.drop_digit-a1.result a0.drop_digit-a0.result
-    a3.drop_digit-a3.ensures a2.drop_digit-a2.ensures a1.drop_digit-a1.ensures a0.drop_digit-a0.ensures
+    index_at-digits (width_list c.args.widths) c.args.a c.args.t c.args.g
+    c.depth_before-h0.result c.depth_before-h1.result c.depth_before-h2.result c.depth_before-h3.result
+    c.requires
+    c.depth_before-h0.ensures c.depth_before-h1.ensures c.depth_before-h2.ensures c.depth_before-h3.ensures
+    c.drop_digit-a3.result c.drop_digit-a2.result c.drop_digit-a1.result c.drop_digit-a0.result
+    c.drop_digit-a3.ensures c.drop_digit-a2.ensures c.drop_digit-a1.ensures c.drop_digit-a0.ensures
     c.digit_of-i0.result c.digit_of-i1.result c.digit_of-i2.result
     c.digit_of-i3.result c.digit_of-i0.ensures c.digit_of-i1.ensures
     c.digit_of-i2.ensures c.digit_of-i3.ensures

@@ -18,38 +18,31 @@ loop-holds c = empty_to-start _ _ _ _ _ c.requires.above
 
 add-pack-empty : tie.Need-overflow_add-z invariant-loop decreases-loop
 add-pack-empty c =
-    let s = c.before.before.before in
-    record { fits = omega (arith, c.loop-z-test.true, s.requires.below, s.requires.lent.short) }
+    record { fits = omega (arith, c.loop-z-test.true, c.requires.below, c.requires.lent.short) }
 
 pack-empty-requires : tie.Need-pack_empty-word-requires invariant-loop decreases-loop
 pack-empty-requires c κs =
-    let s = c.before.before.before in
-    omega (arith, c.loop-z-test.true, s.requires.below, s.requires.lent.short)
+    omega (arith, c.loop-z-test.true, c.requires.below, c.requires.lent.short)
 
 sibling-whole-requires : tie.Need-sibling_whole-requires invariant-loop decreases-loop
 sibling-whole-requires c κs =
-    let s = c.before.before.before.before in
-    (s.requires.lent, omega (arith, c.loop-z-test.true, s.requires.below))
+    (c.requires.lent, omega (arith, c.loop-z-test.true, c.requires.below))
 
 returns : tie.Need-returns-then-not-sibling_whole invariant-loop decreases-loop
 returns c =
-    let turn = c.before.before.before in
-    empties_told-no _ _ _ _ _ _ turn.loop-z.invariant turn.loop-z-test.true _
+    empties_told-no _ _ _ _ _ _ c.loop-z.invariant c.loop-z-test.true _
     c.pack_empty-word.ensures _ c.sibling_whole.ensures (not-true _ c.if-not-sibling_whole.true-raw)
 
 add-z : tie.Need-overflow_add-z-in-loop-z invariant-loop decreases-loop
 add-z c =
-    let turn = c.before.before.before in
-    let s = turn.before.before.before in
-    record { fits = omega (arith, turn.loop-z-test.true, s.requires.below, s.requires.lent.short) }
+    record { fits = omega (arith, c.loop-z-test.true, c.requires.below, c.requires.lent.short) }
 
 loop-less : tie.Need-loop-z-smaller invariant-loop decreases-loop
 loop-less c = omega (arith, c.loop-z-test.true)
 
 loop-again : tie.Need-loop-z-preserved invariant-loop decreases-loop
 loop-again c =
-    let turn = c.before.before.before in
-    empty_to-suc _ _ _ _ _ _ turn.loop-z.invariant turn.loop-z-test.true _
+    empty_to-suc _ _ _ _ _ _ c.loop-z.invariant c.loop-z-test.true _
     c.pack_empty-word.ensures _ c.sibling_whole.ensures (not-false _ c.if-not-sibling_whole.false-raw)
 
 returns-2 : tie.Need-returns invariant-loop decreases-loop

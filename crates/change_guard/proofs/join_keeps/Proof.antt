@@ -14,11 +14,9 @@ leaf-whole-requires c κs = search rules
 
 returns : tie.Need-returns-then-not-leaf_whole
 returns c =
-    let own = c.before in
-    let s = own.before.before.before in
     delete_told-join _ _ _ _ _ _
-    (join_told-own _ _ _ s.args.found s.args.join s.requires.leaves.depth-step _
-    own.pack_page-own.ensures _ own.leaf_whole.ensures
+    (join_told-own _ _ _ c.args.found c.args.join c.requires.leaves.depth-step _
+    c.pack_page-own.ensures _ c.leaf_whole.ensures
     (not-true _ c.if-not-leaf_whole.true-raw))
 
 pack-page-requires-2 : tie.Need-pack_page-other-requires
@@ -29,14 +27,10 @@ sibling-whole-requires c κs = search rules
 
 returns-2 : tie.Need-returns-then-not-sibling_whole
 returns-2 c =
-    let other = c.before in
-    let whole = other.before.before in
-    let own = whole.before in
-    let s = own.before.before.before in
     delete_told-join _ _ _ _ _ _
-    (join_told-other _ _ _ s.args.found s.args.join s.requires.leaves.depth-step _
-    own.pack_page-own.ensures _ own.leaf_whole.ensures
-    (not-false _ whole.if-not-leaf_whole.false-raw) _ other.pack_page-other.ensures _ other.sibling_whole.ensures
+    (join_told-other _ _ _ c.args.found c.args.join c.requires.leaves.depth-step _
+    c.pack_page-own.ensures _ c.leaf_whole.ensures
+    (not-false _ c.if-not-leaf_whole.false-raw) _ c.pack_page-other.ensures _ c.sibling_whole.ensures
     (not-true _ c.if-not-sibling_whole.true-raw))
 
 empties-whole-requires : tie.Need-empties_whole-requires
@@ -44,17 +38,11 @@ empties-whole-requires c κs = search rules
 
 returns-3 : tie.Need-returns-then-not-empties_whole
 returns-3 c =
-    let empties = c.before in
-    let both = empties.before in
-    let other = both.before in
-    let whole = other.before.before in
-    let own = whole.before in
-    let s = own.before.before.before in
     delete_told-join _ _ _ _ _ _
-    (join_told-empties _ _ _ s.args.found s.args.join s.requires.leaves.depth-step _
-    own.pack_page-own.ensures _ own.leaf_whole.ensures (not-false _ whole.if-not-leaf_whole.false-raw) _
-    other.pack_page-other.ensures _ other.sibling_whole.ensures (not-false _ both.if-not-sibling_whole.false-raw) _
-    empties.empties_whole.ensures (not-true _ c.if-not-empties_whole.true-raw))
+    (join_told-empties _ _ _ c.args.found c.args.join c.requires.leaves.depth-step _
+    c.pack_page-own.ensures _ c.leaf_whole.ensures (not-false _ c.if-not-leaf_whole.false-raw) _
+    c.pack_page-other.ensures _ c.sibling_whole.ensures (not-false _ c.if-not-sibling_whole.false-raw) _
+    c.empties_whole.ensures (not-true _ c.if-not-empties_whole.true-raw))
 
 joined-depth-requires : tie.Need-joined_depth-requires
 joined-depth-requires c κs = search rules
@@ -64,18 +52,11 @@ halving-whole-requires c κs = search rules
 
 returns-4 : tie.Need-returns
 returns-4 c =
-    let all = c.before.before in
-    let empties = all.before in
-    let both = empties.before in
-    let other = both.before in
-    let whole = other.before.before in
-    let own = whole.before in
-    let s = own.before.before.before in
     delete_told-join _ _ _ _ _ _
-    (join_told-folds _ _ _ s.args.found s.args.join s.requires.leaves.depth-step _
-    own.pack_page-own.ensures _ own.leaf_whole.ensures (not-false _ whole.if-not-leaf_whole.false-raw) _
-    other.pack_page-other.ensures _ other.sibling_whole.ensures (not-false _ both.if-not-sibling_whole.false-raw) _
-    empties.empties_whole.ensures (not-false _ all.if-not-empties_whole.false-raw) _
+    (join_told-folds _ _ _ c.args.found c.args.join c.requires.leaves.depth-step _
+    c.pack_page-own.ensures _ c.leaf_whole.ensures (not-false _ c.if-not-leaf_whole.false-raw) _
+    c.pack_page-other.ensures _ c.sibling_whole.ensures (not-false _ c.if-not-sibling_whole.false-raw) _
+    c.empties_whole.ensures (not-false _ c.if-not-empties_whole.false-raw) _
     c.joined_depth.ensures.is _ c.halving_whole.ensures)
 
 pub join_keeps_spec : {M : Type 1} → statement M

@@ -13,12 +13,11 @@ use Rattle.change_guard.proofs.joined_depth.Tie as tie
 depth_is : (c : tie.After-greatest_depth) → let a = c.args in
     c.greatest_depth.result ≡ joined_depth a.state a.join
 depth_is c =
-    let s = c.before.before.before.before.before.before in
-    let a = s.args in
+    let a = c.args in
     c.greatest_depth.ensures
     ∙ ap (tally_depth a.state.deepest)
     (c.join-tally.ensures
-    ∙ ap (λ x. joined_tally a.join.top (x - a.join.top) a.state.tally.leaves) s.requires.1.depth-step)
+    ∙ ap (λ x. joined_tally a.join.top (x - a.join.top) a.state.tally.leaves) c.requires.1.depth-step)
 
 depth_le : (c : tie.After-greatest_depth)
     → c.greatest_depth.result ≤ c.args.state.deepest

@@ -28,10 +28,9 @@ cast-region-holds-2 c = search rules
 
 region-holds-requires : tie.Need-region_holds-requires
 region-holds-requires c κs =
-    let s = c.before.before.before.before.before.before.before in
     let w = c.widths_of-widths in (
-      directory_fits s.args.state (width_list w.result) w.ensures _ _ s.requires.lent (omega arith),
-      s.requires.deep,
+      directory_fits c.args.state (width_list w.result) w.ensures _ _ c.requires.lent (omega arith),
+      c.requires.deep,
     )
 
 returns-2 : tie.Need-returns

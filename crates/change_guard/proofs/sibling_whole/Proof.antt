@@ -19,9 +19,8 @@ cast-sibling-holds c = search rules
 
 sibling-holds-requires : tie.Need-sibling_holds-requires
 sibling-holds-requires c κs =
-    let s = c.before.before.before in
     let w = c.widths_of-widths in
-    (directory_fits s.args.state (width_list w.result) w.ensures _ _ s.requires.0 (omega arith), s.requires.1)
+    (directory_fits c.args.state (width_list w.result) w.ensures _ _ c.requires.0 (omega arith), c.requires.1)
 
 returns : tie.Need-returns
 returns c =

@@ -29,10 +29,9 @@ refuse-check-requires c κs = search rules
 
 returns : tie.Need-returns-then-number-ne0
 returns c =
-    let n = c.before.before in
-    let a = n.args in
+    let a = c.args in
     rw c.refuse_check.ensures
-    (check-refused a.state a.dir.now a.pages.now _ c.if-number-ne0.true n.lent_number-number.ensures)
+    (check-refused a.state a.dir.now a.pages.now _ c.if-number-ne0.true c.lent_number-number.ensures)
 
 limits-hold-requires : tie.Need-limits_hold-requires
 limits-hold-requires c κs = (memory_lent _ _ _ (none c)).shape
@@ -40,33 +39,27 @@ limits-hold-requires c κs = (memory_lent _ _ _ (none c)).shape
 returns-2 : tie.Need-returns-then-not-limits_hold
 unfolding checked_answer
 returns-2 c =
-    let lent = c.before.before in
-    let a = lent.args in
-    check-limits-fail a.state a.dir.now a.pages.now (none lent)
+    let a = c.args in
+    check-limits-fail a.state a.dir.now a.pages.now (none c.before.before)
     (sym c.limits_hold.ensures ∙ not-true _ c.if-not-limits_hold.true-raw)
 
 shows-leaves-requires : tie.Need-shows_leaves-requires
 shows-leaves-requires c κs =
-    let lent = c.before.before in
-    let a = lent.args in
-    store_lent a.state a.dir.now a.pages.now (none lent) (limits c)
+    let a = c.args in
+    store_lent a.state a.dir.now a.pages.now (none c.before.before) (limits c)
 
 returns-3 : tie.Need-returns-then-shows_leaves
 unfolding checked_answer
 returns-3 c =
-    let limited = c.before.before in
-    let lent = limited.before.before in
-    let a = lent.args in
-    check-shows a.state a.dir.now a.pages.now (none lent) (limits limited) true
+    let a = c.args in
+    check-shows a.state a.dir.now a.pages.now (none c.before.before.before.before) (limits c.before.before) true
     (sym c.if-shows_leaves.true ∙ c.shows_leaves.ensures)
 
 returns-4 : tie.Need-returns
 unfolding checked_answer
 returns-4 c =
-    let limited = c.before.before in
-    let lent = limited.before.before in
-    let a = lent.args in
-    check-shows a.state a.dir.now a.pages.now (none lent) (limits limited) false
+    let a = c.args in
+    check-shows a.state a.dir.now a.pages.now (none c.before.before.before.before) (limits c.before.before) false
     (sym c.if-shows_leaves.false ∙ c.shows_leaves.ensures)
 
 pub check_spec : {M : Type 1} → statement M

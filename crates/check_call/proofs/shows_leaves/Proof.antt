@@ -31,8 +31,7 @@ slice-aggregate-walk c = search rules
 
 walk-requires : tie.Need-walk-seen-requires
 walk-requires c κs =
-    let s = c.before.before.before.before.before in
-    walks-whole s.args.state _ _ s.requires _ c.widths_of-widths.ensures _
+    walks-whole c.args.state _ _ c.requires _ c.widths_of-widths.ensures _
     c.whole_region.ensures
 
 returns : tie.Need-returns-then-not-seen
@@ -43,10 +42,9 @@ returns c =
 
 returns-2 : tie.Need-returns-then-seen-state
 returns-2 c =
-    let test = c.before.before.before in
-    let a = test.args in
-    shows-depth-fails a.state a.dir.now a.pages.now _ _ (walked test.before.before.before)
-    (not-false _ test.if-not-seen.false)
+    let a = c.args in
+    shows-depth-fails a.state a.dir.now a.pages.now _ _ (walked c.before.before.before.before.before.before)
+    (not-false _ c.if-not-seen.false)
     c.if-seen-state.true
 
 slice-aggregate-same-tally : tie.Need-slice_bounds-same_tally-end
@@ -57,11 +55,10 @@ same-tally-requires c κs = search rules
 
 returns-3 : tie.Need-returns-then-not-same_tally
 returns-3 c =
-    let test = c.before.before.before.before.before.before in
-    let a = test.args in
+    let a = c.args in
     let tally = c.same_tally.ensures in
-    shows-tally-fails a.state a.dir.now a.pages.now _ _ (walked test.before.before.before)
-    (not-false _ test.if-not-seen.false) c.if-seen-state.false tally.1
+    shows-tally-fails a.state a.dir.now a.pages.now _ _ (walked c.before.before.before.before.before.before.before.before.before.before)
+    (not-false _ c.if-not-seen.false) c.if-seen-state.false tally.1
     (sym tally.0 ∙ not-true _ c.if-not-same_tally.true-raw)
 
 pages-in-use-requires : tie.Need-pages_in_use-requires
@@ -69,11 +66,10 @@ pages-in-use-requires c κs = search rules
 
 returns-4 : tie.Need-returns
 returns-4 c =
-    let test = c.before.before.before.before.before.before.before.before in
-    let a = test.args in
+    let a = c.args in
     let tally = c.same_tally.ensures in
-    shows-pages a.state a.dir.now a.pages.now _ _ (walked test.before.before.before)
-    (not-false _ test.if-not-seen.false)
+    shows-pages a.state a.dir.now a.pages.now _ _ (walked c.before.before.before.before.before.before.before.before.before.before.before.before)
+    (not-false _ c.if-not-seen.false)
     c.if-seen-state.false tally.1
     (sym tally.0 ∙ not-false _ c.if-not-same_tally.false-raw) _ c.pages_in_use.ensures
 

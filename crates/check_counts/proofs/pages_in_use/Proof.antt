@@ -27,10 +27,9 @@ decreases-loop capacity n pages size used₀ page₀ start₀ used page start = 
 within : (c : tie.In-loop-page invariant-loop decreases-loop) → let s = c.args in
     c.loop-page.start + page_size s.capacity ≤ length s.pages.now
 within c =
-    let s = c.before.before.before.before in
     let l = c.loop-page in
-    let end = page-end-le s.args.capacity l.page s.args.n c.loop-page-test.true in
-    omega (arith, s.requires, l.invariant.1, end)
+    let end = page-end-le c.args.capacity l.page c.args.n c.loop-page-test.true in
+    omega (arith, c.requires, l.invariant.1, end)
 
 page-size-requires : tie.Need-page_size-size-requires invariant-loop decreases-loop
 page-size-requires c κs = search rules

@@ -25,10 +25,9 @@ key : (c : tie.After-key_at-key invariant-loop decreases-loop) → let loop = c.
     unpacked_key c.key_at-key.result
     ≡ encodings_at 0 c.args.page.now (record_offset loop.k)
 key c =
-    let start = c.before.before.before.before in
-    let bytes = start.shared_slice_known-1.given in
+    let bytes = c.shared_slice_known-1.given in
     ap unpacked_key c.key_at-key.ensures
-    ∙ unpacked_key-key_at-zero start.args.page.now (λ i. omega (arith, bytes i))
+    ∙ unpacked_key-key_at-zero c.args.page.now (λ i. omega (arith, bytes i))
     c.loop-k.k
 
 key-at-requires : tie.Need-key_at-last-requires invariant-loop decreases-loop
@@ -36,13 +35,12 @@ key-at-requires c κs = omega (arith, c.requires.0, c.requires.1)
 
 loop-holds : tie.Need-loop-k-init invariant-loop decreases-loop
 loop-holds c =
-    let start = c.before.before in
     let bytes = c.shared_slice_known-1.given in (
       omega arith,
-      omega (arith, start.requires.0),
-      risen-first _ _ _ _ start.requires.0 _
+      omega (arith, c.requires.0),
+      risen-first _ _ _ _ c.requires.0 _
           (ap unpacked_key c.key_at-last.ensures
-          ∙ unpacked_key-key_at-zero start.args.page.now (λ i. omega (arith, bytes i)) 0),
+          ∙ unpacked_key-key_at-zero c.args.page.now (λ i. omega (arith, bytes i)) 0),
     )
 
 key-at-requires-2 : tie.Need-key_at-key-requires invariant-loop decreases-loop
@@ -53,10 +51,9 @@ stands-before-requires c κs = c.requires.2
 
 returns : tie.Need-returns-then-not-stands_before invariant-loop decreases-loop
 returns c =
-    let turn = c.before.before in
-    let w = turn.args.widths in
-    risen-stop w.w0 w.w1 w.w2 w.w3 _ _ _ _ _ _ turn.loop-k.invariant.2
-    turn.loop-k-test.true _ (key turn) (sym c.stands_before.ensures ∙ not-true _ c.if-not-stands_before.true-raw)
+    let w = c.args.widths in
+    risen-stop w.w0 w.w1 w.w2 w.w3 _ _ _ _ _ _ c.loop-k.invariant.2
+    c.loop-k-test.true _ (key c.before.before) (sym c.stands_before.ensures ∙ not-true _ c.if-not-stands_before.true-raw)
 
 add-k : tie.Need-overflow_add-k invariant-loop decreases-loop
 add-k c = omega (arith, c.loop-k-test.true)
@@ -66,12 +63,11 @@ loop-less c = omega (arith, c.loop-k-test.true)
 
 loop-again : tie.Need-loop-k-preserved invariant-loop decreases-loop
 loop-again c =
-    let turn = c.before.before in
-    let w = turn.args.widths in (
+    let w = c.args.widths in (
       omega arith,
-      omega (arith, turn.loop-k-test.true),
-      risen-next w.w0 w.w1 w.w2 w.w3 _ _ _ _ _ _ turn.loop-k.invariant.2
-          turn.loop-k-test.true _ (key turn)
+      omega (arith, c.loop-k-test.true),
+      risen-next w.w0 w.w1 w.w2 w.w3 _ _ _ _ _ _ c.loop-k.invariant.2
+          c.loop-k-test.true _ (key c.before.before)
           (sym c.stands_before.ensures ∙ not-false _ c.if-not-stands_before.false-raw),
     )
 

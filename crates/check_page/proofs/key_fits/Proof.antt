@@ -45,10 +45,9 @@ below-requires-2 c κs = c.requires 1
 
 returns-2 : tie.Need-returns-then-not-below-2
 returns-2 c =
-    let s1 = c.before.before.before in
-    let s = s1.args in
+    let s = c.args in
     let w = s.widths in
-    index_fits-second w.w0 w.w1 w.w2 w.w3 s.key (first s1)
+    index_fits-second w.w0 w.w1 w.w2 w.w3 s.key (first c.before.before.before)
     (test _ _ _ _ c.value_at-2.ensures c.below-2.ensures ∙ not-true _ c.if-not-below-2.true-raw)
 
 value-at-requires-3 : tie.Need-value_at-requires-3
@@ -59,11 +58,9 @@ below-requires-3 c κs = c.requires 2
 
 returns-3 : tie.Need-returns-then-not-below-3
 returns-3 c =
-    let s2 = c.before.before.before in
-    let s1 = s2.before.before.before in
-    let s = s1.args in
+    let s = c.args in
     let w = s.widths in
-    index_fits-third w.w0 w.w1 w.w2 w.w3 s.key (first s1) (second s2)
+    index_fits-third w.w0 w.w1 w.w2 w.w3 s.key (first c.before.before.before.before.before.before) (second c.before.before.before)
     (test _ _ _ _ c.value_at-3.ensures c.below-3.ensures ∙ not-true _ c.if-not-below-3.true-raw)
 
 value-at-requires-4 : tie.Need-value_at-requires-4
@@ -74,13 +71,10 @@ below-requires-4 c κs = c.requires 3
 
 returns-4 : tie.Need-returns
 returns-4 c =
-    let s3 = c.before.before in
-    let s2 = s3.before.before.before in
-    let s1 = s2.before.before.before in
-    let s = s1.args in
+    let s = c.args in
     let w = s.widths in
-    index_fits-last w.w0 w.w1 w.w2 w.w3 s.key (first s1) (second s2)
-    (test _ _ _ _ s3.value_at-3.ensures s3.below-3.ensures ∙ not-false _ s3.if-not-below-3.false-raw)
+    index_fits-last w.w0 w.w1 w.w2 w.w3 s.key (first c.before.before.before.before.before.before.before.before) (second c.before.before.before.before.before)
+    (test _ _ _ _ c.value_at-3.ensures c.below-3.ensures ∙ not-false _ c.if-not-below-3.false-raw)
     _ (sym (test _ _ _ _ c.value_at-4.ensures c.below-4.ensures))
 
 pub key_fits_spec : {M : Type 1} → statement M

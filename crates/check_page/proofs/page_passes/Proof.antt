@@ -22,22 +22,19 @@ first : (c : tie.After-code_at-first) →
     ≡ encodings_at c.args.bias
     c.args.page.now (record_offset 0)
 first c =
-    let start = c.before.before.before.before in
-    let bytes = start.shared_slice_known-1.given in
+    let bytes = c.shared_slice_known-1.given in
     ap unpacked_key c.code_at-first.ensures
-    ∙ unpacked_key-code_at start.args.page.now (λ i. omega (arith, bytes i)) start.args.bias 0
+    ∙ unpacked_key-code_at c.args.page.now (λ i. omega (arith, bytes i)) c.args.bias 0
 
-last : (c : tie.After-code_at) → let few = c.before.before.before.before in
+last : (c : tie.After-code_at) →
     unpacked_key c.code_at.result
-    ≡ encodings_at few.args.bias few.args.page.now
-    (record_offset (few.number_at-n.result - 1))
+    ≡ encodings_at c.args.bias c.args.page.now
+    (record_offset (c.number_at-n.result - 1))
 last c =
-    let few = c.before.before.before.before in
-    let start = few.before.before.before in
-    let bytes = start.shared_slice_known-1.given in
+    let bytes = c.shared_slice_known-1.given in
     ap unpacked_key c.code_at.ensures
-    ∙ unpacked_key-code_at start.args.page.now (λ i. omega (arith, bytes i)) start.args.bias
-    (few.number_at-n.result - 1)
+    ∙ unpacked_key-code_at c.args.page.now (λ i. omega (arith, bytes i)) c.args.bias
+    (c.number_at-n.result - 1)
 
 -- the first one begins as the leaf does
 begun : (c : tie.Else-not-begins) → let a = c.args in
@@ -46,20 +43,17 @@ begun : (c : tie.Else-not-begins) → let a = c.args in
 begun c = eqb-true _ _ (sym c.begins.ensures ∙ not-false _ c.if-not-begins.false-raw)
 
 -- all of them do, if they are in split order
-all-begin : (c : tie.Else-first_step-x) → let few = c.before.before.before.before.before.before in
-    let a = few.args in
-    ascending (width_list a.widths) a.bias a.page.now few.number_at-n.result
+all-begin : (c : tie.Else-first_step-x) →
+    let a = c.args in
+    ascending (width_list a.widths) a.bias a.page.now c.number_at-n.result
     ≡ page_passes (width_list a.widths) a.capacity a.x a.string a.bias a.page.now
 all-begin c =
-    let keys = c.before.before in
-    let few = keys.before.before.before.before in
-    let start = few.before.before.before.before in
     let step = c.first_step.ensures in
-    let same = begun keys.before in
-    page_passes-ascends _ _ _ _ _ _ _ few.number_at-n.ensures.0 few.if-n-eq0.false
-    few.if-capacity-n.false _ (first keys.before.before.before) same _ (last keys)
+    let same = begun c.before.before.before in
+    page_passes-ascends _ _ _ _ _ _ _ c.number_at-n.ensures.0 c.if-n-eq0.false
+    c.if-capacity-n.false _ (first c.before.before.before.before.before) same _ (last c.before.before)
     (sym
-    (begins-same (width_list start.args.widths) _ _ start.args.x start.requires.within
+    (begins-same (width_list c.args.widths) _ _ c.args.x c.requires.within
     (omega (arith, step, c.if-first_step-x.false)))
     ∙ same)
 
@@ -83,8 +77,7 @@ begins-requires c κs = search rules
 
 returns-3 : tie.Need-returns-then-not-begins
 returns-3 c =
-    let few = c.before.before.before in
-    page_passes-first _ _ _ _ _ _ _ few.number_at-n.ensures.0 few.if-n-eq0.false few.if-capacity-n.false
+    page_passes-first _ _ _ _ _ _ _ c.number_at-n.ensures.0 c.if-n-eq0.false c.if-capacity-n.false
     _ (first c.before.before) (sym c.begins.ensures ∙ not-true _ c.if-not-begins.true-raw)
 
 sub-code-at : tie.Need-overflow_sub-count
@@ -98,15 +91,12 @@ first-step-requires c κs = search rules
 
 returns-4 : tie.Need-returns-then-first_step-x
 returns-4 c =
-    let keys = c.before.before in
-    let few = keys.before.before.before.before in
-    let start = few.before.before.before.before in
     let step = c.first_step.ensures in
-    let same = begun keys.before in
-    page_passes-last _ _ _ _ _ _ _ few.number_at-n.ensures.0 few.if-n-eq0.false few.if-capacity-n.false _
-    (first keys.before.before.before) same _ (last keys)
+    let same = begun c.before.before.before in
+    page_passes-last _ _ _ _ _ _ _ c.number_at-n.ensures.0 c.if-n-eq0.false c.if-capacity-n.false _
+    (first c.before.before.before.before.before) same _ (last c.before.before)
     (λ e.
-    begins-other (width_list start.args.widths) _ _ start.args.x start.requires.within
+    begins-other (width_list c.args.widths) _ _ c.args.x c.requires.within
     (omega (arith, step, c.if-first_step-x.true)) (same ∙ sym e))
 
 ascends-requires : tie.Need-ascends-requires
@@ -114,10 +104,9 @@ ascends-requires c κs = search rules
 
 returns-5 : tie.Need-returns-then-bias-eq0
 returns-5 c =
-    let few = c.before.before.before.before.before.before.before.before in
-    let a = few.args in
+    let a = c.args in
     c.ascends.ensures
-    ∙ ap (λ h. ascending (width_list a.widths) h a.page.now few.number_at-n.result)
+    ∙ ap (λ h. ascending (width_list a.widths) h a.page.now c.number_at-n.result)
     (sym c.if-bias-eq0.true)
     ∙ all-begin c.before.before
 

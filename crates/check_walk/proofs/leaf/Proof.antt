@@ -46,12 +46,11 @@ here s p n =
 abbrev Told : tie.Start → (ℕ → Bool) → Seen → ℕ → Type 0
 Told s p seen f = Sees (page_test (view s) p s.args.region.depth f) (leaf (field_records (view s) f)) seen
 
-page : (c : tie.After-leaf_page-seen) (p : ℕ → Bool) → let s = c.before.before.before.before.before.before.before in
-    IsNamed s p → Told s p c.leaf_page-seen.result (page_field s.args.word)
+page : (c : tie.After-leaf_page-seen) (p : ℕ → Bool) →
+    IsNamed c.before.before.before.before.before.before.before p → Told c.before.before.before.before.before.before.before p c.leaf_page-seen.result (page_field c.args.word)
 page c p n =
-    let s = c.before.before.before.before.before.before.before in
-    subst (Told s p c.leaf_page-seen.result) (and_mask s.args.word 16)
-    (c.leaf_page-seen.ensures s.args.dir.now p n)
+    subst (Told c.before.before.before.before.before.before.before p c.leaf_page-seen.result) (and_mask c.args.word 16)
+    (c.leaf_page-seen.ensures c.args.dir.now p n)
 
 -- the word's depth is the region's
 depth : (c : tie.Else-depth_of-region) → let a = c.args in
@@ -77,26 +76,22 @@ fails-requires c κs = search rules
 
 returns : tie.Need-returns-then-depth_of-region
 returns c =
-    let s = c.before.before.before.before.before.before.before in
-    let a = s.args in
+    let a = c.args in
     λ p n.
     rw c.fails.ensures
-    (leaf-depth-fails (view s) (steps s) p a.region.depth a.word (here s p n) a.tally.now a.tally.now
+    (leaf-depth-fails (view c.before.before.before.before.before.before.before) (steps c.before.before.before.before.before.before.before) p a.region.depth a.word (here c.before.before.before.before.before.before.before p n) a.tally.now a.tally.now
     (λ e. c.if-depth_of-region.true (c.depth_of.ensures ∙ e)))
 
 leaf-page-requires : tie.Need-leaf_page-seen-requires
 leaf-page-requires c κs =
-    let s = c.before.before.before.before.before.before in
-    page_asked-walks s.args.state _ s.args.region _ _ s.requires.0
+    page_asked-walks c.args.state _ c.args.region _ _ c.requires.0
 
 returns-2 : tie.Need-returns-then-not-seen
 returns-2 c =
-    let test = c.before.before.before in
-    let s = test.before.before.before.before.before.before in
-    let a = s.args in
+    let a = c.args in
     λ p n.
-    leaf-page-fails (view s) (steps s) p a.region.depth a.word (here s p n) a.tally.now a.tally.now
-    (depth test) _
+    leaf-page-fails (view c.before.before.before.before.before.before.before.before.before) (steps c.before.before.before.before.before.before.before.before.before) p a.region.depth a.word (here c.before.before.before.before.before.before.before.before.before p n) a.tally.now a.tally.now
+    (depth c.before.before.before) _
     (page c.before.before p n) (not-true _ c.if-not-seen.true)
 
 cast-same-words : tie.Need-overflow_cast-state
@@ -110,13 +105,11 @@ fails-requires-2 c κs = search rules
 
 returns-3 : tie.Need-returns-then-not-same_words
 returns-3 c =
-    let test = c.before.before.before.before.before.before.before in
-    let s = test.before.before.before.before.before.before in
-    let a = s.args in
+    let a = c.args in
     λ p n.
     rw c.fails-then-not-same_words.ensures
-    (leaf-words-fail (view s) (steps s) p a.region.depth a.word (here s p n) a.tally.now a.tally.now
-    (depth test) _
+    (leaf-words-fail (view c.before.before.before.before.before.before.before.before.before.before.before.before.before) (steps c.before.before.before.before.before.before.before.before.before.before.before.before.before) p a.region.depth a.word (here c.before.before.before.before.before.before.before.before.before.before.before.before.before p n) a.tally.now a.tally.now
+    (depth c.before.before.before.before.before.before.before) _
     (page c.before.before.before.before.before.before p n)
     (not-false _ c.if-not-seen.false)
     (sym (c.same_words.ensures p n) ∙ not-true _ c.if-not-same_words.true-raw))
@@ -130,8 +123,7 @@ slice-read-tally c =
 
 add-tally : tie.Need-overflow_add-tally
 add-tally c =
-    let test = c.before.before.before.before.before.before.before in
-    record { fits = omega (arith, low test.before.before.before.before.before.before) }
+    record { fits = omega (arith, low c.before.before.before.before.before.before.before.before.before.before.before.before.before) }
 
 mul-tally-2 : tie.Need-offset_bounds-tally-x-2
 mul-tally-2 c = search rules
@@ -145,14 +137,12 @@ same_length c = search rules
 
 returns-4 : tie.Need-returns
 returns-4 c =
-    let test = c.before.before.before.before.before.before.before in
-    let s = test.before.before.before.before.before.before in
-    let a = s.args in
+    let a = c.args in
     λ p n.
-    leaf-passes (view s) (steps s) p a.region.depth a.word (here s p n) a.tally.now _ (depth test) _
+    leaf-passes (view c.before.before.before.before.before.before.before.before.before.before.before.before.before) (steps c.before.before.before.before.before.before.before.before.before.before.before.before.before) p a.region.depth a.word (here c.before.before.before.before.before.before.before.before.before.before.before.before.before p n) a.tally.now _ (depth c.before.before.before.before.before.before.before) _
     (page c.before.before.before.before.before.before p n)
     (not-false _ c.if-not-seen.false)
-    (sym (c.same_words.ensures p n) ∙ not-false _ c.if-not-same_words.false-raw) s.requires.1.depths refl
+    (sym (c.same_words.ensures p n) ∙ not-false _ c.if-not-same_words.false-raw) c.requires.1.depths refl
 
 pub leaf_spec : {M : Type 1} → statement M
 leaf_spec =

@@ -19,9 +19,8 @@ within : (c : tie.Else-state-page) → let a = c.args in
     let size = page_size a.state.shape.capacity in
     (a.field - 1) * size + size ≤ length a.pages.now
 within c =
-    let s = c.before.before.before.before in
-    let a = s.args in
-    page-within a.state _ a.region (length a.pages.now) (a.field - 1) s.requires c.if-state-page.false
+    let a = c.args in
+    page-within a.state _ a.region (length a.pages.now) (a.field - 1) c.requires c.if-state-page.false
 
 returns : tie.Need-returns-then-field-eq0
 returns c =
@@ -68,26 +67,22 @@ part-page-seen-start : tie.Need-slice_bounds-page_seen-start
 part-page-seen-start c = search rules
 
 part-page-seen-end : tie.Need-slice_bounds-page_seen-end
-part-page-seen-end c = rw c.page_size-size.ensures (within c.before.before)
+part-page-seen-end c = rw c.page_size-size.ensures (within c.before.before.before)
 
 page-seen-requires : tie.Need-page_seen-requires
 page-seen-requires c κs =
-    let size = c.before.before in
-    let s = size.before.before.before.before.before in
-    let a = s.args in
-    rw size.page_size-size.ensures
-    (page_lent-part a.state _ a.region a.pages.now (a.field - 1) s.requires size.if-state-page.false)
+    let a = c.args in
+    rw c.page_size-size.ensures
+    (page_lent-part a.state _ a.region a.pages.now (a.field - 1) c.requires c.if-state-page.false)
 
 returns-3 : tie.Need-returns
 returns-3 c =
-    let size = c.before.before.before in
-    let s = size.before.before.before.before.before in
-    let a = s.args in
+    let a = c.args in
     let b = a.state.shape.capacity in
     λ words p n.
     page-told a.state (width_list a.widths) words a.pages.now a.region p n a.field
-    size.if-field-eq0.false s.requires.shape size.if-state-page.false s.requires.bits _
-    (rw (size.page_size-size.ensures, c.bias_key-bias.ensures) at c.page_seen.ensures
+    c.if-field-eq0.false c.requires.shape c.if-state-page.false c.requires.bits _
+    (rw (c.page_size-size.ensures, c.bias_key-bias.ensures) at c.page_seen.ensures
     ∙ ap (page_seen (width_list a.widths) b a.region.depth a.region.string (bias_key a.state.shape))
     (mid_of-page b (a.field - 1) ((a.field - 1) * page_size b) (page_size b) a.pages.now refl refl))
 

@@ -42,35 +42,31 @@ start p = (encoding p).before.before.before.before.before
 
 -- the early refusals let the key pass
 early : (c : tie.Else-not-encodings_fit)
-    → let s = c.before.before.before.before.before.before.before in key_number (given s) s.args.key.values ≡ 0
+    → key_number (given c.before.before.before.before.before.before.before.before.before) c.args.key.values ≡ 0
 early c =
-    let e = c.before.before in
-    let n = e.before.before in
-    let a = n.args in
-    number-none a.state a.dir.now a.pages.now _ n.lent_number-number.ensures a.key.values
-    e.if-number-ne0.false _ e.encode_key-encoded.ensures _ c.encodings_fit.ensures (not-false _ c.if-not-encodings_fit.false-raw)
+    let a = c.args in
+    number-none a.state a.dir.now a.pages.now _ c.lent_number-number.ensures a.key.values
+    c.if-number-ne0.false _ c.encode_key-encoded.ensures _ c.encodings_fit.ensures (not-false _ c.if-not-encodings_fit.false-raw)
 
 -- what holds of all values with these encodings holds of the call's
 called : (p : tie.After-plan_delete-plan) (X : List ℕ → Type 0) → OfValues (given (start p)) (encoded p) X
     → X (start p).args.key.values
 called p X told =
-    told (start p).args.key.values (early p.before.before.before.before) (sym (encoding p).encode-key.ensures)
+    told (start p).args.key.values (early p.before.before) (sym (encoding p).encode-key.ensures)
 
 -- the plan of a leaf that stays
 kept : (c : tie.In-Keep-2)
-    → let p = c.before.before in
-    KeepPlanned (given (start p)) (encoded p) c.plan-in-Keep-1.given.0.0
+    →
+    KeepPlanned (given (start c.before.before)) (encoded c.before.before) c.plan-in-Keep-1.given.0.0
 kept c =
-    let p = c.before.before in
-    subst (DeletePlanned (given (start p)) (encoded p)) c.plan-in-Keep-1.given.1 p.plan_delete-plan.ensures
+    subst (DeletePlanned (given (start c.before.before)) (encoded c.before.before)) c.plan-in-Keep-1.given.1 c.plan_delete-plan.ensures
 
 -- and of one that is joined
 joined : (c : tie.In-Join-2)
-    → let p = c.before.before in
-    JoinPlanned (given (start p)) (encoded p) c.plan-in-Join-1.given.0.0 c.plan-in-Join-1.given.0.1.0
+    →
+    JoinPlanned (given (start c.before.before)) (encoded c.before.before) c.plan-in-Join-1.given.0.0 c.plan-in-Join-1.given.0.1.0
 joined c =
-    let p = c.before.before in
-    subst (DeletePlanned (given (start p)) (encoded p)) c.plan-in-Join-1.given.1 p.plan_delete-plan.ensures
+    subst (DeletePlanned (given (start c.before.before)) (encoded c.before.before)) c.plan-in-Join-1.given.1 c.plan_delete-plan.ensures
 
 lent-number-requires : tie.Need-lent_number-number-requires
 lent-number-requires c κs = search rules
@@ -81,41 +77,33 @@ refuse-change-requires c κs = search rules
 returns : tie.Need-returns-then-number-ne0
 returns c =
     let some = c.if-number-ne0.true in
-    let n = c.before.before in
-    let s = n.before.before.before in
-    let a = s.args in
+    let a = c.args in
     rw c.refuse_change.ensures
-    (promise-early (given s) a.key.values n.lent_number-number.result
-    (number-lent a.state a.dir.now a.pages.now _ n.lent_number-number.ensures a.key.values some) some)
+    (promise-early (given c.before.before.before.before.before.before) a.key.values c.lent_number-number.result
+    (number-lent a.state a.dir.now a.pages.now _ c.lent_number-number.ensures a.key.values some) some)
 
 encode-key-requires : tie.Need-encode_key-encoded-requires
 encode-key-requires c κs =
-    let n = c.before in
-    let a = n.args in
-    shape-lent a.state a.dir.now a.pages.now _ n.lent_number-number.ensures c.if-number-ne0.false
+    let a = c.args in
+    shape-lent a.state a.dir.now a.pages.now _ c.lent_number-number.ensures c.if-number-ne0.false
 
 encodings-fit-requires : tie.Need-encodings_fit-requires
 encodings-fit-requires c κs =
-    let n = c.before.before in
-    let a = n.args in
-    shape-lent a.state a.dir.now a.pages.now _ n.lent_number-number.ensures c.if-number-ne0.false
+    let a = c.args in
+    shape-lent a.state a.dir.now a.pages.now _ c.lent_number-number.ensures c.if-number-ne0.false
 
 returns-2 : tie.Need-returns-then-not-encodings_fit
 unfolding changed_answer
 returns-2 c =
-    let e = c.before.before in
-    let n = e.before.before in
-    let s = n.before.before.before in
-    let a = s.args in
-    promise-early (given s) a.key.values 3
-    (number-out a.state a.dir.now a.pages.now _ n.lent_number-number.ensures a.key.values
-    e.if-number-ne0.false _ e.encode_key-encoded.ensures _ c.encodings_fit.ensures (not-true _ c.if-not-encodings_fit.true-raw))
+    let a = c.args in
+    promise-early (given c.before.before.before.before.before.before.before.before.before) a.key.values 3
+    (number-out a.state a.dir.now a.pages.now _ c.lent_number-number.ensures a.key.values
+    c.if-number-ne0.false _ c.encode_key-encoded.ensures _ c.encodings_fit.ensures (not-true _ c.if-not-encodings_fit.true-raw))
     (λ z. omega (arith, z))
 
 plan-delete-requires : tie.Need-plan_delete-plan-requires
 plan-delete-requires c κs =
-    let fitting = c.before.before.before in
-    subst (Passed _) (sym fitting.encode-key.ensures) (passed _ _ (early fitting))
+    subst (Passed _) (sym c.encode_key-encoded.ensures) (passed _ _ (early c.before))
 
 enum-known-plan : tie.Need-enum_known-plan
 enum-known-plan c = search rules
@@ -128,12 +116,11 @@ enum-known-plan-3 c = search rules
 
 removal-keeps-requires : tie.Need-removal_keeps-requires
 removal-keeps-requires c κs =
-    let p = c.before.before in
-    let s = start p in
+    let s = start c.before in
     let leaf = (kept c.before.before).found.leaf in
     let few = (limits-parts s.args.state leaf.limits).1 in
     record {
-      lent = directory_lent (given s) (encoded p) _ _ leaf;
+      lent = directory_lent (given s) (encoded c.before) _ _ leaf;
       deep = leaf.deep;
       page-lt = omega (arith, leaf.own-within, few);
     }
@@ -147,20 +134,18 @@ same-length-2 c = search rules
 returns-3 : tie.Need-returns-then-not-removal_keeps
 unfolding changed_answer
 returns-3 c =
-    let p = c.before.before.before.before in
-    called p _
-    (promise-not-whole (given (start p)) (encoded p) _ (kept c.before.before.before.before) _
+    called c.before.before.before _
+    (promise-not-whole (given (start c.before.before.before)) (encoded c.before.before.before) _ (kept c.before.before.before.before) _
     c.removal_keeps.ensures (not-true _ c.if-not-removal_keeps.true-raw))
 
 keep-leaf-requires : tie.Need-keep_leaf-requires
 keep-leaf-requires c κs =
-    let p = c.before.before.before.before.before.before in
-    let s = start p in
+    let s = start c.before.before.before.before.before in
     let f = (kept c.before.before.before.before.before.before).found in
     record {
-      lent = directory_lent (given s) (encoded p) _ _ f.leaf;
+      lent = directory_lent (given s) (encoded c.before.before.before.before.before) _ _ f.leaf;
       deep = f.leaf.deep;
-      own = record_lent (given s) (encoded p) _ f;
+      own = record_lent (given s) (encoded c.before.before.before.before.before) _ f;
     }
 
 enum-known-plan-4 : tie.Need-enum_known-plan-in-Join-1
@@ -168,9 +153,8 @@ enum-known-plan-4 c = search rules
 
 join-keeps-requires : tie.Need-join_keeps-requires
 join-keeps-requires c κs =
-    let p = c.before.before in
-    let s = start p in
-    let v = encoded p in
+    let s = start c.before in
+    let v = encoded c.before in
     let k = joined c.before.before in
     let leaf = k.found.leaf in
     let few = (limits-parts s.args.state leaf.limits).1 in
@@ -190,16 +174,14 @@ same-length-4 c = search rules
 returns-4 : tie.Need-returns-then-not-join_keeps
 unfolding changed_answer
 returns-4 c =
-    let p = c.before.before.before.before in
-    called p _
-    (promise-not-whole (given (start p)) (encoded p) _ (joined c.before.before.before.before) _
+    called c.before.before.before _
+    (promise-not-whole (given (start c.before.before.before)) (encoded c.before.before.before) _ (joined c.before.before.before.before) _
     c.join_keeps.ensures (not-true _ c.if-not-join_keeps.true-raw))
 
 join-leaves-requires : tie.Need-join_leaves-joined-requires
 join-leaves-requires c κs =
-    let p = c.before.before.before.before.before.before in
-    let s = start p in
-    let v = encoded p in
+    let s = start c.before.before.before.before.before in
+    let v = encoded c.before.before.before.before.before in
     let k = joined c.before.before.before.before.before.before in
     record {
       lent = directory_lent (given s) v _ _ k.found.leaf;
@@ -216,9 +198,8 @@ same-length-6 c = search rules
 returns-5 : tie.Need-returns-in-Refused
 unfolding changed_answer
 returns-5 c =
-    let p = c.before in
-    called p _
-    (subst (DeletePlanned (given (start p)) (encoded p)) c.in-Refused.is p.plan_delete-plan.ensures)
+    called c.before _
+    (subst (DeletePlanned (given (start c.before)) (encoded c.before)) c.in-Refused.is c.plan_delete-plan.ensures)
 
 same-length-7 : tie.Need-shape_of-dir-in-Absent
 same-length-7 c = search rules
@@ -229,9 +210,8 @@ same-length-8 c = search rules
 returns-6 : tie.Need-returns-in-Absent
 unfolding changed_answer
 returns-6 c =
-    let p = c.before in
-    called p _
-    (subst (DeletePlanned (given (start p)) (encoded p)) c.in-Absent.is p.plan_delete-plan.ensures)
+    called c.before _
+    (subst (DeletePlanned (given (start c.before)) (encoded c.before)) c.in-Absent.is c.plan_delete-plan.ensures)
 
 same-length-9 : tie.Need-shape_of-dir-else-not-removal_keeps
 same-length-9 c = search rules
@@ -242,14 +222,12 @@ same-length-10 c = search rules
 returns-7 : tie.Need-returns-else-not-removal_keeps
 unfolding changed_answer
 returns-7 c =
-    let p = c.before.before.before.before.before.before.before.before.before.before.before in
     let k = kept c.before.before.before.before.before.before.before.before.before.before.before in
-    let test = c.before.before.before.before.before.before.before in
     let done = c.keep_leaf in
-    called p _
-    (promise-kept (given (start p)) (encoded p) _ k.found _ _ done.ensures.words_are
+    called c.before.before.before.before.before.before.before.before.before.before _
+    (promise-kept (given (start c.before.before.before.before.before.before.before.before.before.before)) (encoded c.before.before.before.before.before.before.before.before.before.before) _ k.found _ _ done.ensures.words_are
     done.ensures.bytes-are k.alone
-    (test.removal_keeps.ensures.yes (not-false _ test.if-not-removal_keeps.false-raw)))
+    (c.removal_keeps.ensures.yes (not-false _ c.if-not-removal_keeps.false-raw)))
 
 same-length-11 : tie.Need-shape_of-dir-else-not-join_keeps
 same-length-11 c = search rules
@@ -260,14 +238,12 @@ same-length-12 c = search rules
 returns-8 : tie.Need-returns-else-not-join_keeps
 unfolding changed_answer
 returns-8 c =
-    let p = c.before.before.before.before.before.before.before.before.before.before.before in
     let k = joined c.before.before.before.before.before.before.before.before.before.before.before in
-    let test = c.before.before.before.before.before.before.before in
     let done = c.join_leaves-joined in
-    called p _
-    (promise-joined (given (start p)) (encoded p) _ k.found _ k done.result _ _
-    done.ensures.words_are done.ensures.bytes-are (thirteen (start p))
-    (test.join_keeps.ensures.yes (not-false _ test.if-not-join_keeps.false-raw)))
+    called c.before.before.before.before.before.before.before.before.before.before _
+    (promise-joined (given (start c.before.before.before.before.before.before.before.before.before.before)) (encoded c.before.before.before.before.before.before.before.before.before.before) _ k.found _ k done.result _ _
+    done.ensures.words_are done.ensures.bytes-are (thirteen (start c.before.before.before.before.before.before.before.before.before.before))
+    (c.join_keeps.ensures.yes (not-false _ c.if-not-join_keeps.false-raw)))
 
 pub delete_spec : {M : Type 1} → statement M
 delete_spec =

@@ -13,9 +13,8 @@ same_length c = search rules
 returns : tie.Need-returns-then-bit
 unfolding joined_pages
 returns c =
-    let called = c.before.before in
-    let bit = called.if-bit.true in
-    record { kept = rw bit; bytes-are = rw bit called.carry.ensures }
+    let bit = c.if-bit.true in
+    record { kept = rw bit; bytes-are = rw bit c.carry.ensures }
 
 carry-requires-2 : tie.Need-carry-requires-2
 carry-requires-2 c κs = search rules
@@ -26,9 +25,8 @@ same-length-2 c = search rules
 returns-2 : tie.Need-returns
 unfolding joined_pages
 returns-2 c =
-    let called = c.before.before in
-    let bit = called.if-bit.false in
-    record { kept = rw bit; bytes-are = rw bit called.carry-2.ensures }
+    let bit = c.if-bit.false in
+    record { kept = rw bit; bytes-are = rw bit c.carry-2.ensures }
 
 pub join_pages_spec : {M : Type 1} → statement M
 join_pages_spec =

@@ -18,17 +18,16 @@ sub-join-pages c = omega (arith, c.requires.own.place-lt)
 
 join-pages-requires : tie.Need-join_pages-requires
 join-pages-requires c κs =
-    let s = c.before.before.before.before.before.before.before in
-    let a = s.args in
+    let a = c.args in
     let r = a.found in
-    let own = s.requires.own in
+    let own = c.requires.own in
     let e = sym c.remove_record.ensures in
     let lent = lent-removed_bytes a.capacity r.page r.place r.count a.pages.now own.page
     own.place-lt own.few in
     record {
       own = subst (PageLent a.capacity r.page) e (lent r.page own.page);
-      other = subst (PageLent a.capacity a.join.other) e (lent a.join.other s.requires.page);
-      fit = s.requires.fit;
+      other = subst (PageLent a.capacity a.join.other) e (lent a.join.other c.requires.page);
+      fit = c.requires.fit;
     }
 
 same_length : tie.Need-shape_of-pages

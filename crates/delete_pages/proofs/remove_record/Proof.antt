@@ -41,16 +41,14 @@ same_length c = search rules
 returns : tie.Need-returns
 unfolding removed_bytes
 returns c =
-    let size = c.before.before.before.before in
-    let start = size.before.before.before.before in
-    let a = start.args in
+    let a = c.args in
     let r = a.found in
     let page = page_at a.capacity a.pages.now r.page in
-    let whole = length-page_at a.capacity r.page a.pages.now start.requires.page.whole in
-    put_mid-change a.capacity r.page _ _ a.pages.now size.page_start-start.ensures
-    size.page_size.ensures (removed_page r.place r.count) _
+    let whole = length-page_at a.capacity r.page a.pages.now c.requires.page.whole in
+    put_mid-change a.capacity r.page _ _ a.pages.now c.page_start-start.ensures
+    c.page_size.ensures (removed_page r.place r.count) _
     c.remove_at.ensures
-    (length-removed_page r.place r.count page start.requires.place-lt (omega (arith, whole, start.requires.few))
+    (length-removed_page r.place r.count page c.requires.place-lt (omega (arith, whole, c.requires.few))
     ∙ whole)
 
 pub remove_record_spec : {M : Type 1} → statement M

@@ -32,13 +32,12 @@ fair-count-requires c κs = search rules
 
 returns : tie.Need-returns
 returns c =
-    let size = c.before.before in
-    let a = size.args in
+    let a = c.args in
     leaf_count a.capacity a.bias a.mask a.key (page_at a.capacity a.pages.now a.g) c.fair_count.result
     (c.fair_count.ensures
     ∙ ap (λ page. fair_count a.capacity (ends_agree a.bias a.mask a.key page (count_of page)) page)
-    (mid_of-page a.capacity a.g _ _ a.pages.now size.page_start-start.ensures
-    size.page_size.ensures))
+    (mid_of-page a.capacity a.g _ _ a.pages.now c.page_start-start.ensures
+    c.page_size.ensures))
 
 pub count_on_spec : {M : Type 1} → statement M
 count_on_spec =

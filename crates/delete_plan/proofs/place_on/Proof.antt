@@ -29,11 +29,10 @@ find-key-requires c κs = search rules
 
 returns : tie.Need-returns
 returns c =
-    let size = c.before.before in
-    let a = size.args in
+    let a = c.args in
     c.find_key.ensures
     ∙ ap (λ page. key_place a.fields page a.n 0)
-    (mid_of-page a.capacity a.g _ _ a.pages.now size.page_start-start.ensures size.page_size.ensures)
+    (mid_of-page a.capacity a.g _ _ a.pages.now c.page_start-start.ensures c.page_size.ensures)
 
 pub place_on_spec : {M : Type 1} → statement M
 place_on_spec =

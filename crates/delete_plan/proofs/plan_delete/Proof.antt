@@ -59,8 +59,8 @@ held c =
 
 -- the leaf with a page that it names
 named : (c : tie.In-Page-2)
-    → let words = c.before.before.before.before.before.before in
-    let a = words.args in
+    →
+    let a = c.args in
     let before = store a.state a.dir.now a.pages.now in
     leaf_of (word_on before (key_string before a.encoded.values))
     ≡ Page c.found-1.given.0.0 c.found-1.given.0.1.0
@@ -88,17 +88,15 @@ cast-key-word c = search rules
 
 key-word-requires : tie.Need-key_word-at-requires
 key-word-requires c κs =
-    let s = c.before.before.before.before.before.before.before in
-    let a = s.args in
-    let p = s.requires in
-    let l = limits-parts a.state (limited c.before.before.before) in
+    let a = c.args in
+    let p = c.requires in
+    let l = limits-parts a.state (limited c.before.before.before.before) in
     key-word-asks a.state.shape _ c.widths_of-widths.ensures a.state.deepest p.shape
     (le_trans l.4 l.3) _ (le_trans (pow_mono l.4) p.words-lent)
 
 word-holds-requires : tie.Need-word_holds-requires
 word-holds-requires c κs =
-    let s = c.before.before.before.before.before.before.before.before in
-    let l = limits-parts s.args.state (limited c.before.before.before.before) in
+    let l = limits-parts c.args.state (limited c.before.before.before.before.before) in
     le_trans l.4 l.2
 
 returns-2 : tie.Need-returns-then-not-word_holds
@@ -122,21 +120,17 @@ enum_told c = search rules
 
 returns-3 : tie.Need-returns-in_default
 returns-3 c =
-    let s = c.before.before.before.before.before.before.before.before.before.before.before.before in
-    let a = s.args in
+    let a = c.args in
     let before = store a.state a.dir.now a.pages.now in
-    let at = c.before.before.before.before in
-    refused-empty before a.encoded.values _ at.key_word-at.result.depth
-    (ap leaf_of (sym (found at)) ∙ sym c.unpack-found.ensures ∙ c.in_default.is)
-    (held c.before.before) (at.key_word-at.ensures.depth_value ∙ ap depth_field (found at))
+    refused-empty before a.encoded.values _ c.key_word-at.result.depth
+    (ap leaf_of (sym (found c.before.before.before.before)) ∙ sym c.unpack-found.ensures ∙ c.in_default.is)
+    (held c.before.before) (c.key_word-at.ensures.depth_value ∙ ap depth_field (found c.before.before.before.before))
 
 plan-leaf-requires : tie.Need-plan_leaf-requires
 plan-leaf-requires c κs =
-    let limits = c.before.before.before.before.before.before.before.before in
-    let s = limits.before.before.before.before in
-    let a = s.args in
+    let a = c.args in
     let before = store a.state a.dir.now a.pages.now in
-    leaf_met before a.encoded.values s.requires (limited limits) _ _ (named c.before)
+    leaf_met before a.encoded.values c.requires (limited c.before.before.before.before.before.before.before.before.before) _ _ (named c.before)
     (held c.before.before)
 
 returns-4 : tie.Need-returns

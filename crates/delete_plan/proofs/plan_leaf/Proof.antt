@@ -54,7 +54,7 @@ found : (k : tie.After-seek-found) → (k.seek-found.result.count ≡ 0 → ⊥)
     → RecordFound (given (start k)) (start k).args.encoded.values k.seek-found.result
 found k some other =
     let s = start k in
-    record_found (given s) s.args.encoded.values s.args.page s.args.depth s.pre _
+    record_found (given s) s.args.encoded.values s.args.page s.args.depth s.requires _
     (mask_is k.before.before.before.before) k.seek-found.result (sought k) some other
 
 widths-of-requires : tie.Need-widths_of-requires
@@ -62,10 +62,9 @@ widths-of-requires c κs = search rules
 
 fixed-bits-requires : tie.Need-fixed_bits-mask-requires
 fixed-bits-requires c κs =
-    let s = c.before.before.before.before in
-    let a = s.args in
-    let lent = directory_lent (given s) a.encoded.values a.page a.depth s.requires in
-    fixed-bits-asks a.state.shape lent.shape a.depth (omega (arith, s.requires.deep, lent.deep))
+    let a = c.args in
+    let lent = directory_lent (given c.before.before.before.before) a.encoded.values a.page a.depth c.requires in
+    fixed-bits-asks a.state.shape lent.shape a.depth (omega (arith, c.requires.deep, lent.deep))
     (width_list c.widths_of.result) c.widths_of.ensures
 
 bias-key-requires : tie.Need-bias_key-bias-requires
@@ -79,49 +78,44 @@ cast-seek c = search rules
 
 seek-requires : tie.Need-seek-found-requires
 seek-requires c κs =
-    let s = c.before.before.before.before.before.before.before.before in
-    let a = s.args in
-    page_lent (given s) a.encoded.values a.page a.depth s.requires a.page s.requires.own-within
+    let a = c.args in
+    page_lent (given c.before.before.before.before.before.before.before.before) a.encoded.values a.page a.depth c.requires a.page c.requires.own-within
 
 returns : tie.Need-returns-then-found-eq0
 returns c =
-    let k = c.before.before in
-    let s = start k in
+    let s = start c.before.before in
     let a = s.args in
-    refused-page (given s) a.encoded.values a.page a.depth s.pre _ k.seek-found.result.count
-    (mask_is k.before.before.before.before) (sought k).counted c.if-found-eq0.true
+    refused-page (given s) a.encoded.values a.page a.depth s.requires _ c.seek-found.result.count
+    (mask_is c.before.before.before.before.before.before) (sought c.before.before).counted c.if-found-eq0.true
 
 returns-2 : tie.Need-returns-then-found
 returns-2 c =
-    let k = c.before.before.before.before in
-    let s = start k in
+    let s = start c.before.before.before.before in
     let a = s.args in
-    let r = k.seek-found.result in
-    let fair = fair-of-count a.state.shape.capacity _ _ r.count (sought k).counted
+    let r = c.seek-found.result in
+    let fair = fair-of-count a.state.shape.capacity _ _ r.count (sought c.before.before.before.before).counted
     c.if-found-eq0.false in
-    refused-absent (given s) a.encoded.values a.page a.depth s.pre
-    (λ i. (k.shared_slice_known-2-1.given i).fits)
-    r.count fair.counted r.place (sought k).placed c.if-found.true
+    refused-absent (given s) a.encoded.values a.page a.depth s.requires
+    (λ i. (c.shared_slice_known-2-1.given i).fits)
+    r.count fair.counted r.place (sought c.before.before.before.before).placed c.if-found.true
 
 returns-3 : tie.Need-returns-then-depth-eq0
 returns-3 c =
-    let k = c.before.before.before.before.before in
-    let s = start k in
-    let f = found k c.if-found-eq0.false c.if-found.false in
+    let s = start c.before.before.before.before.before in
+    let f = found c.before.before.before.before.before c.if-found-eq0.false c.if-found.false in
     record {
       found = f;
-      alone = stays-root (given s) s.args.encoded.values _ f ((sought k).depth_is ∙ c.if-depth-eq0.true);
+      alone = stays-root (given s) s.args.encoded.values _ f ((sought c.before.before.before.before.before).depth_is ∙ c.if-depth-eq0.true);
     }
 
 plan-sibling-requires : tie.Need-plan_sibling-requires
 plan-sibling-requires c κs =
-    let k = c.before.before.before.before.before in
-    let s = start k in
+    let s = start c.before.before.before.before.before in
     record {
-      found = found k c.if-found-eq0.false c.if-found.false;
-      divided = omega (arith, (sought k).depth_is, c.if-depth-eq0.false);
-      fixed = mask_is k.before.before.before.before
-          ∙ ap (fixed_bits (widths_of s.args.state.shape)) (sym (sought k).depth_is);
+      found = found c.before.before.before.before.before c.if-found-eq0.false c.if-found.false;
+      divided = omega (arith, (sought c.before.before.before.before.before).depth_is, c.if-depth-eq0.false);
+      fixed = mask_is c.before.before.before.before.before.before.before.before.before
+          ∙ ap (fixed_bits (widths_of s.args.state.shape)) (sym (sought c.before.before.before.before.before).depth_is);
     }
 
 returns-4 : tie.Need-returns

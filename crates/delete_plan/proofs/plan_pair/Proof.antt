@@ -40,11 +40,11 @@ counted k =
 
 -- the sibling's page
 fair : (c : tie.Else-count-eq0)
-    → let k = c.before in
-    let a = (start k).args in
+    →
+    let a = (start c.before).args in
     let page = page_at a.state.shape.capacity a.pages.now a.other in
     Fair a.state.shape.capacity (ends_agree (bias_key a.state.shape) a.mask a.beside page (count_of page))
-    page k.count_on-count.result
+    page c.count_on-count.result
 fair c =
     let a = (start c.before).args in
     fair-of-count a.state.shape.capacity _ _ _ (counted c.before) c.if-count-eq0.false
@@ -57,18 +57,16 @@ bias-key-requires c κs = c.requires.leaf.found.leaf.passed.shape
 
 count-on-requires : tie.Need-count_on-count-requires
 count-on-requires c κs =
-    let s = c.before.before.before.before.before in
-    let a = s.args in
-    page_lent (given s) a.encoded.values a.found.page a.found.depth s.requires.leaf.found.leaf a.other
-    s.requires.other-within
+    let a = c.args in
+    page_lent (given c.before.before.before.before.before) a.encoded.values a.found.page a.found.depth c.requires.leaf.found.leaf a.other
+    c.requires.other-within
 
 returns : tie.Need-returns-then-count-eq0
 returns c =
-    let k = c.before in
-    let s = start k in
+    let s = start c.before in
     let a = s.args in
-    refused-other (given s) a.encoded.values a.found a.mask a.other a.beside s.pre
-    k.count_on-count.result (counted k) c.if-count-eq0.true
+    refused-other (given s) a.encoded.values a.found a.mask a.other a.beside s.requires
+    c.count_on-count.result (counted c.before) c.if-count-eq0.true
 
 add-if2 : tie.Need-overflow_add-capacity
 add-if2 c = search rules
@@ -78,13 +76,12 @@ add-if2-2 c = search rules
 
 returns-2 : tie.Need-returns-then-capacity-found
 returns-2 c =
-    let e = c.before.before in
-    let s = start e.before in
+    let s = start c.before.before.before in
     let a = s.args in
     record {
-      found = s.pre.leaf.found;
+      found = s.requires.leaf.found;
       alone =
-          stays-full (given s) a.encoded.values a.found a.mask a.other a.beside s.pre _ (fair e)
+          stays-full (given s) a.encoded.values a.found a.mask a.other a.beside s.requires _ (fair c.before.before)
           c.if-capacity-found.true;
     }
 
@@ -93,41 +90,40 @@ tally-holds-requires c κs = search rules
 
 returns-3 : tie.Need-returns-then-not-tally_holds
 returns-3 c =
-    let s = start c.before.before.before.before.before in
+    let s = start c.before.before.before.before.before.before in
     let a = s.args in
     let holds = c.tally_holds in
-    refused-tally (given s) a.encoded.values a.found a.mask a.other a.beside s.pre
+    refused-tally (given s) a.encoded.values a.found a.mask a.other a.beside s.requires
     (sym holds.ensures ∙ not-true holds.result c.if-not-tally_holds.true-raw)
 
 pack-key-requires : tie.Need-pack_key-requires
 pack-key-requires c κs =
-    let s = start c.before.before.before.before.before in
-    SixteenBits-passed _ _ s.pre.leaf.found.leaf.passed
+    let s = start c.before.before.before.before.before.before in
+    SixteenBits-passed _ _ s.requires.leaf.found.leaf.passed
 
 plan-join-requires : tie.Need-plan_join-join-requires
 plan-join-requires c κs =
-    let s = start c.before.before.before.before.before.before in
+    let s = start c.before.before.before.before.before.before.before in
     let a = s.args in
-    let leaf = s.pre.leaf.found.leaf in
+    let leaf = s.requires.leaf.found.leaf in
     record {
       lent = directory_lent (given s) a.encoded.values a.found.page a.found.depth leaf;
-      divided = s.pre.leaf.divided;
+      divided = s.requires.leaf.divided;
       deep = leaf.deep;
     }
 
 returns-4 : tie.Need-returns
 returns-4 c =
-    let e = c.before.before.before.before.before.before in
-    let s = start e.before in
+    let s = start c.before.before.before.before.before.before.before.before in
     let a = s.args in
     let holds = c.tally_holds in
     let back = ap unpacked_key c.pack_key.ensures
-    ∙ unpacked_key-passed _ _ s.pre.leaf.found.leaf.passed in
-    join_planned (given s) a.encoded.values a.found a.mask a.other a.beside s.pre _ (fair e)
+    ∙ unpacked_key-passed _ _ s.requires.leaf.found.leaf.passed in
+    join_planned (given s) a.encoded.values a.found a.mask a.other a.beside s.requires _ (fair c.before.before.before.before.before.before.before)
     c.if-capacity-found.false
     (sym holds.ensures ∙ not-false holds.result c.if-not-tally_holds.false-raw) _
     (subst
-    (λ v. JoinMade a.state a.dir.now v a.found.depth a.other e.count_on-count.result
+    (λ v. JoinMade a.state a.dir.now v a.found.depth a.other c.count_on-count.result
     c.plan_join-join.result) back c.plan_join-join.ensures)
 
 pub plan_pair_spec : {M : Type 1} → statement M

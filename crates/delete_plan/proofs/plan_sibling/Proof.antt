@@ -55,14 +55,13 @@ beside k =
 
 -- the word holds
 held : (c : tie.Else-not-sibling_word_holds)
-    → let k = c.before.before in
-    word_holds (start k).args.state k.find_sibling-beside.result.word ≡ true
+    →
+    word_holds (start c.before.before).args.state c.find_sibling-beside.result.word ≡ true
 held c =
-    let k = c.before.before in
-    let s = start k in
+    let s = start c.before.before in
     let holds = c.sibling_word_holds in
-    held-sibling (given s) s.args.encoded.values s.args.found s.pre.found s.pre.divided _
-    (beside k) (sym holds.ensures ∙ not-false holds.result c.if-not-sibling_word_holds.false-raw)
+    held-sibling (given s) s.args.encoded.values s.args.found s.requires.found s.requires.divided _
+    (beside c.before.before) (sym holds.ensures ∙ not-false holds.result c.if-not-sibling_word_holds.false-raw)
 
 -- the leaf with a page that it names
 named : (c : tie.In-Page-2)
@@ -78,12 +77,11 @@ sub-find-sibling c = search rules
 
 find-sibling-requires : tie.Need-find_sibling-beside-requires
 find-sibling-requires c κs =
-    let s = c.before.before.before.before in
-    let a = s.args in
-    let leaf = s.requires.found.leaf in
+    let a = c.args in
+    let leaf = c.requires.found.leaf in
     record {
-      lent = directory_lent (given s) a.encoded.values a.found.page a.found.depth leaf;
-      below = omega (arith, s.requires.divided, leaf.deep);
+      lent = directory_lent (given c.before.before.before.before) a.encoded.values a.found.page a.found.depth leaf;
+      below = omega (arith, c.requires.divided, leaf.deep);
       fits =
           ap (λ n. index_fits (widths_of a.state.shape) (unpacked_key n)) c.pack_key-packed.ensures
           ∙ index_fits-passed _ _ leaf.passed;
@@ -93,17 +91,16 @@ sibling-word-holds-requires : tie.Need-sibling_word_holds-requires
 sibling-word-holds-requires c κs =
     let s = start c in
     let a = s.args in
-    let leaf = s.pre.found.leaf in
+    let leaf = s.requires.found.leaf in
     let lent = directory_lent (given s) a.encoded.values a.found.page a.found.depth leaf in
     (lent.short, omega (arith, leaf.deep, lent.short))
 
 returns : tie.Need-returns-then-not-sibling_word_holds
 returns c =
-    let k = c.before.before in
-    let s = start k in
+    let s = start c.before.before in
     let holds = c.sibling_word_holds in
-    refused-sibling (given s) s.args.encoded.values s.args.found s.pre.found s.pre.divided _
-    (beside k) (sym holds.ensures ∙ not-true holds.result c.if-not-sibling_word_holds.true-raw)
+    refused-sibling (given s) s.args.encoded.values s.args.found s.requires.found s.requires.divided _
+    (beside c.before.before) (sym holds.ensures ∙ not-true holds.result c.if-not-sibling_word_holds.true-raw)
 
 unpack-requires : tie.Need-unpack-sibling-requires
 unpack-requires c κs = search rules
@@ -116,35 +113,32 @@ enum_told c = search rules
 
 returns-2 : tie.Need-returns-in_default
 returns-2 c =
-    let k = c.before.before.before.before in
-    let s = start k in
+    let s = start c.before.before.before.before in
     record {
-      found = s.pre.found;
+      found = s.requires.found;
       alone =
-          stays-empty (given s) s.args.encoded.values s.args.found s.pre.found s.pre.divided _
-          (beside k) (held c.before.before) _
+          stays-empty (given s) s.args.encoded.values s.args.found s.requires.found s.requires.divided _
+          (beside c.before.before.before.before) (held c.before.before) _
           (sym c.unpack-sibling.ensures ∙ c.in_default.is);
     }
 
 returns-3 : tie.Need-returns-then-depth-found
 returns-3 c =
-    let k = c.before.before.before.before.before.before in
-    let s = start k in
+    let s = start c.before.before.before.before.before.before in
     record {
-      found = s.pre.found;
+      found = s.requires.found;
       alone =
-          stays-deep (given s) s.args.encoded.values s.args.found s.pre.found s.pre.divided _
-          (beside k) (held c.before.before.before.before) _ _
+          stays-deep (given s) s.args.encoded.values s.args.found s.requires.found s.requires.divided _
+          (beside c.before.before.before.before.before.before) (held c.before.before.before.before) _ _
           (named c.before.before.before) c.if-depth-found.true;
     }
 
 plan-pair-requires : tie.Need-plan_pair-requires
 plan-pair-requires c κs =
-    let k = c.before.before.before.before.before.before in
-    let s = start k in
-    sibling_met (given s) s.args.encoded.values s.args.found s.pre.found s.pre.divided _
-    (beside k) (held c.before.before.before.before) _ _
-    (named c.before.before.before) c.if-depth-found.false s.args.mask s.pre.fixed _ (there k)
+    let s = start c.before.before.before.before.before.before in
+    sibling_met (given s) s.args.encoded.values s.args.found s.requires.found s.requires.divided _
+    (beside c.before.before.before.before.before.before) (held c.before.before.before.before) _ _
+    (named c.before.before.before) c.if-depth-found.false s.args.mask s.requires.fixed _ (there c.before.before.before.before.before.before)
 
 returns-4 : tie.Need-returns
 returns-4 c = c.plan_pair.ensures

@@ -32,12 +32,11 @@ pack-empty-requires c κs =
 
 returns : tie.Need-returns-then-word-pack_empty invariant-loop decreases-loop
 returns c =
-    let called = c.before.before in
-    let loop = called.loop-y in
-    let a = called.args in
+    let loop = c.loop-y in
+    let a = c.args in
     climbed-stop a.state a.dir.now (unpacked_key a.key) a.m loop.y (loop.y - 1)
-    called.word_beside-word.result loop.invariant (omega (arith, called.loop-y-test.true))
-    called.word_beside-word.ensures
+    c.word_beside-word.result loop.invariant (omega (arith, c.loop-y-test.true))
+    c.word_beside-word.ensures
     (λ h. c.if-word-pack_empty.true (h ∙ sym c.pack_empty.ensures))
 
 sub-y : tie.Need-overflow_sub-y-in-loop-y invariant-loop decreases-loop
@@ -48,12 +47,11 @@ loop-less c = omega (arith, c.loop-y-test.true)
 
 loop-again : tie.Need-loop-y-preserved invariant-loop decreases-loop
 loop-again c =
-    let called = c.before.before in
-    let loop = called.loop-y in
-    let a = called.args in
+    let loop = c.loop-y in
+    let a = c.args in
     rising-next a.state a.dir.now (unpacked_key a.key) a.m loop.y (loop.y - 1)
-    called.word_beside-word.result loop.invariant (omega (arith, called.loop-y-test.true))
-    called.word_beside-word.ensures
+    c.word_beside-word.result loop.invariant (omega (arith, c.loop-y-test.true))
+    c.word_beside-word.ensures
     (c.if-word-pack_empty.false ∙ c.pack_empty.ensures)
 
 returns-2 : tie.Need-returns invariant-loop decreases-loop

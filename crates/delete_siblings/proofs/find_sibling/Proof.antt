@@ -14,9 +14,8 @@ widths-of-requires c κs = search rules
 
 step-place-requires : tie.Need-step_place-g-requires
 step-place-requires c κs =
-    let s = c.before.before in
     let w = c.widths_of-widths in
-    step-asked s.args.state (width_list w.result) w.ensures s.args.z s.requires.below _ s.requires.lent
+    step-asked c.args.state (width_list w.result) w.ensures c.args.z c.requires.below _ c.requires.lent
 
 cast-sibling-word : tie.Need-overflow_cast-state
 cast-sibling-word c = search rules
@@ -25,19 +24,19 @@ sibling-word-requires : tie.Need-sibling_word-word-requires
 sibling-word-requires c κs =
     let place = c.step_place-g in
     let w = c.widths_of-widths in
-    let s = c.before.before.before.before in (
-      step_within s.args.state (width_list w.result) w.ensures s.args.z s.requires.below _ s.requires.lent
+    (
+      step_within c.args.state (width_list w.result) w.ensures c.args.z c.requires.below _ c.requires.lent
           place.result place.ensures,
-      s.requires.lent.room,
+      c.requires.lent.room,
     )
 
 flipped-requires : tie.Need-flipped-requires
 flipped-requires c κs =
     let place = c.step_place-g in
     let w = c.widths_of-widths in
-    let s = c.before.before.before.before.before in (
-      (step-asked s.args.state (width_list w.result) w.ensures s.args.z s.requires.below _
-          s.requires.lent).0,
+    (
+      (step-asked c.args.state (width_list w.result) w.ensures c.args.z c.requires.below _
+          c.requires.lent).0,
       place.ensures.live,
     )
 
@@ -45,15 +44,14 @@ returns : tie.Need-returns
 returns c =
     let place = c.step_place-g in
     let w = c.widths_of-widths in
-    let s = c.before.before.before.before.before.before in
-    let a = s.args in
+    let a = c.args in
     record {
       word =
-          at_sibling a.state (width_list w.result) w.ensures a.z s.requires.below (unpacked_key a.key)
+          at_sibling a.state (width_list w.result) w.ensures a.z c.requires.below (unpacked_key a.key)
           a.dir.now place.result _ place.ensures c.sibling_word-word.ensures;
       beside =
           subst (SiblingKey a.state.shape a.key a.z) (sym c.flipped.ensures)
-          (sibling_key a.state.shape s.requires.lent.shape a.key s.requires.fits (width_list w.result)
+          (sibling_key a.state.shape c.requires.lent.shape a.key c.requires.fits (width_list w.result)
           w.ensures a.z place.result place.ensures);
     }
 

@@ -10,8 +10,7 @@ use Rattle.delete_siblings.proofs.flipped.Tie as tie
 
 width-le : (c : tie.After-width_at-w) → c.width_at-w.result ≤ 16
 width-le c =
-    let s = c.before in
-    subst (λ n. n ≤ 16) (sym c.width_at-w.ensures) (s.requires.0 (s.args.g % 4))
+    subst (λ n. n ≤ 16) (sym c.width_at-w.ensures) (c.requires.0 (c.args.g % 4))
 
 width-at-requires : tie.Need-width_at-w-requires
 width-at-requires c κs = search rules
@@ -33,9 +32,8 @@ shl-result c = omega (arith, width-le c)
 
 returns : tie.Need-returns
 returns c =
-    let s = c.before in
-    flipped_key-shift (width_list s.args.widths) s.requires.0 s.args.g s.args.key c.width_at-w.result
-    s.requires.1 c.width_at-w.ensures
+    flipped_key-shift (width_list c.args.widths) c.requires.0 c.args.g c.args.key c.width_at-w.result
+    c.requires.1 c.width_at-w.ensures
 
 pub flipped_spec : {M : Type 1} → statement M
 flipped_spec =

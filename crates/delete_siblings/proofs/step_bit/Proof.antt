@@ -18,33 +18,30 @@ widths-of-requires c κs = search rules
 
 step-place-requires : tie.Need-step_place-pair-requires
 step-place-requires c κs =
-    let s = c.before in
     let w = c.widths_of-widths in (
-      widths-fit s.args.shape (width_list w.result) s.requires.0 w.ensures,
-      omega (arith, ap total w.ensures, s.requires.1),
+      widths-fit c.args.shape (width_list w.result) c.requires.0 w.ensures,
+      omega (arith, ap total w.ensures, c.requires.1),
     )
 
 pair-bit-requires : tie.Need-pair_bit-requires
 pair-bit-requires c κs =
-    let s = c.before.before in
     let w = c.widths_of-widths in
     let place = c.step_place-pair.ensures in
-    (widths-fit s.args.shape (width_list w.result) s.requires.0 w.ensures, place.low, place.live)
+    (widths-fit c.args.shape (width_list w.result) c.requires.0 w.ensures, place.low, place.live)
 
 returns : tie.Need-returns
 returns c =
-    let s = c.before.before.before in
-    let key = s.args.key in
+    let key = c.args.key in
     let w = c.widths_of-widths in
     let ws = width_list w.result in
     let place = c.step_place-pair in
     let g = place.result in
-    let fit = widths-fit s.args.shape ws s.requires.0 w.ensures in
+    let fit = widths-fit c.args.shape ws c.requires.0 w.ensures in
     c.pair_bit.ensures
     ∙ ap (λ v. bit_of (get_or ws (g % 4) 0) v (g / 4)) (sym (get_d-unpacked_key key (g % 4) (omega arith)))
     ∙ sym (split_bit-place ws (unpacked_key key) g fit place.ensures.live)
     ∙ ap (split_bit ws (unpacked_key key)) place.ensures.before
-    ∙ ap (λ v. split_bit v (unpacked_key key) s.args.step) w.ensures
+    ∙ ap (λ v. split_bit v (unpacked_key key) c.args.step) w.ensures
 
 pub step_bit_spec : {M : Type 1} → statement M
 step_bit_spec =

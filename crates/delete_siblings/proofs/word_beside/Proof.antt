@@ -12,9 +12,8 @@ widths-of-requires c κs = search rules
 
 step-place-requires : tie.Need-step_place-g-requires
 step-place-requires c κs =
-    let s = c.before.before in
     let w = c.widths_of-widths in
-    step-asked s.args.state (width_list w.result) w.ensures s.args.z s.requires.1 _ s.requires.0
+    step-asked c.args.state (width_list w.result) w.ensures c.args.z c.requires.1 _ c.requires.0
 
 cast-sibling-word : tie.Need-overflow_cast-state
 cast-sibling-word c = search rules
@@ -23,19 +22,18 @@ sibling-word-requires : tie.Need-sibling_word-requires
 sibling-word-requires c κs =
     let place = c.step_place-g in
     let w = c.widths_of-widths in
-    let s = c.before.before.before.before in (
-      step_within s.args.state (width_list w.result) w.ensures s.args.z s.requires.1 _ s.requires.0
+    (
+      step_within c.args.state (width_list w.result) w.ensures c.args.z c.requires.1 _ c.requires.0
           place.result place.ensures,
-      s.requires.0.room,
+      c.requires.0.room,
     )
 
 returns : tie.Need-returns
 returns c =
     let place = c.step_place-g in
     let w = c.widths_of-widths in
-    let s = c.before.before.before.before.before in
-    at_sibling s.args.state (width_list w.result) w.ensures s.args.z s.requires.1
-    (unpacked_key s.args.key) s.args.dir.now place.result _ place.ensures c.sibling_word.ensures
+    at_sibling c.args.state (width_list w.result) w.ensures c.args.z c.requires.1
+    (unpacked_key c.args.key) c.args.dir.now place.result _ place.ensures c.sibling_word.ensures
 
 pub word_beside_spec : {M : Type 1} → statement M
 word_beside_spec =

@@ -29,14 +29,13 @@ greatest-depth-requires c κs = search rules
 
 pack-page-requires : tie.Need-pack_page-word-requires
 pack-page-requires c κs =
-    let s = c.before.before.before.before.before.before.before.before.before.before.before.before in
-    let a = s.args in
-    let l = s.requires.leaves in
-    let pair = s.requires.pair in
+    let a = c.args in
+    let l = c.requires.leaves in
+    let pair = c.requires.pair in
     let lt = kept_page-lt a.join.bit a.found.page a.join.other 4096 pair.own.page.number_lt
     pair.page.number_lt in (
       omega (arith, lt, c.join_records-kept.ensures.kept),
-      omega (arith, s.requires.lent.short, l.above, l.deep, l.depth-step),
+      omega (arith, c.requires.lent.short, l.above, l.deep, l.depth-step),
     )
 
 widths-of-requires : tie.Need-widths_of-requires
@@ -47,31 +46,28 @@ cast-fill c = search rules
 
 fill-requires : tie.Need-fill-requires
 fill-requires c κs =
-    let earlier = c.before.before.before.before.before.before.before.before.before in
-    let s = earlier.before.before.before.before.before.before.before in
-    let a = s.args in
+    let a = c.args in
     let w = c.widths_of in
     let depth = c.greatest_depth-depth in
     let tally = c.join_tally-tally in (
-      directory_fits a.state (width_list w.result) w.ensures _ _ s.requires.lent
+      directory_fits a.state (width_list w.result) w.ensures _ _ c.requires.lent
           (omega (arith, depth.ensures, tally_depth-le tally.result.leaves a.state.deepest)),
       omega (
         arith,
         depth.ensures,
-        top-le a.state a.found a.join s.requires.leaves s.requires.lent.short tally.result.leaves
+        top-le a.state a.found a.join c.requires.leaves c.requires.lent.short tally.result.leaves
             tally.ensures,
       ),
     )
 
 cast-t22 : tie.Need-overflow_cast-result
 cast-t22 c =
-    let earlier = c.before.before.before.before.before.before.before.before.before in
-    let a = earlier.args in
+    let a = c.args in
     omega (
       arith,
       c.greatest_depth-depth.ensures,
-      tally_depth-le earlier.join_tally-tally.result.leaves a.state.deepest,
-      earlier.requires.lent.short,
+      tally_depth-le c.join_tally-tally.result.leaves a.state.deepest,
+      c.requires.lent.short,
     )
 
 same_length : tie.Need-shape_of-dir
@@ -82,16 +78,15 @@ same-length-2 c = search rules
 
 returns : tie.Need-returns
 returns c =
-    let earlier = c.before.before.before.before.before.before.before.before.before in
-    let a = earlier.args in
+    let a = c.args in
     let w = c.widths_of in
     let depth = c.greatest_depth-depth in
-    let records = earlier.join_records-kept.ensures in
+    let records = c.join_records-kept.ensures in
     record {
       words_are =
           record {
             state = refl;
-            tally = earlier.join_tally-tally.ensures;
+            tally = c.join_tally-tally.ensures;
             depth = depth.ensures;
             new-leaf =
                 filled-shape a.state (width_list w.result) w.ensures depth.result a.join.top

@@ -26,10 +26,9 @@ joined-requires c κs =
 
 returns : tie.Need-returns
 returns c =
-    let s = c.before.before.before.before in
-    let a = s.args in
+    let a = c.args in
     c.joined.ensures
-    ∙ ap (λ x. joined_tally a.join.top (x - a.join.top) a.state.tally.leaves) s.requires.1.depth-step
+    ∙ ap (λ x. joined_tally a.join.top (x - a.join.top) a.state.tally.leaves) c.requires.1.depth-step
 
 pub join_tally_spec : {M : Type 1} → statement M
 join_tally_spec =

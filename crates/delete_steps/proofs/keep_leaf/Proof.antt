@@ -41,10 +41,8 @@ cast-fill-2 c = search rules
 
 fill-requires : tie.Need-fill-requires
 fill-requires c κs =
-    let earlier = c.before.before.before.before.before.before.before.before.before in
-    let s = earlier.before.before.before.before.before.before in
     let w = c.widths_of in
-    (directory_fits s.args.state (width_list w.result) w.ensures _ _ s.requires.lent (omega arith), s.requires.deep)
+    (directory_fits c.args.state (width_list w.result) w.ensures _ _ c.requires.lent (omega arith), c.requires.deep)
 
 same-length-2 : tie.Need-shape_of-dir
 same-length-2 c = search rules
@@ -54,9 +52,7 @@ same-length-3 c = search rules
 
 returns-2 : tie.Need-returns
 returns-2 c =
-    let earlier = c.before.before.before.before.before.before.before.before.before in
-    let s = earlier.before.before.before.before.before.before.before.before.before in
-    let a = s.args in
+    let a = c.args in
     let filled = c.fill.ensures in
     let word = c.pack_empty-word.ensures in
     let w = c.widths_of in
@@ -68,7 +64,7 @@ returns-2 c =
                 a.encoded _ _ a.dir.now _ word filled;
             same = λ n. absurd (n c.if-found-ne1.false);
           };
-      bytes-are = earlier.remove_record.ensures;
+      bytes-are = c.remove_record.ensures;
     }
 
 pub keep_leaf_spec : {M : Type 1} → statement M

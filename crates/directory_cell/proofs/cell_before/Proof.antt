@@ -28,8 +28,7 @@ cast-index-of-bits c = search rules
 
 index-of-bits-requires : tie.Need-index_of_bits-i0-requires
 index-of-bits-requires c κs =
-    let s = c.before.before.before.before in
-    (omega (arith, c.depth_before-h0.ensures), s.requires.0 0)
+    (omega (arith, c.depth_before-h0.ensures), c.requires.0 0)
 
 array-read-index-of-bits-2 : tie.Need-bounds-key-1
 array-read-index-of-bits-2 c = search rules
@@ -39,8 +38,7 @@ cast-index-of-bits-2 c = search rules
 
 index-of-bits-requires-2 : tie.Need-index_of_bits-i1-requires
 index-of-bits-requires-2 c κs =
-    let s = c.before.before.before.before.before in
-    (omega (arith, c.depth_before-h1.ensures), s.requires.0 1)
+    (omega (arith, c.depth_before-h1.ensures), c.requires.0 1)
 
 array-read-index-of-bits-3 : tie.Need-bounds-key-2
 array-read-index-of-bits-3 c = search rules
@@ -50,8 +48,7 @@ cast-index-of-bits-3 c = search rules
 
 index-of-bits-requires-3 : tie.Need-index_of_bits-i2-requires
 index-of-bits-requires-3 c κs =
-    let s = c.before.before.before.before.before.before in
-    (omega (arith, c.depth_before-h2.ensures), s.requires.0 2)
+    (omega (arith, c.depth_before-h2.ensures), c.requires.0 2)
 
 array-read-index-of-bits-4 : tie.Need-bounds-key-3
 array-read-index-of-bits-4 c = search rules
@@ -61,19 +58,13 @@ cast-index-of-bits-4 c = search rules
 
 index-of-bits-requires-4 : tie.Need-index_of_bits-i3-requires
 index-of-bits-requires-4 c κs =
-    let s = c.before.before.before.before.before.before.before in
-    (omega (arith, c.depth_before-h3.ensures), s.requires.0 3)
+    (omega (arith, c.depth_before-h3.ensures), c.requires.0 3)
 
 returns : tie.Need-returns
 unfolding depth_before
 returns c =
-    let h3 = c.before.before.before.before in
-    let h2 = h3.before in
-    let h1 = h2.before in
-    let h0 = h1.before in
-    let s = h0.before in
-    cell-split_bit (width_list s.args.widths) s.requires.0 s.args.g s.args.key _ _ _ _ _ _ _ _ s.requires.1
-    h0.depth_before-h0.ensures h1.depth_before-h1.ensures h2.depth_before-h2.ensures h3.depth_before-h3.ensures
+    cell-split_bit (width_list c.args.widths) c.requires.0 c.args.g c.args.key _ _ _ _ _ _ _ _ c.requires.1
+    c.depth_before-h0.ensures c.depth_before-h1.ensures c.depth_before-h2.ensures c.depth_before-h3.ensures
     c.index_of_bits-i0.ensures c.index_of_bits-i1.ensures
     c.index_of_bits-i2.ensures c.index_of_bits-i3.ensures
 

@@ -14,8 +14,7 @@ cell-of-requires c κs = search rules
 
 locate-requires : tie.Need-locate-requires
 locate-requires c κs =
-    let s = c.before in
-    subst (InBox (width_list s.args.widths)) (sym c.cell_of-index.ensures) (in_box-cell _ s.requires.0 _ _)
+    subst (InBox (width_list c.args.widths)) (sym c.cell_of-index.ensures) (in_box-cell _ c.requires.0 _ _)
 
 returns : tie.Need-returns
 unfolding cell_address

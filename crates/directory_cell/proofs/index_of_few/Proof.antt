@@ -23,8 +23,7 @@ shr-result c = search rules
 
 returns : tie.Need-returns
 returns c =
-    let s = c.before in
-    sum_bits-few s.args.w s.args.encoding s.args.h s.requires.0 s.requires.1 s.requires.2 _
+    sum_bits-few c.args.w c.args.encoding c.args.h c.requires.0 c.requires.1 c.requires.2 _
     c.reversed-four.ensures.0
 
 pub index_of_few_spec : {M : Type 1} → statement M

@@ -37,10 +37,9 @@ loop-less c = omega arith
 loop-again : tie.Need-loop-k-preserved-then-k-h invariant-loop decreases-loop
 loop-again c =
     let l = c.loop-k in
-    let s = c.before.before.before.before in
     let r = c.reversed in
-    taken-four s.args.w s.args.encoding s.args.h l.rest l.index l.k l.invariant s.requires.0
-    s.requires.1
+    taken-four c.args.w c.args.encoding c.args.h l.rest l.index l.k l.invariant c.requires.0
+    c.requires.1
     c.if-k-h.true r.result r.ensures.0 r.ensures.1
 
 add-k-2 : tie.Need-overflow_add-k-else-k-h invariant-loop decreases-loop
@@ -52,16 +51,14 @@ loop-less-2 c = omega arith
 loop-again-2 : tie.Need-loop-k-preserved invariant-loop decreases-loop
 loop-again-2 c =
     let l = c.loop-k in
-    let s = c.before.before.before in
-    taken-suc s.args.w s.args.encoding s.args.h l.rest l.index l.k l.invariant s.requires.0
-    s.requires.1
+    taken-suc c.args.w c.args.encoding c.args.h l.rest l.index l.k l.invariant c.requires.0
+    c.requires.1
     c.loop-k-test.true
 
 returns : tie.Need-returns invariant-loop decreases-loop
 returns c =
-    let s = c.before.before in
     let l = c.loop-k in
-    taken-end s.args.w s.args.encoding s.args.h l.rest l.index l.k l.invariant c.loop-k-test.false
+    taken-end c.args.w c.args.encoding c.args.h l.rest l.index l.k l.invariant c.loop-k-test.false
 
 pub index_of_many_spec : {M : Type 1} → statement M
 index_of_many_spec =

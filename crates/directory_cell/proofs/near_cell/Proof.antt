@@ -31,11 +31,10 @@ value-at-requires c κs = search rules
 
 index-of-few-requires : tie.Need-index_of_few-i0-requires
 index-of-few-requires c κs =
-    let h0 = c.before.before.before.before in
-    let s = h0.before in (
-      omega (arith, h0.depth_before-d0.ensures),
-      s.requires.0 0,
-      depth-few _ _ 0 _ s.requires.1 h0.depth_before-d0.ensures,
+    (
+      omega (arith, c.depth_before-d0.ensures),
+      c.requires.0 0,
+      depth-few _ _ 0 _ c.requires.1 c.depth_before-d0.ensures,
     )
 
 value-at-requires-2 : tie.Need-value_at-requires-2
@@ -43,11 +42,10 @@ value-at-requires-2 c κs = search rules
 
 index-of-few-requires-2 : tie.Need-index_of_few-i1-requires
 index-of-few-requires-2 c κs =
-    let h1 = c.before.before.before.before.before in
-    let s = h1.before.before in (
-      omega (arith, h1.depth_before-d1.ensures),
-      s.requires.0 1,
-      depth-few _ _ 1 _ s.requires.1 h1.depth_before-d1.ensures,
+    (
+      omega (arith, c.depth_before-d1.ensures),
+      c.requires.0 1,
+      depth-few _ _ 1 _ c.requires.1 c.depth_before-d1.ensures,
     )
 
 value-at-requires-3 : tie.Need-value_at-requires-3
@@ -55,11 +53,10 @@ value-at-requires-3 c κs = search rules
 
 index-of-few-requires-3 : tie.Need-index_of_few-i2-requires
 index-of-few-requires-3 c κs =
-    let h2 = c.before.before.before.before.before.before in
-    let s = h2.before.before.before in (
-      omega (arith, h2.depth_before-d2.ensures),
-      s.requires.0 2,
-      depth-few _ _ 2 _ s.requires.1 h2.depth_before-d2.ensures,
+    (
+      omega (arith, c.depth_before-d2.ensures),
+      c.requires.0 2,
+      depth-few _ _ 2 _ c.requires.1 c.depth_before-d2.ensures,
     )
 
 value-at-requires-4 : tie.Need-value_at-requires-4
@@ -67,11 +64,10 @@ value-at-requires-4 c κs = search rules
 
 index-of-few-requires-4 : tie.Need-index_of_few-i3-requires
 index-of-few-requires-4 c κs =
-    let h3 = c.before.before.before.before.before.before.before in
-    let s = h3.before.before.before.before in (
-      omega (arith, h3.depth_before-d3.ensures),
-      s.requires.0 3,
-      depth-few _ _ 3 _ s.requires.1 h3.depth_before-d3.ensures,
+    (
+      omega (arith, c.depth_before-d3.ensures),
+      c.requires.0 3,
+      depth-few _ _ 3 _ c.requires.1 c.depth_before-d3.ensures,
     )
 
 -- an index from a value that was taken out of the key
@@ -81,24 +77,12 @@ taken w h v v' i e l = e ∙ ap (λ v. sum_bits (bit_of w v) h) l
 returns : tie.Need-returns
 unfolding depth_before unpacked_key
 returns c =
-    let v3 = c.before in
-    let i2 = v3.before in
-    let v2 = i2.before in
-    let i1 = v2.before in
-    let v1 = i1.before in
-    let i0 = v1.before in
-    let v0 = i0.before in
-    let h3 = v0.before in
-    let h2 = h3.before in
-    let h1 = h2.before in
-    let h0 = h1.before in
-    let s = h0.before in
-    cell-split_bit (width_list s.args.widths) s.requires.0 s.args.g (unpacked_key s.args.key) _ _ _ _ _ _ _ _
-    (omega arith) h0.depth_before-d0.ensures h1.depth_before-d1.ensures h2.depth_before-d2.ensures
-    h3.depth_before-d3.ensures (taken _ _ _ _ _ i0.index_of_few-i0.ensures v0.value_at.ensures)
-    (taken _ _ _ _ _ i1.index_of_few-i1.ensures v1.value_at-2.ensures)
-    (taken _ _ _ _ _ i2.index_of_few-i2.ensures v2.value_at-3.ensures)
-    (taken _ _ _ _ _ c.index_of_few-i3.ensures v3.value_at-4.ensures)
+    cell-split_bit (width_list c.args.widths) c.requires.0 c.args.g (unpacked_key c.args.key) _ _ _ _ _ _ _ _
+    (omega arith) c.depth_before-d0.ensures c.depth_before-d1.ensures c.depth_before-d2.ensures
+    c.depth_before-d3.ensures (taken _ _ _ _ _ c.index_of_few-i0.ensures c.value_at.ensures)
+    (taken _ _ _ _ _ c.index_of_few-i1.ensures c.value_at-2.ensures)
+    (taken _ _ _ _ _ c.index_of_few-i2.ensures c.value_at-3.ensures)
+    (taken _ _ _ _ _ c.index_of_few-i3.ensures c.value_at-4.ensures)
 
 pub near_cell_spec : {M : Type 1} → statement M
 near_cell_spec =

@@ -43,7 +43,7 @@ page-of-bit-requires c κs = search rules
 pack-page-requires : tie.Need-pack_page-other-requires
 pack-page-requires c κs =
     let s = start (siblings c) in
-    let pages = s.pre.1.0 in (
+    let pages = s.requires.1.0 in (
       cond-lt s.args.bit _ _ _ _ c.page_of_bit.ensures (omega (arith, pages)) (omega (arith, pages)),
       omega (arith, small s),
     )
@@ -51,7 +51,7 @@ pack-page-requires c κs =
 fill-requires : tie.Need-fill-requires
 fill-requires c κs =
     let set = siblings c.before.before in
-    let pre = (start set).pre.0 in
+    let pre = (start set).requires.0 in
     (fits-shallower _ _ _ _ _ pre.0 (omega arith) set.set-siblings.ensures.size, omega (arith, pre.2))
 
 page-of-bit-requires-2 : tie.Need-page_of_bit-requires-2
@@ -60,7 +60,7 @@ page-of-bit-requires-2 c κs = search rules
 pack-page-requires-2 : tie.Need-pack_page-own-requires
 pack-page-requires-2 c κs =
     let s = start (siblings (other (other-set c))) in
-    let pages = s.pre.1.0 in (
+    let pages = s.requires.1.0 in (
       cond-lt s.args.bit _ _ _ _ c.page_of_bit-2.ensures (omega (arith, pages)) (omega (arith, pages)),
       omega (arith, small s),
     )
@@ -72,7 +72,7 @@ fill-requires-2 : tie.Need-fill-requires-2
 fill-requires-2 c κs =
     let filled = other-set c.before.before in
     let set = siblings (other filled) in
-    let pre = (start set).pre.0 in (
+    let pre = (start set).requires.0 in (
       fits-shallower _ _ _ _ _ pre.0 (omega arith)
           (filled.fill.ensures.size ∙ set.set-siblings.ensures.size),
       omega (arith, pre.2),
@@ -83,17 +83,16 @@ same_length c = search rules
 
 returns : tie.Need-returns
 returns c =
-    let own = c.before.before.before.before.before in
-    let filled = other-set own in
+    let filled = other-set c.before.before.before.before.before in
     let page = other filled in
     let set = siblings page in
     let a = (start set).args in
-    let pre = (start set).pre in
+    let pre = (start set).requires in
     leaves-of-whole _ _ _ _ _ _ pre.0.1 _ _ _ _ _ set.set-siblings.ensures
     (filled-page _ _ _ _ _ _ _ _ _ refl filled.fill.ensures _ a.zero a.one a.bit
     filled.before.before.pack-page.ensures page.page-of-bit.ensures pre.1.1)
     (filled-page _ _ _ _ _ _ _ _ _ (add-one a.m) c.fill-2.ensures _ a.one a.zero a.bit
-    c.pack_page-own.ensures own.page_of_bit-2.ensures pre.1.1)
+    c.pack_page-own.ensures c.page_of_bit-2.ensures pre.1.1)
 
 pub set_leaves_spec : {M : Type 1} → statement M
 set_leaves_spec =

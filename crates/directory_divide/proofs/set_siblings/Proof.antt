@@ -25,10 +25,10 @@ abbrev turn : tie.After-slice_known-in-loop-y-1 invariant-loop decreases-loop �
 turn c = c.before.before.before.before.before
 
 -- y < 12
-small : (c : Turn) → c.before.loop.y < 12
+small : (c : Turn) → c.loop-y.y < 12
 small c =
-    let pre = c.before.before.before.requires in
-    omega (arith, c.loop-test.true, pre.2, pre.0.short)
+    let pre = c.requires in
+    omega (arith, c.loop-y-test.true, pre.2, pre.0.short)
 
 loop-holds : tie.Need-loop-y-init invariant-loop decreases-loop
 loop-holds c = (omega arith, c.requires.1, siblings-none _ _ _ _ _)

@@ -26,30 +26,29 @@ abbrev Found : Type 0
 Found = tie.After-step_place-g invariant-loop decreases-loop
 
 abbrev ws : Found → List ℕ
-ws c = width_list c.before.before.args.widths
+ws c = width_list c.args.widths
 
 abbrev t : Found → ℕ
-t c = c.before.before.args.t
+t c = c.args.t
 
 -- 1 << t
 size_is : (c : Found) → (1 * 2 ^ t c) % 2 ^ 64 ≡ 2 ^ t c
-size_is c = one_shifted (t c) (omega (arith, c.before.before.requires.short))
+size_is c = one_shifted (t c) (omega (arith, c.requires.short))
 
 small : (c : Found) → 2 ^ suc (t c) ≤ 4096
-small c = le_trans (pow_mono c.before.before.requires.short) (omega arith)
+small c = le_trans (pow_mono c.requires.short) (omega arith)
 
 deep : (c : Found) → t c < length (steps (ws c))
-deep c = step_pair-lt (ws c) (t c) _ c.step-place.ensures c.before.before.requires.fit
+deep c = step_pair-lt (ws c) (t c) _ c.step_place-g.ensures c.requires.fit
 
-below : (c : tie.In-loop-r invariant-loop decreases-loop) → let s = c.before.before in
-    (1 * 2 ^ t s) % 2 ^ 64 + c.loop-r.r < 2 ^ suc (t s)
+below : (c : tie.In-loop-r invariant-loop decreases-loop) →
+    (1 * 2 ^ t c.before.before) % 2 ^ 64 + c.loop-r.r < 2 ^ suc (t c.before.before)
 below c = omega (arith, size_is c.before.before, c.loop-r-test.true)
 
 -- the whole cell's address
 low : (c : tie.After-whole_of-whole invariant-loop decreases-loop) → c.whole_of-whole.result < 2 ^ t c.before.before.before
 low c =
-    let s = c.before.before.before in
-    upper_half-lt (ws s) s.requires.fit (t s) (deep s) _ _ c.whole_of-whole.ensures
+    upper_half-lt (ws c.before.before.before) c.requires.fit (t c.before.before.before) (deep c.before.before.before) _ _ c.whole_of-whole.ensures
 
 step-place-requires : tie.Need-step_place-g-requires invariant-loop decreases-loop
 step-place-requires c κs = (c.requires.fit, c.requires.deep)
@@ -69,27 +68,24 @@ add_a c = record { fits = omega (arith, below c, small c.before.before) }
 
 whole-of-requires : tie.Need-whole_of-whole-requires invariant-loop decreases-loop
 whole-of-requires c κs =
-    let s = c.before.before in
     record {
-      fit = s.requires.fit;
+      fit = c.requires.fit;
       from = c.loop-r.invariant.low;
-      past = subst (λ n. (1 * 2 ^ t s) % 2 ^ 64 + c.loop-r.r < 2 ^ n) (sym (add-one (t s))) (below c);
-      pair = s.step_place-g.ensures;
+      past = subst (λ n. (1 * 2 ^ t c.before.before) % 2 ^ 64 + c.loop-r.r < 2 ^ n) (sym (add-one (t c.before.before))) (below c);
+      pair = c.step_place-g.ensures;
     }
 
 mul-word : tie.Need-offset_bounds-dir-whole invariant-loop decreases-loop
 mul-word c =
-    let s = c.before.before.before in
-    record { fits = omega (arith, low c, below c.before, small s) }
+    record { fits = omega (arith, low c, below c.before, small c.before.before.before) }
 
 slice-read-word : tie.Need-bounds-dir-whole invariant-loop decreases-loop
 slice-read-word c =
-    let s = c.before.before.before.before in
     omega (
       arith,
       low c.before,
       below c.before.before,
-      s.requires.room,
+      c.requires.room,
       c.loop-r.invariant.size,
     )
 
@@ -98,8 +94,7 @@ mul-dir c = record { fits = omega (arith, below c.before.before, small c.before.
 
 slice-write-dir : tie.Need-bounds-dir-a invariant-loop decreases-loop
 slice-write-dir c =
-    let s = c.before.before.before.before in
-    omega (arith, below c.before.before, s.requires.room, c.loop-r.invariant.size)
+    omega (arith, below c.before.before, c.requires.room, c.loop-r.invariant.size)
 
 add_r : tie.Need-overflow_add-r invariant-loop decreases-loop
 add_r c = record { fits = omega (arith, below c.before.before, small c.before.before.before.before) }
@@ -110,12 +105,11 @@ loop-less c = omega (arith, c.loop-r-test.true)
 loop-again : tie.Need-loop-r-preserved invariant-loop decreases-loop
 loop-again c =
     let l = c.loop-r in
-    let s = c.before.before.before.before in
-    let a = (1 * 2 ^ t s) % 2 ^ 64 + l.r in
-    let next : a + 1 ≡ (1 * 2 ^ t s) % 2 ^ 64 + (l.r + 1) = omega arith in
-    subst (DoubledTo (ws s) (t s) _ _) next
-    (doubled_to-suc (ws s) s.requires.fit (t s) (deep s) _ l.dir a l.invariant _
-    s.requires.room (below c.before.before) c.whole_of-whole.ensures)
+    let a = (1 * 2 ^ t c.before.before.before.before) % 2 ^ 64 + l.r in
+    let next : a + 1 ≡ (1 * 2 ^ t c.before.before.before.before) % 2 ^ 64 + (l.r + 1) = omega arith in
+    subst (DoubledTo (ws c.before.before.before.before) (t c.before.before.before.before) _ _) next
+    (doubled_to-suc (ws c.before.before.before.before) c.requires.fit (t c.before.before.before.before) (deep c.before.before.before.before) _ l.dir a l.invariant _
+    c.requires.room (below c.before.before) c.whole_of-whole.ensures)
 
 same_length : tie.Need-shape_of-dir invariant-loop decreases-loop
 same_length c = c.loop-r.invariant.size
@@ -123,9 +117,8 @@ same_length c = c.loop-r.invariant.size
 returns : tie.Need-returns invariant-loop decreases-loop
 returns c =
     let l = c.loop-r in
-    let s = c.before.before in
-    doubled_to-end (ws s) s.requires.fit (t s) (deep s) _ l.dir _ l.invariant
-    (omega (arith, size_is s, c.loop-r-test.false))
+    doubled_to-end (ws c.before.before) c.requires.fit (t c.before.before) (deep c.before.before) _ l.dir _ l.invariant
+    (omega (arith, size_is c.before.before, c.loop-r-test.false))
 
 pub double_spec : {M : Type 1} → statement M
 double_spec =

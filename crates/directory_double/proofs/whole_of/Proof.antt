@@ -24,9 +24,8 @@ without-bit-requires c κs = (c.requires.pair.low, (found c).high)
 
 locate-requires : tie.Need-locate-requires
 locate-requires c κs =
-    let s = c.before.before in
-    subst (InBox (width_list s.args.widths)) (sym (c.without_bit-whole.ensures ∙ (found c.before).cleared))
-    (in_box-cell _ s.requires.fit _ _)
+    subst (InBox (width_list c.args.widths)) (sym (c.without_bit-whole.ensures ∙ (found c.before).cleared))
+    (in_box-cell _ c.requires.fit _ _)
 
 returns : tie.Need-returns
 unfolding cell_address

@@ -31,23 +31,21 @@ deep : (s : tie.Start) → s.args.t ≤ length (steps (ws s))
 deep s = let w = s.args.widths in fits-steps w.w0 w.w1 w.w2 w.w3 _ _ s.requires.0
 
 -- the vector is the cell of the key's first x bits
-named : (c : tie.After-cell_before-index) → let s = c.before.before.before in
-    cell (ws s) s.args.x (string s) ≡ index_list c.cell_before-index.result
+named : (c : tie.After-cell_before-index) →
+    cell (ws c.before.before.before) c.args.x (string c.before.before.before) ≡ index_list c.cell_before-index.result
 named c =
-    let s = c.before.before.before in
-    ap (λ n. cell (ws s) n (string s)) (sym c.place_of-start.ensures.before) ∙ sym c.cell_before-index.ensures
+    ap (λ n. cell (ws c.before.before.before) n (string c.before.before.before)) (sym c.place_of-start.ensures.before) ∙ sym c.cell_before-index.ensures
 
 -- and its address that cell's
-own_is : (c : tie.After-locate-own) → let s = c.before.before.before.before in
-    c.locate-own.result ≡ cell_address (ws s) s.args.x (string s)
+own_is : (c : tie.After-locate-own) →
+    c.locate-own.result ≡ cell_address (ws c.before.before.before.before) c.args.x (string c.before.before.before.before)
 unfolding cell_address
 own_is c = c.locate-own.ensures ∙ ap (address (ws c.before.before.before.before)) (sym (named c.before))
 
 low : (c : tie.After-locate-own) → c.locate-own.result < 2 ^ c.args.t
 low c =
-    let s = c.before.before.before.before in
-    subst (λ a. a < 2 ^ s.args.t) (sym (own_is c))
-    (own-lt (ws s) s.requires.0.fit s.args.x s.args.t s.requires.1 (deep s) (string s))
+    subst (λ a. a < 2 ^ c.args.t) (sym (own_is c))
+    (own-lt (ws c.before.before.before.before) c.requires.0.fit c.args.x c.args.t c.requires.1 (deep c.before.before.before.before) (string c.before.before.before.before))
 
 place-of-requires : tie.Need-place_of-start-requires
 place-of-requires c κs = search rules
@@ -57,13 +55,11 @@ cell-before-requires c κs = search rules
 
 locate-requires : tie.Need-locate-own-requires
 locate-requires c κs =
-    let s = c.before.before.before in
-    subst (InBox (ws s)) (named c) (in_box-cell (ws s) s.requires.0.fit s.args.x (string s))
+    subst (InBox (ws c.before.before.before)) (named c) (in_box-cell (ws c.before.before.before) c.requires.0.fit c.args.x (string c.before.before.before))
 
 mul-dir : tie.Need-offset_bounds-dir-own
 mul-dir c =
-    let s = c.before.before.before.before in
-    let top : 2 ^ s.args.t ≤ 2 ^ 12 = pow_mono s.requires.0.short in
+    let top : 2 ^ c.args.t ≤ 2 ^ 12 = pow_mono c.requires.0.short in
     record { fits = omega (arith, low c) }
 
 slice-write-dir : tie.Need-bounds-dir-own
@@ -71,27 +67,23 @@ slice-write-dir c = omega (arith, low c, c.requires.0.room)
 
 fill-blocks-requires : tie.Need-fill_blocks-requires
 fill-blocks-requires c κs =
-    let s = c.before.before.before.before.before in
-    let stored = length-set s.args.dir.now c.locate-own.result s.args.word in
+    let stored = length-set c.args.dir.now c.locate-own.result c.args.word in
     record {
-      string = (string s, named c.before.before);
+      string = (string c.before.before.before.before.before, named c.before.before);
       place = c.place_of-start.ensures;
-      within = s.requires.1;
-      fits = subst (DirectoryFits (ws s) s.args.t) (sym stored) s.requires.0;
+      within = c.requires.1;
+      fits = subst (DirectoryFits (ws c.before.before.before.before.before) c.args.t) (sym stored) c.requires.0;
     }
 
 same_length : tie.Need-shape_of-dir
 same_length c =
-    let s = c.before.before.before.before.before.before.before.before in
     c.fill_blocks.auto.dir
-    ∙ length-set s.args.dir.now c.locate-own.result s.args.word
+    ∙ length-set c.args.dir.now c.locate-own.result c.args.word
 
 returns : tie.Need-returns
 returns c =
-    let l = c.before.before.before.before in
-    let s = l.before.before.before.before in
-    filled-region (ws s) s.requires.0.fit _ _ s.requires.1 (deep s) (string s) _ _ _ _ (own_is l) s.requires.0.room
-    (c.fill_blocks.ensures (string s) (named l.before))
+    filled-region (ws c.before.before.before.before.before.before.before.before) c.requires.0.fit _ _ c.requires.1 (deep c.before.before.before.before.before.before.before.before) (string c.before.before.before.before.before.before.before.before) _ _ _ _ (own_is c.before.before.before.before) c.requires.0.room
+    (c.fill_blocks.ensures (string c.before.before.before.before.before.before.before.before) (named c.before.before.before.before.before))
 
 pub fill_spec : {M : Type 1} → statement M
 fill_spec =

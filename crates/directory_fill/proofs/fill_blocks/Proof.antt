@@ -39,12 +39,9 @@ with-bit-requires-2 c κs =
 
 fill-block-requires : tie.Need-fill_block-requires invariant-loop decreases-loop
 fill-block-requires c κs =
-    let bits = c.before in
-    let step = bits.before.before in
-    let turn = step.before in
-    let l = turn.loop-y in
-    block-fits _ _ _ _ _ _ _ turn.requires _ _ _ _ l.invariant _ step.step_from-step.ensures
-    turn.loop-y-test.true _ _ bits.with_bit-first.ensures bits.with_bit-last.ensures
+    let l = c.loop-y in
+    block-fits _ _ _ _ _ _ _ c.requires _ _ _ _ l.invariant _ c.step_from-step.ensures
+    c.loop-y-test.true _ _ c.with_bit-first.ensures c.with_bit-last.ensures
 
 -- from the end of a turn back to its step
 abbrev stepped : tie.After-slice_known-in-loop-y-1 invariant-loop decreases-loop → tie.After-step_from-step invariant-loop decreases-loop
@@ -56,18 +53,17 @@ add-g c = record { fits = omega (arith, (stepped c).step_from.ensures.low) }
 add-y : tie.Need-overflow_add-y invariant-loop decreases-loop
 add-y c =
     let turn = (stepped c).before in
-    record { fits = omega (arith, turn.loop-test.taken, turn.before.before.before.pre.fits.short) }
+    record { fits = omega (arith, turn.loop-test.taken, turn.before.before.before.requires.fits.short) }
 
 loop-less : tie.Need-loop-y-smaller invariant-loop decreases-loop
 loop-less c = omega (arith, (stepped c).before.loop-test.true)
 
 loop-again : tie.Need-loop-y-preserved invariant-loop decreases-loop
 loop-again c =
-    let bits = c.before.before.before.before in
     let turn = (stepped c).before in
     let l = turn.before.loop in
-    filled_to-suc _ _ _ _ _ _ _ turn.before.before.before.pre _ _ _ _ l.inv _ (stepped c).step_from.ensures
-    turn.loop-test.taken _ _ bits.with_bit-first.ensures bits.with_bit-last.ensures _
+    filled_to-suc _ _ _ _ _ _ _ turn.before.before.before.requires _ _ _ _ l.inv _ (stepped c).step_from.ensures
+    turn.loop-test.taken _ _ c.with_bit-first.ensures c.with_bit-last.ensures _
     c.fill_block.ensures
 
 same_length : tie.Need-shape_of-dir invariant-loop decreases-loop

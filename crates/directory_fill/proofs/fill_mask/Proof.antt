@@ -37,29 +37,25 @@ sub-v c = omega (arith, c.loop-v-test.true)
 
 add-dir-2 : tie.Need-overflow_add-dir-in-loop-v invariant-loop decreases-loop
 add-dir-2 c =
-    let s = c.before.before in
-    record { fits = omega (arith, s.requires.1, and_le_r (c.loop-v.v - 1) s.args.mask) }
+    record { fits = omega (arith, c.requires.1, and_le_r (c.loop-v.v - 1) c.args.mask) }
 
 mul-dir-2 : tie.Need-offset_bounds-dir-base-in-loop-v invariant-loop decreases-loop
 mul-dir-2 c =
-    let s = c.before.before in
-    record { fits = omega (arith, s.requires.1, and_le_r (c.loop-v.v - 1) s.args.mask) }
+    record { fits = omega (arith, c.requires.1, and_le_r (c.loop-v.v - 1) c.args.mask) }
 
 slice-write-dir-2 : tie.Need-bounds-dir-base-in-loop-v invariant-loop decreases-loop
 slice-write-dir-2 c =
-    let s = c.before.before in
     let l = c.loop-v in
-    omega (arith, s.requires.0, and_le_r (l.v - 1) s.args.mask, l.invariant.size, stored s)
+    omega (arith, c.requires.0, and_le_r (l.v - 1) c.args.mask, l.invariant.size, stored c.before.before)
 
 loop-less : tie.Need-loop-v-smaller invariant-loop decreases-loop
 loop-less c = omega (arith, c.loop-v-test.true, and_le_l (c.loop-v.v - 1) c.args.mask)
 
 loop-again : tie.Need-loop-v-preserved invariant-loop decreases-loop
 loop-again c =
-    let s = c.before.before in
     let l = c.loop-v in
-    mask_filled_from-next s.args.base s.args.mask s.args.word l.v _ l.dir l.invariant
-    (subst (λ n. s.args.base + s.args.mask < n) (sym (stored s)) s.requires.0) (omega (arith, c.loop-v-test.true))
+    mask_filled_from-next c.args.base c.args.mask c.args.word l.v _ l.dir l.invariant
+    (subst (λ n. c.args.base + c.args.mask < n) (sym (stored c.before.before)) c.requires.0) (omega (arith, c.loop-v-test.true))
 
 same_length : tie.Need-shape_of-dir invariant-loop decreases-loop
 same_length c = c.loop-v.invariant.size ∙ stored c.before.before

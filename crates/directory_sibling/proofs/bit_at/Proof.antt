@@ -37,7 +37,7 @@ returns : tie.Need-returns
 returns c =
     let s = c.args in
     let h = c.requires in
-    split_bit-shifted (width_list s.widths) s.t2 s.g c.width_at-w.result h.0 h.1 c.width_at-w.ensures
+    split_bit-shifted (width_list s.widths) s.key s.g c.width_at-w.result h.0 h.1 c.width_at-w.ensures
 
 pub bit_at_spec : {M : Type 1} → statement M
 bit_at_spec =

@@ -52,16 +52,16 @@ bit_is : (c : tie.After-pair_bit) → let s = start c.before in string s (number
 bit_is c =
     let s = start c.before in
     let g = s.args.g in
-    split_bit-place (ws s) (unpacked_key s.args.key) g s.pre.0 s.pre.2
+    split_bit-place (ws s) (unpacked_key s.args.key) g s.requires.0 s.requires.2
     ∙ ap (λ v. bit_of (get_or (ws s) (g % 4) 0) v (g / 4)) (get_d-unpacked_key s.args.key (g % 4) (omega arith))
     ∙ sym c.pair_bit.ensures
 
 -- with bit 1 the sibling's vector is that one
-zero-half : (c : tie.Then-pair_bit) → let at = c.before.before in let s = start at in
-    cell (ws s) (suc (number s)) (sibling (string s) (number s)) ≡ index_list at.cell_at-index.result
+zero-half : (c : tie.Then-pair_bit) → let s = start c.before.before in
+    cell (ws s) (suc (number s)) (sibling (string s) (number s)) ≡ index_list c.cell_at-index.result
 zero-half c =
     let s = start c.before.before in
-    cell-sibling-zero (ws s) s.pre.0 _ _ (step s) (string s)
+    cell-sibling-zero (ws s) s.requires.0 _ _ (step s) (string s)
     (bit_is c.before ∙ c.if-pair_bit.true)
     ∙ named c.before.before
 
@@ -69,12 +69,11 @@ zero-half c =
 one-half : (c : tie.After-with_bit) → let s = start c.before.before.before in
     cell (ws s) (suc (number s)) (sibling (string s) (number s)) ≡ index_list c.with_bit.result
 one-half c =
-    let at = c.before.before.before in
-    let s = start at in
+    let s = start c.before.before.before in
     let g = s.args.g in
-    cell-sibling-one (ws s) s.pre.0 _ g (step s) (string s)
+    cell-sibling-one (ws s) s.requires.0 _ g (step s) (string s)
     (bit_is c.before.before ∙ c.if-pair_bit.false)
-    ∙ ap (bit_set g) (named at)
+    ∙ ap (bit_set g) (named c.before.before.before)
     ∙ sym c.with_bit.ensures
 
 cell-at-requires : tie.Need-cell_at-index-requires
@@ -86,7 +85,7 @@ pair-bit-requires c κs = search rules
 locate-requires : tie.Need-locate-requires
 locate-requires c κs =
     let s = start c.before.before in
-    subst (InBox (ws s)) (named c.before.before) (in_box-cell (ws s) s.pre.0 (number s) (string s))
+    subst (InBox (ws s)) (named c.before.before) (in_box-cell (ws s) s.requires.0 (number s) (string s))
 
 returns : tie.Need-returns-then-pair_bit
 unfolding cell_address
@@ -95,18 +94,17 @@ returns c =
 
 with-bit-requires : tie.Need-with_bit-requires
 with-bit-requires c κs =
-    let at = c.before.before in
-    let s = start at in
+    let s = start c.before.before in
     let g = s.args.g in (
-      s.pre.1,
-      subst (λ v. get_or v (g % 4) 0 < 2 ^ (g / 4)) (named at) (get_d-cell-lt (ws s) s.pre.0 _ g (step s) (string s)),
+      s.requires.1,
+      subst (λ v. get_or v (g % 4) 0 < 2 ^ (g / 4)) (named c.before.before) (get_d-cell-lt (ws s) s.requires.0 _ g (step s) (string s)),
     )
 
 locate-requires-2 : tie.Need-locate-requires-2
 locate-requires-2 c κs =
     let s = start c.before.before.before in
     subst (InBox (ws s)) (one-half c)
-    (in_box-cell (ws s) s.pre.0 (suc (number s)) (sibling (string s) (number s)))
+    (in_box-cell (ws s) s.requires.0 (suc (number s)) (sibling (string s) (number s)))
 
 returns-2 : tie.Need-returns
 unfolding cell_address

@@ -37,9 +37,8 @@ deep s =
 
 below : (c : tie.After-sibling_cell-cell) → c.sibling_cell-cell.result < 2 ^ c.args.t
 below c =
-    let s = c.before.before in
-    subst (λ a. a < 2 ^ s.args.t) (sym c.sibling_cell-cell.ensures)
-    (own-lt (ws s) s.requires.0.fit (suc (number s)) s.args.t s.requires.0.below (deep s) (other s))
+    subst (λ a. a < 2 ^ c.args.t) (sym c.sibling_cell-cell.ensures)
+    (own-lt (ws c.before.before) c.requires.0.fit (suc (number c.before.before)) c.args.t c.requires.0.below (deep c.before.before) (other c.before.before))
 
 sibling-cell-requires : tie.Need-sibling_cell-cell-requires
 sibling-cell-requires c κs =
@@ -54,12 +53,11 @@ shared-slice-read-result c = omega (arith, below c.before)
 
 returns : tie.Need-returns
 returns c =
-    let s = c.before.before.before in
-    let x = suc (number s) in
-    let there = cell_address-cut-deeper (ws s) s.requires.0.fit x s.args.t s.requires.0.below (deep s) (other s) in (
-      cut x (other s),
-      agree-sym x (cut x (other s)) (other s) (agree-cut x (other s)),
-      ap (λ a. get_or s.args.dir.now a 0) (c.sibling_cell-cell.ensures ∙ sym there),
+    let x = suc (number c.before.before.before) in
+    let there = cell_address-cut-deeper (ws c.before.before.before) c.requires.0.fit x c.args.t c.requires.0.below (deep c.before.before.before) (other c.before.before.before) in (
+      cut x (other c.before.before.before),
+      agree-sym x (cut x (other c.before.before.before)) (other c.before.before.before) (agree-cut x (other c.before.before.before)),
+      ap (λ a. get_or c.args.dir.now a 0) (c.sibling_cell-cell.ensures ∙ sym there),
     )
 
 pub sibling_word_spec : {M : Type 1} → statement M

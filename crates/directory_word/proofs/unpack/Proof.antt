@@ -15,9 +15,8 @@ depth-of-requires c = search rules
 
 returns : tie.Need-returns-then-field-eq0
 returns c =
-    let s = c.before.before in
     ap Empty c.depth_of-depth.ensures.0
-    ∙ sym (leaf_of-empty _ (sym s.field_of-field.ensures.0 ∙ c.if-field-eq0.true))
+    ∙ sym (leaf_of-empty _ (sym c.field_of-field.ensures.0 ∙ c.if-field-eq0.true))
 
 sub-t5 : tie.Need-overflow_sub-result
 sub-t5 c = search rules

@@ -32,8 +32,7 @@ byte-before-requires c κs = search rules
 
 returns : tie.Need-returns-then-byte_before-ne0 invariant-loop decreases-loop
 returns c =
-    let call = c.before in
-    sym (is_plain-last call.args.file.now (λ e. c.if-byte_before-ne0.true (call.byte_before.ensures ∙ e)))
+    sym (is_plain-last c.args.file.now (λ e. c.if-byte_before-ne0.true (c.byte_before.ensures ∙ e)))
 
 shape-in-requires : tie.Need-shape_in-shape-requires invariant-loop decreases-loop
 shape-in-requires c κs = search rules
@@ -54,11 +53,9 @@ array-read-if2 c = search rules
 
 returns-2 : tie.Need-returns-then-widths-j-ne0 invariant-loop decreases-loop
 returns-2 c =
-    let loop = c.before.before in
-    let call = loop.before.before.before in
-    let shape = call.shape_in-shape.result in
-    let file = call.args.file.now in
-    sym (is_plain-width file shape call.shape_in-shape.ensures loop.loop-j.j (omega arith) (omega arith) c.if-widths-j-ne0.true)
+    let shape = c.shape_in-shape.result in
+    let file = c.args.file.now in
+    sym (is_plain-width file shape c.shape_in-shape.ensures c.loop-j.j (omega arith) (omega arith) c.if-widths-j-ne0.true)
 
 add-j : tie.Need-overflow_add-j invariant-loop decreases-loop
 add-j c = search rules
@@ -80,12 +77,10 @@ shr-result c = omega (arith, bound c.before.before.before.before.before)
 returns-3 : tie.Need-returns invariant-loop decreases-loop
 returns-3 c =
     let loop = c.loop-j in
-    let call = c.before.before.before.before.before in
-    let first = call.before.before in
-    let file = first.args.file.now in
-    let last = sym first.byte_before.ensures ∙ call.if-byte_before-ne0.false in
+    let file = c.args.file.now in
+    let last = sym c.byte_before.ensures ∙ c.if-byte_before-ne0.false in
     let end : loop.j ≡ 4 = omega arith in
-    sym (is_plain-marks file call.shape_in-shape.result call.shape_in-shape.ensures last (rw end at loop.invariant.2))
+    sym (is_plain-marks file c.shape_in-shape.result c.shape_in-shape.ensures last (rw end at loop.invariant.2))
 
 pub is_plain_spec : {M : Type 1} → statement M
 is_plain_spec =

@@ -41,20 +41,18 @@ has-letters-requires c κs = search rules
 
 returns-2 : tie.Need-returns-then-not-has_letters
 returns-2 c =
-    let call = c.before in
-    let file = call.args.file.now in
-    sym (is_whole-letters file (long call.before) (sym call.has_letters.ensures ∙ not-true _ c.if-not-has_letters.true-raw))
+    let file = c.args.file.now in
+    sym (is_whole-letters file (long c.before.before) (sym c.has_letters.ensures ∙ not-true _ c.if-not-has_letters.true-raw))
 
 number-before-requires : tie.Need-number_before-requires
 number-before-requires c κs = search rules
 
 returns-3 : tie.Need-returns-then-number_before
 returns-3 c =
-    let call = c.before in
-    let file = call.args.file.now in
+    let file = c.args.file.now in
     sym
-    (is_whole-shape file (long call.before.before.before) (stand call.before)
-    (λ e. c.if-number_before.true (call.number_before.ensures.0 ∙ e)))
+    (is_whole-shape file (long c.before.before.before.before) (stand c.before.before)
+    (λ e. c.if-number_before.true (c.number_before.ensures.0 ∙ e)))
 
 number-before-requires-2 : tie.Need-number_before-requires-2
 number-before-requires-2 c κs = search rules
@@ -67,21 +65,17 @@ number-before-requires-3 c κs = search rules
 
 returns-4 : tie.Need-returns-then-number_before-counted
 returns-4 c =
-    let call = c.before in
-    let at = call.before.before.before in
-    let file = at.args.file.now in
+    let file = c.args.file.now in
     sym
-    (is_whole-size file (long at.before.before.before.before) (stand at.before.before) (shape at)
-    (λ e. c.if-number_before-counted.true (call.number_before-3.ensures.0 ∙ e ∙ sym (counted call.before))))
+    (is_whole-size file (long c.before.before.before.before.before.before.before.before) (stand c.before.before.before.before.before.before) (shape c.before.before.before.before)
+    (λ e. c.if-number_before-counted.true (c.number_before-3.ensures.0 ∙ e ∙ sym (counted c.before.before))))
 
 returns-5 : tie.Need-returns
 returns-5 c =
-    let call = c.before in
-    let at = call.before.before.before in
-    let file = at.args.file.now in
-    let size = sym call.number_before-3.ensures.0 ∙ c.if-number_before-counted.false ∙ counted call.before in
-    ap (eqb (length file)) (counted call.before)
-    ∙ sym (is_whole-length file (long at.before.before.before.before) (stand at.before.before) (shape at) size)
+    let file = c.args.file.now in
+    let size = sym c.number_before-3.ensures.0 ∙ c.if-number_before-counted.false ∙ counted c.before.before in
+    ap (eqb (length file)) (counted c.before.before)
+    ∙ sym (is_whole-length file (long c.before.before.before.before.before.before.before.before) (stand c.before.before.before.before.before.before) (shape c.before.before.before.before) size)
 
 pub is_whole_spec : {M : Type 1} → statement M
 is_whole_spec =

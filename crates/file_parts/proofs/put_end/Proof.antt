@@ -23,12 +23,9 @@ same_length c = search rules
 
 returns : tie.Need-returns
 returns c =
-    let second = c.before.before in
-    let first = second.before.before.before.before in
-    let start = first.before.before.before in
-    let a = start.args in
-    paste-end_bytes a.out.now _ _ (record_size * a.n) a.shape a.n start.requires.2 first.put_shape.ensures
-    second.put_trailer.ensures
+    let a = c.args in
+    paste-end_bytes a.out.now _ _ (record_size * a.n) a.shape a.n c.requires.2 c.put_shape.ensures
+    c.put_trailer.ensures
 
 pub put_end_spec : {M : Type 1} → statement M
 put_end_spec =

@@ -17,8 +17,7 @@ same_length c = search rules
 
 returns : tie.Need-returns
 returns c =
-    let call = c.before.before in
-    rw call.shape_bytes-bytes.ensures at call.copy.ensures
+    rw c.shape_bytes-bytes.ensures at c.copy.ensures
 
 pub put_shape_spec : {M : Type 1} → statement M
 put_shape_spec =

@@ -46,14 +46,9 @@ same_length c = search rules
 
 returns : tie.Need-returns
 returns c =
-    let third = c.before.before in
-    let second = third.before.before.before.before in
-    let first = second.before.before.before.before.before in
-    let call = first.before.before.before.before in
-    let start = call.before.before.before.before in
-    let a = start.args in
-    paste-trailer_bytes a.out.now _ _ _ _ a.at a.count _ start.requires.1 second.size_with.ensures
-    call.copy.ensures first.write32.ensures second.write32-2.ensures third.write32-3.ensures
+    let a = c.args in
+    paste-trailer_bytes a.out.now _ _ _ _ a.at a.count _ c.requires.1 c.size_with.ensures
+    c.copy.ensures c.write32.ensures c.write32-2.ensures c.write32-3.ensures
 
 pub put_trailer_spec : {M : Type 1} → statement M
 put_trailer_spec =

@@ -41,22 +41,19 @@ cast-t8 c = record { fits = omega (arith, fit c.before.before.before.before.befo
 
 cast-t9 : tie.Need-overflow_cast-result-6
 cast-t9 c =
-    let start = c.before.before.before.before.before.before.before.before in
-    record { fits = omega (arith, (capacity-bounds start.args.shape start.requires).1) }
+    record { fits = omega (arith, (capacity-bounds c.args.shape c.requires).1) }
 
 cast-t10 : tie.Need-overflow_cast-result-7
 cast-t10 c =
-    let call = c.before.before.before.before.before.before in
-    let positive = pow_pos call.args.shape.attributes in
-    let bound = pow_mono {j = 4} (attributes-bound call.before.before) in
-    record { fits = marks-lt _ _ _ call.marks_below-marks.ensures (omega arith) (omega arith) }
+    let positive = pow_pos c.args.shape.attributes in
+    let bound = pow_mono {j = 4} (attributes-bound c.before.before.before.before.before.before.before.before) in
+    record { fits = marks-lt _ _ _ c.marks_below-marks.ensures (omega arith) (omega arith) }
 
 returns : tie.Need-returns
 returns c =
-    let call = c.before.before.before.before.before.before in
-    let shape = call.args.shape in
+    let shape = c.args.shape in
     λ i. shape.attributes
-    ∷ (call.widths_of-widths.ensures i ++ shape.capacity ∷ call.marks_below-marks.ensures i ∷ 0 ∷ [])
+    ∷ (c.widths_of-widths.ensures i ++ shape.capacity ∷ c.marks_below-marks.ensures i ∷ 0 ∷ [])
 
 pub shape_bytes_spec : {M : Type 1} → statement M
 shape_bytes_spec =

@@ -38,14 +38,13 @@ byte-before-requires-7 c κs = search rules
 returns : tie.Need-returns
 unfolding file_shape
 returns c =
-    let fourth = c.before.before.before in
     λ i. record {
       attributes = c.byte_before-5.ensures i;
       widths =
-          fourth.byte_before.ensures i
-          ∷ fourth.byte_before-2.ensures i
-          ∷ fourth.byte_before-3.ensures i
-          ∷ fourth.byte_before-4.ensures i
+          c.byte_before.ensures i
+          ∷ c.byte_before-2.ensures i
+          ∷ c.byte_before-3.ensures i
+          ∷ c.byte_before-4.ensures i
           ∷ [];
       capacity = c.byte_before-6.ensures i;
       signs = c.byte_before-7.ensures i;

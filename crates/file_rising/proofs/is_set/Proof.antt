@@ -20,18 +20,15 @@ abbrev decreases-loop : tie.decreases-loop-i
 decreases-loop shape file n widths bias last₀ bits₀ i₀ last bits i = n - i
 
 -- the key of record i
-key : (c : tie.After-encodings_at-key invariant-loop decreases-loop) → let start = c.before.before.before.before.before.before in
+key : (c : tie.After-encodings_at-key invariant-loop decreases-loop) →
     unpacked_key c.encodings_at-key.result
-    ≡ (record_in start.args.shape start.args.file.now c.loop-i.i).key
+    ≡ (record_in c.args.shape c.args.file.now c.loop-i.i).key
 key c =
-    let entry = c.before.before.before in
-    let known = entry.before.before in
-    let start = known.before in
-    let bytes = known.shared_slice_known-1.given in
-    let file = start.args.file.now in
+    let bytes = c.shared_slice_known-1.given in
+    let file = c.args.file.now in
     let i = c.loop-i.i in
-    ap unpacked_key (c.encodings_at-key.ensures ∙ ap (λ b. encodings_at b file i) entry.bias_key-bias.ensures)
-    ∙ unpacked_key-encodings_at start.args.shape file start.requires.0 (λ k. omega (arith, bytes k)) i
+    ap unpacked_key (c.encodings_at-key.ensures ∙ ap (λ b. encodings_at b file i) c.bias_key-bias.ensures)
+    ∙ unpacked_key-encodings_at c.args.shape file c.requires.0 (λ k. omega (arith, bytes k)) i
 
 widths-of-requires : tie.Need-widths_of-widths-requires invariant-loop decreases-loop
 widths-of-requires c κs = tt
@@ -49,17 +46,15 @@ encodings-at-requires c κs = omega (arith, c.requires.1, c.loop-i-test.true)
 
 may-follow-requires : tie.Need-may_follow-requires invariant-loop decreases-loop
 may-follow-requires c κs =
-    let start = c.before.before.before.before.before.before in
-    widths-fit start.args.shape _ start.requires.0 c.widths_of-widths.ensures
+    widths-fit c.args.shape _ c.requires.0 c.widths_of-widths.ensures
 
 returns : tie.Need-returns-then-not-may_follow invariant-loop decreases-loop
 returns c =
-    let read = c.before.before in
-    let loop = read.loop-i in
-    let a = read.args in
-    let widths = read.widths_of-widths.ensures in
-    risen-stop a.shape a.file.now _ _ _ loop.invariant.1 _ (key read) _ widths _ c.may_follow.ensures
-    a.n read.loop-i-test.true (not-true _ c.if-not-may_follow.true-raw)
+    let loop = c.loop-i in
+    let a = c.args in
+    let widths = c.widths_of-widths.ensures in
+    risen-stop a.shape a.file.now _ _ _ loop.invariant.1 _ (key c.before.before) _ widths _ c.may_follow.ensures
+    a.n c.loop-i-test.true (not-true _ c.if-not-may_follow.true-raw)
 
 add-i : tie.Need-overflow_add-i invariant-loop decreases-loop
 add-i c = omega (arith, c.loop-i-test.true)
@@ -69,12 +64,11 @@ loop-less c = omega (arith, c.loop-i-test.true)
 
 loop-again : tie.Need-loop-i-preserved invariant-loop decreases-loop
 loop-again c =
-    let read = c.before.before in
-    let loop = read.loop-i in
-    let a = read.args in
-    let widths = read.widths_of-widths.ensures in (
-      omega (arith, read.loop-i-test.true),
-      risen-next a.shape a.file.now _ _ _ loop.invariant.1 _ (key read) _ widths _ c.may_follow.ensures
+    let loop = c.loop-i in
+    let a = c.args in
+    let widths = c.widths_of-widths.ensures in (
+      omega (arith, c.loop-i-test.true),
+      risen-next a.shape a.file.now _ _ _ loop.invariant.1 _ (key c.before.before) _ widths _ c.may_follow.ensures
           (not-false _ c.if-not-may_follow.false-raw),
     )
 

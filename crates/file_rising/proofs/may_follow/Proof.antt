@@ -28,24 +28,21 @@ enum-told-3 c = search rules
 
 returns-2 : tie.Need-returns-in-Same
 returns-2 c =
-    let call = c.before in
-    let a = call.args in
+    let a = c.args in
     may_follow-compared (width_list a.widths) (unpacked_key a.last) (unpacked_key a.key) a.i
-    call.if-i-eq0.false Same (sym call.compare-order.ensures ∙ c.in-Same.is)
+    c.if-i-eq0.false Same (sym c.compare-order.ensures ∙ c.in-Same.is)
 
 returns-3 : tie.Need-returns-in-Before
 returns-3 c =
-    let call = c.before in
-    let a = call.args in
+    let a = c.args in
     may_follow-compared (width_list a.widths) (unpacked_key a.last) (unpacked_key a.key) a.i
-    call.if-i-eq0.false Before (sym call.compare-order.ensures ∙ c.in-Before.is)
+    c.if-i-eq0.false Before (sym c.compare-order.ensures ∙ c.in-Before.is)
 
 returns-4 : tie.Need-returns-in-After
 returns-4 c =
-    let call = c.before in
-    let a = call.args in
+    let a = c.args in
     may_follow-compared (width_list a.widths) (unpacked_key a.last) (unpacked_key a.key) a.i
-    call.if-i-eq0.false After (sym call.compare-order.ensures ∙ c.in-After.is)
+    c.if-i-eq0.false After (sym c.compare-order.ensures ∙ c.in-After.is)
 
 pub may_follow_spec : {M : Type 1} → statement M
 may_follow_spec =

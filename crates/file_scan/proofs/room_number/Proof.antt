@@ -18,18 +18,17 @@ cast-scan c = search rules
 
 scan-requires : tie.Need-scan-requires
 scan-requires c κs =
-    let start = c.before.before.before.before in (
-      widths-fit start.args.shape _ start.requires.shape c.widths_of.ensures,
-      (capacity-bounds start.args.shape start.requires.shape).0,
-      start.requires.lent,
+    (
+      widths-fit c.args.shape _ c.requires.shape c.widths_of.ensures,
+      (capacity-bounds c.args.shape c.requires.shape).0,
+      c.requires.lent,
     )
 
 returns : tie.Need-returns
 returns c =
-    let start = c.before.before.before.before.before in
-    let a = start.args in
+    let a = c.args in
     let bytes = c.shared_slice_known-1.given in
-    joined-of-scanned a.shape a.limits a.n a.file.now start.requires (λ i. omega (arith, bytes i)) _ _ _
+    joined-of-scanned a.shape a.limits a.n a.file.now c.requires (λ i. omega (arith, bytes i)) _ _ _
     c.widths_of.ensures c.bias_key.ensures c.scan.ensures
 
 pub room_number_spec : {M : Type 1} → statement M

@@ -36,9 +36,8 @@ depth-at-requires c κs = c.requires.0
 
 returns : tie.Need-returns-then-deepest-next invariant-loop decreases-loop
 returns c =
-    let turn = c.before.before.before in
-    let loop = turn.loop-i in
-    scanned-deep _ _ _ _ _ _ _ _ _ _ _ loop.invariant turn.loop-i-test.true _ _ _ turn.encodings_at-key.ensures
+    let loop = c.loop-i in
+    scanned-deep _ _ _ _ _ _ _ _ _ _ _ loop.invariant c.loop-i-test.true _ _ _ c.encodings_at-key.ensures
     c.encodings_back-back.ensures c.depth_at-next.ensures c.if-deepest-next.true
 
 new-leaves-requires : tie.Need-new_leaves-leaves-requires invariant-loop decreases-loop
@@ -46,22 +45,17 @@ new-leaves-requires c κs = c.requires.0
 
 add-leaves : tie.Need-overflow_add-leaves invariant-loop decreases-loop
 add-leaves c =
-    let met = c.before.before in
-    let turn = met.before.before in
-    let loop = turn.loop-i in
+    let loop = c.loop-i in
     let few =
-    more-le _ _ _ _ _ _ _ _ _ _ _ loop.invariant turn.loop-i-test.true _ _ _ turn.encodings_at-key.ensures
-    met.encodings_back-back.ensures met.depth_at-next.ensures _ c.new_leaves-leaves.ensures in
-    let start = turn.before.before.before.before.before.before in
-    omega (arith, few, loop.invariant.few, turn.loop-i-test.true, start.ranges.n.fits)
+    more-le _ _ _ _ _ _ _ _ _ _ _ loop.invariant c.loop-i-test.true _ _ _ c.encodings_at-key.ensures
+    c.encodings_back-back.ensures c.depth_at-next.ensures _ c.new_leaves-leaves.ensures in
+    omega (arith, few, loop.invariant.few, c.loop-i-test.true, c.ranges.n.fits)
 
 returns-2 : tie.Need-returns-then-pages-leaves invariant-loop decreases-loop
 returns-2 c =
-    let met = c.before.before.before in
-    let turn = met.before.before in
-    let loop = turn.loop-i in
-    scanned-wide _ _ _ _ _ _ _ _ _ _ _ loop.invariant turn.loop-i-test.true _ _ _ turn.encodings_at-key.ensures
-    met.encodings_back-back.ensures met.depth_at-next.ensures _ c.new_leaves-leaves.ensures
+    let loop = c.loop-i in
+    scanned-wide _ _ _ _ _ _ _ _ _ _ _ loop.invariant c.loop-i-test.true _ _ _ c.encodings_at-key.ensures
+    c.encodings_back-back.ensures c.depth_at-next.ensures _ c.new_leaves-leaves.ensures
     c.if-deepest-next.false c.if-pages-leaves.true
 
 add-i : tie.Need-overflow_add-i invariant-loop decreases-loop
@@ -72,11 +66,9 @@ loop-less c = omega (arith, c.loop-i-test.true)
 
 loop-again : tie.Need-loop-i-preserved invariant-loop decreases-loop
 loop-again c =
-    let met = c.before.before.before in
-    let turn = met.before.before in
-    let loop = turn.loop-i in
-    scanned-next _ _ _ _ _ _ _ _ _ _ _ loop.invariant turn.loop-i-test.true _ _ _ turn.encodings_at-key.ensures
-    met.encodings_back-back.ensures met.depth_at-next.ensures _ c.new_leaves-leaves.ensures
+    let loop = c.loop-i in
+    scanned-next _ _ _ _ _ _ _ _ _ _ _ loop.invariant c.loop-i-test.true _ _ _ c.encodings_at-key.ensures
+    c.encodings_back-back.ensures c.depth_at-next.ensures _ c.new_leaves-leaves.ensures
     c.if-deepest-next.false c.if-pages-leaves.false
 
 returns-3 : tie.Need-returns invariant-loop decreases-loop

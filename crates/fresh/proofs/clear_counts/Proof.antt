@@ -65,14 +65,13 @@ loop-less c = omega arith
 
 loop-again : tie.Need-loop-page-preserved invariant-loop decreases-loop
 loop-again c =
-    let turn = c.before.before.before.before in
-    let loop = turn.loop-page in
-    let args = turn.args in
-    let end = loop.start + turn.page_size-size.result in (
+    let loop = c.loop-page in
+    let args = c.args in
+    let end = loop.start + c.page_size-size.result in (
       omega arith,
       omega arith,
       cleared_counts-suc args.b loop.page loop.start end args.pages.now loop.pages _
-          loop.invariant.1 loop.invariant.2 (omega arith) (within turn) c.clear_count.ensures,
+          loop.invariant.1 loop.invariant.2 (omega arith) (within c.before.before.before.before) c.clear_count.ensures,
     )
 
 same_length : tie.Need-shape_of-pages invariant-loop decreases-loop

@@ -32,13 +32,12 @@ refuse-requires c κs = search rules
 
 returns : tie.Need-returns-then-number-ne0
 returns c =
-    let tested = c.before.before in
-    let s = tested.args in
-    let n = tested.shape_number-number in
+    let s = c.args in
+    let n = c.shape_number-number in
     promise-refused s.shape s.dir.now s.pages.now _ _ n.result
-    (fresh_number-shape-out s.shape s.dir.now s.pages.now (λ e. tested.if-number-ne0.true (n.ensures ∙ e))
+    (fresh_number-shape-out s.shape s.dir.now s.pages.now (λ e. c.if-number-ne0.true (n.ensures ∙ e))
     ∙ sym n.ensures)
-    tested.if-number-ne0.true (c.refuse.ensures.0 ∙ c.refuse_made.ensures) c.refuse.ensures.1
+    c.if-number-ne0.true (c.refuse.ensures.0 ∙ c.refuse_made.ensures) c.refuse.ensures.1
 
 lacks-word-or-page-requires : tie.Need-lacks_word_or_page-requires
 lacks-word-or-page-requires c κs = search rules
@@ -50,10 +49,9 @@ returns-2 : tie.Need-returns-then-lacks_word_or_page
 unfolding made_answer
 returns-2 c =
     let s = c.args in
-    let lacks = c.before.before in
     promise-refused s.shape s.dir.now s.pages.now _ _ 2
-    (fresh_number-lacks s.shape s.dir.now s.pages.now (in_bounds lacks.before)
-    (sym lacks.lacks_word_or_page.ensures ∙ c.if-lacks_word_or_page.true))
+    (fresh_number-lacks s.shape s.dir.now s.pages.now (in_bounds c.before.before.before)
+    (sym c.lacks_word_or_page.ensures ∙ c.if-lacks_word_or_page.true))
     (λ e. omega arith) c.refuse-then-lacks_word_or_page.ensures.0 c.refuse-then-lacks_word_or_page.ensures.1
 
 page-limit-requires : tie.Need-page_limit-page_count-requires
@@ -85,17 +83,14 @@ same-length-2 c = search rules
 returns-3 : tie.Need-returns
 unfolding made_answer
 returns-3 c =
-    let cleared = c.before.before.before.before in
-    let limits = cleared.before.before in
-    let lent = limits.before.before in
-    let s = lent.args in
+    let s = c.args in
     promise-accepted s.shape s.dir.now s.pages.now _ _ _
-    (fresh_number-none s.shape s.dir.now s.pages.now (in_bounds lent.before.before)
-    (sym lent.lacks_word_or_page.ensures ∙ lent.if-lacks_word_or_page.false))
+    (fresh_number-none s.shape s.dir.now s.pages.now (in_bounds c.before.before.before.before.before.before.before.before.before.before)
+    (sym c.lacks_word_or_page.ensures ∙ c.if-lacks_word_or_page.false))
     (fresh_state-of s.shape s.dir.now s.pages.now _ _ _ _ c.fresh_shape.ensures
-    c.one_leaf.ensures limits.page_limit-page_count.ensures limits.depth_limit-limit.ensures)
+    c.one_leaf.ensures c.page_limit-page_count.ensures c.depth_limit-limit.ensures)
     refl
-    (rw limits.page_limit-page_count.ensures at cleared.clear_counts.ensures)
+    (rw c.page_limit-page_count.ensures at c.clear_counts.ensures)
 
 pub fresh_spec : {M : Type 1} → statement M
 fresh_spec =

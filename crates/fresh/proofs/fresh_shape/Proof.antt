@@ -28,17 +28,15 @@ cast-t7 c = record { fits = omega (arith, fit c.before.before.before.before 3) }
 
 marks-below-requires : tie.Need-marks_below-requires
 marks-below-requires c κs =
-    let start = c.before.before.before.before.before in
-    omega (arith, attributes-le start.args.shape (in_bounds-of start.args.shape start.requires))
+    omega (arith, attributes-le c.args.shape (in_bounds-of c.args.shape c.requires))
 
 returns : tie.Need-returns
 unfolding fresh_shape
 returns c =
-    let all-widths = c.before.before.before.before.before in
-    let shape = all-widths.args.shape in
+    let shape = c.args.shape in
     λ i. record {
       attributes = shape.attributes;
-      widths = all-widths.widths_of-used.ensures i;
+      widths = c.widths_of-used.ensures i;
       capacity = shape.capacity;
       signs = c.marks_below.ensures i;
     }

@@ -16,8 +16,7 @@ page-size-requires c κs = search rules
 
 returns-2 : tie.Need-returns
 returns-2 c =
-    let test = c.before.before in
-    rw (ne_eqb test.args.words 0 test.if-words-eq0.false, c.page_size.ensures)
+    rw (ne_eqb c.args.words 0 c.if-words-eq0.false, c.page_size.ensures)
 
 pub lacks_word_or_page_spec : {M : Type 1} → statement M
 lacks_word_or_page_spec = tie.close (tie.spec returns cast-page-size page-size-requires returns-2)

@@ -12,9 +12,7 @@ delete-requires c κs = search rules
 
 settle-change-requires : tie.Need-settle_change-requires
 settle-change-requires c κs =
-    let call = c.before.before.before.before.before in
-    let read = call.before.before.before in
-    words-of-done (delete-judged _ _ _ _ _) _ _ read.state_in.ensures _ _ call.delete-deleted.ensures
+    words-of-done (delete-judged _ _ _ _ _) _ _ c.state_in.ensures _ _ c.delete-deleted.ensures
 
 same_length : tie.Need-shape_of-state
 same_length c = search rules
@@ -27,10 +25,8 @@ same-length-3 c = search rules
 
 returns : tie.Need-returns
 returns c =
-    let call = c.before.before.before.before.before.before.before.before in
-    let read = call.before.before.before in
     let settled = c.settle_change.ensures in
-    promise-settled (delete-judged _ _ _ _ _) _ _ read.state_in.ensures _ _ call.delete-deleted.ensures _ _ _ _
+    promise-settled (delete-judged _ _ _ _ _) _ _ c.state_in.ensures _ _ c.delete-deleted.ensures _ _ _ _
     settled.0 settled.1
 
 pub delete_in_words_spec : {M : Type 1} → statement M

@@ -22,12 +22,10 @@ same-length-3 c = search rules
 
 returns : tie.Need-returns-then-state-ge-STATE_SIZE
 returns c =
-    let call = c.before.before.before.before.before.before.before.before in
-    let long = call.before.before.before in
-    let a = long.args in
+    let a = c.args in
     let settled = c.settle.ensures in
-    long-settled a.shape a.state.now a.dir.now a.pages.now long.if-state-ge-STATE_SIZE.true _ _ _ _
-    call.fresh-made.ensures _ _ _ settled.0 settled.1
+    long-settled a.shape a.state.now a.dir.now a.pages.now c.if-state-ge-STATE_SIZE.true _ _ _ _
+    c.fresh-made.ensures _ _ _ settled.0 settled.1
 
 sub-fresh : tie.Need-slice_bounds-fresh-count
 sub-fresh c = search rules
@@ -52,12 +50,10 @@ fresh-requires-2 c κs = search rules
 
 settle-requires-2 : tie.Need-settle-requires-2
 settle-requires-2 c κs =
-    let call = c.before.before.before.before.before in
-    let short = call.before.before.before in
-    let a = short.args in
+    let a = c.args in
     λ done. absurd
-    (short-not-done a.shape a.state.now a.dir.now a.pages.now short.if-state-ge-STATE_SIZE.false _ _ _ _
-    call.fresh-refused.ensures done)
+    (short-not-done a.shape a.state.now a.dir.now a.pages.now c.if-state-ge-STATE_SIZE.false _ _ _ _
+    c.fresh-refused.ensures done)
 
 same-length-4 : tie.Need-shape_of-state
 same-length-4 c = search rules
@@ -70,12 +66,10 @@ same-length-6 c = search rules
 
 returns-2 : tie.Need-returns
 returns-2 c =
-    let call = c.before.before.before.before.before.before.before.before in
-    let short = call.before.before.before in
-    let a = short.args in
+    let a = c.args in
     let settled = c.settle-2.ensures in
-    short-settled a.shape a.state.now a.dir.now a.pages.now short.if-state-ge-STATE_SIZE.false _ _ _ _
-    call.fresh-refused.ensures _ _ _ settled.0 settled.1
+    short-settled a.shape a.state.now a.dir.now a.pages.now c.if-state-ge-STATE_SIZE.false _ _ _ _
+    c.fresh-refused.ensures _ _ _ settled.0 settled.1
 
 pub fresh_in_words_spec : {M : Type 1} → statement M
 fresh_in_words_spec =

@@ -12,9 +12,7 @@ insert-requires c κs = search rules
 
 settle-change-requires : tie.Need-settle_change-requires
 settle-change-requires c κs =
-    let call = c.before.before.before.before.before in
-    let read = call.before.before.before in
-    words-of-done (insert-judged _ _ _ _ _ _) _ _ read.state_in.ensures _ _ call.insert-inserted.ensures
+    words-of-done (insert-judged _ _ _ _ _ _) _ _ c.state_in.ensures _ _ c.insert-inserted.ensures
 
 same_length : tie.Need-shape_of-state
 same_length c = search rules
@@ -27,10 +25,8 @@ same-length-3 c = search rules
 
 returns : tie.Need-returns
 returns c =
-    let call = c.before.before.before.before.before.before.before.before in
-    let read = call.before.before.before in
     let settled = c.settle_change.ensures in
-    promise-settled (insert-judged _ _ _ _ _ _) _ _ read.state_in.ensures _ _ call.insert-inserted.ensures _ _ _ _
+    promise-settled (insert-judged _ _ _ _ _ _) _ _ c.state_in.ensures _ _ c.insert-inserted.ensures _ _ _ _
     settled.0 settled.1
 
 pub insert_in_words_spec : {M : Type 1} → statement M

@@ -22,12 +22,10 @@ same-length-3 c = search rules
 
 returns : tie.Need-returns-then-state-ge-STATE_SIZE
 returns c =
-    let call = c.before.before.before.before.before.before.before.before in
-    let long = call.before.before.before in
-    let a = long.args in
+    let a = c.args in
     let settled = c.settle.ensures in
-    long-settled a.file.now a.state.now a.dir.now a.pages.now long.if-state-ge-STATE_SIZE.true _ _ _ _
-    call.load-loaded.ensures _ _ _ settled.0 settled.1
+    long-settled a.file.now a.state.now a.dir.now a.pages.now c.if-state-ge-STATE_SIZE.true _ _ _ _
+    c.load-loaded.ensures _ _ _ settled.0 settled.1
 
 sub-load : tie.Need-slice_bounds-load-count
 sub-load c = search rules
@@ -52,12 +50,10 @@ load-requires-2 c κs = search rules
 
 settle-requires-2 : tie.Need-settle-requires-2
 settle-requires-2 c κs =
-    let call = c.before.before.before.before.before in
-    let short = call.before.before.before in
-    let a = short.args in
+    let a = c.args in
     λ done. absurd
-    (short-not-done a.file.now a.state.now a.dir.now a.pages.now short.if-state-ge-STATE_SIZE.false _ _ _ _
-    call.load-refused.ensures done)
+    (short-not-done a.file.now a.state.now a.dir.now a.pages.now c.if-state-ge-STATE_SIZE.false _ _ _ _
+    c.load-refused.ensures done)
 
 same-length-4 : tie.Need-shape_of-state
 same-length-4 c = search rules
@@ -70,12 +66,10 @@ same-length-6 c = search rules
 
 returns-2 : tie.Need-returns
 returns-2 c =
-    let call = c.before.before.before.before.before.before.before.before in
-    let short = call.before.before.before in
-    let a = short.args in
+    let a = c.args in
     let settled = c.settle-2.ensures in
-    short-settled a.file.now a.state.now a.dir.now a.pages.now short.if-state-ge-STATE_SIZE.false _ _ _ _
-    call.load-refused.ensures _ _ _ settled.0 settled.1
+    short-settled a.file.now a.state.now a.dir.now a.pages.now c.if-state-ge-STATE_SIZE.false _ _ _ _
+    c.load-refused.ensures _ _ _ settled.0 settled.1
 
 pub load_in_words_spec : {M : Type 1} → statement M
 load_in_words_spec =

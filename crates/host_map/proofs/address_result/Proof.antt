@@ -29,10 +29,9 @@ returns c =
 returns-2 : tie.Need-returns-in-Refused
 unfolding address_answer_of
 returns-2 c =
-    let call = c.before in
-    let s = call.args in
+    let s = c.args in
     reports-refused _ _ _ (address_answer-alone s.shape (index_list s.index))
-    (ap address_answer_of (sym c.in-Refused.is) ∙ call.address_of-answer.ensures)
+    (ap address_answer_of (sym c.in-Refused.is) ∙ c.address_of-answer.ensures)
 
 returns-3 : tie.Need-returns-in-Width
 unfolding address_answer_of

@@ -13,7 +13,7 @@ use Rattle.host_reads.proofs.check_result.Tie as tie
 -- what `check` promises of a state
 abbrev Promise : tie.After-check → State → Type 0
 Promise c state =
-    let a = c.before.before.before.before.before.args in
+    let a = c.args in
     CheckPromise (store state a.dir.now a.pages.now) (checked_answer c.check.result)
 
 state-in-requires : tie.Need-state_in-requires
@@ -27,8 +27,8 @@ checked-result-requires c κs = check-numbers _ _ c.check.ensures
 
 returns : tie.Need-returns
 returns c =
-    let s = c.before in (
-      keeps-reported _ _ _ _ _ _ (subst (Promise s) s.state_in.ensures s.check.ensures)
+    (
+      keeps-reported _ _ _ _ _ _ (subst (Promise c.before) c.state_in.ensures c.check.ensures)
           c.checked_result.ensures.reports,
       c.checked_result.ensures.sound_bound,
     )

@@ -13,7 +13,7 @@ use Rattle.host_reads.proofs.lookup_result.Tie as tie
 -- what `lookup` promises of a state
 abbrev Promise : tie.After-lookup → State → Type 0
 Promise c state =
-    let a = c.before.before.before.before.before.args in
+    let a = c.args in
     LookupPromise (store state a.dir.now a.pages.now) a.key.values (found_answer c.lookup.result)
 
 state-in-requires : tie.Need-state_in-requires
@@ -27,8 +27,7 @@ found-result-requires c κs = lookup-numbers _ _ _ c.lookup.ensures
 
 returns : tie.Need-returns
 returns c =
-    let s = c.before in
-    keeps_depth-told _ _ _ _ _ _ _ (subst (Promise s) s.state_in.ensures s.lookup.ensures)
+    keeps_depth-told _ _ _ _ _ _ _ (subst (Promise c.before) c.state_in.ensures c.lookup.ensures)
     c.found_result.ensures
 
 pub lookup_result_spec : {M : Type 1} → statement M

@@ -18,9 +18,9 @@ use Rattle.host_reads.proofs.query_result.Tie as tie
 -- what `query` promises of a query and a state
 abbrev Promise : tie.After-query → List (Option ℕ) → State → Type 0
 Promise c q state =
-    let a = c.before.before.before.before.before.before.before.before.args in
+    let a = c.args in
     QueryPromise (store state a.dir.now a.pages.now) q a.out.now (listed_answer c.query.result)
-    c.query.new.1.1.1.1.0
+    c.query.new.out
 
 state-in-requires : tie.Need-state_in-requires
 state-in-requires c κs = search rules
@@ -40,13 +40,12 @@ same_length c = search rules
 
 returns : tie.Need-returns
 returns c =
-    let s = c.before.before.before in
-    let a = s.args in
+    let a = c.args in
     let asked =
-    subst (λ q. Promise s q s.state_in.result) s.store_query.ensures
-    s.query.ensures in
+    subst (λ q. Promise c.before.before.before q c.state_in.result) c.store_query.ensures
+    c.query.ensures in
     keeps-reported _ _ _ _ _ _
-    (subst (Promise s (wanted_of a.wanted.given a.wanted.values)) s.state_in.ensures
+    (subst (Promise c.before.before.before (wanted_of a.wanted.given a.wanted.values)) c.state_in.ensures
     asked)
     c.listed_result.ensures
 

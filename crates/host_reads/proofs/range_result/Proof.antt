@@ -18,9 +18,9 @@ use Rattle.host_reads.proofs.range_result.Tie as tie
 -- what `range` promises of a range's intervals and a state
 abbrev Promise : tie.After-range → List (Option Interval) → State → Type 0
 Promise c r state =
-    let a = c.before.before.before.before.before.before.before.before.args in
+    let a = c.args in
     RangePromise (store state a.dir.now a.pages.now) r a.out.now (listed_answer c.range.result)
-    c.range.new.1.1.1.1.0
+    c.range.new.out
 
 state-in-requires : tie.Need-state_in-requires
 state-in-requires c κs = search rules
@@ -39,14 +39,13 @@ same_length c = search rules
 
 returns : tie.Need-returns
 returns c =
-    let s = c.before.before.before in
-    let a = s.args in
+    let a = c.args in
     let asked =
-    subst (λ r. Promise s r s.state_in.result) s.store_range.ensures
-    s.range.ensures in
+    subst (λ r. Promise c.before.before.before r c.state_in.result) c.store_range.ensures
+    c.range.ensures in
     keeps-reported _ _ _ _ _ _
-    (subst (Promise s (intervals_of a.within.given a.within.lows a.within.highs))
-    s.state_in.ensures asked)
+    (subst (Promise c.before.before.before (intervals_of a.within.given a.within.lows a.within.highs))
+    c.state_in.ensures asked)
     c.listed_result.ensures
 
 pub range_result_spec : {M : Type 1} → statement M

@@ -13,9 +13,9 @@ use Rattle.host_reads.proofs.save_result.Tie as tie
 -- what `save` promises of a state
 abbrev Promise : tie.After-save → State → Type 0
 Promise c state =
-    let a = c.before.before.before.before.before.before.before.args in
+    let a = c.args in
     SavePromise (store state a.dir.now a.pages.now) a.out.now (saved_answer c.save.result)
-    c.save.new.1.1.1.0
+    c.save.new.out
 
 state-in-requires : tie.Need-state_in-requires
 state-in-requires c κs = search rules
@@ -31,8 +31,7 @@ same_length c = search rules
 
 returns : tie.Need-returns
 returns c =
-    let s = c.before.before.before in
-    keeps-reported _ _ _ _ _ _ (subst (Promise s) s.state_in.ensures s.save.ensures)
+    keeps-reported _ _ _ _ _ _ (subst (Promise c.before.before.before) c.state_in.ensures c.save.ensures)
     c.saved_result.ensures
 
 pub save_result_spec : {M : Type 1} → statement M

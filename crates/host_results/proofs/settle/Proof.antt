@@ -42,11 +42,9 @@ same_length c = search rules
 returns : tie.Need-returns-in-Done
 unfolding made_answer
 returns c =
-    let told = c.before.before.before.before in
-    let start = told.before.before in
-    let made = told.in-Done.is in (
+    let made = c.in-Done.is in (
       numbers _ _ (sym made),
-      settled-done _ _ _ (ap (λ a. is_refused (made_answer a)) made) (four start) (thirteen start) _
+      settled-done _ _ _ (ap (λ a. is_refused (made_answer a)) made) (four c.before.before.before.before.before.before.before) (thirteen c.before.before.before.before.before.before.before) _
           c.put_state.ensures,
     )
 

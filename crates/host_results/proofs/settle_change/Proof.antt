@@ -68,11 +68,9 @@ same_length c = search rules
 returns-3 : tie.Need-returns-in-Done
 unfolding changed_answer
 returns-3 c =
-    let told = c.before.before.before.before.before in
-    let start = told.before in
-    let done = told.in-Done.is in (
+    let done = c.in-Done.is in (
       numbers _ _ (sym done),
-      settled-done _ _ _ (ap (λ a. is_refused (changed_answer a)) done) (four start) (thirteen start) _
+      settled-done _ _ _ (ap (λ a. is_refused (changed_answer a)) done) (four c.before.before.before.before.before.before.before) (thirteen c.before.before.before.before.before.before.before) _
           c.put_state.ensures,
     )
 

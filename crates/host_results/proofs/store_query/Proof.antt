@@ -21,10 +21,9 @@ wanted-at-requires-4 c κs = search rules
 returns : tie.Need-returns
 unfolding wanted_values wanted_of
 returns c =
-    let two = c.before.before in
     rw (
-      two.wanted_at-a0.ensures,
-      two.wanted_at-a1.ensures,
+      c.wanted_at-a0.ensures,
+      c.wanted_at-a1.ensures,
       c.wanted_at-a2.ensures,
       c.wanted_at-a3.ensures,
     ) refl

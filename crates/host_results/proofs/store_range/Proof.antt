@@ -20,10 +20,9 @@ span-at-requires-4 c κs = search rules
 returns : tie.Need-returns
 unfolding range_intervals intervals_of
 returns c =
-    let two = c.before.before in
     rw (
-      two.span_at-a0.ensures,
-      two.span_at-a1.ensures,
+      c.span_at-a0.ensures,
+      c.span_at-a1.ensures,
       c.span_at-a2.ensures,
       c.span_at-a3.ensures,
     ) refl

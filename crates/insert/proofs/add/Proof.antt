@@ -36,7 +36,7 @@ start p = (encoding p).before.before.before
 
 -- the early refusals let the key pass
 through : (c : tie.After-encode_key-encoded)
-    → Passed (given c.before.before.before) c.encode_key-encoded.result.values
+    → Passed (given c.before.before.before.before) c.encode_key-encoded.result.values
 through c = subst (Passed _) (sym c.encode_key-encoded.ensures) (passed _ _ c.requires)
 
 -- what the plan tells
@@ -57,16 +57,16 @@ encode-key-requires : tie.Need-encode_key-encoded-requires
 encode-key-requires c κs = (passed _ _ c.requires).shape
 
 find-requires : tie.Need-find-found-requires
-find-requires c κs = through c.before.before.before
+find-requires c κs = through c.before
 
 allocate-requires : tie.Need-allocate-plan-requires
-allocate-requires c κs = c.find.ensures
+allocate-requires c κs = c.find-found.ensures
 
 pack-key-requires : tie.Need-pack_key-packed-requires
 pack-key-requires c κs = SixteenBits-passed _ _ (through (encoding c))
 
 bias-key-requires : tie.Need-bias_key-requires
-bias-key-requires c κs = (through (encoding c.before)).shape
+bias-key-requires c κs = (through (encoding c.before.before)).shape
 
 to-fields-requires : tie.Need-to_fields-fields-requires
 to-fields-requires c κs = search rules
@@ -110,11 +110,10 @@ cast-insert-record c = search rules
 
 insert-record-requires : tie.Need-insert_record-requires
 insert-record-requires c κs =
-    let plan = c in
-    let p = allocated plan.before.before.before in
+    let p = allocated c.before.before.before in
     let s = start p in
     lent-taken (given s) (encoded p) s.args.content (small s) _ refl _ _ _ _
-    (planned p _ plan.in-Take.is)
+    (planned p _ c.in-Take.is)
 
 same-length-3 : tie.Need-shape_of-dir-in-Take
 same-length-3 c = search rules
@@ -125,14 +124,11 @@ same-length-4 c = search rules
 returns-2 : tie.Need-returns-in-Take
 unfolding changed_answer
 returns-2 c =
-    let inserted = c.before.before in
-    let plan = inserted in
-    let f = plan.before.before.before.before in
-    let p = allocated f in
+    let p = allocated c.before.before.before.before.before.before in
     let s = start p in
     called p _
-    (by-taken (given s) (encoded p) s.args.content (small s) _ (written f) _ _ _ _
-    (planned p _ plan.in-Take.is) _ inserted.insert_record.ensures)
+    (by-taken (given s) (encoded p) s.args.content (small s) _ (written c.before.before.before.before.before.before) _ _ _ _
+    (planned p _ c.in-Take.is) _ c.insert_record.ensures)
 
 -- ---- the page was null
 
@@ -144,18 +140,16 @@ cast-insert-record-2 c = search rules
 
 insert-record-requires-2 : tie.Need-insert_record-requires-in-Get
 insert-record-requires-2 c κs =
-    let plan = c in
-    let p = allocated plan.before.before.before in
+    let p = allocated c.before.before.before in
     let s = start p in
-    let told = planned p _ plan.in-Get.is in
+    let told = planned p _ c.in-Get.is in
     lent-got (given s) (encoded p) s.args.content (small s) _ refl _ _ told.0 told.1
 
 set-word-requires : tie.Need-set_word-requires
 set-word-requires c κs =
-    let plan = c in
-    let p = allocated plan.before.before.before.before.before.before.before in
+    let p = allocated c.before.before.before.before.before.before.before in
     let s = start p in
-    let told = planned p _ plan.in-Get.is in
+    let told = planned p _ c.in-Get.is in
     word-asked (given s) (encoded p) s.args.content (small s) _ refl _ _ told.0 told.1
 
 same-length-5 : tie.Need-shape_of-dir-in-Get
@@ -167,16 +161,12 @@ same-length-6 c = search rules
 returns-3 : tie.Need-returns-in-Get
 unfolding changed_answer
 returns-3 c =
-    let set = c.before.before in
-    let inserted = set.before.before.before.before in
-    let plan = inserted in
-    let f = plan.before.before.before.before in
-    let p = allocated f in
+    let p = allocated c.before.before.before.before.before.before.before.before.before.before in
     let s = start p in
-    let told = planned p _ plan.in-Get.is in
+    let told = planned p _ c.in-Get.is in
     called p _
-    (by-got (given s) (encoded p) s.args.content (small s) _ (written f) _ _ told.0
-    told.1 _ set.set_word.ensures _ inserted.insert_record-in-Get.ensures)
+    (by-got (given s) (encoded p) s.args.content (small s) _ (written c.before.before.before.before.before.before.before.before.before.before) _ _ told.0
+    told.1 _ c.set_word.ensures _ c.insert_record-in-Get.ensures)
 
 -- ---- the page is full
 
@@ -185,48 +175,40 @@ enum-known-plan-4 c = search rules
 
 double-requires : tie.Need-double-deeper-requires
 double-requires c κs =
-    let plan = c in
-    let p = allocated plan.before.before.before in
+    let p = allocated c.before.before.before in
     let s = start p in
-    let told = planned p _ plan.in-Divide.is in
+    let told = planned p _ c.in-Divide.is in
     doubling-asked (given s) (encoded p) s.args.content (small s) _ refl _ _ _ told.0 told.1
 
 set-words-requires : tie.Need-set_words-requires
 set-words-requires c κs =
-    let doubled = c.before.before.before in
-    let plan = doubled in
-    let p = allocated plan.before.before.before.before in
+    let p = allocated c.before.before.before.before.before.before.before in
     let s = start p in
-    let told = planned p _ plan.in-Divide.is in
+    let told = planned p _ c.in-Divide.is in
     leaves-asked (given s) (encoded p) s.args.content (small s) _ refl _ _ _ told.0 told.1 _ _
-    doubled.double-deeper.ensures
+    c.double-deeper.ensures
 
 count-leaves-requires : tie.Need-count_leaves-state-requires
 count-leaves-requires c κs =
-    let doubled = c.before.before.before.before.before.before in
-    let plan = doubled in
-    let p = allocated plan.before.before.before.before in
+    let p = allocated c.before.before.before.before.before.before.before.before.before.before in
     let s = start p in
-    let told = planned p _ plan.in-Divide.is in
+    let told = planned p _ c.in-Divide.is in
     tally-asked (given s) (encoded p) s.args.content (small s) _ refl _ _ _ told.0 told.1 _
-    (ap (λ st. st.tally) doubled.double-deeper.ensures.state)
+    (ap (λ st. st.tally) c.double-deeper.ensures.state)
 
 cast-divide-pages : tie.Need-overflow_cast-split
 cast-divide-pages c = search rules
 
 cast-divide-pages-2 : tie.Need-overflow_cast-free
 cast-divide-pages-2 c =
-    let plan = c in
-    let told = (planned (allocated plan.before.before.before.before.before.before.before.before.before.before.before.before.before) _ plan.in-Divide.is).0 in
+    let told = (planned (allocated c.before.before.before.before.before.before.before.before.before.before.before.before.before) _ c.in-Divide.is).0 in
     omega (arith, told.free-within, told.found.asked.pages-lent.few)
 
 divide-pages-requires : tie.Need-divide_pages-requires
 divide-pages-requires c κs =
-    let counted = c.before.before in
-    let plan = counted in
-    let p = allocated plan.before.before.before.before.before.before.before.before.before.before.before in
+    let p = allocated c.before.before.before.before.before.before.before.before.before.before.before.before.before in
     let s = start p in
-    let told = planned p _ plan.in-Divide.is in (
+    let told = planned p _ c.in-Divide.is in (
       pages-lent (given s) (encoded p) s.args.content (small s) _ refl _ _ _ told.0 told.1,
       cut_fits (given s) (encoded p) s.args.content (small s) _ refl _ _ _ told.0 told.1,
     )
@@ -258,19 +240,13 @@ same-length-8 c = search rules
 returns-4 : tie.Need-returns-in-Divide
 unfolding changed_answer
 returns-4 c =
-    let pages = c.before.before.before in
-    let counted = pages.before.before.before in
-    let set = counted.before.before.before in
-    let doubled = set.before.before.before.before in
-    let plan = doubled in
-    let f = plan.before.before.before.before in
-    let p = allocated f in
+    let p = allocated c.before.before.before.before.before.before.before.before.before.before.before.before.before.before.before.before.before in
     let s = start p in
-    let told = planned p _ plan.in-Divide.is in
+    let told = planned p _ c.in-Divide.is in
     called p _
-    (by-divided (given s) (encoded p) s.args.content (small s) _ (written f) _ _ _ told.0
-    told.1 _ _ doubled.double-deeper.ensures _ set.set_words.ensures _ counted.count_leaves-state.ensures _
-    pages.divide_pages.ensures)
+    (by-divided (given s) (encoded p) s.args.content (small s) _ (written c.before.before.before.before.before.before.before.before.before.before.before.before.before.before.before.before.before) _ _ _ told.0
+    told.1 _ _ c.double-deeper.ensures _ c.set_words.ensures _ c.count_leaves-state.ensures _
+    c.divide_pages.ensures)
 
 pub add_spec : {M : Type 1} → statement M
 add_spec =

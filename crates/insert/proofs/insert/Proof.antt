@@ -31,13 +31,11 @@ early before values content (suc k) e some = insert-early before values content 
 
 -- none of 1, 14, 15, 2 and 3 holds
 none : (c : tie.Else-not-encodings_fit)
-    → let s = start c.before.before.before.before in key_number (given s) s.args.key.values ≡ 0
+    → let s = start c.before.before.before.before.before.before in key_number (given s) s.args.key.values ≡ 0
 none c =
-    let e = c.before.before in
-    let n = e.before.before in
-    let a = (start n).args in
-    number-none a.state a.dir.now a.pages.now _ n.lent_number-number.ensures a.key.values
-    e.if-number-ne0.false _ e.encode_key.ensures _ c.encodings_fit.ensures (not-false _ c.if-not-encodings_fit.false-raw)
+    let a = (start c.before.before.before.before.before.before).args in
+    number-none a.state a.dir.now a.pages.now _ c.lent_number-number.ensures a.key.values
+    c.if-number-ne0.false _ c.encode_key.ensures _ c.encodings_fit.ensures (not-false _ c.if-not-encodings_fit.false-raw)
 
 lent-number-requires : tie.Need-lent_number-number-requires
 lent-number-requires c κs = search rules
@@ -48,43 +46,37 @@ refuse-change-requires c κs = search rules
 returns : tie.Need-returns-then-number-ne0
 returns c =
     let some = c.if-number-ne0.true in
-    let n = c.before.before in
-    let s = start n in
+    let s = start c.before.before.before in
     let a = s.args in
     rw c.refuse_change-answer.ensures
-    (early (given s) a.key.values a.content n.lent_number-number.result
-    (number-lent a.state a.dir.now a.pages.now _ n.lent_number-number.ensures a.key.values some) some)
+    (early (given s) a.key.values a.content c.lent_number-number.result
+    (number-lent a.state a.dir.now a.pages.now _ c.lent_number-number.ensures a.key.values some) some)
 
 encode-key-requires : tie.Need-encode_key-requires
 encode-key-requires c κs =
-    let n = c.before in
-    let a = (start n).args in
-    shape-lent a.state a.dir.now a.pages.now _ n.lent_number-number.ensures c.if-number-ne0.false
+    let a = (start c.before.before.before).args in
+    shape-lent a.state a.dir.now a.pages.now _ c.lent_number-number.ensures c.if-number-ne0.false
 
 encodings-fit-requires : tie.Need-encodings_fit-requires
 encodings-fit-requires c κs =
-    let n = c.before.before in
-    let a = (start n).args in
-    shape-lent a.state a.dir.now a.pages.now _ n.lent_number-number.ensures c.if-number-ne0.false
+    let a = (start c.before.before.before.before).args in
+    shape-lent a.state a.dir.now a.pages.now _ c.lent_number-number.ensures c.if-number-ne0.false
 
 returns-2 : tie.Need-returns-then-not-encodings_fit
 unfolding changed_answer
 returns-2 c =
-    let e = c.before.before in
-    let n = e.before.before in
-    let s = start n in
+    let s = start c.before.before.before.before.before.before in
     let a = s.args in
     early (given s) a.key.values a.content 3
-    (number-out a.state a.dir.now a.pages.now _ n.lent_number-number.ensures a.key.values
-    e.if-number-ne0.false _ e.encode_key.ensures _ c.encodings_fit.ensures (not-true _ c.if-not-encodings_fit.true-raw))
+    (number-out a.state a.dir.now a.pages.now _ c.lent_number-number.ensures a.key.values
+    c.if-number-ne0.false _ c.encode_key.ensures _ c.encodings_fit.ensures (not-true _ c.if-not-encodings_fit.true-raw))
     (λ z. omega (arith, z))
 
 returns-3 : tie.Need-returns-then-content-eq0
 unfolding changed_answer
 returns-3 c =
-    let passed = c.before.before in
-    let s = start passed.before.before.before.before in
-    insert-zero (given s) s.args.key.values s.args.content (none passed) c.if-content-eq0.true
+    let s = start c.before.before.before.before.before.before.before.before in
+    insert-zero (given s) s.args.key.values s.args.content (none c.before.before) c.if-content-eq0.true
 
 add-requires : tie.Need-add-requires
 add-requires c κs = none c.before.before.before.before
@@ -97,12 +89,9 @@ same-length-2 c = search rules
 
 returns-4 : tie.Need-returns
 returns-4 c =
-    let added = c.before.before.before.before in
-    let judged = added.before.before.before in
-    let passed = judged.before.before in
-    let s = start passed.before.before.before.before in
-    insert-added (given s) s.args.key.values s.args.content (none passed) judged.if-content-eq0.false _ _
-    added.add.ensures
+    let s = start c.before.before.before.before.before.before.before.before.before.before.before.before.before.before.before in
+    insert-added (given s) s.args.key.values s.args.content (none c.before.before.before.before.before.before.before.before.before) c.if-content-eq0.false _ _
+    c.add.ensures
 
 pub insert_spec : {M : Type 1} → statement M
 insert_spec =

@@ -21,9 +21,8 @@ spare-page-requires c κs = c.requires.asked.pages-lent
 
 returns : tie.Need-returns-then-free-limits
 returns c =
-    let f = c.before.before in
-    let s = start f in
-    seven-empty (given s) s.args.encoded _ _ f.spare_page-free.ensures s.args.depth s.pre c.if-free-limits.true
+    let s = start c.before.before in
+    seven-empty (given s) s.args.encoded _ _ c.spare_page-free.ensures s.args.depth s.requires c.if-free-limits.true
 
 pack-empty-requires : tie.Need-pack_empty-requires
 pack-empty-requires c κs =
@@ -33,24 +32,19 @@ pack-empty-requires c κs =
 leaf-whole-requires : tie.Need-leaf_whole-requires
 leaf-whole-requires c κs =
     let s = start c.before.before.before in
-    (directory-lent (given s) s.args.encoded s.pre.asked, s.pre.depth_le)
+    (directory-lent (given s) s.args.encoded s.requires.asked, s.requires.depth_le)
 
 returns-2 : tie.Need-returns-then-not-leaf_whole
 returns-2 c =
-    let t = c.before in
-    let f = t.before.before.before.before in
-    let s = start f in
-    nine-empty (given s) s.args.encoded _ _ f.spare_page-free.ensures s.args.depth s.pre _
-    t.pack_empty.ensures _ t.leaf_whole.ensures (not-true _ c.if-not-leaf_whole.true-raw)
+    let s = start c.before.before.before.before.before in
+    nine-empty (given s) s.args.encoded _ _ c.spare_page-free.ensures s.args.depth s.requires _
+    c.pack_empty.ensures _ c.leaf_whole.ensures (not-true _ c.if-not-leaf_whole.true-raw)
 
 returns-3 : tie.Need-returns
 returns-3 c =
-    let t = c.before in
-    let room = t.before.before in
-    let f = room.before.before in
-    let s = start f in
-    get-planned (given s) s.args.encoded _ _ f.spare_page-free.ensures s.args.depth s.pre _
-    t.pack_empty.ensures _ t.leaf_whole.ensures room.if-free-limits.false (not-false _ c.if-not-leaf_whole.false-raw)
+    let s = start c.before.before.before.before.before in
+    get-planned (given s) s.args.encoded _ _ c.spare_page-free.ensures s.args.depth s.requires _
+    c.pack_empty.ensures _ c.leaf_whole.ensures c.if-free-limits.false (not-false _ c.if-not-leaf_whole.false-raw)
 
 pub allocate_first_spec : {M : Type 1} → statement M
 allocate_first_spec =

@@ -20,36 +20,30 @@ spare-page-requires c κs = c.requires.asked.pages-lent
 
 returns : tie.Need-returns-then-free-limits
 returns c =
-    let f = c.before.before in
-    let s = start f in
-    seven-full (given s) s.args.encoded _ _ f.spare_page-free.ensures _ _ s.pre c.if-free-limits.true
+    let s = start c.before.before in
+    seven-full (given s) s.args.encoded _ _ c.spare_page-free.ensures _ _ s.requires c.if-free-limits.true
 
 pack-page-requires : tie.Need-pack_page-word-requires
 pack-page-requires c κs =
     let s = start c.before.before in
-    own-word-fits (given s) s.args.encoded _ _ s.pre
+    own-word-fits (given s) s.args.encoded _ _ s.requires
 
 leaf-whole-requires : tie.Need-leaf_whole-requires
 leaf-whole-requires c κs =
     let s = start c.before.before.before in
-    (directory-lent (given s) s.args.encoded s.pre.asked, s.pre.met.ends-met.met.depth_le)
+    (directory-lent (given s) s.args.encoded s.requires.asked, s.requires.met.ends-met.met.depth_le)
 
 returns-2 : tie.Need-returns-then-not-leaf_whole
 returns-2 c =
-    let t = c.before in
-    let f = t.before.before.before.before in
-    let s = start f in
-    nine-full (given s) s.args.encoded _ _ f.spare_page-free.ensures _ _ s.pre _ t.pack_page-word.ensures _
-    t.leaf_whole.ensures (not-true _ c.if-not-leaf_whole.true-raw)
+    let s = start c.before.before.before.before.before in
+    nine-full (given s) s.args.encoded _ _ c.spare_page-free.ensures _ _ s.requires _ c.pack_page-word.ensures _
+    c.leaf_whole.ensures (not-true _ c.if-not-leaf_whole.true-raw)
 
 returns-3 : tie.Need-returns
 returns-3 c =
-    let t = c.before in
-    let room = t.before.before in
-    let f = room.before.before in
-    let s = start f in
-    divide-planned (given s) s.args.encoded _ _ f.spare_page-free.ensures _ _ s.pre _
-    t.pack_page-word.ensures _ t.leaf_whole.ensures room.if-free-limits.false (not-false _ c.if-not-leaf_whole.false-raw)
+    let s = start c.before.before.before.before.before in
+    divide-planned (given s) s.args.encoded _ _ c.spare_page-free.ensures _ _ s.requires _
+    c.pack_page-word.ensures _ c.leaf_whole.ensures c.if-free-limits.false (not-false _ c.if-not-leaf_whole.false-raw)
 
 pub allocate_half_spec : {M : Type 1} → statement M
 allocate_half_spec =

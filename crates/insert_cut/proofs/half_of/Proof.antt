@@ -28,54 +28,47 @@ pair-bit-requires c κs = search rules
 
 returns : tie.Need-returns-then-i-start
 returns c =
-    let p = c.before.before in
-    let a = p.args in
+    let a = c.args in
     damaged-high (width_list a.widths) a.bias a.page.now a.n a.key a.i a.pair _
-    p.first_one-start.ensures
-    (bit p ∙ c.if-pair_bit.true) c.if-i-start.true
+    c.first_one-start.ensures
+    (bit c.before.before ∙ c.if-pair_bit.true) c.if-i-start.true
 
 returns-2 : tie.Need-returns-then-start-eq0
 returns-2 c =
-    let p = c.before.before.before in
-    let a = p.args in
+    let a = c.args in
     damaged-none (width_list a.widths) a.bias a.page.now a.n a.key a.i a.pair _
-    p.first_one-start.ensures
-    (bit p ∙ c.if-pair_bit.true) c.if-start-eq0.true
+    c.first_one-start.ensures
+    (bit c.before.before.before ∙ c.if-pair_bit.true) c.if-start-eq0.true
 
 returns-3 : tie.Need-returns-then-pair_bit
 returns-3 c =
-    let p = c.before.before.before in
-    let s = p.before.before.before in
-    let a = s.args in
-    own-high (width_list a.widths) a.bias a.page.now a.n a.key a.i a.pair _ p.first_one-start.ensures
-    (bit p ∙ c.if-pair_bit.true) (omega (arith, c.if-i-start.false)) c.if-start-eq0.false s.requires.le_n.0
+    let a = c.args in
+    own-high (width_list a.widths) a.bias a.page.now a.n a.key a.i a.pair _ c.first_one-start.ensures
+    (bit c.before.before.before ∙ c.if-pair_bit.true) (omega (arith, c.if-i-start.false)) c.if-start-eq0.false c.requires.le_n.0
 
 returns-4 : tie.Need-returns-then-start-i
 returns-4 c =
-    let p = c.before.before in
-    let a = p.args in
+    let a = c.args in
     damaged-low (width_list a.widths) a.bias a.page.now a.n a.key a.i a.pair _
-    p.first_one-start.ensures
-    (bit p ∙ c.if-pair_bit.false) c.if-start-i.true
+    c.first_one-start.ensures
+    (bit c.before.before ∙ c.if-pair_bit.false) c.if-start-i.true
 
 returns-5 : tie.Need-returns-then-start-n
 returns-5 c =
-    let p = c.before.before.before in
-    let a = p.args in
+    let a = c.args in
     damaged-all (width_list a.widths) a.bias a.page.now a.n a.key a.i a.pair _
-    p.first_one-start.ensures
-    (bit p ∙ c.if-pair_bit.false) c.if-start-n.true
+    c.first_one-start.ensures
+    (bit c.before.before.before ∙ c.if-pair_bit.false) c.if-start-n.true
 
 returns-6 : tie.Need-returns
 returns-6 c =
-    let p = c.before.before.before in
-    let a = p.args in
-    own-low (width_list a.widths) a.bias a.page.now a.n a.key a.i a.pair _ p.first_one-start.ensures
-    (bit p ∙ c.if-pair_bit.false) (omega (arith, c.if-start-i.false))
+    let a = c.args in
+    own-low (width_list a.widths) a.bias a.page.now a.n a.key a.i a.pair _ c.first_one-start.ensures
+    (bit c.before.before.before ∙ c.if-pair_bit.false) (omega (arith, c.if-start-i.false))
     (omega (
       arith,
       c.if-start-n.false,
-      p.first_one-start.ensures,
+      c.first_one-start.ensures,
       first_one-le (width_list a.widths) a.bias a.pair a.page.now a.n 0,
     ))
 

@@ -21,10 +21,9 @@ told : (c : tie.Else-not-limits_hold)
     → let a = c.args in
     InsertAsked (store a.state a.dir.now a.pages.now) a.encoded.values
 told c =
-    let s = c.before.before.before.before in
-    let a = s.args in
+    let a = c.args in
     let limits = c.limits_hold in
-    asked (store a.state a.dir.now a.pages.now) a.encoded.values s.requires
+    asked (store a.state a.dir.now a.pages.now) a.encoded.values c.requires
     (sym limits.ensures ∙ not-false limits.result c.if-not-limits_hold.false-raw)
 
 limits-hold-requires : tie.Need-limits_hold-requires
@@ -32,8 +31,7 @@ limits-hold-requires c κs = c.requires.shape
 
 returns : tie.Need-returns-then-not-limits_hold
 returns c =
-    let s = c.before.before.before.before in
-    let a = s.args in
+    let a = c.args in
     let limits = c.limits_hold in
     nine-limits (store a.state a.dir.now a.pages.now) a.encoded.values
     (sym limits.ensures ∙ not-true limits.result c.if-not-limits_hold.true-raw)
@@ -55,7 +53,7 @@ found : (c : tie.After-key_word-at)
 found c =
     let a = c.args in
     key-word-is a.state.shape _ c.widths_of-widths.ensures a.state.deepest a.dir.now
-    a.encoded.values _ _ (back c.before.before.before) c.key_word-at.ensures.word_value
+    a.encoded.values _ _ (back c.before.before.before.before) c.key_word-at.ensures.word_value
 
 widths-of-requires : tie.Need-widths_of-widths-requires
 widths-of-requires c κs = search rules
@@ -66,46 +64,43 @@ cast-key-word c = search rules
 key-word-requires : tie.Need-key_word-at-requires
 key-word-requires c κs =
     let st = c.args.state in
-    let t = told c.before.before.before in
+    let t = told c.before.before.before.before in
     key-word-asks st.shape _ c.widths_of-widths.ensures st.deepest t.passed.shape
     (le_trans t.within-limit t.bits) _ (le_trans (pow_mono t.within-limit) t.passed.words-lent)
 
 word-holds-requires : tie.Need-word_holds-requires
 word-holds-requires c κs =
-    let t = told c.before.before.before.before in
+    let t = told c.before.before.before.before.before in
     le_trans t.within-limit t.short
 
 returns-2 : tie.Need-returns-then-not-word_holds
 returns-2 c =
-    let s = c.before.before.before.before.before.before.before.before.before.before in
-    let a = s.args in
+    let a = c.args in
     let holds = c.word_holds in
     nine-word (store a.state a.dir.now a.pages.now) a.encoded.values _ (found c.before.before)
     (sym holds.ensures ∙ not-true holds.result c.if-not-word_holds.true-raw)
 
 find-page-requires : tie.Need-find_page-requires
 find-page-requires c κs =
-    let packed = c.before.before.before.before.before in
-    let a = packed.args in
-    let t = told packed.before in
+    let a = c.args in
+    let t = told c.before.before.before.before.before.before.before in
     let holds = c.word_holds in (
       t.pages-lent,
       sym holds.ensures ∙ not-false holds.result c.if-not-word_holds.false-raw,
       record {
         bits = le_trans t.within-limit t.bits;
-        fits = ap (λ k. index_fits (widths_of a.state.shape) (unpacked_key k)) packed.pack_key-packed.ensures
+        fits = ap (λ k. index_fits (widths_of a.state.shape) (unpacked_key k)) c.pack_key-packed.ensures
             ∙ index_fits-passed _ _ t.passed;
       },
     )
 
 returns-3 : tie.Need-returns
 returns-3 c =
-    let packed = c.before.before.before.before.before.before in
-    let a = packed.args in
+    let a = c.args in
     c.find_page.ensures a.dir.now a.encoded.values
     (record {
-      asked = told packed.before;
-      key-is = packed.pack_key-packed.ensures;
+      asked = told c.before.before.before.before.before.before.before.before;
+      key-is = c.pack_key-packed.ensures;
       found-is = sym (found c.before.before.before);
     })
 

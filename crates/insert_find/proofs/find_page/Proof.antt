@@ -19,8 +19,7 @@ held : (c : tie.In-Page-2)
     (leaf.0 < a.state.limits.pages) × (leaf.1.0 ≤ a.state.deepest) ×
     (a.word ≡ word_of (Page leaf.0 leaf.1.0))
 held c =
-    let s = c.before.before.before.before in
-    held-page s.args.state s.args.word s.requires.1 _ _
+    held-page c.args.state c.args.word c.requires.1 _ _
     (sym c.unpack-leaf.ensures ∙ c.leaf-in-Page-1.given.1)
 
 unpack-requires : tie.Need-unpack-leaf-requires
@@ -34,9 +33,8 @@ enum-known-leaf-2 c = search rules
 
 find-place-requires : tie.Need-find_place-requires
 find-place-requires c κs =
-    let s = c.before.before.before in
-    let st = s.args.state in
-    let lent = s.requires.0 in
+    let st = c.args.state in
+    let lent = c.requires.0 in
     let h = held c.before in
     let end = page-end-le st.shape.capacity c.in-Page.page st.limits.pages h.0 in (
       lent,
@@ -45,34 +43,31 @@ find-place-requires c κs =
         number_lt = omega (arith, h.0, lent.few);
         whole = omega (arith, end, lent.lent);
       },
-      s.requires.2,
+      c.requires.2,
       h.1,
     )
 
 returns : tie.Need-returns-in-Empty
 returns c words encoded m =
-    let leaf = c in
-    let s = leaf.before.before.before in
-    let h = held-empty s.args.state s.args.word s.requires.1 _
-    (sym leaf.unpack-leaf.ensures ∙ leaf.in-Empty.is) in
+    let h = held-empty c.args.state c.args.word c.requires.1 _
+    (sym c.unpack-leaf.ensures ∙ c.in-Empty.is) in
     record {
       asked = m.asked;
       depth_le = h.0;
-      holds = ap (word_holds s.args.state) m.found-is ∙ s.requires.1;
+      holds = ap (word_holds c.args.state) m.found-is ∙ c.requires.1;
       own = m.found-is ∙ h.1;
     }
 
 returns-2 : tie.Need-returns-in-Page
 returns-2 c words encoded m =
     let h = held c.before.before in
-    let s = c.before.before.before.before in
     c.find_place.ensures words encoded
     (record {
       asked = m.asked;
       key-is = m.key-is;
       within = h.0;
       depth_le = h.1;
-      holds = ap (word_holds s.args.state) m.found-is ∙ s.requires.1;
+      holds = ap (word_holds c.args.state) m.found-is ∙ c.requires.1;
       own = m.found-is ∙ h.2;
     })
 

@@ -25,39 +25,34 @@ use Rattle.insert_find.proofs.find_place.Tie as tie
 
 -- what is found is the key's place on the page
 place : (c : tie.After-find-place)
-    → let f = c.before.before.before.before.before.before.before.before.before.before in
-    let a = f.args in
+    →
+    let a = c.args in
     Placed (widths_of a.state.shape) (bias_key a.state.shape) (unpacked_key a.key)
     (page_at a.state.shape.capacity a.pages.now a.page)
-    f.count_at-n.result c.find-place.result
+    c.count_at-n.result c.find-place.result
 place c =
-    let bias = c.before in
-    let widths = bias.before in
-    let size = widths.before.before in
-    let f = size.before.before.before.before.before.before in
-    let a = f.args in
-    let n = f.count_at-n.result in
-    let start = size.page_start-start.result in
-    let part = mid_of start (start + size.page_size.result - start) a.pages.now in
+    let a = c.args in
+    let n = c.count_at-n.result in
+    let start = c.page_start-start.result in
+    let part = mid_of start (start + c.page_size.result - start) a.pages.now in
     subst (λ page. Placed (widths_of a.state.shape) (bias_key a.state.shape) (unpacked_key a.key) page n c.find-place.result)
-    (mid_of-page a.state.shape.capacity a.page _ _ a.pages.now size.page_start-start.ensures
-    size.page_size.ensures)
+    (mid_of-page a.state.shape.capacity a.page _ _ a.pages.now c.page_start-start.ensures
+    c.page_size.ensures)
     (subst (λ h. Placed (widths_of a.state.shape) h (unpacked_key a.key) part n c.find-place.result)
-    bias.bias_key.ensures
-    (subst (λ ws. Placed ws bias.bias_key.result (unpacked_key a.key) part n c.find-place.result)
-    widths.widths_of.ensures c.find-place.ensures))
+    c.bias_key.ensures
+    (subst (λ ws. Placed ws c.bias_key.result (unpacked_key a.key) part n c.find-place.result)
+    c.widths_of.ensures c.find-place.ensures))
 
 -- the page is the leaf's
 own : (c : tie.After-find-place)
-    → let f = c.before.before.before.before.before.before.before.before.before.before in
-    let a = f.args in
+    →
+    let a = c.args in
     own_page a.state.shape a.depth a.key (page_at a.state.shape.capacity a.pages.now a.page)
-    f.count_at-n.result
+    c.count_at-n.result
     ≡ true
 own c =
-    let held = c.before.before.before.before.before.before in
-    let holds = held.page_holds in
-    sym holds.ensures ∙ not-false holds.result held.if-not-page_holds.false-raw
+    let holds = c.page_holds in
+    sym holds.ensures ∙ not-false holds.result c.if-not-page_holds.false-raw
 
 cast-capacity : tie.Need-overflow_cast-capacity
 cast-capacity c = search rules
@@ -67,39 +62,35 @@ count-at-requires c κs = c.requires.1
 
 returns : tie.Need-returns-then-n-eq0
 returns c words encoded m =
-    let f = c.before in
-    let a = f.args in
+    let a = c.args in
     nine-count (store a.state words a.pages.now) encoded a.key a.page a.depth m _
-    f.count_at-n.ensures.0
+    c.count_at-n.ensures.0
     (inl c.if-n-eq0.true)
 
 returns-2 : tie.Need-returns-then-capacity-n
 returns-2 c words encoded m =
-    let f = c.before.before in
-    let a = f.args in
+    let a = c.args in
     nine-count (store a.state words a.pages.now) encoded a.key a.page a.depth m _
-    f.count_at-n.ensures.0
+    c.count_at-n.ensures.0
     (inr c.if-capacity-n.true)
 
 page-holds-requires : tie.Need-page_holds-requires
 page-holds-requires c κs =
-    let s = c.before.before.before.before.before.before in
     record {
-      shape = s.requires.0.shape;
-      deep = le_trans s.requires.3 s.requires.2.bits;
-      fits = s.requires.2.fits;
-      lent = s.requires.1;
+      shape = c.requires.0.shape;
+      deep = le_trans c.requires.3 c.requires.2.bits;
+      fits = c.requires.2.fits;
+      lent = c.requires.1;
       some = omega (arith, c.if-n-eq0.false);
       few = omega (arith, c.if-capacity-n.false);
     }
 
 returns-3 : tie.Need-returns-then-not-page_holds
 returns-3 c words encoded m =
-    let f = c.before.before.before.before in
-    let a = f.args in
+    let a = c.args in
     let holds = c.page_holds in
     nine-ends (store a.state words a.pages.now) encoded a.key a.page a.depth m _
-    f.count_at-n.ensures.0 (sym holds.ensures ∙ not-true holds.result c.if-not-page_holds.true-raw)
+    c.count_at-n.ensures.0 (sym holds.ensures ∙ not-true holds.result c.if-not-page_holds.true-raw)
 
 page-start-requires : tie.Need-page_start-start-requires
 page-start-requires c κs = search rules
@@ -128,16 +119,13 @@ bias-key-requires c κs =
 
 find-requires : tie.Need-find-place-requires
 find-requires c κs =
-    let size = c.before.before.before in
-    let held = size.before.before in
-    let s = held.before.before.before.before.before.before.before.before in
-    let st = s.args.state in
-    let few = held.if-capacity-n.false in
-    let part = mid_of-page st.shape.capacity s.args.page _ _ s.args.pages.now
-    size.page_start-start.ensures size.page_size.ensures in
+    let st = c.args.state in
+    let few = c.if-capacity-n.false in
+    let part = mid_of-page st.shape.capacity c.args.page _ _ c.args.pages.now
+    c.page_start-start.ensures c.page_size.ensures in
     let whole = ap length part
-    ∙ length-page_at st.shape.capacity s.args.page s.args.pages.now s.requires.1.whole in
-    (omega (arith, whole), widths-fit st.shape _ s.requires.0.shape c.widths_of.ensures)
+    ∙ length-page_at st.shape.capacity c.args.page c.args.pages.now c.requires.1.whole in
+    (omega (arith, whole), widths-fit st.shape _ c.requires.0.shape c.widths_of.ensures)
 
 enum-known-place : tie.Need-enum_known-place
 enum-known-place c = search rules
@@ -147,59 +135,49 @@ enum_told c = search rules
 
 returns-4 : tie.Need-returns-in_default
 returns-4 c words encoded m =
-    let d = c.before in
-    let few = d.before.before.before.before.before.before.before.before in
-    let f = few.before.before in
-    let s = f.before.before.before.before in
-    let a = s.args in
-    let known = f.shared_slice_known-1.given in
+    let a = c.args in
+    let known = c.shared_slice_known-1.given in
     four-stored (store a.state words a.pages.now) encoded a.key a.page a.depth m _
-    f.count_at-n.ensures.0
-    (omega (arith, few.if-capacity-n.false)) (own d) (λ i. omega (arith, known i)) _
+    c.count_at-n.ensures.0
+    (omega (arith, c.if-capacity-n.false)) (own c.before) (λ i. omega (arith, known i)) _
     (subst
     (Placed (widths_of a.state.shape) (bias_key a.state.shape) (unpacked_key a.key)
-    (page_at a.state.shape.capacity a.pages.now a.page) f.count_at-n.result)
-    c.in_default.is (place d))
+    (page_at a.state.shape.capacity a.pages.now a.page) c.count_at-n.result)
+    c.in_default.is (place c.before))
 
 returns-5 : tie.Need-returns-then-n-capacity
 returns-5 c words encoded m =
     let found = c.before.before.place in
-    let d = c.before.before in
-    let few = d.before.before.before.before.before.before.before.before in
-    let f = few.before.before in
-    let a = f.args in
-    let known = f.shared_slice_known-1.given in
+    let a = c.args in
+    let known = c.shared_slice_known-1.given in
     room-found (store a.state words a.pages.now) encoded a.key a.page a.depth m _
-    f.count_at-n.ensures.0 (omega (arith, few.if-capacity-n.false)) (own d)
+    c.count_at-n.ensures.0 (omega (arith, c.if-capacity-n.false)) (own c.before.before)
     (λ i. omega (arith, known i)) _
     (subst
     (Placed (widths_of a.state.shape) (bias_key a.state.shape) (unpacked_key a.key)
-    (page_at a.state.shape.capacity a.pages.now a.page) f.count_at-n.result)
-    found.given.1 (place d)) c.if-n-capacity.true
+    (page_at a.state.shape.capacity a.pages.now a.page) c.count_at-n.result)
+    found.given.1 (place c.before.before)) c.if-n-capacity.true
 
 find-split-requires : tie.Need-find_split-requires
 find-split-requires c κs =
     let f =
-    c.before.before.before.before.before.before.before.before.before.before.before.before in
+    c.before.before.before.before.before.before.before.before.before.before.before.before.before.before in
     let s = f.before.before.before.before in
-    (s.pre.0, s.pre.1)
+    (s.requires.0, s.requires.1)
 
 returns-6 : tie.Need-returns
 returns-6 c words encoded m =
     let found = c.before.before.before.place in
-    let d = c.before.before.before in
-    let few = d.before.before.before.before.before.before.before.before in
-    let f = few.before.before in
-    let a = f.args in
-    let known = f.shared_slice_known-1.given in
+    let a = c.args in
+    let known = c.shared_slice_known-1.given in
     c.find_split.ensures words encoded
     (full-met (store a.state words a.pages.now) encoded a.key a.page a.depth m _
-    f.count_at-n.ensures.0
-    (omega (arith, few.if-capacity-n.false)) (own d) (λ i. omega (arith, known i)) _
+    c.count_at-n.ensures.0
+    (omega (arith, c.if-capacity-n.false)) (own c.before.before.before) (λ i. omega (arith, known i)) _
     (subst
     (Placed (widths_of a.state.shape) (bias_key a.state.shape) (unpacked_key a.key)
-    (page_at a.state.shape.capacity a.pages.now a.page) f.count_at-n.result)
-    found.given.1 (place d))
+    (page_at a.state.shape.capacity a.pages.now a.page) c.count_at-n.result)
+    found.given.1 (place c.before.before.before))
     (omega (arith, c.if-n-capacity.false)))
 
 pub find_place_spec : {M : Type 1} → statement M

@@ -57,16 +57,14 @@ bias-key-requires c κs = c.requires.pages_lent.0.shape
 
 half-of-requires : tie.Need-half_of-half-requires
 half-of-requires c κs =
-    let size = c.before.before.before in
-    let s = size.before.before.before.before.before.before in
-    let st = s.args.state in
-    let page = s.requires.pages_lent.1 in
-    let pair = s.args.split.pair in
-    let b = capacity-bounds st.shape s.requires.pages_lent.0.shape in
-    let whole = ap length (part size)
-    ∙ length-page_at st.shape.capacity s.args.split.page s.args.pages.now page.whole in (
-      (b.0, b.1, omega (arith, whole), widths-fit st.shape _ s.requires.pages_lent.0.shape c.widths_of.ensures),
-      (s.requires.pair_bound.0, subst (λ ws. pair / 4 < get_or ws (pair % 4) 0) (sym c.widths_of.ensures) s.requires.pair_bound.1),
+    let st = c.args.state in
+    let page = c.requires.pages_lent.1 in
+    let pair = c.args.split.pair in
+    let b = capacity-bounds st.shape c.requires.pages_lent.0.shape in
+    let whole = ap length (part c.before.before.before)
+    ∙ length-page_at st.shape.capacity c.args.split.page c.args.pages.now page.whole in (
+      (b.0, b.1, omega (arith, whole), widths-fit st.shape _ c.requires.pages_lent.0.shape c.widths_of.ensures),
+      (c.requires.pair_bound.0, subst (λ ws. pair / 4 < get_or ws (pair % 4) 0) (sym c.widths_of.ensures) c.requires.pair_bound.1),
     )
 
 enum-known-half : tie.Need-enum_known-half
@@ -77,20 +75,16 @@ enum_told c = search rules
 
 returns : tie.Need-returns-in_default
 returns c words encoded m =
-    let h = c.before in
-    let size = h.before.before.before.before in
-    let a = size.args in
-    nine-half (store a.state words a.pages.now) encoded a.key a.split m _ _ _ h.widths_of.ensures
-    (part size) h.bias_key.ensures
-    h.half_of-half.result h.half_of-half.ensures c.in_default.is
+    let a = c.args in
+    nine-half (store a.state words a.pages.now) encoded a.key a.split m _ _ _ c.widths_of.ensures
+    (part c.before.before.before.before.before) c.bias_key.ensures
+    c.half_of-half.result c.half_of-half.ensures c.in_default.is
 
 returns-2 : tie.Need-returns
 returns-2 c words encoded m =
-    let h = c.before in
-    let size = h.before.before.before.before in
-    let a = size.args in
+    let a = c.args in
     full-found (store a.state words a.pages.now) encoded a.key a.split m _ _ _
-    h.widths_of.ensures (part size) h.bias_key.ensures h.half_of-half.result h.half_of-half.ensures _ c.in-Own.is
+    c.widths_of.ensures (part c.before.before.before.before.before) c.bias_key.ensures c.half_of-half.result c.half_of-half.ensures _ c.in-Own.is
 
 pub find_cut_spec : {M : Type 1} → statement M
 find_cut_spec =

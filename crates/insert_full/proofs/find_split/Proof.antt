@@ -23,8 +23,7 @@ use Rattle.insert_full.proofs.find_split.Tie as tie
 -- widths that fit
 fit : (c : tie.After-widths_of-widths) → Fit (width_list c.widths_of-widths.result)
 fit c =
-    let s = c.before.before.before.before.before.before in
-    widths-fit s.args.state.shape _ s.requires.0.shape c.widths_of-widths.ensures
+    widths-fit c.args.state.shape _ c.requires.0.shape c.widths_of-widths.ensures
 
 -- the part is the leaf's page
 part : (c : tie.After-page_size)
@@ -39,37 +38,35 @@ part c =
 
 -- what is computed is where the first and the last key differ, at the step with its number
 met : (c : tie.After-ends_pair-pair)
-    → let w = c.before.before.before.before in
-    let a = w.args in
+    →
+    let a = c.args in
     (words encoded : List ℕ)
     → FullMet (store a.state words a.pages.now) encoded a.key a.page a.depth a.i
     → EndsMet (store a.state words a.pages.now) encoded a.page a.depth a.i c.ends_pair-pair.result
-    (length (steps_below (width_list w.widths_of-widths.result) c.ends_pair-pair.result))
+    (length (steps_below (width_list c.widths_of-widths.result) c.ends_pair-pair.result))
 met c words encoded m =
-    let w = c.before.before.before.before in
-    let a = w.args in
+    let a = c.args in
     ends-met (store a.state words a.pages.now) encoded a.key a.page a.depth a.i
     c.ends_pair-pair.result _
-    m (width_list w.widths_of-widths.result) _ _ w.widths_of-widths.ensures
-    (part c.before.before) w.bias_key-bias.ensures c.ends_pair-pair.ensures refl
+    m (width_list c.widths_of-widths.result) _ _ c.widths_of-widths.ensures
+    (part c.before.before) c.bias_key-bias.ensures c.ends_pair-pair.ensures refl
 
 below : (c : tie.Else-pair-eq64) → c.ends_pair-pair.result < 64
 below c = omega (arith, c.ends_pair-pair.ensures.most, c.if-pair-eq64.false)
 
 -- the same, with the number as it is computed
 met-step : (c : tie.After-steps_before-step)
-    → let e = c.before.before in
-    let a = e.args in
+    →
+    let a = c.args in
     (words encoded : List ℕ)
     → FullMet (store a.state words a.pages.now) encoded a.key a.page a.depth a.i
-    → EndsMet (store a.state words a.pages.now) encoded a.page a.depth a.i e.ends_pair-pair.result
+    → EndsMet (store a.state words a.pages.now) encoded a.page a.depth a.i c.ends_pair-pair.result
     c.steps_before-step.result
 met-step c words encoded m =
-    let e = c.before.before in
-    let a = e.args in
+    let a = c.args in
     subst
-    (EndsMet (store a.state words a.pages.now) encoded a.page a.depth a.i e.ends_pair-pair.result)
-    c.steps_before-step.ensures.before (met e words encoded m)
+    (EndsMet (store a.state words a.pages.now) encoded a.page a.depth a.i c.ends_pair-pair.result)
+    c.steps_before-step.ensures.before (met c.before.before words encoded m)
 
 cast-capacity : tie.Need-overflow_cast-capacity
 cast-capacity c = search rules
@@ -100,14 +97,11 @@ part-ends-pair-end c = search rules
 
 ends-pair-requires : tie.Need-ends_pair-pair-requires
 ends-pair-requires c κs =
-    let size = c.before in
-    let w = size.before.before in
-    let s = w.before.before.before.before.before.before in
-    let st = s.args.state in
-    let b = capacity-bounds st.shape s.requires.0.shape in
-    let whole = ap length (part size)
-    ∙ length-page_at st.shape.capacity s.args.page s.args.pages.now s.requires.1.whole in
-    (b.0, b.1, omega (arith, whole), fit w)
+    let st = c.args.state in
+    let b = capacity-bounds st.shape c.requires.0.shape in
+    let whole = ap length (part c.before)
+    ∙ length-page_at st.shape.capacity c.args.page c.args.pages.now c.requires.1.whole in
+    (b.0, b.1, omega (arith, whole), fit c.before.before.before)
 
 returns : tie.Need-returns-then-pair-eq64
 returns c words encoded m =
@@ -123,43 +117,36 @@ cast-if2 c = search rules
 
 returns-2 : tie.Need-returns-then-limits-step
 returns-2 c words encoded m =
-    let t = c.before.before in
-    let a = t.args in
-    six-alike (store a.state words a.pages.now) encoded m.asked _ _ _ _ _ (met-step t words encoded m)
-    (below t.before) c.if-limits-step.true
+    let a = c.args in
+    six-alike (store a.state words a.pages.now) encoded m.asked _ _ _ _ _ (met-step c.before.before words encoded m)
+    (below c.before.before.before) c.if-limits-step.true
 
 returns-3 : tie.Need-returns-then-step-depth
 returns-3 c words encoded m =
-    let t = c.before.before.before in
-    let a = t.args in
-    nine-below (store a.state words a.pages.now) encoded m.asked _ _ _ _ _ (met-step t words encoded m)
-    (below t.before) c.if-step-depth.true
+    let a = c.args in
+    nine-below (store a.state words a.pages.now) encoded m.asked _ _ _ _ _ (met-step c.before.before.before words encoded m)
+    (below c.before.before.before.before) c.if-step-depth.true
 
 tally-holds-requires : tie.Need-tally_holds-requires
 tally-holds-requires c κs = search rules
 
 returns-4 : tie.Need-returns-then-not-tally_holds
 returns-4 c words encoded m =
-    let e = c.before.before.before.before.before.before in
-    let a = e.args in
+    let a = c.args in
     let tally = c.tally_holds in
     nine-tally (store a.state words a.pages.now) encoded
     (sym tally.ensures ∙ not-true tally.result c.if-not-tally_holds.true-raw)
 
 find-cut-requires : tie.Need-find_cut-requires
 find-cut-requires c κs =
-    let e = c.before.before.before.before.before.before in
-    let w = e.before.before.before.before.before in
-    let s = w.before.before.before.before.before.before in
-    let pair = e.ends_pair-pair.result in
-    let live = e.ends_pair-pair.ensures.step-there (below e) in (
-      (s.requires.0, s.requires.1),
-      (below e, subst (λ ws. pair / 4 < get_or ws (pair % 4) 0) w.widths_of-widths.ensures live),
+    let pair = c.ends_pair-pair.result in
+    let live = c.ends_pair-pair.ensures.step-there (below c.before.before.before.before.before.before.before) in (
+      (c.requires.0, c.requires.1),
+      (below c.before.before.before.before.before.before.before, subst (λ ws. pair / 4 < get_or ws (pair % 4) 0) c.widths_of-widths.ensures live),
     )
 
 returns-5 : tie.Need-returns
 returns-5 c words encoded m =
-    let t = c.before.before.before.before.before.before in
     let tally = c.tally_holds in
     c.find_cut.ensures words encoded
     (record {
@@ -167,8 +154,8 @@ returns-5 c words encoded m =
       key-is = m.key-is;
       split-met =
           record {
-            ends-met = met-step t words encoded m;
-            differ = below t.before;
+            ends-met = met-step c.before.before.before.before.before.before.before words encoded m;
+            differ = below c.before.before.before.before.before.before.before.before;
             below = omega (arith, c.if-step-depth.false);
             deep = omega (arith, c.if-limits-step.false);
             tally = sym tally.ensures ∙ not-false tally.result c.if-not-tally_holds.false-raw;

@@ -12,27 +12,24 @@ use Rattle.insert_pages.proofs.divide_pages.Tie as tie
 
 carry-requires : tie.Need-carry-requires
 carry-requires c κs =
-    let s = c.before.before in
-    (s.requires.page_lent, (s.requires.cut_fits.start-le, omega arith, omega arith))
+    (c.requires.page_lent, (c.requires.cut_fits.start-le, omega arith, omega arith))
 
 either-requires : tie.Need-either-own-requires
 either-requires c κs = search rules
 
 sub-either : tie.Need-overflow_sub-capacity
 sub-either c =
-    let s = c.before.before.before.before.before.before.before in
-    omega (arith, s.requires.cut_fits.start-le)
+    omega (arith, c.requires.cut_fits.start-le)
 
 either-requires-2 : tie.Need-either-count-requires
 either-requires-2 c κs = search rules
 
 insert-record-requires : tie.Need-insert_record-requires
 insert-record-requires c κs =
-    let s = c.before.before.before.before.before.before.before.before.before in
-    let a = s.args in
-    let fits = s.requires.cut_fits in
+    let a = c.args in
+    let fits = c.requires.cut_fits in
     let count = c.either-count in (
-      lent-carried a.capacity a.page a.free a.cut a.pages.now _ s.requires.page_lent.0 s.requires.page_lent.1 fits
+      lent-carried a.capacity a.page a.free a.cut a.pages.now _ c.requires.page_lent.0 c.requires.page_lent.1 fits
           c.carry.ensures _
           c.either-own.ensures,
       subst (λ k. a.cut.place ≤ k) (sym count.ensures) fits.place-le,
@@ -45,8 +42,7 @@ same_length c = search rules
 returns : tie.Need-returns
 unfolding divided_pages
 returns c =
-    let s = c.before.before.before.before.before.before.before.before.before.before.before.before in
-    let a = s.args in
+    let a = c.args in
     let new = packed_bytes a.key a.content in
     let count = c.either-count in
     let own = c.either-own in

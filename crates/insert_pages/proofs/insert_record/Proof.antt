@@ -37,14 +37,12 @@ same_length c = search rules
 returns : tie.Need-returns
 unfolding inserted_pages
 returns c =
-    let size = c.before.before.before.before in
-    let s = size.before.before.before in
-    let a = s.args in
+    let a = c.args in
     let new = packed_bytes a.key a.content in
-    put_mid-change a.capacity a.p _ _ a.pages.now size.page_start-start.ensures
-    size.page_size.ensures (inserted_page a.i a.n new) _
+    put_mid-change a.capacity a.p _ _ a.pages.now c.page_start-start.ensures
+    c.page_size.ensures (inserted_page a.i a.n new) _
     c.insert_at.ensures
-    (length_inserted a.capacity a.p a.i a.n new a.pages.now s.requires.0 s.requires.1 s.requires.2
+    (length_inserted a.capacity a.p a.i a.n new a.pages.now c.requires.0 c.requires.1 c.requires.2
     (length-packed_bytes a.key a.content))
 
 pub insert_record_spec : {M : Type 1} → statement M

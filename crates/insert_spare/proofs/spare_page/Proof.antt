@@ -23,27 +23,24 @@ cast-free-page-2 c = search rules
 
 free-page-requires : tie.Need-free_page-requires
 free-page-requires c κs =
-    let s = c.before.before.before.before.before.before.before in
-    ((capacity-bounds s.args.state.shape s.requires.shape).1, s.requires.few, s.requires.lent)
+    ((capacity-bounds c.args.state.shape c.requires.shape).1, c.requires.few, c.requires.lent)
 
 cast-result : tie.Need-overflow_cast-result
 cast-result c =
-    let s = c.before.before.before.before.before.before.before.before in
-    let st = s.args.state in
+    let st = c.args.state in
     omega (
       arith,
       c.free_page.ensures,
-      free_page-le st.shape.capacity s.args.pages.now st.limits.pages
+      free_page-le st.shape.capacity c.args.pages.now st.limits.pages
           c.one_less-start.result,
-      s.requires.few,
+      c.requires.few,
     )
 
 returns : tie.Need-returns
 returns c =
-    let s = c.before.before.before.before.before.before.before.before in
-    let st = s.args.state in
+    let st = c.args.state in
     c.free_page.ensures
-    ∙ ap (free_page st.shape.capacity s.args.pages.now st.limits.pages)
+    ∙ ap (free_page st.shape.capacity c.args.pages.now st.limits.pages)
     (c.one_less-start.ensures
     ∙ ap (λ n. n - 1) c.leaf_count.ensures)
 

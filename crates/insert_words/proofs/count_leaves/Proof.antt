@@ -22,15 +22,15 @@ sub-levels c = omega (arith, (start c).requires.below)
 
 divided-requires : tie.Need-divided-tally-requires
 divided-requires c κs =
-    let s = start c in
-    (omega (arith, s.pre.below, s.pre.short), s.pre.tally)
+    let s = start c.before in
+    (omega (arith, s.requires.below, s.requires.short), s.requires.tally)
 
 returns : tie.Need-returns
 returns c =
-    let s = start c.before in
+    let s = start c.before.before in
     let a = s.args in
     let levels : a.split.step + 1 - a.split.depth ≡ suc (a.split.step - a.split.depth) =
-    omega (arith, s.pre.below) in
+    omega (arith, s.requires.below) in
     record {
       state = refl;
       tallied = c.divided-tally.ensures ∙ ap (λ n. divided_tally a.split.depth n a.state.tally.leaves) levels;

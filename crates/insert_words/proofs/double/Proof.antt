@@ -21,8 +21,7 @@ cast-old c = search rules
 
 add-greater : tie.Need-overflow_add-split
 add-greater c =
-    let s = c.before.before.before.before.before.before in
-    omega (arith, s.requires.deep, s.requires.short)
+    omega (arith, c.requires.deep, c.requires.short)
 
 greater-requires : tie.Need-greater-depth-requires
 greater-requires c κs = search rules
@@ -32,20 +31,17 @@ widths-of-requires c κs = search rules
 
 deepen-requires : tie.Need-deepen-requires
 deepen-requires c κs =
-    let w = c.before in
-    let g = w.before in
-    let s = start g in (
-      directory-fits s.args.state s.args.split _ s.pre _ _ _ g.greater-depth.ensures s.pre.within-limit
-          (omega (arith, s.pre.deep)) _ w.widths_of.ensures,
-      omega (arith, g.greater-depth.ensures),
+    let s = start c.before.before in (
+      directory-fits s.args.state s.args.split _ s.requires _ _ _ c.greater-depth.ensures s.requires.within-limit
+          (omega (arith, s.requires.deep)) _ c.widths_of.ensures,
+      omega (arith, c.greater-depth.ensures),
     )
 
 cast-deepest : tie.Need-overflow_cast-deepest
 cast-deepest c =
-    let g = c.before.before.before.before.before in
-    let s = start g in
-    let short = depth-short s.args.state s.args.split _ s.pre _ _ _ g.greater-depth.ensures
-    s.pre.within-limit (omega (arith, s.pre.deep)) in
+    let s = start c.before.before.before.before.before in
+    let short = depth-short s.args.state s.args.split _ s.requires _ _ _ c.greater-depth.ensures
+    s.requires.within-limit (omega (arith, s.requires.deep)) in
     omega (arith, short)
 
 same_length : tie.Need-shape_of-dir
@@ -54,14 +50,12 @@ same_length c = search rules
 returns : tie.Need-returns
 returns c =
     let d = c.deepen in
-    let w = c.before.before.before.before in
-    let g = w.before in
-    let a = (start g).args in
+    let a = (start c.before.before.before.before.before).args in
     let words = d.new.dir in
-    let depth : g.greater-depth.result ≡ max a.state.deepest (suc a.split.step) =
-    omega (arith, g.greater-depth.ensures) in
-    let deepened : Deepened (widths_of a.state.shape) a.state.deepest g.greater-depth.result a.dir.now words =
-    subst (λ ws. Deepened ws a.state.deepest g.greater-depth.result a.dir.now words) w.widths_of.ensures
+    let depth : c.greater-depth.result ≡ max a.state.deepest (suc a.split.step) =
+    omega (arith, c.greater-depth.ensures) in
+    let deepened : Deepened (widths_of a.state.shape) a.state.deepest c.greater-depth.result a.dir.now words =
+    subst (λ ws. Deepened ws a.state.deepest c.greater-depth.result a.dir.now words) c.widths_of.ensures
     d.ensures in
     record {
       state =
@@ -75,7 +69,7 @@ returns c =
           depth;
       deepened = deepened;
       shown = λ P bytes D h.
-          shows-deepened a.state.shape P a.state.deepest g.greater-depth.result (memory a.dir.now bytes) D
+          shows-deepened a.state.shape P a.state.deepest c.greater-depth.result (memory a.dir.now bytes) D
           words h deepened;
     }
 

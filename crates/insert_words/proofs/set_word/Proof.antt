@@ -15,24 +15,19 @@ cast_t c = search rules
 
 pack-page-requires : tie.Need-pack_page-word-requires
 pack-page-requires c κs =
-    let s = c.before.before.before in
-    (s.requires.2, omega (arith, s.requires.1, s.requires.0.short))
+    (c.requires.2, omega (arith, c.requires.1, c.requires.0.short))
 
 fill-requires : tie.Need-fill-requires
 fill-requires c κs =
-    let w = c.before.before.before in
-    let s = w.before.before in
-    (directory_fits s.args.state _ w.widths_of-widths.ensures _ _ s.requires.0 (le_refl _), s.requires.1)
+    (directory_fits c.args.state _ c.widths_of-widths.ensures _ _ c.requires.0 (le_refl _), c.requires.1)
 
 same_length : tie.Need-shape_of-dir
 same_length c = search rules
 
 returns : tie.Need-returns
 returns c =
-    let packed = c.before.before.before.before in
-    let w = packed.before.before in
-    let a = w.args in
-    filled-shape a.state _ w.widths_of-widths.ensures _ _ a.encoded _ _ _ _ packed.pack_page-word.ensures
+    let a = c.args in
+    filled-shape a.state _ c.widths_of-widths.ensures _ _ a.encoded _ _ _ _ c.pack_page-word.ensures
     c.fill.ensures
 
 pub set_word_spec : {M : Type 1} → statement M

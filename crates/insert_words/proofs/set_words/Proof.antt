@@ -19,18 +19,16 @@ cast-x c = search rules
 
 set-leaves-requires : tie.Need-set_leaves-requires
 set-leaves-requires c κs =
-    let w = c.before.before.before in
-    let s = w.before.before in
-    let a = s.args in
-    let asked = s.requires.1 in (
+    let a = c.args in
+    let asked = c.requires.1 in (
       (
-        directory_fits a.state _ w.widths_of-widths.ensures _ a.state.deepest s.requires.0 (le_refl _),
+        directory_fits a.state _ c.widths_of-widths.ensures _ a.state.deepest c.requires.0 (le_refl _),
         asked.below,
         asked.deep,
       ),
       (
         (asked.page-lt, asked.free-lt),
-        asked.bit_is ∙ ap (λ ws. split_bit ws a.encoded a.split.step) (sym w.widths_of-widths.ensures),
+        asked.bit_is ∙ ap (λ ws. split_bit ws a.encoded a.split.step) (sym c.widths_of-widths.ensures),
       ),
     )
 
@@ -40,12 +38,11 @@ same_length c = search rules
 returns : tie.Need-returns
 returns c =
     let set = c.set_leaves in
-    let w = c.before.before.before.before.before.before in
-    let a = w.args in
+    let a = c.args in
     subst
     (λ ws. LeavesSet ws a.state.deepest a.split.depth a.split.step (split_bit ws a.encoded)
     a.split.page a.free a.dir.now set.new.dir)
-    w.widths_of-widths.ensures set.ensures
+    c.widths_of-widths.ensures set.ensures
 
 pub set_words_spec : {M : Type 1} → statement M
 set_words_spec =

@@ -24,21 +24,17 @@ bias-of-requires-4 c κs = search rules
 
 pack-key-requires : tie.Need-pack_key-requires
 pack-key-requires c κs =
-    let three = c.before.before.before in
-    let start = three.before.before.before in
-    biases-listed-lt start.args.shape _ _ _ _ start.requires
-    (biases-listed start.args.shape _ _ _ _ three.bias_of-b0.ensures c.bias_of-b1.ensures
+    biases-listed-lt c.args.shape _ _ _ _ c.requires
+    (biases-listed c.args.shape _ _ _ _ c.bias_of-b0.ensures c.bias_of-b1.ensures
     c.bias_of-b2.ensures c.bias_of-b3.ensures)
 
 returns-2 : tie.Need-returns
 unfolding bias_key
 returns-2 c =
-    let b = c.before in
-    let three = b.before.before.before in
     c.pack_key.ensures
     ∙ ap packed_key
-    (biases-listed three.args.shape _ _ _ _ three.bias_of-b0.ensures
-    b.bias_of-b1.ensures b.bias_of-b2.ensures b.bias_of-b3.ensures)
+    (biases-listed c.args.shape _ _ _ _ c.bias_of-b0.ensures
+    c.bias_of-b1.ensures c.bias_of-b2.ensures c.bias_of-b3.ensures)
 
 pub bias_key_spec : {M : Type 1} → statement M
 bias_key_spec =

@@ -27,18 +27,15 @@ array-read-result c = search rules
 
 sub-result : tie.Need-overflow_sub-result
 sub-result c =
-    let start = c.before.before.before in
-    (width_read start.args.shape start.args.j start.requires.0 (set c)).0
+    (width_read c.args.shape c.args.j c.requires.0 (set c)).0
 
 shl-result : tie.Need-overflow_shl-result
 shl-result c =
-    let start = c.before.before.before in
-    omega (arith, (width_read start.args.shape start.args.j start.requires.0 (set c)).1)
+    omega (arith, (width_read c.args.shape c.args.j c.requires.0 (set c)).1)
 
 returns-2 : tie.Need-returns
 returns-2 c =
-    let start = c.before.before.before in
-    bias-shifted start.args.shape start.args.j start.requires.0 (set c)
+    bias-shifted c.args.shape c.args.j c.requires.0 (set c)
 
 pub bias_of_spec : {M : Type 1} → statement M
 bias_of_spec =

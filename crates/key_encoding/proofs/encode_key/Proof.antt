@@ -13,8 +13,7 @@ four c = c.well_formed.1.0.1.1.0.1.0.1
 
 returns : tie.Need-returns-then-shape-eq0
 returns c =
-    let start = c.before.before in
-    sym (encodings-none start.args.shape c.if-shape-eq0.true start.args.key.values (four start))
+    sym (encodings-none c.args.shape c.if-shape-eq0.true c.args.key.values (four c.before.before))
 
 array-read-encode-value : tie.Need-bounds-values-0
 array-read-encode-value c = search rules
@@ -42,10 +41,8 @@ encode-value-requires-4 c κs = search rules
 
 returns-2 : tie.Need-returns
 returns-2 c =
-    let three = c.before.before.before in
-    let start = three.before.before.before.before in
-    encodings-listed start.args.shape _ _ _ _ start.args.key.values
-    three.encode_value-e0.ensures c.encode_value-e1.ensures
+    encodings-listed c.args.shape _ _ _ _ c.args.key.values
+    c.encode_value-e0.ensures c.encode_value-e1.ensures
     c.encode_value-e2.ensures c.encode_value-e3.ensures
 
 pub encode_key_spec : {M : Type 1} → statement M

@@ -9,8 +9,7 @@ use Rattle.key_encoding.proofs.encode_query.Tie as tie
 returns : tie.Need-returns-then-shape-eq0
 unfolding wanted_values
 returns c =
-    let start = c.before.before in
-    sym (encoded_wanted-none start.args.shape c.if-shape-eq0.true (wanted_values start.args.query) refl)
+    sym (encoded_wanted-none c.args.shape c.if-shape-eq0.true (wanted_values c.args.query) refl)
 
 encode-wanted-requires : tie.Need-encode_wanted-a0-requires
 encode-wanted-requires c κs = search rules
@@ -27,9 +26,8 @@ encode-wanted-requires-4 c κs = search rules
 returns-2 : tie.Need-returns
 unfolding wanted_values encoded_wanted
 returns-2 c =
-    let two = c.before.before in
-    let e0 = two.encode_wanted-a0.ensures in
-    let e1 = two.encode_wanted-a1.ensures in
+    let e0 = c.encode_wanted-a0.ensures in
+    let e1 = c.encode_wanted-a1.ensures in
     let e2 = c.encode_wanted-a2.ensures in
     let e3 = c.encode_wanted-a3.ensures in
     λ i. e0 i ∷ e1 i ∷ e2 i ∷ e3 i ∷ []

@@ -12,10 +12,9 @@ wrapping-add-u32-requires c κs = search rules
 
 returns : tie.Need-returns
 returns c =
-    let start = c.before.before in
     c.wrapping_add_u32.ensures
-    ∙ ap (λ b. (start.args.value + b) % 2 ^ 32) c.bias_of.ensures
-    ∙ encode-sum start.args.shape start.args.j start.args.value start.ranges.value.fits
+    ∙ ap (λ b. (c.args.value + b) % 2 ^ 32) c.bias_of.ensures
+    ∙ encode-sum c.args.shape c.args.j c.args.value c.ranges.value.fits
 
 pub encode_value_spec : {M : Type 1} → statement M
 encode_value_spec = tie.close (tie.spec bias-of-requires wrapping-add-u32-requires returns)

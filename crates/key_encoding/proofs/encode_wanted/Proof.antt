@@ -23,18 +23,16 @@ encode-value-requires c κs = search rules
 
 returns : tie.Need-returns-in-Free
 returns c =
-    let s = c.before.before in
     sym
-    (ap (encode_wanted s.args.shape s.args.j) (get_d-wanted_values s.args.query s.args.j s.requires.1)
-    ∙ ap (λ w. encode_wanted s.args.shape s.args.j (wanted_value w)) c.in-Free.is)
+    (ap (encode_wanted c.args.shape c.args.j) (get_d-wanted_values c.args.query c.args.j c.requires.1)
+    ∙ ap (λ w. encode_wanted c.args.shape c.args.j (wanted_value w)) c.in-Free.is)
 
 returns-2 : tie.Need-returns-in-Given
 returns-2 c =
-    let s = c.before.before.before in
     ap (λ e. some e) c.encode_value.ensures
     ∙ sym
-    (ap (encode_wanted s.args.shape s.args.j) (get_d-wanted_values s.args.query s.args.j s.requires.1)
-    ∙ ap (λ w. encode_wanted s.args.shape s.args.j (wanted_value w)) c.in-Given.is)
+    (ap (encode_wanted c.args.shape c.args.j) (get_d-wanted_values c.args.query c.args.j c.requires.1)
+    ∙ ap (λ w. encode_wanted c.args.shape c.args.j (wanted_value w)) c.in-Given.is)
 
 pub encode_wanted_spec : {M : Type 1} → statement M
 encode_wanted_spec =

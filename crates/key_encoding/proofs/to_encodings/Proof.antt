@@ -6,8 +6,7 @@ use Rattle.key_encoding.proofs.to_encodings.Tie as tie
 
 returns : tie.Need-returns-then-bias-eq0
 returns c =
-    let start = c.before in
-    lane_sum-zero start.args.fields start.args.bias start.ranges.fields.fits c.if-bias-eq0.true
+    lane_sum-zero c.args.fields c.args.bias c.ranges.fields.fits c.if-bias-eq0.true
 
 lane-add-requires : tie.Need-lane_add-requires
 lane-add-requires c κs = search rules

@@ -6,8 +6,7 @@ use Rattle.key_encoding.proofs.to_fields.Tie as tie
 
 returns : tie.Need-returns-then-bias-eq0
 returns c =
-    let start = c.before in
-    lane_difference-zero start.args.key start.args.bias start.ranges.key.fits c.if-bias-eq0.true
+    lane_difference-zero c.args.key c.args.bias c.ranges.key.fits c.if-bias-eq0.true
 
 lane-sub-requires : tie.Need-lane_sub-requires
 lane-sub-requires c κs = search rules

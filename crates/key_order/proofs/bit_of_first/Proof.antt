@@ -29,12 +29,10 @@ choose-requires-3 c κs = search rules
 
 returns : tie.Need-returns
 returns c =
-    let second = c.before.before in
-    let third = second.before.before in
-    let a = third.args in
+    let a = c.args in
     bit_of_first-chosen (width_list a.widths) a.key a.bit a.d0 a.d1 a.d2 _ _ _ _ _ _ _
-    c.top_bits-3.ensures second.top_bits-2.ensures third.top_bits.ensures
-    third.top_bits-a3.ensures third.choose-b2.ensures second.choose-b1.ensures c.choose.ensures
+    c.top_bits-3.ensures c.top_bits-2.ensures c.top_bits.ensures
+    c.top_bits-a3.ensures c.choose-b2.ensures c.choose-b1.ensures c.choose.ensures
 
 pub bit_of_first_spec : {M : Type 1} → statement M
 bit_of_first_spec =

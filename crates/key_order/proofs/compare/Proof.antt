@@ -23,15 +23,12 @@ top-bits-requires-4 c κs = (c.requires 3, omega arith)
 
 returns : tie.Need-returns-then-all-eq0
 returns c =
-    let four = c.before in
-    let two = four.before.before in
-    let start = two.before.before in
-    let a = start.args in
+    let a = c.args in
     let w = a.widths in
     sym
-    (compared-zero w.w0 w.w1 w.w2 w.w3 start.requires a.x a.y _ _ _ _
-    two.top_bits-d0.ensures two.top_bits-d1.ensures four.top_bits-d2.ensures
-    four.top_bits-d3.ensures c.if-all-eq0.true)
+    (compared-zero w.w0 w.w1 w.w2 w.w3 c.requires a.x a.y _ _ _ _
+    c.top_bits-d0.ensures c.top_bits-d1.ensures c.top_bits-d2.ensures
+    c.top_bits-d3.ensures c.if-all-eq0.true)
 
 leading-one-requires : tie.Need-leading_one-requires
 leading-one-requires c κs = search rules
@@ -41,30 +38,22 @@ bit-of-first-requires c κs = search rules
 
 returns-2 : tie.Need-returns-then-bit_of_first-eq0
 returns-2 c =
-    let one = c.before.before in
-    let four = one.before.before in
-    let two = four.before.before in
-    let start = two.before.before in
-    let a = start.args in
+    let a = c.args in
     let w = a.widths in
     sym
-    (compared-bit w.w0 w.w1 w.w2 w.w3 start.requires a.x a.y _ _ _ _
-    two.top_bits-d0.ensures two.top_bits-d1.ensures four.top_bits-d2.ensures
-    four.top_bits-d3.ensures _ _ one.leading_one.ensures c.bit_of_first.ensures
+    (compared-bit w.w0 w.w1 w.w2 w.w3 c.requires a.x a.y _ _ _ _
+    c.top_bits-d0.ensures c.top_bits-d1.ensures c.top_bits-d2.ensures
+    c.top_bits-d3.ensures _ _ c.leading_one.ensures c.bit_of_first.ensures
     ∙ ap (λ β. cond β Before After) (eq-eqb _ 0 c.if-bit_of_first-eq0.true))
 
 returns-3 : tie.Need-returns
 returns-3 c =
-    let one = c.before.before in
-    let four = one.before.before in
-    let two = four.before.before in
-    let start = two.before.before in
-    let a = start.args in
+    let a = c.args in
     let w = a.widths in
     sym
-    (compared-bit w.w0 w.w1 w.w2 w.w3 start.requires a.x a.y _ _ _ _
-    two.top_bits-d0.ensures two.top_bits-d1.ensures four.top_bits-d2.ensures
-    four.top_bits-d3.ensures _ _ one.leading_one.ensures c.bit_of_first.ensures
+    (compared-bit w.w0 w.w1 w.w2 w.w3 c.requires a.x a.y _ _ _ _
+    c.top_bits-d0.ensures c.top_bits-d1.ensures c.top_bits-d2.ensures
+    c.top_bits-d3.ensures _ _ c.leading_one.ensures c.bit_of_first.ensures
     ∙ ap (λ β. cond β Before After) (ne_eqb _ 0 c.if-bit_of_first-eq0.false))
 
 pub compare_spec : {M : Type 1} → statement M

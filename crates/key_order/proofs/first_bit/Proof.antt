@@ -23,11 +23,10 @@ add-result c = record { fits = zeros-fit-place _ _ c.requires.1 }
 
 returns : tie.Need-returns
 returns c =
-    let start = c.before in
-    let a = start.args in
+    let a = c.args in
     let v = packed_value a.z a.j in
     subst (λ top. FirstBit a.w v a.j (4 * count_leading_zeros 64 top + a.j)) (sym c.top_bits-top.ensures)
-    (first_bit-zeros a.w v a.j start.requires.0 start.requires.1)
+    (first_bit-zeros a.w v a.j c.requires.0 c.requires.1)
 
 pub first_bit_spec : {M : Type 1} → statement M
 first_bit_spec =

@@ -33,16 +33,14 @@ smaller-requires-4 c κs = search rules
 
 returns : tie.Need-returns
 returns c =
-    let bits = c.before.before.before.before in
-    let start = bits.before.before.before.before in
-    let w = start.args.widths in
+    let w = c.args.widths in
     let low = c.smaller.ensures in
     let high = c.smaller-2.ensures in
     let least =
     c.smaller-4.ensures ∙ ap (λ a. min a 64) (c.smaller-3.ensures ∙ (λ i. min (low i) (high i))) in
-    first_pair-of w.w0 w.w1 w.w2 w.w3 start.args.x start.args.y _ _ _ _ _
-    bits.first_bit-p0.ensures bits.first_bit-p1.ensures
-    bits.first_bit-p2.ensures bits.first_bit-p3.ensures least
+    first_pair-of w.w0 w.w1 w.w2 w.w3 c.args.x c.args.y _ _ _ _ _
+    c.first_bit-p0.ensures c.first_bit-p1.ensures
+    c.first_bit-p2.ensures c.first_bit-p3.ensures least
 
 pub first_pair_spec : {M : Type 1} → statement M
 first_pair_spec =

@@ -16,14 +16,13 @@ steps-before-requires c κs = search rules
 
 returns : tie.Need-returns
 returns c =
-    let start = c.before.before in
-    let a = start.args in
+    let a = c.args in
     let w = a.widths in
     let pair = c.first_pair in
     sym c.steps_before.ensures.before
     ∙ sym
-    (first_step-pair (width_list w) start.requires (unpacked_key a.x) (unpacked_key a.y) pair.result pair.ensures
-    (length-steps w.w0 w.w1 w.w2 w.w3 start.requires))
+    (first_step-pair (width_list w) c.requires (unpacked_key a.x) (unpacked_key a.y) pair.result pair.ensures
+    (length-steps w.w0 w.w1 w.w2 w.w3 c.requires))
 
 pub first_step_spec : {M : Type 1} → statement M
 first_step_spec = tie.close (tie.spec first-pair-requires steps-before-requires returns)

@@ -32,11 +32,10 @@ shr-result c = omega (arith, c.requires.0 (c.args.g % 4))
 
 returns : tie.Need-returns
 returns c =
-    let start = c.before in
-    let g = start.args.g in
-    let key = start.args.key in
+    let g = c.args.g in
+    let key = c.args.key in
     ap (λ w. eqb (bit_and (key / 2 ^ (16 * (g % 4) + w - 1 - g / 4)) 1) 1) c.width_at.ensures
-    ∙ shifted-bit key (get_or (width_list start.args.widths) (g % 4) 0) g (start.requires.0 (g % 4)) start.requires.2
+    ∙ shifted-bit key (get_or (width_list c.args.widths) (g % 4) 0) g (c.requires.0 (g % 4)) c.requires.2
 
 pub pair_bit_spec : {M : Type 1} → statement M
 pair_bit_spec =

@@ -10,8 +10,7 @@ unpack-key-requires c κs = search rules
 
 returns : tie.Need-returns-then-shape-eq0
 returns c =
-    let start = c.before.before.before in
-    c.unpack_key.ensures ∙ values-none start.args.shape start.requires c.if-shape-eq0.true start.args.key
+    c.unpack_key.ensures ∙ values-none c.args.shape c.requires c.if-shape-eq0.true c.args.key
 
 bias-key-requires : tie.Need-bias_key-bias-requires
 bias-key-requires c κs = search rules
@@ -30,10 +29,8 @@ value-less-requires-4 c κs = search rules
 
 returns-2 : tie.Need-returns
 returns-2 c =
-    let first = c.before.before.before in
-    let start = first.before.before.before.before in
-    values_listed start.args.shape start.requires start.args.key _ first.bias_key-bias.ensures _ _ _ _
-    first.value_less-v0.ensures c.value_less-v1.ensures c.value_less-v2.ensures
+    values_listed c.args.shape c.requires c.args.key _ c.bias_key-bias.ensures _ _ _ _
+    c.value_less-v0.ensures c.value_less-v1.ensures c.value_less-v2.ensures
     c.value_less-v3.ensures
 
 pub decode_key_spec : {M : Type 1} → statement M

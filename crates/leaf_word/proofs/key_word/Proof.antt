@@ -13,14 +13,13 @@ use Rattle.leaf_word.proofs.key_word.Tie as tie
 
 below : (c : tie.After-find_cell-cell) → c.find_cell-cell.result < 2 ^ c.args.t
 below c =
-    let s = c.before.before in
-    let w = s.args.widths in
+    let w = c.args.widths in
     rw c.find_cell-cell.ensures
-    ((cell_laws w.w0 w.w1 w.w2 w.w3 s.requires.fit).address-lt s.args.t s.requires.deep
-    (split_bit (width_list w) (unpacked_key s.args.key)))
+    ((cell_laws w.w0 w.w1 w.w2 w.w3 c.requires.fit).address-lt c.args.t c.requires.deep
+    (split_bit (width_list w) (unpacked_key c.args.key)))
 
 find-cell-requires : tie.Need-find_cell-cell-requires
-find-cell-requires c κs = let s = c.before in (s.requires.fit, s.requires.deep)
+find-cell-requires c κs = (c.requires.fit, c.requires.deep)
 
 mul-word : tie.Need-offset_bounds-dir-cell
 mul-word c = record { fits = omega (arith, below c, c.requires.lent) }

@@ -16,8 +16,7 @@ widths-of-requires c κs = search rules
 
 fixed-bits-requires : tie.Need-fixed_bits-mask-requires
 fixed-bits-requires c κs =
-    let s = c.before.before in
-    fixed-bits-asks s.args.shape s.requires.shape s.args.depth s.requires.deep _ c.widths_of.ensures
+    fixed-bits-asks c.args.shape c.requires.shape c.args.depth c.requires.deep _ c.widths_of.ensures
 
 bias-key-requires : tie.Need-bias_key-bias-requires
 bias-key-requires c κs = search rules
@@ -48,22 +47,18 @@ fair-count-requires c κs = search rules
 
 returns : tie.Need-returns
 returns c =
-    let size = c.before.before in
-    let bias = size.before.before.before in
-    let mask = bias.before in
-    let s = mask.before.before.before in
-    let a = s.args in
+    let a = c.args in
     let b = a.shape.capacity in
     let page = page_at b a.pages.now a.g in
     c.fair_count.ensures
-    ∙ ap (λ part. fair_count b (ends_agree bias.bias_key-bias.result mask.fixed_bits-mask.result a.key part (count_of part)) part)
-    (mid_of-page b a.g _ _ a.pages.now size.page_start-start.ensures size.page_size.ensures)
-    ∙ ap (λ h. fair_count b (ends_agree h mask.fixed_bits-mask.result a.key page (count_of page)) page)
-    bias.bias_key-bias.ensures
+    ∙ ap (λ part. fair_count b (ends_agree c.bias_key-bias.result c.fixed_bits-mask.result a.key part (count_of part)) part)
+    (mid_of-page b a.g _ _ a.pages.now c.page_start-start.ensures c.page_size.ensures)
+    ∙ ap (λ h. fair_count b (ends_agree h c.fixed_bits-mask.result a.key page (count_of page)) page)
+    c.bias_key-bias.ensures
     ∙ ap (λ own. fair_count b own page)
-    (ends_agree-mask a.shape s.requires.shape a.depth s.requires.deep _ mask.widths_of.ensures
+    (ends_agree-mask a.shape c.requires.shape a.depth c.requires.deep _ c.widths_of.ensures
     (bias_key a.shape) _
-    mask.fixed_bits-mask.ensures a.key s.requires.fits page (count_of page))
+    c.fixed_bits-mask.ensures a.key c.requires.fits page (count_of page))
 
 pub own_count_spec : {M : Type 1} → statement M
 own_count_spec =

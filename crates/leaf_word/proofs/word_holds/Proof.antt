@@ -28,20 +28,18 @@ array-read-if2 c = search rules
 
 returns-2 : tie.Need-returns-then-leaves-depth-eq0
 returns-2 c =
-    let test = c.before.before.before in
-    let depth = test.depth_of-depth.ensures.0 in
-    let a = test.args in
-    word_holds-none a.state a.word (omega (arith, depth, test.if-state-depth.false)) (rw depth at c.if-leaves-depth-eq0.true)
+    let depth = c.depth_of-depth.ensures.0 in
+    let a = c.args in
+    word_holds-none a.state a.word (omega (arith, depth, c.if-state-depth.false)) (rw depth at c.if-leaves-depth-eq0.true)
 
 field-of-requires : tie.Need-field_of-requires
 field-of-requires c κs = search rules
 
 returns-3 : tie.Need-returns
 returns-3 c =
-    let test = c.before.before.before.before.before.before in
-    let depth = test.depth_of-depth.ensures.0 in
-    let a = test.args in
-    let deep : depth_field a.word ≤ a.state.deepest = omega (arith, depth, test.if-state-depth.false) in
+    let depth = c.depth_of-depth.ensures.0 in
+    let a = c.args in
+    let deep : depth_field a.word ≤ a.state.deepest = omega (arith, depth, c.if-state-depth.false) in
     ap (λ page. leb page a.state.limits.pages) c.field_of.ensures.0
     ∙ word_holds-page a.state a.word deep (rw depth at c.if-leaves-depth-eq0.false)
 

@@ -29,35 +29,32 @@ given s = store s.args.state s.args.dir.now s.args.pages.now
 
 bias-key-requires : tie.Need-bias_key-bias-requires invariant-loop decreases-loop
 bias-key-requires c κs =
-    let s = c.before.before.before.before in
-    shape_number-true s.args.state.shape s.requires.sound.shape
+    shape_number-true c.args.state.shape c.requires.sound.shape
 
 loop-holds : tie.Need-loop-i-init invariant-loop decreases-loop
 loop-holds c =
     let s = start c in
-    (omega arith, joined-none (given s) s.args.n s.args.file.now s.pre)
+    (omega arith, joined-none (given s) s.args.n s.args.file.now s.requires)
 
 encodings-at-requires : tie.Need-encodings_at-requires invariant-loop decreases-loop
 encodings-at-requires c κs =
     let s = start c.before.before in
-    omega (arith, s.pre.lent, c.loop-i-test.true)
+    omega (arith, s.requires.lent, c.loop-i-test.true)
 
 decode-key-requires : tie.Need-decode_key-key-requires invariant-loop decreases-loop
 decode-key-requires c κs =
     let s = start c.before.before.before in
-    shape_number-true s.args.state.shape s.pre.sound.shape
+    shape_number-true s.args.state.shape s.requires.sound.shape
 
 mul-read-content : tie.Need-overflow_mul-i invariant-loop decreases-loop
 mul-read-content c =
-    let test = c.before.before in
-    let s = start test.before.before in
-    record { fits = omega (arith, s.pre.lent, test.loop-i-test.true) }
+    let s = start c.before.before.before.before in
+    record { fits = omega (arith, s.requires.lent, c.loop-i-test.true) }
 
 read-content-requires : tie.Need-read_content-content-requires invariant-loop decreases-loop
 read-content-requires c κs =
-    let test = c.before.before in
-    let s = start test.before.before in
-    omega (arith, s.pre.lent, test.loop-i-test.true)
+    let s = start c.before.before.before.before in
+    omega (arith, s.requires.lent, c.loop-i-test.true)
 
 -- the values are those of record i
 values-as : (d : tie.After-decode_key-key invariant-loop decreases-loop)
@@ -66,38 +63,31 @@ values-as : (d : tie.After-decode_key-key invariant-loop decreases-loop)
     ≡ values_of s.args.state.shape
     (encodings_at (bias_key s.args.state.shape) s.args.file.now d.loop-i.i)
 values-as d =
-    let b = d.before.before.before.before in
-    let s = start b in
+    let s = start d.before.before.before.before in
     d.decode_key-key.ensures
     ∙ ap (values_of s.args.state.shape)
     (d.encodings_at.ensures
-    ∙ ap (λ k. encodings_at k s.args.file.now d.loop-i.i) b.bias_key-bias.ensures)
+    ∙ ap (λ k. encodings_at k s.args.file.now d.loop-i.i) d.bias_key-bias.ensures)
 
 add-requires : tie.Need-add-step-requires invariant-loop decreases-loop
 add-requires c κs =
-    let d = c.before.before.before in
-    joined_key _ _ _ _ _ (start d.before.before.before.before).pre d.loop-i.invariant.1
-    d.loop-i-test.true _ _ (values-as d) c.read_content-content.ensures
+    joined_key _ _ _ _ _ (start c.before.before.before.before.before.before.before).requires c.loop-i.invariant.1
+    c.loop-i-test.true _ _ (values-as c.before.before.before) c.read_content-content.ensures
 
 add-i : tie.Need-overflow_add-i invariant-loop decreases-loop
 add-i c =
-    let test = c.before.before.before.before.before.before.before.before.before.before.before in
-    record { fits = omega (arith, test.loop-i-test.true, (start test.before.before).fits.n.fits) }
+    record { fits = omega (arith, c.loop-i-test.true, (start c.before.before.before.before.before.before.before.before.before.before.before.before.before).fits.n.fits) }
 
 loop-less : tie.Need-loop-i-smaller invariant-loop decreases-loop
 loop-less c =
-    let test = c.before.before.before.before.before.before.before.before.before.before.before in
-    omega (arith, test.loop-i-test.true)
+    omega (arith, c.loop-i-test.true)
 
 loop-again : tie.Need-loop-i-preserved invariant-loop decreases-loop
 loop-again c =
-    let added = c.before.before.before.before.before in
-    let read = added.before.before.before in
-    let d = read.before in
-    let test = d.before.before in (
-      omega (arith, test.loop-i-test.true),
-      joined-more _ _ _ _ _ (start test.before.before).pre test.loop-i.invariant.1
-          test.loop-i-test.true _ _ (values-as d) read.read_content-content.ensures _ _ added.add-step.ensures,
+    (
+      omega (arith, c.loop-i-test.true),
+      joined-more _ _ _ _ _ (start c.before.before.before.before.before.before.before.before.before.before.before.before.before).requires c.loop-i.invariant.1
+          c.loop-i-test.true _ _ (values-as c.before.before.before.before.before.before.before.before.before) c.read_content-content.ensures _ _ c.add-step.ensures,
     )
 
 same_length : tie.Need-shape_of-dir invariant-loop decreases-loop

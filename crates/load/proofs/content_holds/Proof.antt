@@ -13,7 +13,7 @@ use Rattle.load.proofs.content_holds.Statement.{statement}
 use Rattle.load.proofs.content_holds.Tie as tie
 
 is-plain-requires : tie.Need-is_plain-requires
-is-plain-requires c κs = let s = c.before in (end-within s.args.file.now s.requires.0, s.requires.1)
+is-plain-requires c κs = (end-within c.args.file.now c.requires.0, c.requires.1)
 
 returns : tie.Need-returns-then-not-is_plain
 returns c =
@@ -22,25 +22,22 @@ returns c =
     sym (ap (λ b. b && is_set (file_shape file) (file_records file)) plain)
 
 shape-in-requires : tie.Need-shape_in-requires
-shape-in-requires c κs = let s = c.before.before.before in end-within s.args.file.now s.requires.0
+shape-in-requires c κs = end-within c.args.file.now c.requires.0
 
 record-count-requires : tie.Need-record_count-requires
 record-count-requires c κs = search rules
 
 is-set-requires : tie.Need-is_set-requires
 is-set-requires c κs =
-    let shape = c.before in
-    let good = shape.requires.1 in
-    (ap shape_number shape.shape_in.ensures ∙ good, omega (arith, c.record_count.ensures.1))
+    let good = c.requires.1 in
+    (ap shape_number c.shape_in.ensures ∙ good, omega (arith, c.record_count.ensures.1))
 
 returns-2 : tie.Need-returns
 returns-2 c =
-    let shape = c.before.before in
-    let passed = shape.before in
-    let file = passed.args.file.now in
-    let plain : is_plain file ≡ true = sym passed.is_plain.ensures ∙ not-false _ passed.if-not-is_plain.false-raw in
+    let file = c.args.file.now in
+    let plain : is_plain file ≡ true = sym c.is_plain.ensures ∙ not-false _ c.if-not-is_plain.false-raw in
     c.is_set.ensures
-    ∙ set-read file _ shape.shape_in.ensures _ c.record_count.ensures.0
+    ∙ set-read file _ c.shape_in.ensures _ c.record_count.ensures.0
     ∙ sym (ap (λ b. b && is_set (file_shape file) (file_records file)) plain)
 
 pub content_holds_spec : {M : Type 1} → statement M

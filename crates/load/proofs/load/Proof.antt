@@ -47,10 +47,9 @@ refuse-requires c κs = search rules
 returns : tie.Need-returns-then-number-eq12
 unfolding made_answer
 returns c =
-    let n = c.before.before in
-    let a = (start n).args in
+    let a = (start c.before.before).args in
     promise-refused a.file.now (memory a.dir.now a.pages.now) 12 _ _
-    (sym c.if-number-eq12.true ∙ number n) (λ e. omega arith) c.refuse.ensures.0 c.refuse.ensures.1 refl
+    (sym c.if-number-eq12.true ∙ number c.before.before) (λ e. omega arith) c.refuse.ensures.0 c.refuse.ensures.1 refl
 
 shape-in-requires : tie.Need-shape_in-requires
 shape-in-requires c κs = end-within (start c.before.before).args.file.now (whole c.before)
@@ -63,13 +62,11 @@ refuse-requires-2 c κs = search rules
 
 returns-2 : tie.Need-returns-then-number-ne0
 returns-2 c =
-    let shape = c.before.before in
-    let n = shape.before.before.before in
-    let a = (start n).args in
-    promise-refused a.file.now (memory a.dir.now a.pages.now) _ _ _ (number n) shape.if-number-ne0.true
+    let a = (start c.before.before.before.before.before).args in
+    promise-refused a.file.now (memory a.dir.now a.pages.now) _ _ _ (number c.before.before.before.before.before) c.if-number-ne0.true
     (c.refuse-then-number-ne0.ensures.0
     ∙ c.refuse_made.ensures
-    ∙ ap (λ (s : Shape). refused_for s n.load_number-number.result) shape.shape_in.ensures)
+    ∙ ap (λ (s : Shape). refused_for s c.load_number-number.result) c.shape_in.ensures)
     c.refuse-then-number-ne0.ensures.1 refl
 
 shape-in-requires-2 : tie.Need-shape_in-requires-2
@@ -84,11 +81,9 @@ record-count-requires c κs = whole c.before.before.before.before.before.before.
 add-records-requires : tie.Need-add_records-state-requires
 add-records-requires c κs =
     let counted = c.record_count-n in
-    let made = c.before.before.before.before.before.before.before in
-    let shape = made.before.before.before in
-    let a = (start shape.before.before.before).args in
-    joining-made a.file.now (memory a.dir.now a.pages.now) (none shape.before) _ counted.ensures.0 _
-    shape.shape_in-2.ensures _ _ made.fresh-made.ensures counted.ensures.1
+    let a = (start c.before.before.before.before.before.before.before.before.before.before.before.before.before.before).args in
+    joining-made a.file.now (memory a.dir.now a.pages.now) (none c.before.before.before.before.before.before.before.before.before.before.before.before) _ counted.ensures.0 _
+    c.shape_in-2.ensures _ _ c.fresh-made.ensures counted.ensures.1
 
 same_length : tie.Need-shape_of-dir
 same_length c = search rules
@@ -99,14 +94,10 @@ same-length-2 c = search rules
 returns-3 : tie.Need-returns
 unfolding made_answer
 returns-3 c =
-    let added = c.before.before.before.before in
-    let counted = added.before.before.before in
-    let made = counted.before.before.before.before.before in
-    let shape = made.before.before.before in
-    let a = (start shape.before.before.before).args in
-    promise-joined a.file.now (memory a.dir.now a.pages.now) (none shape.before) _
-    counted.record_count-n.ensures.0 _ shape.shape_in-2.ensures _ _ made.fresh-made.ensures _
-    added.add_records-state.ensures
+    let a = (start c.before.before.before.before.before.before.before.before.before.before.before.before.before.before.before.before.before.before.before).args in
+    promise-joined a.file.now (memory a.dir.now a.pages.now) (none c.before.before.before.before.before.before.before.before.before.before.before.before.before.before.before.before.before) _
+    c.record_count-n.ensures.0 _ c.shape_in-2.ensures _ _ c.fresh-made.ensures _
+    c.add_records-state.ensures
 
 pub load_spec : {M : Type 1} → statement M
 load_spec =

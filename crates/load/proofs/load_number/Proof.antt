@@ -53,10 +53,9 @@ shape-number-requires c κs = search rules
 returns-2 : tie.Need-returns-then-number-ne0
 returns-2 c =
     let n = c.shape_number-number in
-    let shape = c.before.before in
-    let a = (start shape.before).args in
+    let a = (start c.before.before.before).args in
     n.ensures
-    ∙ load_number_by-shape-out a.file.now a.words a.bytes (whole shape.before) _ shape.shape_in-shape.ensures
+    ∙ load_number_by-shape-out a.file.now a.words a.bytes (whole c.before.before.before) _ c.shape_in-shape.ensures
     (λ e. c.if-number-ne0.true (n.ensures ∙ e))
 
 content-holds-requires : tie.Need-content_holds-content-requires
@@ -69,19 +68,17 @@ lacks-word-or-page-requires c κs = search rules
 
 returns-3 : tie.Need-returns-then-not-content
 returns-3 c =
-    let content = c.before.before in
-    let shape = shaped content.before in
+    let shape = shaped c.before.before.before in
     let a = (start shape.before).args in
     load_number_by-content-not a.file.now a.words a.bytes (whole shape.before) _ shape.shape-in.ensures
-    (good content.before) _ content.content_holds-content.ensures (not-true _ c.if-not-content.true-raw)
+    (good c.before.before.before) _ c.content_holds-content.ensures (not-true _ c.if-not-content.true-raw)
 
 returns-4 : tie.Need-returns-then-lacking
 returns-4 c =
-    let content = c.before.before.before in
-    let shape = shaped content.before in
+    let shape = shaped c.before.before.before.before in
     let a = (start shape.before).args in
     load_number_by-lacks a.file.now a.words a.bytes (whole shape.before) _ shape.shape-in.ensures
-    (good content.before) _ content.content_holds-content.ensures (not-false _ c.if-not-content.false-raw)
+    (good c.before.before.before.before) _ c.content_holds-content.ensures (not-false _ c.if-not-content.false-raw)
     (sym c.lacks_word_or_page-lacking.ensures ∙ c.if-lacking.true)
 
 page-limit-requires : tie.Need-page_limit-requires
@@ -98,25 +95,22 @@ record-count-requires c κs = whole (shaped (tested c.before.before).before).bef
 
 room-number-requires : tie.Need-room_number-requires
 room-number-requires c κs =
-    let passed = c.before.before.before in
-    let content = tested passed in
+    let content = tested c.before.before.before in
     let shape = shaped content.before in
     let a = (start shape.before).args in
     scannable a.file.now a.words a.bytes (whole shape.before) _ shape.shape-in.ensures
-    (good content.before) _ content.content-holds.ensures (not-false _ passed.if-not-content.false-raw) _
+    (good content.before) _ content.content-holds.ensures (not-false _ c.if-not-content.false-raw) _
     c.record_count.ensures.0 _ c.depth_limit.ensures c.record_count.ensures.1
 
 returns-5 : tie.Need-returns
 returns-5 c =
-    let counted = c.before in
-    let passed = counted.before.before.before in
-    let content = tested passed in
+    let content = tested c.before.before.before.before in
     let shape = shaped content.before in
     let a = (start shape.before).args in
     load_number_by-room a.file.now a.words a.bytes (whole shape.before) _ shape.shape-in.ensures
-    (good content.before) _ content.content-holds.ensures (not-false _ passed.if-not-content.false-raw) _
-    counted.record_count.ensures.0 _ counted.depth_limit.ensures (lent passed)
-    counted.page_limit.ensures _ c.room_number.ensures
+    (good content.before) _ content.content-holds.ensures (not-false _ c.if-not-content.false-raw) _
+    c.record_count.ensures.0 _ c.depth_limit.ensures (lent c.before.before.before.before)
+    c.page_limit.ensures _ c.room_number.ensures
 
 pub load_number_spec : {M : Type 1} → statement M
 load_number_spec =

@@ -55,7 +55,7 @@ found : (c : tie.After-key_word-at)
 found c =
     let a = c.args in
     key-word-is a.state.shape _ c.widths_of-widths.ensures a.state.deepest a.dir.now
-    a.encoded.values _ _ (back c.before.before.before) c.key_word-at.ensures.word_value
+    a.encoded.values _ _ (back c.before.before.before.before) c.key_word-at.ensures.word_value
 
 widths-of-requires : tie.Need-widths_of-widths-requires
 widths-of-requires c κs = search rules
@@ -66,25 +66,23 @@ cast-key-word c = search rules
 key-word-requires : tie.Need-key_word-at-requires
 key-word-requires c κs =
     let st = c.args.state in
-    let p = early c.before.before.before.before.before in
-    let l = limited st (held c.before.before.before) in
+    let p = early c.before.before.before.before.before.before in
+    let l = limited st (held c.before.before.before.before) in
     key-word-asks st.shape _ c.widths_of-widths.ensures st.deepest p.shape
     (le_trans l.depth-within l.depth-bits) _ (le_trans (pow_mono l.depth-within) p.words-lent)
 
 seek-by-word-requires : tie.Need-seek_by_word-requires
 seek-by-word-requires c κs =
-    let packed = c.before.before.before in
-    let s = packed.before.before.before.before.before in
-    let st = s.args.state in
-    let p = early packed.before.before.before in
-    let l = limited st (held packed.before) in (
+    let st = c.args.state in
+    let p = early c.before.before.before.before.before.before.before in
+    let l = limited st (held c.before.before.before.before.before) in (
       record {
         shape = p.shape;
         few = l.most-pages;
         short = le_trans l.depth-within l.depth-limit;
         bits = le_trans l.depth-within l.depth-bits;
         lent = p.pages-lent;
-        fits = subst (λ k. index_fits (widths_of st.shape) (unpacked_key k) ≡ true) (sym packed.pack_key-packed.ensures)
+        fits = subst (λ k. index_fits (widths_of st.shape) (unpacked_key k) ≡ true) (sym c.pack_key-packed.ensures)
             (index_fits-passed _ _ p);
       },
       c.key_word-at.ensures.depth_value,
@@ -92,11 +90,10 @@ seek-by-word-requires c κs =
 
 returns-2 : tie.Need-returns
 returns-2 c =
-    let packed = c.before.before.before.before in
-    let a = packed.args in
+    let a = c.args in
     c.seek_by_word.ensures
-    ∙ sought_answer-word (store a.state a.dir.now a.pages.now) a.encoded.values (held packed.before) _
-    _ (found c.before) packed.pack_key-packed.ensures
+    ∙ sought_answer-word (store a.state a.dir.now a.pages.now) a.encoded.values (held c.before.before.before.before.before.before) _
+    _ (found c.before) c.pack_key-packed.ensures
 
 pub seek_key_spec : {M : Type 1} → statement M
 seek_key_spec =

@@ -40,15 +40,14 @@ loop-less c = omega arith
 
 loop-again : tie.Need-loop-k-preserved invariant-loop decreases-loop
 loop-again c =
-    let start = c.before.before.before in
-    let a = start.args in
+    let a = c.args in
     let now = c.loop-k in
     let k = now.k in (
       omega arith,
       simp length-set now.invariant.1,
       ap (λ l. set l (a.to + k) (get_or l (a.from + k) 0)) now.invariant.2
-          ∙ paste-moved-down a.bytes.now a.from a.to a.n k start.requires.2 (omega arith) start.requires.0
-          start.requires.1,
+          ∙ paste-moved-down a.bytes.now a.from a.to a.n k c.requires.2 (omega arith) c.requires.0
+          c.requires.1,
     )
 
 same_length : tie.Need-shape_of-bytes invariant-loop decreases-loop

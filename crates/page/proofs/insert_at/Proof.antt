@@ -37,11 +37,10 @@ same_length c = search rules
 returns : tie.Need-returns
 unfolding counted_page inserted_page
 returns c =
-    let written = c.before.before.before.before.before.before in
     rw (
       c.write16.ensures,
-      written.write_record.ensures,
-      written.move_up.ensures,
+      c.write_record.ensures,
+      c.move_up.ensures,
     )
 
 pub insert_at_spec : {M : Type 1} → statement M

@@ -9,13 +9,13 @@ fixed-before-requires : tie.Need-fixed_before-m0-requires
 fixed-before-requires c κs = (c.requires.0 0, c.requires.1, omega arith)
 
 fixed-before-requires-2 : tie.Need-fixed_before-m1-requires
-fixed-before-requires-2 c κs = let s = c.before in (s.requires.0 1, s.requires.1, omega arith)
+fixed-before-requires-2 c κs = (c.requires.0 1, c.requires.1, omega arith)
 
 fixed-before-requires-3 : tie.Need-fixed_before-m2-requires
-fixed-before-requires-3 c κs = let s = c.before.before in (s.requires.0 2, s.requires.1, omega arith)
+fixed-before-requires-3 c κs = (c.requires.0 2, c.requires.1, omega arith)
 
 fixed-before-requires-4 : tie.Need-fixed_before-m3-requires
-fixed-before-requires-4 c κs = let s = c.before.before.before in (s.requires.0 3, s.requires.1, omega arith)
+fixed-before-requires-4 c κs = (c.requires.0 3, c.requires.1, omega arith)
 
 add-result : tie.Need-overflow_add-result
 add-result c = search rules
@@ -28,13 +28,9 @@ add-result-3 c = search rules
 
 returns : tie.Need-returns
 returns c =
-    let m2 = c.before in
-    let m1 = m2.before in
-    let m0 = m1.before in
-    let s = m0.before in
-    let w = s.args.widths in
-    fixed_bits-values w.w0 w.w1 w.w2 w.w3 s.args.g _ _ _ _ s.requires.1
-    m0.fixed_before-m0.ensures m1.fixed_before-m1.ensures m2.fixed_before-m2.ensures c.fixed_before-m3.ensures
+    let w = c.args.widths in
+    fixed_bits-values w.w0 w.w1 w.w2 w.w3 c.args.g _ _ _ _ c.requires.1
+    c.fixed_before-m0.ensures c.fixed_before-m1.ensures c.fixed_before-m2.ensures c.fixed_before-m3.ensures
 
 pub fixed_bits_before_spec : {M : Type 1} → statement M
 fixed_bits_before_spec =

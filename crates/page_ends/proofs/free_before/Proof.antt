@@ -9,13 +9,13 @@ free-bits-requires : tie.Need-free_bits-f0-requires
 free-bits-requires c κs = (c.requires.0 0, c.requires.1, omega arith)
 
 free-bits-requires-2 : tie.Need-free_bits-f1-requires
-free-bits-requires-2 c κs = let s = c.before in (s.requires.0 1, s.requires.1, omega arith)
+free-bits-requires-2 c κs = (c.requires.0 1, c.requires.1, omega arith)
 
 free-bits-requires-3 : tie.Need-free_bits-f2-requires
-free-bits-requires-3 c κs = let s = c.before.before in (s.requires.0 2, s.requires.1, omega arith)
+free-bits-requires-3 c κs = (c.requires.0 2, c.requires.1, omega arith)
 
 free-bits-requires-4 : tie.Need-free_bits-f3-requires
-free-bits-requires-4 c κs = let s = c.before.before.before in (s.requires.0 3, s.requires.1, omega arith)
+free-bits-requires-4 c κs = (c.requires.0 3, c.requires.1, omega arith)
 
 add-result : tie.Need-overflow_add-result
 add-result c = search rules
@@ -28,14 +28,10 @@ add-result-3 c = search rules
 
 returns : tie.Need-returns
 returns c =
-    let f2 = c.before in
-    let f1 = f2.before in
-    let f0 = f1.before in
-    let s = f0.before in
-    let w = s.args.widths in (
-      free_all w.w0 w.w1 w.w2 w.w3 s.args.g _ _ _ _ s.requires.1 f0.free_bits-f0.ensures.0
-          f1.free_bits-f1.ensures.0 f2.free_bits-f2.ensures.0 c.free_bits-f3.ensures.0,
-      free-le _ _ _ _ f0.free_bits-f0.ensures.1 f1.free_bits-f1.ensures.1 f2.free_bits-f2.ensures.1
+    let w = c.args.widths in (
+      free_all w.w0 w.w1 w.w2 w.w3 c.args.g _ _ _ _ c.requires.1 c.free_bits-f0.ensures.0
+          c.free_bits-f1.ensures.0 c.free_bits-f2.ensures.0 c.free_bits-f3.ensures.0,
+      free-le _ _ _ _ c.free_bits-f0.ensures.1 c.free_bits-f1.ensures.1 c.free_bits-f2.ensures.1
           c.free_bits-f3.ensures.1,
     )
 

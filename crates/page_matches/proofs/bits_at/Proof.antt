@@ -22,17 +22,15 @@ enum-known-wanted c = search rules
 
 returns : tie.Need-returns-in-Free
 returns c =
-    let s = c.before.before in
     sym
-    (ap wanted_field (get_d-wanted_values s.args.query s.args.j s.requires)
+    (ap wanted_field (get_d-wanted_values c.args.query c.args.j c.requires)
     ∙ ap (λ w. wanted_field (wanted_value w)) c.in-Free.is)
 
 returns-2 : tie.Need-returns-in-Given
 returns-2 c =
-    let s = c.before.before in
     and_mask c.in-Given.value 16
     ∙ sym
-    (ap wanted_field (get_d-wanted_values s.args.query s.args.j s.requires)
+    (ap wanted_field (get_d-wanted_values c.args.query c.args.j c.requires)
     ∙ ap (λ w. wanted_field (wanted_value w)) c.in-Given.is)
 
 pub bits_at_spec : {M : Type 1} → statement M

@@ -25,8 +25,7 @@ cut : (c : tie.Joined-page-eq-SIXTEEN_RECORDS)
     → let a = c.args in
     key_place a.key a.page.now a.n 0 ≡ min c.if-page-eq-SIXTEEN_RECORDS.place a.n
 cut c =
-    let s = c.before.before in
-    let a = s.args in
+    let a = c.args in
     let page = a.page.now in
     let slots = (length page - 2) / record_size in
     ⊎_elim

@@ -35,37 +35,33 @@ bits-at-requires-4 c κs = search rules
 
 pack-key-requires : tie.Need-pack_key-requires
 pack-key-requires c κs =
-    let m = c.before.before.before.before in
-    let e0 = m.mask_at-m0.ensures in
-    let e1 = m.mask_at-m1.ensures in
-    let e2 = m.mask_at-m2.ensures in
-    let e3 = m.mask_at-m3.ensures in
-    let q = wanted_values m.args.query in
+    let e0 = c.mask_at-m0.ensures in
+    let e1 = c.mask_at-m1.ensures in
+    let e2 = c.mask_at-m2.ensures in
+    let e3 = c.mask_at-m3.ensures in
+    let q = wanted_values c.args.query in
     subst SixteenBits (sym (λ i. e0 i ∷ e1 i ∷ e2 i ∷ e3 i ∷ [])) (masks_of-lt q)
 
 pack-key-requires-2 : tie.Need-pack_key-requires-2
 pack-key-requires-2 c κs =
-    let b = c.before in
-    let d0 = b.bits_at-v0.ensures in
-    let d1 = b.bits_at-v1.ensures in
-    let d2 = b.bits_at-v2.ensures in
-    let d3 = b.bits_at-v3.ensures in
-    let q = wanted_values b.args.query in
+    let d0 = c.bits_at-v0.ensures in
+    let d1 = c.bits_at-v1.ensures in
+    let d2 = c.bits_at-v2.ensures in
+    let d3 = c.bits_at-v3.ensures in
+    let q = wanted_values c.args.query in
     subst SixteenBits (sym (λ i. d0 i ∷ d1 i ∷ d2 i ∷ d3 i ∷ [])) (fields_wanted-lt q)
 
 returns : tie.Need-returns
 unfolding pattern_of
 returns c =
-    let b = c.before.before in
-    let d0 = b.bits_at-v0.ensures in
-    let d1 = b.bits_at-v1.ensures in
-    let d2 = b.bits_at-v2.ensures in
-    let d3 = b.bits_at-v3.ensures in
-    let m = b.before.before.before.before in
-    let e0 = m.mask_at-m0.ensures in
-    let e1 = m.mask_at-m1.ensures in
-    let e2 = m.mask_at-m2.ensures in
-    let e3 = m.mask_at-m3.ensures in
+    let d0 = c.bits_at-v0.ensures in
+    let d1 = c.bits_at-v1.ensures in
+    let d2 = c.bits_at-v2.ensures in
+    let d3 = c.bits_at-v3.ensures in
+    let e0 = c.mask_at-m0.ensures in
+    let e1 = c.mask_at-m1.ensures in
+    let e2 = c.mask_at-m2.ensures in
+    let e3 = c.mask_at-m3.ensures in
     let mask = c.pack_key.ensures ∙ ap packed_key (λ i. e0 i ∷ e1 i ∷ e2 i ∷ e3 i ∷ []) in
     let value = c.pack_key-2.ensures ∙ ap packed_key (λ i. d0 i ∷ d1 i ∷ d2 i ∷ d3 i ∷ []) in
     λ i. record { mask = mask i; value = value i }

@@ -18,10 +18,9 @@ add-result c = search rules
 
 returns : tie.Need-returns-then-room-total
 returns c =
-    let start = c.before.before.before in
-    let a = start.args in
+    let a = c.args in
     let known = c.shared_slice_known-1.given in
-    let none = emit-none a.page.now a.out.now a.n a.total (λ i. omega (arith, known i)) start.requires.0 in
+    let none = emit-none a.page.now a.out.now a.n a.total (λ i. omega (arith, known i)) c.requires.0 in
     (refl, sym (none c.if-room-total.true))
 
 sub_fit : tie.Need-overflow_sub-fit
@@ -30,10 +29,10 @@ sub_fit c = search rules
 mul-copy-records : tie.Need-overflow_mul-total
 mul-copy-records c = search rules
 
-fits : (c : lts.After-copy-records-arg (copy-records-reads.Asked, copy-records-reads.Learnt) reads.Pre reads.Post)
-    → let a = c.before.before.before.before.before.args in
-    c.before.if2.fit ≡ min a.n (length a.out.now / record_size - a.total)
-fits c = ⊎_elim (λ w. w.1 ∙ omega arith) (λ w. w.1 ∙ omega arith) c.before.if2.branch
+fits : (c : lts.After-copy_records-arg-1 (copy-records-reads.Asked, copy-records-reads.Learnt) reads.Pre reads.Post)
+    → let a = c.args in
+    c.if-n-fit.fit ≡ min a.n (length a.out.now / record_size - a.total)
+fits c = ⊎_elim (λ w. w.1 ∙ omega arith) (λ w. w.1 ∙ omega arith) c.if-n-fit.branch
 
 copy-records-requires : tie.Need-copy_records-requires
 copy-records-requires c κs = let most = fits c in (omega arith, omega arith)
@@ -46,13 +45,11 @@ same_length c = search rules
 
 returns-2 : tie.Need-returns
 returns-2 c =
-    let copied = c.before.before in
-    let start = copied.before.before.before.before.before.before in
-    let known = copied.shared_slice_known-1.given in
-    let a = start.args in (
+    let known = c.shared_slice_known-1.given in
+    let a = c.args in (
       refl,
-      emit-all a.page.now a.out.now a.n a.total (λ i. omega (arith, known i)) start.requires.0 _
-          (fits copied.before) _ copied.copy_records.ensures,
+      emit-all a.page.now a.out.now a.n a.total (λ i. omega (arith, known i)) c.requires.0 _
+          (fits c.before.before.before) _ c.copy_records.ensures,
     )
 
 pub put_all_spec : {M : Type 1} → statement M

@@ -26,9 +26,8 @@ same_length c = search rules
 returns : tie.Need-returns-then-gives_nothing
 returns c =
     let put = c.put_all.ensures in
-    let test = c.before.before.before.before in
-    let a = test.args in
-    let nothing = sym test.gives_nothing.ensures ∙ test.if-gives_nothing.true in
+    let a = c.args in
+    let nothing = sym c.gives_nothing.ensures ∙ c.if-gives_nothing.true in
     let all = sym (hits-all a.pattern a.n a.page.now nothing) in (
       put.0
           ∙ ap (λ k. a.total + k) (sym (length-fields_from a.n 2 a.page.now))
@@ -44,19 +43,17 @@ picks : (c : tie.After-match_mask)
     → let a = c.args in
     picked_by c.match_mask.result a.page.now ≡ hits (passes a.pattern) a.n a.page.now
 picks c =
-    let s = c.before.before.before.before.before in
-    let a = s.args in
+    let a = c.args in
     ap (λ m. picked_by m a.page.now) c.match_mask.ensures
-    ∙ picked_by-match_mask (passes a.pattern) a.page.now a.n s.requires.1
+    ∙ picked_by-match_mask (passes a.pattern) a.page.now a.n c.requires.1
 
 put-picked-requires : tie.Need-put_picked-requires
 put-picked-requires c κs =
-    let s = c.before.before.before.before.before.before in
-    let a = s.args in
+    let a = c.args in
     let page = a.page.now in
     let few = ap length (picks c.before) in (
       subst (λ m. m < 2 ^ slots_of page) (sym c.match_mask.ensures)
-          (match_mask-lt-slots (passes a.pattern) page a.n s.requires.1),
+          (match_mask-lt-slots (passes a.pattern) page a.n c.requires.1),
       omega (arith, few, length-hits-le (passes a.pattern) a.n page),
     )
 
@@ -66,10 +63,9 @@ same-length-2 c = search rules
 returns-2 : tie.Need-returns
 returns-2 c =
     let put = c.put_picked.ensures in
-    let mask = c.before.before.before.before in
-    let a = mask.args in (
-      put.0 ∙ ap (λ l. a.total + length l) (picks mask),
-      put.1 ∙ ap (emit a.out.now a.total) (picks mask),
+    let a = c.args in (
+      put.0 ∙ ap (λ l. a.total + length l) (picks c.before.before.before.before),
+      put.1 ∙ ap (emit a.out.now a.total) (picks c.before.before.before.before),
     )
 
 pub put_matches_spec : {M : Type 1} → statement M

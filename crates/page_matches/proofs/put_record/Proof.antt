@@ -23,12 +23,10 @@ same_length c = search rules
 
 returns : tie.Need-returns-then-place-out
 returns c =
-    let read = c.before.before.before.before in
-    let start = read.before.before.before.before.before in
-    let known = read.shared_slice_known-1.given in
-    let a = start.args in
-    emit_one-put a.page.now a.out.now a.i a.place (λ i. omega (arith, known i)) start.requires.0
-    read.if-place-out.true _ read.key_at.ensures _ c.content_at.ensures
+    let known = c.shared_slice_known-1.given in
+    let a = c.args in
+    emit_one-put a.page.now a.out.now a.i a.place (λ i. omega (arith, known i)) c.requires.0
+    c.if-place-out.true _ c.key_at.ensures _ c.content_at.ensures
     _ c.write_record.ensures
 
 returns-2 : tie.Need-returns-else-place-out

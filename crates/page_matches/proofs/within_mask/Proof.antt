@@ -29,14 +29,13 @@ sub-result c = one-le-bit _ (omega arith)
 -- of 16 records, or of those that the page has room for
 returns : tie.Need-returns
 returns c =
-    let s = c.before.before.before in
-    let a = s.args in
+    let a = c.args in
     let page = a.page.now in
     let test = lies_in a.bias a.low a.high in
     let slots = (length page - 2) / record_size in
     ⊎_elim
-    (λ w. match_mask-cut test page a.n 16 _ s.requires.0 (omega (arith, w.0.taken)) (w.2 ∙ w.1.ensures))
-    (λ w. match_mask-cut test page a.n slots _ s.requires.0 (omega arith) (w.2 ∙ w.1.ensures))
+    (λ w. match_mask-cut test page a.n 16 _ c.requires.0 (omega (arith, w.0.taken)) (w.2 ∙ w.1.ensures))
+    (λ w. match_mask-cut test page a.n slots _ c.requires.0 (omega arith) (w.2 ∙ w.1.ensures))
     c.if-page-eq-SIXTEEN_RECORDS.branch
 
 pub within_mask_spec : {M : Type 1} → statement M

@@ -40,11 +40,10 @@ enum_told c = c.in-Same.keys1
 
 returns : tie.Need-returns-in-Same invariant-loop decreases-loop
 returns c =
-    let call = c.before in
-    let a = call.args in
+    let a = c.args in
     let read =
-    ap (λ k. compared (width_list a.widths) (unpacked_key a.key) (unpacked_key k)) call.code_at.ensures in
-    (omega arith, sym read ∙ sym call.compare-order.ensures ∙ c.in-Same.is)
+    ap (λ k. compared (width_list a.widths) (unpacked_key a.key) (unpacked_key k)) c.code_at.ensures in
+    (omega arith, sym read ∙ sym c.compare-order.ensures ∙ c.in-Same.is)
 
 enum-told-2 : tie.Need-enum_told-in-Before invariant-loop decreases-loop
 enum-told-2 c = c.in-Before.keys2
@@ -54,12 +53,11 @@ loop-less c = omega arith
 
 loop-again : tie.Need-loop-low-preserved-in-Before invariant-loop decreases-loop
 loop-again c =
-    let call = c.before in
-    let loop = call.loop-low in
-    let a = call.args in
+    let loop = c.loop-low in
+    let a = c.args in
     let read =
-    ap (λ k. compared (width_list a.widths) (unpacked_key a.key) (unpacked_key k)) call.code_at.ensures in
-    (omega arith, omega arith, loop.invariant.2, (λ l. sym read ∙ sym call.compare-order.ensures ∙ c.in-Before.is))
+    ap (λ k. compared (width_list a.widths) (unpacked_key a.key) (unpacked_key k)) c.code_at.ensures in
+    (omega arith, omega arith, loop.invariant.2, (λ l. sym read ∙ sym c.compare-order.ensures ∙ c.in-Before.is))
 
 enum-told-3 : tie.Need-enum_told-in-After invariant-loop decreases-loop
 enum-told-3 c = c.in-After.keys3
@@ -72,15 +70,14 @@ loop-less-2 c = omega arith
 
 loop-again-2 : tie.Need-loop-low-preserved invariant-loop decreases-loop
 loop-again-2 c =
-    let call = c.before in
-    let loop = call.loop-low in
-    let a = call.args in
+    let loop = c.loop-low in
+    let a = c.args in
     let mid = loop.low + (loop.high - loop.low) / 2 in
     let ws = width_list a.widths in
     let key = unpacked_key a.key in
-    let read = ap (λ k. compared ws key (unpacked_key k)) call.code_at.ensures in
+    let read = ap (λ k. compared ws key (unpacked_key k)) c.code_at.ensures in
     let after : order_to ws a.bias key a.page.now mid ≡ After =
-    sym read ∙ sym call.compare-order.ensures ∙ c.in-After.is in
+    sym read ∙ sym c.compare-order.ensures ∙ c.in-After.is in
     let behind : (k : ℕ) → suc k ≡ mid + 1 → order_to ws a.bias key a.page.now k ≡ After =
     λ k e. subst (λ i. order_to ws a.bias key a.page.now i ≡ After) (let same : mid ≡ k = omega arith in same) after in
     (omega arith, omega arith, behind, loop.invariant.3)

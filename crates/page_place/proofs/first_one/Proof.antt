@@ -27,17 +27,16 @@ code-at-requires c κs = omega arith
 pair-bit-requires : tie.Need-pair_bit-requires invariant-loop decreases-loop
 pair-bit-requires c κs =
     let pre = c.requires in
-    (pre.0.1, pre.1.0, pre.1.1)
+    (pre.n_in_bounds.1, pre.g_bound.0, pre.g_bound.1)
 
 returns : tie.Need-returns-then-pair_bit invariant-loop decreases-loop
 returns c =
-    let read = c.before.before in
-    let loop = read.loop-i in
-    let a = read.args in
+    let loop = c.loop-i in
+    let a = c.args in
     sym
     (loop.invariant.1
-    ∙ first_one-here (width_list a.widths) a.bias a.g a.page.now a.n loop.i read.loop-i-test.true
-    read.code_at.result read.code_at.ensures c.pair_bit.result c.pair_bit.ensures
+    ∙ first_one-here (width_list a.widths) a.bias a.g a.page.now a.n loop.i c.loop-i-test.true
+    c.code_at.result c.code_at.ensures c.pair_bit.result c.pair_bit.ensures
     c.if-pair_bit.true)
 
 add-i : tie.Need-overflow_add-i invariant-loop decreases-loop
@@ -48,14 +47,13 @@ loop-less c = omega arith
 
 loop-again : tie.Need-loop-i-preserved invariant-loop decreases-loop
 loop-again c =
-    let read = c.before.before in
-    let loop = read.loop-i in
-    let a = read.args in (
+    let loop = c.loop-i in
+    let a = c.args in (
       omega arith,
       loop.invariant.1
           ∙ first_one-next (width_list a.widths) a.bias a.g a.page.now a.n loop.i
-          read.loop-i-test.true
-          read.code_at.result read.code_at.ensures c.pair_bit.result c.pair_bit.ensures
+          c.loop-i-test.true
+          c.code_at.result c.code_at.ensures c.pair_bit.result c.pair_bit.ensures
           c.if-pair_bit.false,
     )
 

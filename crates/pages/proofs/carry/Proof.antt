@@ -76,19 +76,13 @@ same_length c = search rules
 
 returns : tie.Need-returns
 returns c =
-    let appended = c.before.before in
-    let to = appended.before.before.before in
-    let counted = to.before.before.before in
-    let copied = counted.before.before.before in
-    let from = copied.before.before.before.before in
-    let start = from.before.before.before in
-    let a = start.args in
-    put_mid-carried a.capacity a.p a.m a.n a.q a.j a.pages.now start.requires.0.0
-    start.requires.0.1
-    start.requires.1.0 start.requires.1.1 start.requires.1.2 _ _ _ from.page-start.ensures
-    to.page_start-to.ensures from.page-size.ensures _ _ _ _ copied.copy_records.ensures
-    counted.set_count.ensures
-    appended.append.ensures
+    let a = c.args in
+    put_mid-carried a.capacity a.p a.m a.n a.q a.j a.pages.now c.requires.page_lent.0
+    c.requires.page_lent.1
+    c.requires.m_le_n.0 c.requires.m_le_n.1 c.requires.m_le_n.2 _ _ _ c.page_start-from.ensures
+    c.page_start-to.ensures c.page_size-size.ensures _ _ _ _ c.copy_records.ensures
+    c.set_count.ensures
+    c.append.ensures
 
 pub carry_spec : {M : Type 1} → statement M
 carry_spec =

@@ -29,10 +29,9 @@ count-requires c κs = search rules
 
 returns : tie.Need-returns
 returns c =
-    let size = c.before.before in
-    let a = size.args in
-    let page = mid_of-page a.capacity a.p _ _ a.pages.now size.page_start-start.ensures
-    size.page_size.ensures in
+    let a = c.args in
+    let page = mid_of-page a.capacity a.p _ _ a.pages.now c.page_start-start.ensures
+    c.page_size.ensures in
     (c.count.ensures.0 ∙ ap count_of page, c.count.ensures.1)
 
 pub count_at_spec : {M : Type 1} → statement M

@@ -8,11 +8,10 @@ use Rattle.pairs.proofs.early_place.Tie as tie
 
 returns : tie.Need-returns-then-widths-ne0
 returns c =
-    let s = c.before.before in
-    let p = s.requires in
-    let w = s.args.widths in (
+    let p = c.requires in
+    let w = c.args.widths in (
       omega (arith, p.1, p.0 0, p.0 1, p.0 2, p.0 3),
-      steps-four w.w0 w.w1 w.w2 w.w3 s.args.t,
+      steps-four w.w0 w.w1 w.w2 w.w3 c.args.t,
     )
 
 mul-result : tie.Need-overflow_mul-result
@@ -22,11 +21,10 @@ mul-result c =
 
 returns-2 : tie.Need-returns-then-widths-ne0-2
 returns-2 c =
-    let s = c.before.before.before.before in
-    let p = s.requires in
-    let w = s.args.widths in (
+    let p = c.requires in
+    let w = c.args.widths in (
       omega (arith, p.1, p.0 0, p.0 1, p.0 2),
-      steps-three w.w0 w.w1 w.w2 w.w3 s.args.t (omega arith)
+      steps-three w.w0 w.w1 w.w2 w.w3 c.args.t (omega arith)
           (omega (arith, p.1, p.0 0, p.0 1, p.0 2)),
     )
 
@@ -40,11 +38,10 @@ add-result c =
 
 returns-3 : tie.Need-returns-then-widths-ne0-3
 returns-3 c =
-    let s = c.before.before.before.before.before.before in
-    let p = s.requires in
-    let w = s.args.widths in (
+    let p = c.requires in
+    let w = c.args.widths in (
       omega (arith, p.1, p.0 0, p.0 1),
-      steps-two w.w0 w.w1 w.w2 w.w3 s.args.t (omega arith) (omega arith),
+      steps-two w.w0 w.w1 w.w2 w.w3 c.args.t (omega arith) (omega arith),
     )
 
 mul-result-3 : tie.Need-overflow_mul-result-2
@@ -54,11 +51,10 @@ mul-result-3 c =
 
 returns-4 : tie.Need-returns
 returns-4 c =
-    let s = c.before.before.before.before.before.before in
-    let p = s.requires in
-    let w = s.args.widths in (
+    let p = c.requires in
+    let w = c.args.widths in (
       omega (arith, p.1, p.0 0),
-      steps-one w.w0 w.w1 w.w2 w.w3 s.args.t (omega arith) (omega arith) (omega arith),
+      steps-one w.w0 w.w1 w.w2 w.w3 c.args.t (omega arith) (omega arith) (omega arith),
     )
 
 pub early_place_spec : {M : Type 1} → statement M

@@ -44,10 +44,9 @@ loop-again c =
 
 returns-2 : tie.Need-returns invariant-loop decreases-loop
 returns-2 c =
-    let s = c.before.before in
-    let w = s.args.widths in
+    let w = c.args.widths in
     let l = c.loop-g in
-    let next = steps_before-lt w.w0 w.w1 w.w2 w.w3 s.args.t l.g s.requires.0 s.requires.1 l.invariant in
+    let next = steps_before-lt w.w0 w.w1 w.w2 w.w3 c.args.t l.g c.requires.0 c.requires.1 l.invariant in
     absurd (omega (arith, next, c.loop-g-test.false))
 
 pub step_from_spec : {M : Type 1} → statement M

@@ -25,45 +25,33 @@ depth_le w n h e l = omega arith
 
 add-result : tie.Need-overflow_add-result
 add-result c =
-    let h1 = c.before.before in
-    let h0 = h1.before in
-    let p = h0.requires.0 in
-    let d0 = depth_le _ _ _ h0.depth_before-h0.ensures (p 0) in
-    let d1 = depth_le _ _ _ h1.depth_before-h1.ensures (p 1) in
+    let p = c.requires.0 in
+    let d0 = depth_le _ _ _ c.depth_before-h0.ensures (p 0) in
+    let d1 = depth_le _ _ _ c.depth_before-h1.ensures (p 1) in
     record { fits = omega arith }
 
 add-result-2 : tie.Need-overflow_add-result-2
 add-result-2 c =
-    let h2 = c.before in
-    let h1 = h2.before in
-    let h0 = h1.before in
-    let p = h0.requires.0 in
-    let d0 = depth_le _ _ _ h0.depth_before-h0.ensures (p 0) in
-    let d1 = depth_le _ _ _ h1.depth_before-h1.ensures (p 1) in
-    let d2 = depth_le _ _ _ h2.depth_before-h2.ensures (p 2) in
+    let p = c.requires.0 in
+    let d0 = depth_le _ _ _ c.depth_before-h0.ensures (p 0) in
+    let d1 = depth_le _ _ _ c.depth_before-h1.ensures (p 1) in
+    let d2 = depth_le _ _ _ c.depth_before-h2.ensures (p 2) in
     record { fits = omega arith }
 
 add-result-3 : tie.Need-overflow_add-result-3
 add-result-3 c =
-    let h2 = c.before in
-    let h1 = h2.before in
-    let h0 = h1.before in
-    let p = h0.requires.0 in
-    let d0 = depth_le _ _ _ h0.depth_before-h0.ensures (p 0) in
-    let d1 = depth_le _ _ _ h1.depth_before-h1.ensures (p 1) in
-    let d2 = depth_le _ _ _ h2.depth_before-h2.ensures (p 2) in
+    let p = c.requires.0 in
+    let d0 = depth_le _ _ _ c.depth_before-h0.ensures (p 0) in
+    let d1 = depth_le _ _ _ c.depth_before-h1.ensures (p 1) in
+    let d2 = depth_le _ _ _ c.depth_before-h2.ensures (p 2) in
     let d3 = depth_le _ _ _ c.depth_before-h3.ensures (p 3) in
     record { fits = omega arith }
 
 returns : tie.Need-returns
 returns c =
-    let h2 = c.before in
-    let h1 = h2.before in
-    let h0 = h1.before in
-    let s = h0.before in
-    let w = s.args.widths in
-    steps_before-depths w.w0 w.w1 w.w2 w.w3 s.args.g _ _ _ _ s.requires.1
-    h0.depth_before-h0.ensures h1.depth_before-h1.ensures h2.depth_before-h2.ensures c.depth_before-h3.ensures
+    let w = c.args.widths in
+    steps_before-depths w.w0 w.w1 w.w2 w.w3 c.args.g _ _ _ _ c.requires.1
+    c.depth_before-h0.ensures c.depth_before-h1.ensures c.depth_before-h2.ensures c.depth_before-h3.ensures
 
 pub steps_before_spec : {M : Type 1} → statement M
 steps_before_spec =

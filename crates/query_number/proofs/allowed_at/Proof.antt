@@ -17,7 +17,7 @@ cast-if1 c = search rules
 returns : tie.Need-returns-then-j-shape
 returns c =
     let a = c.args in
-    sym (ap (λ b. b || not (is_given (get_or (wanted_values a.t2) a.j none)))
+    sym (ap (λ b. b || not (is_given (get_or (wanted_values a.query) a.j none)))
     (lt-ltb a.j a.shape.attributes c.if-j-shape.true))
 
 mul-attribute : tie.Need-offset_bounds-query-j
@@ -34,22 +34,20 @@ enum-told-2 c = search rules
 
 returns-2 : tie.Need-returns-in-Free
 returns-2 c =
-    let s = c.before.before.before.before in
-    let a = s.args in
+    let a = c.args in
     sym
-    (ap (λ b. b || not (is_given (get_or (wanted_values a.t2) a.j none)))
+    (ap (λ b. b || not (is_given (get_or (wanted_values a.query) a.j none)))
     (le-ltb a.j a.shape.attributes (omega (arith, c.if-j-shape.false)))
-    ∙ ap (λ w. not (is_given w)) (get_d-wanted_values a.t2 a.j s.requires)
+    ∙ ap (λ w. not (is_given w)) (get_d-wanted_values a.query a.j c.requires)
     ∙ ap (λ w. not (is_given (wanted_value w))) c.in-Free.is)
 
 returns-3 : tie.Need-returns-in-Given
 returns-3 c =
-    let s = c.before.before.before.before in
-    let a = s.args in
+    let a = c.args in
     sym
-    (ap (λ b. b || not (is_given (get_or (wanted_values a.t2) a.j none)))
+    (ap (λ b. b || not (is_given (get_or (wanted_values a.query) a.j none)))
     (le-ltb a.j a.shape.attributes (omega (arith, c.if-j-shape.false)))
-    ∙ ap (λ w. not (is_given w)) (get_d-wanted_values a.t2 a.j s.requires)
+    ∙ ap (λ w. not (is_given w)) (get_d-wanted_values a.query a.j c.requires)
     ∙ ap (λ w. not (is_given (wanted_value w))) c.in-Given.is)
 
 pub allowed_at_spec : {M : Type 1} → statement M

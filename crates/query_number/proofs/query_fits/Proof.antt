@@ -30,20 +30,15 @@ widths-of-requires c κs = search rules
 
 index-fits-requires : tie.Need-index_fits-requires
 index-fits-requires c κs =
-    let s = c.before.before.before.before.before.before in
-    widths-fit s.args.shape (width_list c.widths_of.result) s.requires c.widths_of.ensures
+    widths-fit c.args.shape (width_list c.widths_of.result) c.requires c.widths_of.ensures
 
 returns : tie.Need-returns
 returns c =
-    let v4 = c.before.before in
-    let v3 = v4.before in
-    let v2 = v3.before in
-    let v1 = v2.before in
-    let encoded = v1.encode_query-encoded in
-    let a = v1.args in
+    let encoded = c.encode_query-encoded in
+    let a = c.args in
     c.index_fits.ensures
     ∙ (λ i. index_fits (c.widths_of.ensures i)
-    (v1.value_at-i0.ensures i ∷ v2.value_at-i1.ensures i ∷ v3.value_at-i2.ensures i ∷ v4.value_at-i3.ensures i ∷ []))
+    (c.value_at-i0.ensures i ∷ c.value_at-i1.ensures i ∷ c.value_at-i2.ensures i ∷ c.value_at-i3.ensures i ∷ []))
     ∙ ap (λ q. index_fits (widths_of a.shape) (bits_of q)) encoded.ensures
     ∙ index_fits-query a.shape (wanted_values a.query)
 

@@ -23,33 +23,27 @@ names-unused-requires c κs = search rules
 
 returns-2 : tie.Need-returns-then-names_unused
 returns-2 c =
-    let e = c.before.before.before in
-    let a = e.args in
+    let a = c.args in
     query_number_by-unused a.state a.words a.bytes (wanted_values a.query)
-    (sym e.lent_number-number.ensures ∙ e.if-number-ne0.false) (sym c.names_unused.ensures ∙ c.if-names_unused.true)
+    (sym c.lent_number-number.ensures ∙ c.if-number-ne0.false) (sym c.names_unused.ensures ∙ c.if-names_unused.true)
 
 query-fits-requires : tie.Need-query_fits-requires
 query-fits-requires c κs =
-    let e = c.before.before.before in
-    let a = e.args in
-    (memory_lent a.state a.words a.bytes (sym e.lent_number-number.ensures ∙ e.if-number-ne0.false)).shape
+    let a = c.args in
+    (memory_lent a.state a.words a.bytes (sym c.lent_number-number.ensures ∙ c.if-number-ne0.false)).shape
 
 returns-3 : tie.Need-returns-then-query_fits
 returns-3 c =
-    let u = c.before.before in
-    let e = u.before.before.before in
-    let a = e.args in
+    let a = c.args in
     query_number_by-fits a.state a.words a.bytes (wanted_values a.query)
-    (sym e.lent_number-number.ensures ∙ e.if-number-ne0.false) (sym u.names_unused.ensures ∙ u.if-names_unused.false)
+    (sym c.lent_number-number.ensures ∙ c.if-number-ne0.false) (sym c.names_unused.ensures ∙ c.if-names_unused.false)
     (sym c.query_fits.ensures ∙ c.if-query_fits.true)
 
 returns-4 : tie.Need-returns-else-query_fits
 returns-4 c =
-    let u = c.before.before in
-    let e = u.before.before.before in
-    let a = e.args in
+    let a = c.args in
     query_number_by-out a.state a.words a.bytes (wanted_values a.query)
-    (sym e.lent_number-number.ensures ∙ e.if-number-ne0.false) (sym u.names_unused.ensures ∙ u.if-names_unused.false)
+    (sym c.lent_number-number.ensures ∙ c.if-number-ne0.false) (sym c.names_unused.ensures ∙ c.if-names_unused.false)
     (sym c.query_fits.ensures ∙ c.if-query_fits.false)
 
 pub query_number_spec : {M : Type 1} → statement M

@@ -24,16 +24,14 @@ cast-result c = search rules
 
 returns : tie.Need-returns-in-Free
 returns c =
-    let s = c.before.before in
     sym
-    (ap wanted_bits (get_d-wanted_values s.args.query s.args.j s.requires)
+    (ap wanted_bits (get_d-wanted_values c.args.query c.args.j c.requires)
     ∙ ap (λ w. wanted_bits (wanted_value w)) c.in-Free.is)
 
 returns-2 : tie.Need-returns-in-Given
 returns-2 c =
-    let s = c.before.before in
     sym
-    (ap wanted_bits (get_d-wanted_values s.args.query s.args.j s.requires)
+    (ap wanted_bits (get_d-wanted_values c.args.query c.args.j c.requires)
     ∙ ap (λ w. wanted_bits (wanted_value w)) c.in-Given.is)
 
 pub value_at_spec : {M : Type 1} → statement M

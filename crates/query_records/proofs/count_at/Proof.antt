@@ -31,15 +31,13 @@ count-requires c κs = search rules
 
 returns : tie.Need-returns
 returns c =
-    let sized = c.before.before in
-    let s = sized.before.before.before in
-    let a = s.args in
+    let a = c.args in
     let page = page_at a.capacity a.pages.now a.g in
     let n : c.count.result ≡ count_of page =
     c.count.ensures.0
-    ∙ ap count_of (mid_of-page a.capacity a.g _ _ a.pages.now sized.page_start-start.ensures
-    sized.page_size.ensures) in
-    (n ∙ sym (length-fields_from (count_of page) 2 page), omega (arith, n, s.requires.0, s.requires.1.counted))
+    ∙ ap count_of (mid_of-page a.capacity a.g _ _ a.pages.now c.page_start-start.ensures
+    c.page_size.ensures) in
+    (n ∙ sym (length-fields_from (count_of page) 2 page), omega (arith, n, c.requires.0, c.requires.1.counted))
 
 pub count_at_spec : {M : Type 1} → statement M
 count_at_spec =

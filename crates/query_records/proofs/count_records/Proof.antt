@@ -22,8 +22,7 @@ loop-holds c =
 
 mul-count-at : tie.Need-offset_bounds-list-i invariant-loop decreases-loop
 mul-count-at c =
-    let s = c.before.before.before.before in
-    record { fits = omega (arith, s.requires.few, c.loop-i-test.true) }
+    record { fits = omega (arith, c.requires.few, c.loop-i-test.true) }
 
 shared-slice-read-count-at : tie.Need-bounds-list-i invariant-loop decreases-loop
 shared-slice-read-count-at c =
@@ -34,21 +33,18 @@ cast-count-at c = omega (arith, c.shared_slice_known-in-loop-i-1.given c.loop-i.
 
 count-at-requires : tie.Need-count_at-total-requires invariant-loop decreases-loop
 count-at-requires c κs =
-    let s = c.before.before.before.before.before in
-    (s.requires.capacity, s.requires.each c.loop-i.i c.loop-i-test.true)
+    (c.requires.capacity, c.requires.each c.loop-i.i c.loop-i-test.true)
 
 add_total : tie.Need-overflow_add-total invariant-loop decreases-loop
 add_total c =
-    let s = c.before.before.before.before.before.before in
     let loop = c.loop-i in
     record {
-      fits = omega (arith, loop.invariant.1.0, c.count_at-total.ensures.1, s.requires.few, c.loop-i-test.true);
+      fits = omega (arith, loop.invariant.1.0, c.count_at-total.ensures.1, c.requires.few, c.loop-i-test.true);
     }
 
 add-i : tie.Need-overflow_add-i invariant-loop decreases-loop
 add-i c =
-    let s = c.before.before.before.before.before.before in
-    record { fits = omega (arith, s.requires.few, c.loop-i-test.true) }
+    record { fits = omega (arith, c.requires.few, c.loop-i-test.true) }
 
 loop-less : tie.Need-loop-i-smaller invariant-loop decreases-loop
 loop-less c = let lt = c.loop-i-test.true in omega (arith, lt)
@@ -57,21 +53,19 @@ loop-again : tie.Need-loop-i-preserved invariant-loop decreases-loop
 loop-again c =
     let loop = c.loop-i in
     let lt = c.loop-i-test.true in
-    let s = c.before.before.before.before.before.before in
-    let a = s.args in
-    let few = length-page_fields-le a.capacity a.pages.now _ s.requires.capacity (s.requires.each loop.i lt) in (
+    let a = c.args in
+    let few = length-page_fields-le a.capacity a.pages.now _ c.requires.capacity (c.requires.each loop.i lt) in (
       omega (arith, lt),
       counted_to-next (page_fields a.capacity a.pages.now) a.list.now loop.i loop.total loop.invariant.1
-          (omega (arith, s.requires.within, lt)) few _ (ap (λ k. loop.total + k) c.count_at-total.ensures.0),
+          (omega (arith, c.requires.within, lt)) few _ (ap (λ k. loop.total + k) c.count_at-total.ensures.0),
     )
 
 returns : tie.Need-returns invariant-loop decreases-loop
 returns c =
-    let s = c.before.before.before.before in
-    let a = s.args in
+    let a = c.args in
     let loop = c.loop-i in
     counted_to-all (page_fields a.capacity a.pages.now) a.list.now a.n loop.i loop.total
-    loop.invariant.0 c.loop-i-test.false s.requires.few loop.invariant.1
+    loop.invariant.0 c.loop-i-test.false c.requires.few loop.invariant.1
 
 pub count_records_spec : {M : Type 1} → statement M
 count_records_spec =

@@ -57,12 +57,10 @@ part-match-mask-end c = search rules
 
 match-mask-requires : tie.Need-match_mask-requires
 match-mask-requires c κs =
-    let sized = c.before.before.before in
-    let s = sized.before.before.before in
-    let a = s.args in
-    let n = c.count-n.ensures.0 ∙ ap count_of (part sized) in
-    let lent = records-lent a.capacity a.pages.now a.g s.requires.1 in
-    rw (part sized, n) (omega (arith, s.requires.0, s.requires.1.counted), lent)
+    let a = c.args in
+    let n = c.count-n.ensures.0 ∙ ap count_of (part c.before.before.before) in
+    let lent = records-lent a.capacity a.pages.now a.g c.requires.1 in
+    rw (part c.before.before.before, n) (omega (arith, c.requires.0, c.requires.1.counted), lent)
 
 -- the mask is that of the page, below 2 ^ b
 masked : (c : tie.After-match_mask)
@@ -70,21 +68,18 @@ masked : (c : tie.After-match_mask)
     let mask = c.match_mask.result in
     (mask ≡ page_mask (passes a.pattern) (page_at a.capacity a.pages.now a.g)) × (mask < 2 ^ a.capacity)
 masked c =
-    let sized = c.before.before.before.before in
-    let s = sized.before.before.before in
-    let a = s.args in
+    let a = c.args in
     let page = page_at a.capacity a.pages.now a.g in
-    let n = c.count-n.ensures.0 ∙ ap count_of (part sized) in
+    let n = c.count-n.ensures.0 ∙ ap count_of (part c.before.before.before.before) in
     let same : c.match_mask.result ≡ page_mask (passes a.pattern) page =
-    c.match_mask.ensures ∙ (λ i. match_mask (passes a.pattern) (part sized i) (n i) 0) in
+    c.match_mask.ensures ∙ (λ i. match_mask (passes a.pattern) (part c.before.before.before.before i) (n i) 0) in
     let below = lt_of_lt_of_le (match_mask-lt (passes a.pattern) page (count_of page) 0)
-    (pow_mono {i = count_of page} {j = a.capacity} s.requires.1.counted) in
+    (pow_mono {i = count_of page} {j = a.capacity} c.requires.1.counted) in
     (same, rw same below)
 
 cast-result : tie.Need-overflow_cast-result
 cast-result c =
-    let s = c.before.before.before.before.before.before.before in
-    let most = pow_mono {i = s.args.capacity} {j = 32} (omega (arith, s.requires.0)) in
+    let most = pow_mono {i = c.args.capacity} {j = 32} (omega (arith, c.requires.0)) in
     record { fits = lt_of_lt_of_le (masked c).1 most }
 
 returns : tie.Need-returns

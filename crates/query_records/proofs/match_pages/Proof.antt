@@ -26,79 +26,69 @@ loop-holds c =
 
 mul-g : tie.Need-offset_bounds-list-i invariant-loop decreases-loop
 mul-g c =
-    let s = c.before.before.before.before in
-    record { fits = omega (arith, s.requires.few, c.loop-i-test.true) }
+    record { fits = omega (arith, c.requires.few, c.loop-i-test.true) }
 
 slice-read-g : tie.Need-bounds-list-i invariant-loop decreases-loop
 slice-read-g c =
-    let s = c.before.before.before.before.before in
-    omega (arith, c.loop-i.invariant.1.1, s.requires.within, c.loop-i-test.true)
+    omega (arith, c.loop-i.invariant.1.1, c.requires.within, c.loop-i-test.true)
 
 cast-match-at : tie.Need-overflow_cast-g invariant-loop decreases-loop
 cast-match-at c = omega (arith, c.slice_known-in-loop-i-1.given c.loop-i.i)
 
 match-at-requires : tie.Need-match_at-mask-requires invariant-loop decreases-loop
 match-at-requires c κs =
-    let s = c.before.before.before.before.before in
     let loop = c.loop-i in
     let same = loop.invariant.1.2 loop.i (omega arith) in
-    (s.requires.capacity, rw same (s.requires.each loop.i c.loop-i-test.true))
+    (c.requires.capacity, rw same (c.requires.each loop.i c.loop-i-test.true))
 
 -- a page number is below 4,096 and a mask below 2 ^ 16
 small : (c : tie.After-match_at-mask invariant-loop decreases-loop) → c.match_at-mask.result < 2 ^ 16
 small c =
-    let s = c.before.before.before.before.before.before in
-    lt_of_lt_of_le c.match_at-mask.ensures.1 (pow_mono {i = s.args.capacity} {j = 16} s.requires.capacity)
+    lt_of_lt_of_le c.match_at-mask.ensures.1 (pow_mono {i = c.args.capacity} {j = 16} c.requires.capacity)
 
 mul-list : tie.Need-overflow_mul-list invariant-loop decreases-loop
 mul-list c = record { fits = omega (arith, small c) }
 
 add-list : tie.Need-overflow_add-list invariant-loop decreases-loop
 add-list c =
-    let s = c.before.before.before.before.before.before in
     let loop = c.loop-i in
-    let number = (s.requires.each loop.i c.loop-i-test.true).number in
+    let number = (c.requires.each loop.i c.loop-i-test.true).number in
     record { fits = omega (arith, small c, number, loop.invariant.1.2 loop.i (omega arith)) }
 
 mul-list-2 : tie.Need-offset_bounds-list-m invariant-loop decreases-loop
 mul-list-2 c =
-    let s = c.before.before.before.before.before.before in
     let loop = c.loop-i in
-    record { fits = omega (arith, s.requires.few, loop.invariant.0, loop.invariant.1.0) }
+    record { fits = omega (arith, c.requires.few, loop.invariant.0, loop.invariant.1.0) }
 
 slice-write-list : tie.Need-bounds-list-m invariant-loop decreases-loop
 slice-write-list c =
-    let s = c.before.before.before.before.before.before in
     let loop = c.loop-i in
-    omega (arith, loop.invariant.1.0, loop.invariant.1.1, s.requires.within, c.loop-i-test.true)
+    omega (arith, loop.invariant.1.0, loop.invariant.1.1, c.requires.within, c.loop-i-test.true)
 
 cast-m : tie.Need-overflow_cast-m invariant-loop decreases-loop
 cast-m c = tt
 
 add-m : tie.Need-overflow_add-m invariant-loop decreases-loop
 add-m c =
-    let s = c.before.before.before.before.before.before in
     let loop = c.loop-i in
     let one = bool_byte-le (not (eqb c.match_at-mask.result 0)) in
-    record { fits = omega (arith, s.requires.few, loop.invariant.0, loop.invariant.1.0, one) }
+    record { fits = omega (arith, c.requires.few, loop.invariant.0, loop.invariant.1.0, one) }
 
 add-i : tie.Need-overflow_add-i invariant-loop decreases-loop
 add-i c =
-    let s = c.before.before.before.before.before.before in
-    record { fits = omega (arith, s.requires.few, c.loop-i-test.true) }
+    record { fits = omega (arith, c.requires.few, c.loop-i-test.true) }
 
 loop-less : tie.Need-loop-i-smaller invariant-loop decreases-loop
 loop-less c = omega (arith, c.loop-i-test.true)
 
 loop-again : tie.Need-loop-i-preserved invariant-loop decreases-loop
 loop-again c =
-    let s = c.before.before.before.before.before.before in
-    let a = s.args in
+    let a = c.args in
     let loop = c.loop-i in
     let lt = c.loop-i-test.true in (
       omega (arith, lt),
       matched_to-next a.capacity a.pages.now (passes a.pattern) a.list.now loop.i loop.m loop.list
-          loop.invariant.1 (omega (arith, s.requires.within, lt)) (s.requires.each loop.i lt) _ c.match_at-mask.ensures.0
+          loop.invariant.1 (omega (arith, c.requires.within, lt)) (c.requires.each loop.i lt) _ c.match_at-mask.ensures.0
           c.match_at-mask.ensures.1,
     )
 
@@ -107,12 +97,11 @@ same_length c = c.loop-i.invariant.1.1
 
 returns : tie.Need-returns invariant-loop decreases-loop
 returns c =
-    let s = c.before.before.before.before in
-    let a = s.args in
+    let a = c.args in
     let loop = c.loop-i in
     matched_to-all a.capacity a.pages.now (passes a.pattern) a.list.now a.n loop.i loop.m
     loop.list
-    loop.invariant.0 c.loop-i-test.false s.requires loop.invariant.1
+    loop.invariant.0 c.loop-i-test.false c.requires loop.invariant.1
 
 pub match_pages_spec : {M : Type 1} → statement M
 match_pages_spec =

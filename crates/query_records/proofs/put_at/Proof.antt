@@ -54,12 +54,10 @@ part-put-all-end c = search rules
 
 put-all-requires : tie.Need-put_all-requires
 put-all-requires c κs =
-    let sized = c.before.before.before.before in
-    let s = sized.before.before.before.before in
-    let a = s.args in
-    let n = c.count-n.ensures.0 ∙ ap count_of (part sized) in
-    let lent = records-lent a.capacity a.pages.now a.g s.requires.page in
-    rw (part sized, n) (lent, omega (arith, s.requires.capacity, s.requires.page.counted, s.requires.before))
+    let a = c.args in
+    let n = c.count-n.ensures.0 ∙ ap count_of (part c.before.before.before.before) in
+    let lent = records-lent a.capacity a.pages.now a.g c.requires.page in
+    rw (part c.before.before.before.before, n) (lent, omega (arith, c.requires.capacity, c.requires.page.counted, c.requires.before))
 
 same_length : tie.Need-shape_of-out
 same_length c = search rules
@@ -67,13 +65,11 @@ same_length c = search rules
 returns : tie.Need-returns
 returns c =
     let put = c.put_all.ensures in
-    let counted = c.before.before.before.before.before in
-    let sized = counted.before.before in
-    let a = sized.args in
+    let a = c.args in
     let page = page_at a.capacity a.pages.now a.g in
-    let n = counted.count-n.ensures.0 ∙ ap count_of (part sized) in (
+    let n = c.count-n.ensures.0 ∙ ap count_of (part c.before.before.before.before.before.before.before) in (
       put.0 ∙ ap (λ k. a.total + k) (n ∙ sym (length-fields_from (count_of page) 2 page)),
-      put.1 ∙ (λ i. emit a.out.now a.total (fields_from (n i) 2 (part sized i))),
+      put.1 ∙ (λ i. emit a.out.now a.total (fields_from (n i) 2 (part c.before.before.before.before.before.before.before i))),
     )
 
 pub put_at_spec : {M : Type 1} → statement M

@@ -51,12 +51,10 @@ cast-put-picked c = search rules
 
 put-picked-requires : tie.Need-put_picked-requires
 put-picked-requires c κs =
-    let sized = c.before.before in
-    let s = sized.before.before.before.before in
-    let a = s.args in
-    let few = length-matched_fields-le a.capacity a.pages.now a.matched s.requires.capacity s.requires.page in
-    let below = matched_mask-lt-slots a.capacity a.pages.now a.matched s.requires.page in
-    rw (part sized) (below, omega (arith, few, s.requires.before))
+    let a = c.args in
+    let few = length-matched_fields-le a.capacity a.pages.now a.matched c.requires.capacity c.requires.page in
+    let below = matched_mask-lt-slots a.capacity a.pages.now a.matched c.requires.page in
+    rw (part c.before.before) (below, omega (arith, few, c.requires.before))
 
 same_length : tie.Need-shape_of-out
 same_length c = search rules
@@ -64,11 +62,10 @@ same_length c = search rules
 returns : tie.Need-returns
 returns c =
     let put = c.put_picked.ensures in
-    let sized = c.before.before.before.before.before in
-    let a = sized.args in
+    let a = c.args in
     let mask = matched_mask a.matched in (
-      put.0 ∙ ap (λ l. a.total + length (picked_by mask l)) (part sized),
-      put.1 ∙ ap (λ l. emit a.out.now a.total (picked_by mask l)) (part sized),
+      put.0 ∙ ap (λ l. a.total + length (picked_by mask l)) (part c.before.before.before.before.before),
+      put.1 ∙ ap (λ l. emit a.out.now a.total (picked_by mask l)) (part c.before.before.before.before.before),
     )
 
 pub put_matched_page_spec : {M : Type 1} → statement M

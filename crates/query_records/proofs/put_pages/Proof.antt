@@ -23,9 +23,8 @@ same-length-2 c = search rules
 
 returns : tie.Need-returns-then-gives_nothing
 returns c =
-    let test = c.before.before.before.before.before in
-    let a = test.before.before.before.before.before.args in
-    let nothing = sym test.Gives-nothing.ensures ∙ test.if1.true in
+    let a = c.args in
+    let nothing = sym c.gives_nothing.ensures ∙ c.if-gives_nothing.true in
     emitted-as (page_fields a.capacity a.pages.now) (take a.n a.list.now) a.out.now _ _ _
     c.put_whole.ensures
     (list_hits-all a.capacity a.pages.now a.pattern nothing (take a.n a.list.now))
@@ -44,10 +43,9 @@ same-length-4 c = search rules
 
 returns-2 : tie.Need-returns
 returns-2 c =
-    let matched = c.before.before.before.before.before.before.before in
-    let a = matched.before.before.before.before.before.before.before.args in
+    let a = c.args in
     emitted-as (matched_fields a.capacity a.pages.now) _ a.out.now _ _ _
-    c.put_matched.ensures matched.match-pages.ensures.1
+    c.put_matched.ensures c.match_pages-m.ensures.list_after
 
 pub put_pages_spec : {M : Type 1} → statement M
 put_pages_spec =

@@ -22,8 +22,7 @@ loop-holds c =
 
 mul-put-at : tie.Need-offset_bounds-list-i invariant-loop decreases-loop
 mul-put-at c =
-    let s = c.before.before.before.before.before in
-    record { fits = omega (arith, s.requires.few, c.loop-i-test.true) }
+    record { fits = omega (arith, c.requires.few, c.loop-i-test.true) }
 
 shared-slice-read-put-at : tie.Need-bounds-list-i invariant-loop decreases-loop
 shared-slice-read-put-at c =
@@ -34,19 +33,17 @@ cast-put-at c = omega (arith, c.shared_slice_known-in-loop-i-1.given c.loop-i.i)
 
 put-at-requires : tie.Need-put_at-total-requires invariant-loop decreases-loop
 put-at-requires c κs =
-    let s = c.before.before.before.before.before.before.before in
     let loop = c.loop-i in
     let lt = c.loop-i-test.true in
     record {
-      capacity = s.requires.capacity;
-      page = s.requires.each loop.i lt;
-      before = omega (arith, loop.invariant.1, s.requires.few, lt);
+      capacity = c.requires.capacity;
+      page = c.requires.each loop.i lt;
+      before = omega (arith, loop.invariant.1, c.requires.few, lt);
     }
 
 add-i : tie.Need-overflow_add-i invariant-loop decreases-loop
 add-i c =
-    let s = c.before.before.before.before.before.before.before.before.before.before in
-    record { fits = omega (arith, s.requires.few, c.loop-i-test.true) }
+    record { fits = omega (arith, c.requires.few, c.loop-i-test.true) }
 
 loop-less : tie.Need-loop-i-smaller invariant-loop decreases-loop
 loop-less c = let lt = c.loop-i-test.true in omega (arith, lt)
@@ -56,13 +53,12 @@ loop-again c =
     let put = c.put_at-total in
     let loop = c.loop-i in
     let lt = c.loop-i-test.true in
-    let s = c.before.before.before.before.before.before.before.before.before.before in
-    let a = s.args in
+    let a = c.args in
     let f = page_fields a.capacity a.pages.now in
-    let few = length-page_fields-le a.capacity a.pages.now _ s.requires.capacity (s.requires.each loop.i lt) in (
+    let few = length-page_fields-le a.capacity a.pages.now _ c.requires.capacity (c.requires.each loop.i lt) in (
       omega (arith, lt),
       emitted_to-next f a.list.now a.out.now loop.i loop.total loop.out loop.invariant.1
-          (omega (arith, s.requires.within, lt)) few _ put.ensures.value _ put.ensures.out_after put.auto.out,
+          (omega (arith, c.requires.within, lt)) few _ put.ensures.value _ put.ensures.out_after put.auto.out,
     )
 
 same_length : tie.Need-shape_of-out invariant-loop decreases-loop
@@ -70,11 +66,10 @@ same_length c = c.loop-i.invariant.1.1
 
 returns : tie.Need-returns invariant-loop decreases-loop
 returns c =
-    let s = c.before.before.before.before.before in
-    let a = s.args in
+    let a = c.args in
     let loop = c.loop-i in
     emitted_to-all (page_fields a.capacity a.pages.now) a.list.now a.out.now a.n loop.i
-    loop.total loop.out loop.invariant.0 c.loop-i-test.false s.requires.few loop.invariant.1
+    loop.total loop.out loop.invariant.0 c.loop-i-test.false c.requires.few loop.invariant.1
 
 pub put_whole_spec : {M : Type 1} → statement M
 put_whole_spec =

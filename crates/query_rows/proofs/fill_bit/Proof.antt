@@ -52,45 +52,38 @@ width-at-requires c κs = omega (arith, c.loop-z-test.true)
 
 mul-put-row : tie.Need-overflow_mul-x invariant-loop decreases-loop
 mul-put-row c =
-    let test = c.before.before.before in
-    omega (arith, test.if-x-t.true, test.requires.deep)
+    omega (arith, c.if-x-t.true, c.requires.deep)
 
 mul-row-at : tie.Need-overflow_mul-bit invariant-loop decreases-loop
 mul-row-at c = omega (arith, c.requires.low)
 
 add-row-at : tie.Need-overflow_add-bit invariant-loop decreases-loop
 add-row-at c =
-    let loop = c.before.before.before.before in
-    omega (arith, loop.requires.low, loop.loop-z-test.true)
+    omega (arith, c.requires.low, c.loop-z-test.true)
 
 row-at-requires : tie.Need-row_at-requires invariant-loop decreases-loop
 row-at-requires c κs =
-    let s = c.before.before.before.before.before.before in
-    let test = c.before.before.before in
-    let z = test.loop-z-test.true in
-    let counted = test.loop-z.invariant.2.counted test.if-x-t.true in record {
-      fit = s.requires.fit;
-      low = omega (arith, s.requires.low, z);
-      live = live s.args.bit _ z (width_list s.args.widths) _ c.width_at.ensures
+    let z = c.loop-z-test.true in
+    let counted = c.loop-z.invariant.2.counted c.if-x-t.true in record {
+      fit = c.requires.fit;
+      low = omega (arith, c.requires.low, z);
+      live = live c.args.bit _ z (width_list c.args.widths) _ c.width_at.ensures
           c.if-bit-width_at.true;
-      deep = omega (arith, counted, test.if-x-t.true, s.requires.deep);
+      deep = omega (arith, counted, c.if-x-t.true, c.requires.deep);
     }
 
 put-row-requires : tie.Need-put_row-requires invariant-loop decreases-loop
 put-row-requires c κs =
-    let test = c.before.before.before.before in
-    let loop = test.before.before in
-    let s = loop.before in (
-      omega (arith, test.if-x-t.true, s.requires.deep),
-      fixed-fits _ _ _ _ _ _ loop.loop-z.invariant.2 test.if-x-t.true s.requires.fit
-          (live s.args.bit _ test.loop-z-test.true (width_list s.args.widths) _
+    (
+      omega (arith, c.if-x-t.true, c.requires.deep),
+      fixed-fits _ _ _ _ _ _ c.loop-z.invariant.2 c.if-x-t.true c.requires.fit
+          (live c.args.bit _ c.loop-z-test.true (width_list c.args.widths) _
           c.width_at.ensures c.if-bit-width_at.true) _ c.row_at.ensures,
     )
 
 add-x : tie.Need-overflow_add-x invariant-loop decreases-loop
 add-x c =
-    let test = c.before.before.before.before.before in
-    omega (arith, test.if-x-t.true, test.requires.deep)
+    omega (arith, c.if-x-t.true, c.requires.deep)
 
 add-z : tie.Need-overflow_add-z invariant-loop decreases-loop
 add-z c = omega (arith, c.loop-z-test.true)
@@ -100,26 +93,25 @@ loop-less c = omega (arith, c.loop-z-test.true)
 
 loop-again : tie.Need-loop-z-preserved invariant-loop decreases-loop
 loop-again c =
-    let s = c.before.before.before in
-    let a = s.args in
+    let a = c.args in
     let l = c.loop-z in
     let z = c.loop-z-test.true in
     let ws = width_list a.widths in
-    let low : 4 * a.bit + l.z < 64 = omega (arith, s.requires.low, z) in
+    let low : 4 * a.bit + l.z < 64 = omega (arith, c.requires.low, z) in
     let next : 4 * a.bit + l.z + 1 ≡ 4 * a.bit + (l.z + 1) = omega arith in
     let here = l.invariant.2 in
     let live_here = live a.bit l.z z ws in
-    let lent : 83 ≤ length l.rows = omega (arith, s.requires.table-lent, l.invariant.1) in (
+    let lent : 83 ≤ length l.rows = omega (arith, c.requires.table-lent, l.invariant.1) in (
       omega (arith, z),
       ⊎_elim
-          (λ w. length-stored _ _ _ _ _ _ here w.0.taken s.requires.fit (live_here _ w.1.ensures w.2.taken) _
+          (λ w. length-stored _ _ _ _ _ _ here w.0.taken c.requires.fit (live_here _ w.1.ensures w.2.taken) _
           w.4.ensures _ (w.6 ∙ w.5.ensures)
           ∙ l.invariant.1)
           (⊎_elim (λ w. ap length w.3 ∙ l.invariant.1) (λ w. ap length w.1 ∙ l.invariant.1)) c.if-x-t.branch,
       subst (λ g. RowsFilled ws (wanted_at ws (wanted_values a.query)) a.t g c.if-x-t.x c.if-x-t.rows) next
           (⊎_elim
-          (λ w. filled-step _ _ _ _ _ _ here w.0.taken s.requires.fit
-          (live_here _ w.1.ensures w.2.taken) _ w.4.ensures low s.requires.deep lent _ _
+          (λ w. filled-step _ _ _ _ _ _ here w.0.taken c.requires.fit
+          (live_here _ w.1.ensures w.2.taken) _ w.4.ensures low c.requires.deep lent _ _
           (w.6 ∙ w.5.ensures) w.7)
           (⊎_elim
           (λ w. filled-skip _ _ _ _ _ _ here w.0.taken low

@@ -30,10 +30,9 @@ widths-of-requires c κs = tt
 fits : (c : tie.After-widths_of-widths invariant-loop decreases-loop) → let ws = width_list c.widths_of-widths.result in
     (Fit ws) × (c.args.t ≤ length (steps ws))
 fits c =
-    let s = c.before in
     let w = c.widths_of-widths.result in
-    fit-steps s.args.shape w.w0 w.w1 w.w2 w.w3 s.args.t s.requires.shape c.widths_of-widths.ensures
-    s.requires.bits
+    fit-steps c.args.shape w.w0 w.w1 w.w2 w.w3 c.args.t c.requires.shape c.widths_of-widths.ensures
+    c.requires.bits
 
 fixed-bits-before-requires : tie.Need-fixed_bits_before-requires invariant-loop decreases-loop
 fixed-bits-before-requires c κs = ((fits c).0, omega arith)
@@ -44,30 +43,27 @@ element-write-rows c = omega arith
 loop-holds : tie.Need-loop-x-init invariant-loop decreases-loop
 unfolding steps_below
 loop-holds c =
-    let s = c.before.before in
-    let five : 5 < length s.args.rows.now = omega (arith, s.requires.table-lent) in (
+    let five : 5 < length c.args.rows.now = omega (arith, c.requires.table-lent) in (
       refl,
-      filled_zero _ _ _ _ (get_or-set_same s.args.rows.now 5 _ 0 five ∙ c.fixed_bits_before.ensures),
+      filled_zero _ _ _ _ (get_or-set_same c.args.rows.now 5 _ 0 five ∙ c.fixed_bits_before.ensures),
     )
 
 live : (c : tie.In-loop-x invariant-loop decreases-loop) → c.loop-x.bit < 16
 live c =
     omega (
       arith,
-      filled_live _ _ _ _ _ _ c.loop-x.invariant.1 c.loop-x-test.true (fits c.before.before.before).1,
+      filled_live _ _ _ _ _ _ c.loop-x.invariant.1 c.loop-x-test.true (fits c.before.before.before.before).1,
     )
 
 fill-bit-requires : tie.Need-fill_bit-x-requires invariant-loop decreases-loop
 fill-bit-requires c κs =
-    let test = c.before in
-    let s = test.before.before.before.before in
-    let loop = test.loop-x in
-    let lent = loop.invariant.0 ∙ length-set s.args.rows.now 5 _ in
+    let loop = c.loop-x in
+    let lent = loop.invariant.0 ∙ length-set c.args.rows.now 5 _ in
     record {
-      fit = (fits test.before.before.before).0;
-      deep = s.requires.deep;
-      low = live test;
-      table-lent = omega (arith, s.requires.table-lent, lent);
+      fit = (fits c.before.before.before.before.before).0;
+      deep = c.requires.deep;
+      low = live c.before;
+      table-lent = omega (arith, c.requires.table-lent, lent);
       filled = loop.invariant.1;
     }
 

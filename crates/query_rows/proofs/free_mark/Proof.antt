@@ -19,13 +19,11 @@ enum-told-2 c = search rules
 
 returns : tie.Need-returns-in-Free
 returns c =
-    let s = c.before.before in
-    ((wanted-free s.args.query s.args.j s.requires c.in-Free.is).1, omega arith)
+    ((wanted-free c.args.query c.args.j c.requires c.in-Free.is).1, omega arith)
 
 returns-2 : tie.Need-returns-in-Given
 returns-2 c =
-    let s = c.before.before in
-    ((wanted-given s.args.query s.args.j s.requires _ c.in-Given.is).1, omega arith)
+    ((wanted-given c.args.query c.args.j c.requires _ c.in-Given.is).1, omega arith)
 
 pub free_mark_spec : {M : Type 1} → statement M
 free_mark_spec =

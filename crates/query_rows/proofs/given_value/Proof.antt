@@ -21,13 +21,11 @@ cast-result c = search rules
 
 returns : tie.Need-returns-in-Free
 returns c =
-    let s = c.before.before in
-    (wanted-free s.args.query s.args.j s.requires c.in-Free.is).0
+    (wanted-free c.args.query c.args.j c.requires c.in-Free.is).0
 
 returns-2 : tie.Need-returns-in-Given
 returns-2 c =
-    let s = c.before.before in
-    (wanted-given s.args.query s.args.j s.requires _ c.in-Given.is).0
+    (wanted-given c.args.query c.args.j c.requires _ c.in-Given.is).0
 
 pub given_value_spec : {M : Type 1} → statement M
 given_value_spec =

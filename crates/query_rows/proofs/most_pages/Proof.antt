@@ -38,15 +38,14 @@ mul-if1-2 : tie.Need-offset_bounds-rows-x invariant-loop decreases-loop
 mul-if1-2 c = omega (arith, row-lent c)
 
 element-copy-out-if1 : tie.Need-bounds-rows-x invariant-loop decreases-loop
-element-copy-out-if1 c = omega (arith, row-lent c)
+element-copy-out-if1 c = omega (arith, row-lent c.before)
 
 mul_most : tie.Need-overflow_mul-most invariant-loop decreases-loop
 mul_most c =
-    let s = c.before.before.before.before in
     let loop = c.loop-x in
-    let left = s.args.t - loop.x in
-    let few : 2 ^ left ≤ 2 ^ 12 = pow_mono {i = left} {j = 12} (omega (arith, s.requires)) in
-    omega (arith, loop.invariant.1, most_pages-le s.args.rows.now left loop.x, few)
+    let left = c.args.t - loop.x in
+    let few : 2 ^ left ≤ 2 ^ 12 = pow_mono {i = left} {j = 12} (omega (arith, c.requires)) in
+    omega (arith, loop.invariant.1, most_pages-le c.args.rows.now left loop.x, few)
 
 loop-less : tie.Need-loop-x-smaller-then-rows-x-gt1 invariant-loop decreases-loop
 loop-less c = omega (arith, c.loop-x-test.true)

@@ -10,23 +10,19 @@ use Rattle.query_rows.proofs.row_at.Tie as tie
 
 other-depth-requires : tie.Need-other_depth-h0-requires
 other-depth-requires c κs =
-    let s = c in
-    record { low = s.requires.low; attribute = omega arith; width = s.requires.fit 0 }
+    record { low = c.requires.low; attribute = omega arith; width = c.requires.fit 0 }
 
 other-depth-requires-2 : tie.Need-other_depth-h1-requires
 other-depth-requires-2 c κs =
-    let s = c.before in
-    record { low = s.requires.low; attribute = omega arith; width = s.requires.fit 1 }
+    record { low = c.requires.low; attribute = omega arith; width = c.requires.fit 1 }
 
 other-depth-requires-3 : tie.Need-other_depth-h2-requires
 other-depth-requires-3 c κs =
-    let s = c.before.before in
-    record { low = s.requires.low; attribute = omega arith; width = s.requires.fit 2 }
+    record { low = c.requires.low; attribute = omega arith; width = c.requires.fit 2 }
 
 other-depth-requires-4 : tie.Need-other_depth-h3-requires
 other-depth-requires-4 c κs =
-    let s = c.before.before.before in
-    record { low = s.requires.low; attribute = omega arith; width = s.requires.fit 3 }
+    record { low = c.requires.low; attribute = omega arith; width = c.requires.fit 3 }
 
 add-all : tie.Need-overflow_add-all
 add-all c = search rules
@@ -43,8 +39,7 @@ width-at-requires c κs = search rules
 -- the step's bit is one of its attribute's
 width-live : (c : tie.After-width_at-width) → c.args.g / 4 < c.width_at-width.result
 width-live c =
-    let s = c.before.before.before.before.before in
-    subst (λ w. s.args.g / 4 < w) (sym c.width_at-width.ensures) s.requires.live
+    subst (λ w. c.args.g / 4 < w) (sym c.width_at-width.ensures) c.requires.live
 
 add-shift-of : tie.Need-overflow_add-h1
 add-shift-of c = search rules
@@ -73,13 +68,11 @@ small : (c : tie.After-shift_of-s3) → (c.shift_of-s0.result ≤ 12)
     × (c.shift_of-s2.result ≤ 12)
     × (c.shift_of-s3.result ≤ 12)
 small c =
-    let h4 = c.before.before.before.before.before in
-    let s = h4.before.before.before.before in
-    let w = s.args.widths in
-    shifts-le w.w0 w.w1 w.w2 w.w3 s.requires.fit s.args.g s.requires.low s.requires.live s.requires.deep
+    let w = c.args.widths in
+    shifts-le w.w0 w.w1 w.w2 w.w3 c.requires.fit c.args.g c.requires.low c.requires.live c.requires.deep
     _ _ _ _ _ _ _ _
-    h4.other_depth-h0.ensures.0 h4.other_depth-h1.ensures.0
-    h4.other_depth-h2.ensures.0 h4.other_depth-h3.ensures.0
+    c.other_depth-h0.ensures.0 c.other_depth-h1.ensures.0
+    c.other_depth-h2.ensures.0 c.other_depth-h3.ensures.0
     c.shift_of-s0.ensures c.shift_of-s1.ensures
     c.shift_of-s2.ensures c.shift_of-s3.ensures
 
@@ -100,13 +93,11 @@ shl-t20 c = search rules
 
 wanted-bit-requires : tie.Need-wanted_bit-requires
 wanted-bit-requires c κs =
-    let measured = c.before.before.before.before.before.before in
-    let s = measured.before.before.before.before.before in
-    let live = width-live measured in
+    let live = width-live c.before.before.before.before.before.before in
     record {
       attribute = omega arith;
       bit = live;
-      width = omega (arith, measured.width_at-width.ensures, s.requires.fit (s.args.g % 4));
+      width = omega (arith, c.width_at-width.ensures, c.requires.fit (c.args.g % 4));
     }
 
 mul-t23 : tie.Need-overflow_mul-result-2
@@ -120,31 +111,23 @@ sub-t25 c = search rules
 
 add-t26 : tie.Need-overflow_add-result-2
 add-t26 c =
-    let measured = c.before.before.before.before.before.before.before in
-    let s = measured.before.before.before.before.before in
-    omega (arith, width-live measured, measured.width_at-width.ensures, s.requires.fit (s.args.g % 4))
+    omega (arith, width-live c.before.before.before.before.before.before.before, c.width_at-width.ensures, c.requires.fit (c.args.g % 4))
 
 shl-t27 : tie.Need-overflow_shl-result-2
 shl-t27 c =
-    let measured = c.before.before.before.before.before.before.before in
-    let s = measured.before.before.before.before.before in
-    omega (arith, width-live measured, measured.width_at-width.ensures, s.requires.fit (s.args.g % 4))
+    omega (arith, width-live c.before.before.before.before.before.before.before, c.width_at-width.ensures, c.requires.fit (c.args.g % 4))
 
 returns : tie.Need-returns
 returns c =
-    let s4 = c.before.before.before in
-    let measured = s4.before.before.before.before in
-    let h4 = measured.before in
-    let start = h4.before.before.before.before in
-    let w = start.args.widths in
-    step_row-pair w.w0 w.w1 w.w2 w.w3 start.requires.fit start.args.g start.requires.low start.requires.live
-    (wanted_values start.args.query) _ _ _ _ _ _ _ _ _ _ _ _
-    h4.other_depth-h0.ensures.0 h4.other_depth-h1.ensures.0
-    h4.other_depth-h2.ensures.0 h4.other_depth-h3.ensures.0
-    s4.shift_of-s0.ensures s4.shift_of-s1.ensures
-    s4.shift_of-s2.ensures s4.shift_of-s3.ensures
+    let w = c.args.widths in
+    step_row-pair w.w0 w.w1 w.w2 w.w3 c.requires.fit c.args.g c.requires.low c.requires.live
+    (wanted_values c.args.query) _ _ _ _ _ _ _ _ _ _ _ _
+    c.other_depth-h0.ensures.0 c.other_depth-h1.ensures.0
+    c.other_depth-h2.ensures.0 c.other_depth-h3.ensures.0
+    c.shift_of-s0.ensures c.shift_of-s1.ensures
+    c.shift_of-s2.ensures c.shift_of-s3.ensures
     c.multiplier_of.ensures c.multiplier_of-2.ensures
-    measured.width_at-width.ensures c.wanted_bit.ensures
+    c.width_at-width.ensures c.wanted_bit.ensures
 
 pub row_at_spec : {M : Type 1} → statement M
 row_at_spec =

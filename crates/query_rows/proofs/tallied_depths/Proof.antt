@@ -44,11 +44,10 @@ loop-less c = omega arith
 
 loop-again : tie.Need-loop-x-preserved invariant-loop decreases-loop
 loop-again c =
-    let s = c.before.before.before in
     let l = c.loop-x in
-    let lent = thirteen s in (
+    let lent = thirteen c.before.before.before in (
       omega arith,
-      tallied_depths-before s.args.tally.leaves l.x l.depths c.loop-x-test.true
+      tallied_depths-before c.args.tally.leaves l.x l.depths c.loop-x-test.true
           (omega (arith, l.invariant.0)) (omega arith) l.invariant.1,
     )
 

@@ -34,9 +34,8 @@ shr-if1 c = search rules
 
 returns : tie.Need-returns-then-depths-x-eq0
 returns c =
-    let s = c.before.before.before.before in
-    let a = s.args in
-    Wrote-noted-untold a.list.now a.n (pages_in a.rows.now) _ (fair s) a.word
+    let a = c.args in
+    Wrote-noted-untold a.list.now a.n (pages_in a.rows.now) _ (fair c.before.before.before.before.before) a.word
     (has_depth-none (tallied_in a.rows.now) a.x c.if-depths-x-eq0.true)
 
 field-of-requires : tie.Need-field_of-field-requires
@@ -47,10 +46,8 @@ cast-field c = search rules
 
 returns-2 : tie.Need-returns-then-field-eq0
 returns-2 c =
-    let test = c.before.before in
-    let s = test.before.before.before.before in
-    let a = s.args in
-    Wrote-noted-none a.list.now a.n (pages_in a.rows.now) _ (fair s) a.word _ (told test)
+    let a = c.args in
+    Wrote-noted-none a.list.now a.n (pages_in a.rows.now) _ (fair c.before.before.before.before.before.before.before) a.word _ (told c.before.before)
     c.field_of-field.ensures.0 c.if-field-eq0.true
 
 element-copy-out-p : tie.Need-bounds-rows-78
@@ -58,10 +55,8 @@ element-copy-out-p c = search rules
 
 returns-3 : tie.Need-returns-then-p-field
 returns-3 c =
-    let test = c.before.before.before.before in
-    let s = test.before.before.before.before in
-    let a = s.args in
-    Wrote-noted-past a.list.now a.n (pages_in a.rows.now) _ (fair s) a.word _ (told test)
+    let a = c.args in
+    Wrote-noted-past a.list.now a.n (pages_in a.rows.now) _ (fair c.before.before.before.before.before.before.before.before.before) a.word _ (told c.before.before.before.before)
     c.field_of-field.ensures.0 c.if-p-field.true
 
 sub-page : tie.Need-overflow_sub-page
@@ -69,18 +64,14 @@ sub-page c = search rules
 
 page-fair-requires : tie.Need-page_fair-requires
 page-fair-requires c κs =
-    let s = c.before.before.before.before.before.before.before.before in
     let field = c.if-field-eq0.false in
-    record { deep = s.requires.deep; lent = s.requires.lent; named = omega (arith, c.if-p-field.false, field) }
+    record { deep = c.requires.deep; lent = c.requires.lent; named = omega (arith, c.if-p-field.false, field) }
 
 returns-4 : tie.Need-returns-then-not-page_fair
 returns-4 c =
-    let test3 = c.before.before in
-    let test = test3.before.before.before.before in
-    let s = test.before.before.before.before in
-    let a = s.args in
-    Wrote-noted-unfair a.list.now a.n (pages_in a.rows.now) _ (fair s) a.word _ (told test)
-    test3.field_of-field.ensures.0 test3.if-field-eq0.false test3.if-p-field.false
+    let a = c.args in
+    Wrote-noted-unfair a.list.now a.n (pages_in a.rows.now) _ (fair c.before.before.before.before.before.before.before.before.before.before.before) a.word _ (told c.before.before.before.before.before.before)
+    c.field_of-field.ensures.0 c.if-field-eq0.false c.if-p-field.false
     (sym c.page_fair.ensures ∙ not-true _ c.if-not-page_fair.true-raw)
 
 cast-list : tie.Need-overflow_cast-list
@@ -100,12 +91,9 @@ same_length c = search rules
 
 returns-5 : tie.Need-returns
 returns-5 c =
-    let test3 = c.before.before in
-    let test = test3.before.before.before.before in
-    let s = test.before.before.before.before in
-    let a = s.args in
-    Wrote-noted-fair a.list.now a.n (pages_in a.rows.now) _ (fair s) a.word _ (told test)
-    test3.field_of-field.ensures.0 test3.if-field-eq0.false test3.if-p-field.false
+    let a = c.args in
+    Wrote-noted-fair a.list.now a.n (pages_in a.rows.now) _ (fair c.before.before.before.before.before.before.before.before.before.before.before) a.word _ (told c.before.before.before.before.before.before)
+    c.field_of-field.ensures.0 c.if-field-eq0.false c.if-p-field.false
     (sym c.page_fair.ensures ∙ not-false _ c.if-not-page_fair.false-raw)
 
 pub note_spec : {M : Type 1} → statement M

@@ -42,7 +42,7 @@ wrote c =
     (λ w. Wrote-same w.6 w.5
     (Wrote-leaf a.rows.now a.dir.now (leaf_by a.rows.now a.pages.now) (deepest_in a.rows.now) 0 0 0
     (get_or a.dir.now 0 0) a.list.now 0 _ _
-    (eqb-true _ _ (sym c.is_Is_leaf.ensures ∙ w.0.taken)) w.2.ensures))
+    (eqb-true _ _ (sym c.is_leaf.ensures ∙ w.0.taken)) w.2.ensures))
     (λ w. Wrote-same w.6 w.5 w.2.ensures)
     c.if-is_leaf.branch
 
@@ -53,8 +53,7 @@ same c =
 
 shared-slice-read-word : tie.Need-bounds-dir-0
 shared-slice-read-word c =
-    let s = c.before.before.before.before in
-    omega (arith, s.requires.words-lent, pow_pos s.args.state.deepest)
+    omega (arith, c.requires.words-lent, pow_pos c.args.state.deepest)
 
 is-leaf-requires : tie.Need-is_leaf-requires
 is-leaf-requires c κs = tt
@@ -65,7 +64,7 @@ note-requires c κs = leaf-asked (turn c.before.before.before.before.before.befo
 walk-requires : tie.Need-walk-count-requires
 walk-requires c κs = (
   turn c.before.before.before.before.before.before.before,
-  eqb-false _ _ (sym c.is_Is_leaf.ensures ∙ c.if-is_leaf.false),
+  eqb-false _ _ (sym c.is_leaf.ensures ∙ c.if-is_leaf.false),
 )
 
 same_length : tie.Need-shape_of-list-then-count-gt-MOST_PAGES
@@ -80,7 +79,7 @@ seen-wrote c q table =
     let s = start c in
     let a = s.args in
     subst (λ u. Wrote a.list.now 0 u c.if-is_leaf.count c.if-is_leaf.list)
-    (by_rows-walk_seen a.state a.rows.now a.dir.now a.pages.now (length a.list.now) s.pre q table)
+    (by_rows-walk_seen a.state a.rows.now a.dir.now a.pages.now (length a.list.now) s.requires q table)
     (wrote c)
 
 returns : tie.Need-returns-then-count-gt-MOST_PAGES
@@ -88,7 +87,7 @@ returns c =
     let s = start c.before in
     let a = s.args in λ q table.
     Put-damaged a.list.now _ _ _ (seen-wrote c.before q table)
-    (length-walk_seen-le a.state a.rows.now a.dir.now a.pages.now (length a.list.now) s.pre q table
+    (length-walk_seen-le a.state a.rows.now a.dir.now a.pages.now (length a.list.now) s.requires q table
     ).1
     c.if-count-gt-MOST_PAGES.true
 

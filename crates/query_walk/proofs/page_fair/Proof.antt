@@ -50,13 +50,12 @@ page-size-requires c κs = omega (arith, c.requires.lent.capacity)
 
 add-end : tie.Need-overflow_add-end
 add-end c =
-    let s = c.before.before.before.before.before.before in
     omega (
       arith,
-      ends s,
+      ends c.before.before.before.before.before.before.before,
       c.page_start-start.ensures,
       c.page_size.ensures,
-      s.well_formed,
+      c.well_formed,
     )
 
 sub-fair-count : tie.Need-slice_bounds-fair_count-count
@@ -67,51 +66,46 @@ part-fair-count-start c = search rules
 
 part-fair-count-end : tie.Need-slice_bounds-fair_count-end
 part-fair-count-end c =
-    let s = c.before.before.before.before.before.before in
-    omega (arith, ends s, c.page_start-start.ensures, c.page_size.ensures)
+    omega (arith, ends c.before.before.before.before.before.before.before, c.page_start-start.ensures, c.page_size.ensures)
 
 -- the part is the page
 part : (c : tie.After-page_size)
-    → let s = c.before.before.before.before.before.before in
+    →
     let start = c.page_start-start.result in
     let size = c.page_size.result in
-    let b = capacity_in s.args.rows.now in
-    mid_of start (start + size - start) s.args.pages.now ≡ page_at b s.args.pages.now s.args.page
+    let b = capacity_in c.args.rows.now in
+    mid_of start (start + size - start) c.args.pages.now ≡ page_at b c.args.pages.now c.args.page
 part c =
-    let s = c.before.before.before.before.before.before in
-    mid_of-page (capacity_in s.args.rows.now) s.args.page _ _ s.args.pages.now
+    mid_of-page (capacity_in c.args.rows.now) c.args.page _ _ c.args.pages.now
     c.page_start-start.ensures c.page_size.ensures
 
 fair-count-requires : tie.Need-fair_count-requires
 fair-count-requires c κs =
-    let s = c.before.before.before.before.before.before.before in
-    let b = capacity_in s.args.rows.now in (
-      s.requires.lent.capacity,
+    let b = capacity_in c.args.rows.now in (
+      c.requires.lent.capacity,
       omega (
         arith,
         ap length (part c.before),
-        length-page_at b s.args.page s.args.pages.now (ends s),
+        length-page_at b c.args.page c.args.pages.now (ends c.before.before.before.before.before.before.before.before),
       ),
     )
 
 returns : tie.Need-returns-then-fair_count-eq0
 returns c =
-    let s = c.before.before.before.before.before.before.before.before.before in
-    let rows = s.args.rows.now in
-    fair_by-zero (capacity_in rows) (bias_in rows) (fixed_in rows s.args.x) s.args.corner _ _
+    let rows = c.args.rows.now in
+    fair_by-zero (capacity_in rows) (bias_in rows) (fixed_in rows c.args.x) c.args.corner _ _
     c.fair_count.ensures
     c.if-fair_count-eq0.true
-    ∙ ap (fair_by (capacity_in rows) (bias_in rows) (fixed_in rows s.args.x) s.args.corner)
+    ∙ ap (fair_by (capacity_in rows) (bias_in rows) (fixed_in rows c.args.x) c.args.corner)
     (part c.before.before.before)
 
 returns-2 : tie.Need-returns
 returns-2 c =
-    let s = c.before.before.before.before.before.before.before.before.before in
-    let rows = s.args.rows.now in
-    fair_by-some (capacity_in rows) (bias_in rows) (fixed_in rows s.args.x) s.args.corner _ _
+    let rows = c.args.rows.now in
+    fair_by-some (capacity_in rows) (bias_in rows) (fixed_in rows c.args.x) c.args.corner _ _
     c.fair_count.ensures
     c.if-fair_count-eq0.false
-    ∙ ap (fair_by (capacity_in rows) (bias_in rows) (fixed_in rows s.args.x) s.args.corner)
+    ∙ ap (fair_by (capacity_in rows) (bias_in rows) (fixed_in rows c.args.x) c.args.corner)
     (part c.before.before.before)
 
 pub page_fair_spec : {M : Type 1} → statement M

@@ -26,11 +26,10 @@ refuse-list-requires c κs = search rules
 
 returns : tie.Need-returns-then-number-ne0
 returns c =
-    let e = c.before in
-    let a = e.args in
+    let a = c.args in
     rw c.refuse_list.ensures
     (promise-early a.state a.dir.now a.pages.now (range_intervals a.range) a.out.now _
-    e.range_number-number.ensures e.if-number-ne0.true)
+    c.range_number-number.ensures c.if-number-ne0.true)
 
 limits-hold-requires : tie.Need-limits_hold-requires
 limits-hold-requires c κs =
@@ -70,7 +69,7 @@ free-query-requires c κs = search rules
 
 fill-rows-requires : tie.Need-fill_rows-requires
 fill-rows-requires c κs =
-    let l = limits c.before.before.before in
+    let l = limits c.before.before.before.before in
     record { shape = l.shape; deep = l.depth-twelve; bits = l.depth-bits; table-lent = omega arith }
 
 -- the rows are those of a query, and the list has the room
@@ -79,10 +78,9 @@ tested : (c : tie.After-fill_rows) (room : ℕ)
     let rows = c.fill_rows.new.rows in (2 ^ a.state.deepest ≤ room
     → Tested a.state (range_intervals a.range) rows (length a.dir.now) (length a.pages.now) room)
 tested c room l =
-    let w = c.before.before.before.before in
     record {
-      none = none w;
-      can = can w;
+      none = none c.before.before.before.before.before;
+      can = can c.before.before.before.before.before;
       query = _;
       table = c.fill_rows.ensures.1;
       rows-lent = omega (arith, c.fill_rows.ensures.0);
@@ -94,8 +92,7 @@ slice-aggregate-read-pages c = search rules
 
 read-pages-requires : tie.Need-read_pages-requires
 read-pages-requires c κs =
-    let filled = c.before.before.before.before in
-    tested filled _ (pow_mono {j = 4} c.if-depth-le4.true)
+    tested c.before.before.before.before _ (pow_mono {j = 4} c.if-depth-le4.true)
 
 same_length : tie.Need-shape_of-out-then-depth-le4
 same_length c = search rules
@@ -108,8 +105,7 @@ slice-aggregate-read-pages-2 c = search rules
 
 read-pages-requires-2 : tie.Need-read_pages-requires-then-depth-le6
 read-pages-requires-2 c κs =
-    let filled = c.before.before.before.before.before in
-    tested filled _ (pow_mono {j = 6} c.if-depth-le6.true)
+    tested c.before.before.before.before.before _ (pow_mono {j = 6} c.if-depth-le6.true)
 
 same-length-2 : tie.Need-shape_of-out-then-depth-le6
 same-length-2 c = search rules
@@ -122,8 +118,7 @@ slice-aggregate-read-pages-3 c = search rules
 
 read-pages-requires-3 : tie.Need-read_pages-requires-then-depth-le8
 read-pages-requires-3 c κs =
-    let filled = c.before.before.before.before.before.before in
-    tested filled _ (pow_mono {j = 8} c.if-depth-le8.true)
+    tested c.before.before.before.before.before.before _ (pow_mono {j = 8} c.if-depth-le8.true)
 
 same-length-3 : tie.Need-shape_of-out-then-depth-le8
 same-length-3 c = search rules
@@ -136,8 +131,7 @@ slice-aggregate-read-pages-4 c = search rules
 
 read-pages-requires-4 : tie.Need-read_pages-requires-2
 read-pages-requires-4 c κs =
-    let filled = c.before.before.before.before.before.before in
-    tested filled _ (pow_mono {j = 12} (limits filled.before.before.before.before).depth-twelve)
+    tested c.before.before.before.before.before.before _ (pow_mono {j = 12} (limits c.before.before.before.before.before.before.before.before.before.before.before).depth-twelve)
 
 same-length-4 : tie.Need-shape_of-out
 same-length-4 c = search rules

@@ -21,46 +21,40 @@ use Rattle.range.proofs.read_pages.Tie as tie
 
 low-key-requires : tie.Need-low_key-low-requires
 low-key-requires c κs =
-    let s = c.before.before.before.before in
-    let a = s.args in (
-      shape-of-none a.state a.dir.now a.pages.now (range_intervals a.range) s.requires.none,
-      low-of-none a.state a.dir.now a.pages.now (range_intervals a.range) s.requires.none,
+    let a = c.args in (
+      shape-of-none a.state a.dir.now a.pages.now (range_intervals a.range) c.requires.none,
+      low-of-none a.state a.dir.now a.pages.now (range_intervals a.range) c.requires.none,
     )
 
 high-key-requires : tie.Need-high_key-high-requires
 high-key-requires c κs =
-    let s = c.before.before.before.before.before in
-    let a = s.args in (
-      shape-of-none a.state a.dir.now a.pages.now (range_intervals a.range) s.requires.none,
-      high-of-none a.state a.dir.now a.pages.now (range_intervals a.range) s.requires.none,
+    let a = c.args in (
+      shape-of-none a.state a.dir.now a.pages.now (range_intervals a.range) c.requires.none,
+      high-of-none a.state a.dir.now a.pages.now (range_intervals a.range) c.requires.none,
     )
 
 fill-limits-requires : tie.Need-fill_limits-requires
 fill-limits-requires c κs =
-    let s = c.before.before.before.before.before.before.before in
-    let a = s.args in
-    shape-of-none a.state a.dir.now a.pages.now (range_intervals a.range) s.requires.none
+    let a = c.args in
+    shape-of-none a.state a.dir.now a.pages.now (range_intervals a.range) c.requires.none
 
 -- the table, once the limits are put behind the rows
 tabled : (c : tie.After-fill_limits)
-    → let s = c.before.before.before.before.before.before.before.before in
-    Table s.args.state s.requires.query c.fill_limits.new.rows
+    →
+    Table c.args.state c.requires.query c.fill_limits.new.rows
 tabled c =
-    let s = c.before.before.before.before.before.before.before.before in
-    let a = s.args in
+    let a = c.args in
     let r = range_intervals a.range in
-    let deep = (limits-lent a.state a.dir.now a.pages.now r s.requires.none s.requires.can).depth-twelve in
+    let deep = (limits-lent a.state a.dir.now a.pages.now r c.requires.none c.requires.can).depth-twelve in
     rw c.fill_limits.ensures
-    (Table-limited a.state a.rows.now deep s.requires.query s.requires.table s.requires.rows-lent)
+    (Table-limited a.state a.rows.now deep c.requires.query c.requires.table c.requires.rows-lent)
 
 note-met-requires : tie.Need-note_met-noted-requires
 note-met-requires c κs =
-    let filled = c.before.before in
-    let s = filled.before.before.before.before.before.before.before.before in
-    let a = s.args in (
-      walkable-rows a.state a.dir.now a.pages.now (range_intervals a.range) s.requires.none s.requires.can
-          s.requires.query _ (length a.list.now) (tabled filled) s.requires.room-left,
-      s.requires.room-left,
+    let a = c.args in (
+      walkable-rows a.state a.dir.now a.pages.now (range_intervals a.range) c.requires.none c.requires.can
+          c.requires.query _ (length a.list.now) (tabled c.before) c.requires.room-left,
+      c.requires.room-left,
     )
 
 -- the walk was by the range's packed ends
@@ -70,19 +64,17 @@ met : (c : tie.After-note_met-noted)
     Meeting a.state (low_key a.state.shape r) (high_key a.state.shape r) a.dir.now a.pages.now
     a.list.now c.note_met-noted.result c.note_met-noted.new.list
 met c =
-    let high = c.before.before.before.before.before in
-    let low = high.before in
-    let a = low.args in
+    let a = c.args in
     let r = range_intervals a.range in
     let later = c.note_met-noted.new.list in
     subst
     (λ k. Meeting a.state k (high_key a.state.shape r) a.dir.now a.pages.now a.list.now
     c.note_met-noted.result later)
-    low.low_key-low.ensures
+    c.low_key-low.ensures
     (subst
-    (λ k. Meeting a.state low.low_key-low.result k a.dir.now a.pages.now a.list.now c.note_met-noted.result
+    (λ k. Meeting a.state c.low_key-low.result k a.dir.now a.pages.now a.list.now c.note_met-noted.result
     later)
-    high.high-key.ensures
+    c.high_key-high.ensures
     c.note_met-noted.ensures)
 
 enum-known-noted : tie.Need-enum_known-noted
@@ -97,32 +89,24 @@ same_length c = search rules
 returns : tie.Need-returns-in_default
 unfolding listed_answer
 returns c =
-    let walk = c.before.before.before in
-    let s = walk.before.before.before.before.before.before.before.before.before.before.before in
-    let a = s.args in
-    nine-damaged a.state a.dir.now a.pages.now (range_intervals a.range) s.requires.none s.requires.can
-    a.list.now _ _ (met walk) a.out.now c.in_default.is
+    let a = c.args in
+    nine-damaged a.state a.dir.now a.pages.now (range_intervals a.range) c.requires.none c.requires.can
+    a.list.now _ _ (met c.before.before.before) a.out.now c.in_default.is
 
 cast-put-within : tie.Need-overflow_cast-shape
 cast-put-within c = search rules
 
 bias-key-requires : tie.Need-bias_key-requires
 bias-key-requires c κs =
-    let noted-at = c in
-    let walk = noted-at.before.before.before.before.before in
-    let s = walk.before.before.before.before.before.before.before.before.before.before.before in
-    let a = s.args in
-    shape-of-none a.state a.dir.now a.pages.now (range_intervals a.range) s.requires.none
+    let a = c.args in
+    shape-of-none a.state a.dir.now a.pages.now (range_intervals a.range) c.requires.none
 
 put-within-requires : tie.Need-put_within-total-requires
 put-within-requires c κs =
-    let noted-at = c in
-    let walk = noted-at.before.before.before.before.before.before.before.before in
-    let s = walk.before.before.before.before.before.before.before.before.before.before.before in
-    let a = s.args in
-    pages-within a.state a.dir.now a.pages.now (range_intervals a.range) s.requires.none s.requires.can
-    a.list.now _ _ (met walk) walk.note-met.auto.1.1.1.1.1.1.0 s.requires.room-left _
-    noted-at.noted.given.1
+    let a = c.args in
+    pages-within a.state a.dir.now a.pages.now (range_intervals a.range) c.requires.none c.requires.can
+    a.list.now _ _ (met c.before.before.before.before.before.before.before) c.note_met-noted.auto.list c.requires.room-left _
+    c.in-Pages.is
 
 smaller-length-requires : tie.Need-smaller_length-requires
 smaller-length-requires c κs = search rules
@@ -136,28 +120,21 @@ same-length-3 c = search rules
 returns-2 : tie.Need-returns
 unfolding listed_answer
 returns-2 c =
-    let put-at = c.before.before.before in
-    let put = put-at.put_within-total in
-    let bias = put-at.before.before.before in
-    let noted-at = bias in
+    let put = c.put_within-total in
     let found = noted-at.noted.given in
-    let walk = noted-at.before.before.before.before.before.before in
-    let high = walk.before.before.before.before.before in
-    let low = high.before in
-    let s = low.before.before.before.before.before in
-    let a = s.args in
-    let known = low.shared_slice_known-2-1.given in
-    let noted = take found.0.0 walk.note-met.new.1.1.1.1.1.1.0 in
-    promise-of-pages a.state a.dir.now a.pages.now (range_intervals a.range) s.requires.none s.requires.can
-    a.list.now _ _ (met walk) walk.note-met.auto.1.1.1.1.1.1.0 s.requires.room-left _ found.1
+    let a = c.args in
+    let known = c.shared_slice_known-2-1.given in
+    let noted = take found.0.0 c.note_met-noted.new.list in
+    promise-of-pages a.state a.dir.now a.pages.now (range_intervals a.range) c.requires.none c.requires.can
+    a.list.now _ _ (met c.before.before.before.before.before.before.before.before.before.before.before) c.note_met-noted.auto.list c.requires.room-left _ found.1
     (λ i. omega (arith, known i)) a.out.now _ _ _
     (put.ensures.value.0
-    ∙ (λ i. length (list_hits (lies_in (bias.bias-key.ensures i) (low.low-key.ensures i) (high.high-key.ensures i)) a.state.shape.capacity
+    ∙ (λ i. length (list_hits (lies_in (c.bias_key.ensures i) (c.low_key-low.ensures i) (c.high_key-high.ensures i)) a.state.shape.capacity
     a.pages.now noted)))
     (c.smaller_length.ensures ∙ ap (λ k. min put.result (k / record_size)) put.auto.out)
     (put.ensures.out_after
     ∙ (λ i. emit a.out.now 0
-    (list_hits (lies_in (bias.bias-key.ensures i) (low.low-key.ensures i) (high.high-key.ensures i)) a.state.shape.capacity
+    (list_hits (lies_in (c.bias_key.ensures i) (c.low_key-low.ensures i) (c.high_key-high.ensures i)) a.state.shape.capacity
     a.pages.now noted)))
 
 pub read_pages_spec : {M : Type 1} → statement M

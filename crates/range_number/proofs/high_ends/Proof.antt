@@ -21,10 +21,9 @@ high-at-requires-4 c κs = search rules
 returns : tie.Need-returns
 unfolding wanted_values high_ends
 returns c =
-    let two = c.before.before in
     rw (
-      two.high_at-a0.ensures,
-      two.high_at-a1.ensures,
+      c.high_at-a0.ensures,
+      c.high_at-a1.ensures,
       c.high_at-a2.ensures,
       c.high_at-a3.ensures,
     ) refl

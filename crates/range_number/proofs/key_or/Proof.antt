@@ -26,17 +26,15 @@ pack-key-requires c κs =
     let d1 = c.value_or-v1.ensures in
     let d2 = c.value_or-v2.ensures in
     let d3 = c.value_or-v3.ensures in
-    let s = c.before.before.before.before in
     subst SixteenBits (sym (λ i. d0 i ∷ d1 i ∷ d2 i ∷ d3 i ∷ []))
-    (values_or-lt s.args.free (wanted_values s.args.query) s.requires.1 s.requires.0)
+    (values_or-lt c.args.free (wanted_values c.args.query) c.requires.1 c.requires.0)
 
 returns : tie.Need-returns
 returns c =
-    let b = c.before in
-    let d0 = b.value_or-v0.ensures in
-    let d1 = b.value_or-v1.ensures in
-    let d2 = b.value_or-v2.ensures in
-    let d3 = b.value_or-v3.ensures in
+    let d0 = c.value_or-v0.ensures in
+    let d1 = c.value_or-v1.ensures in
+    let d2 = c.value_or-v2.ensures in
+    let d3 = c.value_or-v3.ensures in
     c.pack_key.ensures ∙ ap packed_key (λ i. d0 i ∷ d1 i ∷ d2 i ∷ d3 i ∷ [])
 
 pub key_or_spec : {M : Type 1} → statement M

@@ -21,16 +21,14 @@ enum-known-span c = search rules
 
 returns : tie.Need-returns-in-Free
 returns c =
-    let s = c.before.before in
     sym
-    (ap low_end (get_d-range_intervals s.args.range s.args.j s.requires)
+    (ap low_end (get_d-range_intervals c.args.range c.args.j c.requires)
     ∙ ap (λ x. low_end (span_interval x)) c.in-Free.is)
 
 returns-2 : tie.Need-returns-in-Within
 returns-2 c =
-    let s = c.before.before in
     sym
-    (ap low_end (get_d-range_intervals s.args.range s.args.j s.requires)
+    (ap low_end (get_d-range_intervals c.args.range c.args.j c.requires)
     ∙ ap (λ x. low_end (span_interval x)) c.in-Within.is)
 
 pub low_at_spec : {M : Type 1} → statement M

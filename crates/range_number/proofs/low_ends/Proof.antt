@@ -21,10 +21,9 @@ low-at-requires-4 c κs = search rules
 returns : tie.Need-returns
 unfolding wanted_values low_ends
 returns c =
-    let two = c.before.before in
     rw (
-      two.low_at-a0.ensures,
-      two.low_at-a1.ensures,
+      c.low_at-a0.ensures,
+      c.low_at-a1.ensures,
       c.low_at-a2.ensures,
       c.low_at-a3.ensures,
     ) refl

@@ -53,7 +53,7 @@ high-ends-requires : tie.Need-high_ends-highs-requires
 high-ends-requires c κs = search rules
 
 query-fits-requires : tie.Need-query_fits-requires
-query-fits-requires c κs = shaped c.before
+query-fits-requires c κs = shaped c.before.before
 
 -- whether the high ends fit
 high-fit : (c : tie.After-query_fits)
@@ -65,9 +65,8 @@ high-fit c =
 
 returns-2 : tie.Need-returns-then-not-query_fits
 returns-2 c =
-    let low = c.before.before.before in
-    let a = low.args in
-    range_number_by-out a.state a.words a.bytes (range_intervals a.range) (low-none low)
+    let a = c.args in
+    range_number_by-out a.state a.words a.bytes (range_intervals a.range) (low-none c.before.before.before.before)
     (sym (high-fit c.before) ∙ not-true _ c.if-not-query_fits.true-raw)
 
 -- both fit, so they have 16 bits
@@ -80,25 +79,23 @@ sixteen-low : (c : tie.Else-not-query_fits)
     → let a = c.args in
     GivenSixteenBits (encoded_wanted a.state.shape (low_ends (range_intervals a.range)))
 sixteen-low c =
-    let low = c.before.before.before in
-    let a = low.args in
+    let a = c.args in
     let q = low_ends (range_intervals a.range) in
-    sixteen-of-fits a.state.shape (shaped low) q
-    (parts-of-query_number_by a.state a.words a.bytes q (low-none low)).1
+    sixteen-of-fits a.state.shape (shaped c.before.before.before.before) q
+    (parts-of-query_number_by a.state a.words a.bytes q (low-none c.before.before.before.before)).1
 
 sixteen-high : (c : tie.Else-not-query_fits)
     → let a = c.args in
     GivenSixteenBits (encoded_wanted a.state.shape (high_ends (range_intervals a.range)))
 sixteen-high c =
-    let low = c.before.before.before in
-    let a = low.args in
-    sixteen-of-fits a.state.shape (shaped low) (high_ends (range_intervals a.range)) (high_fits c)
+    let a = c.args in
+    sixteen-of-fits a.state.shape (shaped c.before.before.before.before) (high_ends (range_intervals a.range)) (high_fits c)
 
 low-key-requires : tie.Need-low_key-low-requires
-low-key-requires c κs = (shaped c.before.before.before, sixteen-low c)
+low-key-requires c κs = (shaped c.before.before.before.before.before, sixteen-low c.before)
 
 high-key-requires : tie.Need-high_key-requires
-high-key-requires c κs = (shaped c.before.before.before.before, sixteen-high c.before)
+high-key-requires c κs = (shaped c.before.before.before.before.before.before.before, sixteen-high c.before.before.before)
 
 lies-between-requires : tie.Need-lies_between-requires
 lies-between-requires c κs = search rules
@@ -108,29 +105,23 @@ rising : (c : tie.After-lies_between)
     → let a = c.args in
     c.lies_between.result ≡ range_rises a.state.shape (range_intervals a.range)
 rising c =
-    let keyed = c.before.before in
-    let low = keyed.low_key-low.ensures in
+    let low = c.low_key-low.ensures in
     let high = c.high_key.ensures in
-    let fit = keyed.before in
-    let a = fit.args in
+    let a = c.args in
     c.lies_between.ensures
     ∙ (λ i. lies_between (low i) (high i) (low i))
-    ∙ range_rises-ends a.state.shape (range_intervals a.range) (sixteen-low fit) (sixteen-high fit)
+    ∙ range_rises-ends a.state.shape (range_intervals a.range) (sixteen-low c.before.before.before.before.before) (sixteen-high c.before.before.before.before.before)
 
 returns-3 : tie.Need-returns-then-lies_between
 returns-3 c =
-    let fit = c.before.before.before.before in
-    let low = fit.before.before.before in
-    let a = low.args in
-    range_number_by-rises a.state a.words a.bytes (range_intervals a.range) (low-none low) (high_fits fit)
+    let a = c.args in
+    range_number_by-rises a.state a.words a.bytes (range_intervals a.range) (low-none c.before.before.before.before.before.before.before.before.before.before) (high_fits c.before.before.before.before.before.before)
     (sym (rising c.before) ∙ c.if-lies_between.true)
 
 returns-4 : tie.Need-returns-else-lies_between
 returns-4 c =
-    let fit = c.before.before.before.before in
-    let low = fit.before.before.before in
-    let a = low.args in
-    range_number_by-falls a.state a.words a.bytes (range_intervals a.range) (low-none low) (high_fits fit)
+    let a = c.args in
+    range_number_by-falls a.state a.words a.bytes (range_intervals a.range) (low-none c.before.before.before.before.before.before.before.before.before.before) (high_fits c.before.before.before.before.before.before)
     (sym (rising c.before) ∙ c.if-lies_between.false)
 
 pub range_number_spec : {M : Type 1} → statement M

@@ -21,17 +21,15 @@ enum-known-wanted c = search rules
 
 returns : tie.Need-returns-in-Free
 returns c =
-    let s = c.before.before in
     sym
-    (ap (value_or s.args.free) (get_d-wanted_values s.args.query s.args.j s.requires)
-    ∙ ap (λ w. value_or s.args.free (wanted_value w)) c.in-Free.is)
+    (ap (value_or c.args.free) (get_d-wanted_values c.args.query c.args.j c.requires)
+    ∙ ap (λ w. value_or c.args.free (wanted_value w)) c.in-Free.is)
 
 returns-2 : tie.Need-returns-in-Given
 returns-2 c =
-    let s = c.before.before in
     sym
-    (ap (value_or s.args.free) (get_d-wanted_values s.args.query s.args.j s.requires)
-    ∙ ap (λ w. value_or s.args.free (wanted_value w)) c.in-Given.is)
+    (ap (value_or c.args.free) (get_d-wanted_values c.args.query c.args.j c.requires)
+    ∙ ap (λ w. value_or c.args.free (wanted_value w)) c.in-Given.is)
 
 pub value_or_spec : {M : Type 1} → statement M
 value_or_spec =

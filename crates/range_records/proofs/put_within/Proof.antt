@@ -32,8 +32,7 @@ loop-holds c =
 
 mul-put-within-page : tie.Need-offset_bounds-list-i invariant-loop decreases-loop
 mul-put-within-page c =
-    let s = c.before.before.before.before.before in
-    record { fits = omega (arith, s.requires.few, c.loop-i-test.true) }
+    record { fits = omega (arith, c.requires.few, c.loop-i-test.true) }
 
 shared-slice-read-put-within-page : tie.Need-bounds-list-i invariant-loop decreases-loop
 shared-slice-read-put-within-page c =
@@ -44,19 +43,17 @@ cast-put-within-page c = omega (arith, c.shared_slice_known-in-loop-i-1.given c.
 
 put-within-page-requires : tie.Need-put_within_page-total-requires invariant-loop decreases-loop
 put-within-page-requires c κs =
-    let s = c.before.before.before.before.before.before.before in
     let loop = c.loop-i in
     let lt = c.loop-i-test.true in
     record {
-      capacity = s.requires.capacity;
-      page = s.requires.each loop.i lt;
-      before = omega (arith, loop.invariant.1, s.requires.few, lt);
+      capacity = c.requires.capacity;
+      page = c.requires.each loop.i lt;
+      before = omega (arith, loop.invariant.1, c.requires.few, lt);
     }
 
 add-i : tie.Need-overflow_add-i invariant-loop decreases-loop
 add-i c =
-    let s = c.before.before.before.before.before.before.before.before.before.before in
-    record { fits = omega (arith, s.requires.few, c.loop-i-test.true) }
+    record { fits = omega (arith, c.requires.few, c.loop-i-test.true) }
 
 loop-less : tie.Need-loop-i-smaller invariant-loop decreases-loop
 loop-less c = let lt = c.loop-i-test.true in omega (arith, lt)
@@ -66,15 +63,14 @@ loop-again c =
     let put = c.put_within_page-total in
     let loop = c.loop-i in
     let lt = c.loop-i-test.true in
-    let s = c.before.before.before.before.before.before.before.before.before.before in
-    let a = s.args in
+    let a = c.args in
     let f = between a.bias a.low a.high a.capacity a.pages.now in
-    let page = s.requires.each loop.i lt in
+    let page = c.requires.each loop.i lt in
     let few = length-page_hits-le a.capacity a.pages.now (lies_in a.bias a.low a.high) _
-    s.requires.capacity page in (
+    c.requires.capacity page in (
       omega (arith, lt),
       emitted_to-next f a.list.now a.out.now loop.i loop.total loop.out loop.invariant.1
-          (omega (arith, s.requires.within, lt)) few _ put.ensures.value _ put.ensures.out_after put.auto.out,
+          (omega (arith, c.requires.within, lt)) few _ put.ensures.value _ put.ensures.out_after put.auto.out,
     )
 
 same_length : tie.Need-shape_of-out invariant-loop decreases-loop
@@ -83,13 +79,12 @@ same_length c = c.loop-i.invariant.1.1
 returns : tie.Need-returns invariant-loop decreases-loop
 unfolding list_hits
 returns c =
-    let s = c.before.before.before.before.before in
-    let a = s.args in
+    let a = c.args in
     let loop = c.loop-i in
     let f = between a.bias a.low a.high a.capacity a.pages.now in
     emitted-as f (take a.n a.list.now) a.out.now _ _ _
     (emitted_to-all f a.list.now a.out.now a.n loop.i loop.total loop.out loop.invariant.0
-    c.loop-i-test.false s.requires.few loop.invariant.1)
+    c.loop-i-test.false c.requires.few loop.invariant.1)
     refl
 
 pub put_within_spec : {M : Type 1} → statement M

@@ -60,23 +60,20 @@ part-within-mask-end c = search rules
 
 -- its count
 counted : (c : tie.After-count-n)
-    → let sized = c.before.before in
-    let a = sized.args in
+    →
+    let a = c.args in
     c.count-n.result ≡ count_of (page_at a.capacity a.pages.now a.g)
 counted c = c.count-n.ensures.0 ∙ ap count_of (part c.before.before)
 
 few : (c : tie.After-count-n) → c.count-n.result < 64
 few c =
-    let s = c.before.before.before.before.before.before in
-    omega (arith, counted c, s.requires.capacity, s.requires.page.counted)
+    omega (arith, counted c, c.requires.capacity, c.requires.page.counted)
 
 within-mask-requires : tie.Need-within_mask-mask-requires
 within-mask-requires c κs =
-    let sized = c.before.before.before in
-    let s = sized.before.before.before.before in
-    let a = s.args in
-    let lent = records-lent a.capacity a.pages.now a.g s.requires.page in
-    rw (part sized, counted c.before) (omega (arith, s.requires.capacity, s.requires.page.counted), lent)
+    let a = c.args in
+    let lent = records-lent a.capacity a.pages.now a.g c.requires.page in
+    rw (part c.before.before.before, counted c.before) (omega (arith, c.requires.capacity, c.requires.page.counted), lent)
 
 shl-if1 : tie.Need-overflow_shl-n
 shl-if1 c = few c.before.before
@@ -89,10 +86,9 @@ masked : (c : tie.After-within_mask-mask)
     → let a = c.args in
     c.within_mask-mask.result ≡ page_mask (lies_in a.bias a.low a.high) (page_at a.capacity a.pages.now a.g)
 masked c =
-    let sized = c.before.before.before.before in
-    let a = sized.args in
+    let a = c.args in
     c.within_mask-mask.ensures
-    ∙ (λ i. match_mask (lies_in a.bias a.low a.high) (part sized i) (counted c.before.before i) 0)
+    ∙ (λ i. match_mask (lies_in a.bias a.low a.high) (part c.before.before.before.before i) (counted c.before.before i) 0)
 
 -- it picks the records that lie between
 picks : (c : tie.After-within_mask-mask)
@@ -100,29 +96,25 @@ picks : (c : tie.After-within_mask-mask)
     let page = page_at a.capacity a.pages.now a.g in
     picked_by c.within_mask-mask.result page ≡ page_hits (lies_in a.bias a.low a.high) page
 picks c =
-    let s = c.before.before.before.before.before.before.before.before in
-    let a = s.args in
-    picked_by-mask a.capacity a.pages.now (lies_in a.bias a.low a.high) a.g _ s.requires.page (masked c)
+    let a = c.args in
+    picked_by-mask a.capacity a.pages.now (lies_in a.bias a.low a.high) a.g _ c.requires.page (masked c)
 
 -- ---- all of them
 
 -- a mask of all records: they are all that lie between
 all-between : (c : tie.Then-mask-n)
-    → let sized = c.before.before.before.before.before in
-    let a = sized.args in
+    →
+    let a = c.args in
     let page = page_at a.capacity a.pages.now a.g in
     fields_from c.count-n.result 2 page ≡ page_hits (lies_in a.bias a.low a.high) page
 all-between c =
-    let mask = c.before in
-    let at_count = mask.before.before in
-    let s = at_count.before.before.before.before.before.before in
-    let a = s.args in
+    let a = c.args in
     let page = page_at a.capacity a.pages.now a.g in
-    let lent = records-lent a.capacity a.pages.now a.g s.requires.page in
+    let lent = records-lent a.capacity a.pages.now a.g c.requires.page in
     let full : page_mask (lies_in a.bias a.low a.high) page ≡ 2 ^ count_of page - 1 =
-    sym (masked mask) ∙ c.if-mask-n.true ∙ ap (λ x. x - 1) (one_shifted _ (few at_count))
-    ∙ ap (λ n. 2 ^ n - 1) (counted at_count) in
-    ap (λ n. fields_from n 2 page) (counted at_count)
+    sym (masked c.before) ∙ c.if-mask-n.true ∙ ap (λ x. x - 1) (one_shifted _ (few c.before.before.before))
+    ∙ ap (λ n. 2 ^ n - 1) (counted c.before.before.before) in
+    ap (λ n. fields_from n 2 page) (counted c.before.before.before)
     ∙ sym (hits-full (lies_in a.bias a.low a.high) page (count_of page) lent full)
 
 sub-put-all : tie.Need-slice_bounds-put_all-count
@@ -136,26 +128,20 @@ part-put-all-end c = search rules
 
 put-all-requires : tie.Need-put_all-requires
 put-all-requires c κs =
-    let at_count = c.before.before.before.before.before in
-    let sized = at_count.before.before in
-    let s = sized.before.before.before.before in
-    let a = s.args in
-    let lent = records-lent a.capacity a.pages.now a.g s.requires.page in
-    rw (part sized, counted at_count) (lent, omega (arith, s.requires.capacity, s.requires.page.counted, s.requires.before))
+    let a = c.args in
+    let lent = records-lent a.capacity a.pages.now a.g c.requires.page in
+    rw (part c.before.before.before.before.before.before.before, counted c.before.before.before.before.before) (lent, omega (arith, c.requires.capacity, c.requires.page.counted, c.requires.before))
 
 same_length : tie.Need-shape_of-out-then-mask-n
 same_length c = search rules
 
 returns : tie.Need-returns-then-mask-n
 returns c =
-    let then = c.before.before.before.before.before in
     let put = c.put_all.ensures in
-    let at_count = then.before.before.before in
-    let sized = at_count.before.before in
-    let a = sized.args in
-    let n = at_count.count-n.result in
-    let found = ap (fields_from n 2) (part sized) ∙ all-between then in (
-      put.0 ∙ ap (λ k. a.total + k) (sym (length-fields_from n 2 _) ∙ ap length (all-between then)),
+    let a = c.args in
+    let n = c.count-n.result in
+    let found = ap (fields_from n 2) (part c.before.before.before.before.before.before.before.before.before.before) ∙ all-between c.before.before.before.before.before in (
+      put.0 ∙ ap (λ k. a.total + k) (sym (length-fields_from n 2 _) ∙ ap length (all-between c.before.before.before.before.before)),
       put.1 ∙ ap (emit a.out.now a.total) found,
     )
 
@@ -172,14 +158,11 @@ part-put-picked-end c = search rules
 
 put-picked-requires : tie.Need-put_picked-requires
 put-picked-requires c κs =
-    let mask = c.before.before.before in
-    let sized = mask.before.before.before.before in
-    let s = sized.before.before.before.before in
-    let a = s.args in
+    let a = c.args in
     let test = lies_in a.bias a.low a.high in
-    let below = mask-lt-slots a.capacity a.pages.now test a.g _ s.requires.page (masked mask) in
-    let few = length-page_hits-le a.capacity a.pages.now test a.g s.requires.capacity s.requires.page in
-    rw (part sized) (below, omega (arith, ap length (picks mask), few, s.requires.before))
+    let below = mask-lt-slots a.capacity a.pages.now test a.g _ c.requires.page (masked c.before.before.before) in
+    let few = length-page_hits-le a.capacity a.pages.now test a.g c.requires.capacity c.requires.page in
+    rw (part c.before.before.before.before.before.before.before) (below, omega (arith, ap length (picks c.before.before.before), few, c.requires.before))
 
 same-length-2 : tie.Need-shape_of-out
 same-length-2 c = search rules
@@ -187,10 +170,8 @@ same-length-2 c = search rules
 returns-2 : tie.Need-returns
 returns-2 c =
     let put = c.put_picked.ensures in
-    let mask = c.before.before.before.before.before.before in
-    let sized = mask.before.before.before.before in
-    let a = sized.args in
-    let found = ap (picked_by mask.within_mask-mask.result) (part sized) ∙ picks mask in (
+    let a = c.args in
+    let found = ap (picked_by c.within_mask-mask.result) (part c.before.before.before.before.before.before.before.before.before.before) ∙ picks c.before.before.before.before.before.before in (
       put.0 ∙ ap (λ l. a.total + length l) found,
       put.1 ∙ ap (emit a.out.now a.total) found,
     )

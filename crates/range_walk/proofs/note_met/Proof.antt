@@ -47,7 +47,7 @@ wrote c =
     (Wrote-leaf a.rows.now a.dir.now (leaf_by a.rows.now a.pages.now)
     (meets_by_row a.rows.now a.low a.high) (deepest_in a.rows.now) 0 0 0
     (get_or a.dir.now 0 0) a.list.now 0 _ _
-    (eqb-true _ _ (sym c.is_Is_leaf.ensures ∙ w.0.taken)) w.2.ensures))
+    (eqb-true _ _ (sym c.is_leaf.ensures ∙ w.0.taken)) w.2.ensures))
     (λ w. Wrote-same w.6 w.5 w.2.ensures)
     c.if-is_leaf.branch
 
@@ -66,14 +66,13 @@ seen-wrote c enter tells =
     let s = start c in
     let a = s.args in
     subst (λ u. Wrote a.list.now 0 u c.if-is_leaf.count c.if-is_leaf.list)
-    (met_by_rows-walk_seen_by a.state a.rows.now a.dir.now a.pages.now (length a.list.now) s.pre.0
+    (met_by_rows-walk_seen_by a.state a.rows.now a.dir.now a.pages.now (length a.list.now) s.requires.0
     a.low a.high enter tells)
     (wrote c)
 
 shared-slice-read-word : tie.Need-bounds-dir-0
 shared-slice-read-word c =
-    let s = c.before.before.before.before in
-    omega (arith, s.requires.walkable.words-lent, pow_pos s.args.state.deepest)
+    omega (arith, c.requires.walkable.words-lent, pow_pos c.args.state.deepest)
 
 is-leaf-requires : tie.Need-is_leaf-requires
 is-leaf-requires c κs = tt
@@ -83,13 +82,12 @@ note-requires c κs = leaf-asked (turn c.before.before.before.before.before.befo
 
 walk-requires : tie.Need-walk-count-requires
 walk-requires c κs =
-    let s = c.before.before.before.before.before.before.before in
-    let a = s.args in
-    let all : deepest_in a.rows.now - 0 ≡ a.state.deepest = omega (arith, s.requires.walkable.table.depth-of) in (
-      turn s,
+    let a = c.args in
+    let all : deepest_in a.rows.now - 0 ≡ a.state.deepest = omega (arith, c.requires.walkable.table.depth-of) in (
+      turn c.before.before.before.before.before.before.before,
       (
-        rw all (omega (arith, s.requires.deepest_in_bounds)),
-        eqb-false _ _ (sym c.is_Is_leaf.ensures ∙ c.if-is_leaf.false),
+        rw all (omega (arith, c.requires.deepest_in_bounds)),
+        eqb-false _ _ (sym c.is_leaf.ensures ∙ c.if-is_leaf.false),
       ),
     )
 
@@ -101,7 +99,7 @@ returns c =
     let s = start c.before in
     let a = s.args in λ enter tells.
     Put-damaged a.list.now _ _ _ (seen-wrote c.before enter tells)
-    (length-walk_seen_by-le a.state a.rows.now a.dir.now a.pages.now (length a.list.now) s.pre.0
+    (length-walk_seen_by-le a.state a.rows.now a.dir.now a.pages.now (length a.list.now) s.requires.0
     enter)
     c.if-count-gt-MOST_PAGES.true
 

@@ -21,9 +21,8 @@ same_length c = search rules
 
 returns : tie.Need-returns
 returns c =
-    let start = c.before.before.before.before.before.before.before.before.before.before in
-    let a = start.args in
-    paste-packed_bytes a.bytes.now _ _ a.at a.key a.content start.requires
+    let a = c.args in
+    paste-packed_bytes a.bytes.now _ _ a.at a.key a.content c.requires
     c.write64.ensures c.write32.ensures
 
 pub write_record_spec : {M : Type 1} → statement M

@@ -30,13 +30,9 @@ same_length c = search rules
 
 returns : tie.Need-returns
 returns c =
-    let c3 = c.before.before in
-    let c2 = c3.before.before.before.before in
-    let c1 = c2.before.before.before.before in
-    let start = c1.before.before.before.before in
-    let a = start.args in
-    paste-sixteens a.source.now a.target.now a.from a.to start.requires.0 start.requires.1 _ _ _
-    c1.copy_sixteen.ensures c2.copy_sixteen-2.ensures c3.copy_sixteen-3.ensures
+    let a = c.args in
+    paste-sixteens a.source.now a.target.now a.from a.to c.requires.0 c.requires.1 _ _ _
+    c.copy_sixteen.ensures c.copy_sixteen-2.ensures c.copy_sixteen-3.ensures
 
 pub copy_block_spec : {M : Type 1} → statement M
 copy_block_spec =

@@ -16,12 +16,10 @@ same_length c = search rules
 
 returns : tie.Need-returns
 returns c =
-    let read = c.before.before.before in
-    let known = read.shared_slice_known-1.given in
-    let start = read.before.before.before.before in
-    let a = start.args in
-    paste-number a.source.now a.target.now a.from a.to _ (λ i. omega (arith, known i)) start.requires.0
-    read.read64.ensures _ c.write64.ensures
+    let known = c.shared_slice_known-1.given in
+    let a = c.args in
+    paste-number a.source.now a.target.now a.from a.to _ (λ i. omega (arith, known i)) c.requires.0
+    c.read64.ensures _ c.write64.ensures
 
 pub copy_eight_spec : {M : Type 1} → statement M
 copy_eight_spec = tie.close (tie.spec read64-requires write64-requires same_length returns)

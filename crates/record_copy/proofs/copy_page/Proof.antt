@@ -60,20 +60,13 @@ same_length c = search rules
 
 returns : tie.Need-returns
 returns c =
-    let c4 = c.before.before in
-    let c3 = c4.before.before.before.before in
-    let c2 = c3.before.before.before.before in
-    let c1 = c2.before.before.before.before in
-    let third = c1.before.before in
-    let second = third.before in
-    let start = second.before.before.before in
-    let a = start.args in
+    let a = c.args in
     let last = record_size * a.n - 48 in
-    let whole : last + 48 ≡ record_size * a.n = omega (arith, start.requires.0) in
-    paste-four a.source.now a.target.now a.from a.to last (omega (arith, start.requires.1))
-    (omega (arith, whole, start.requires.2)) (omega (arith, whole, start.requires.3)) _ _ second.smaller_length-second.ensures
-    third.smaller_length-third.ensures _ _ _ _ c1.copy_block.ensures c2.copy_block-2.ensures
-    c3.copy_block-3.ensures c4.copy_block-4.ensures
+    let whole : last + 48 ≡ record_size * a.n = omega (arith, c.requires.0) in
+    paste-four a.source.now a.target.now a.from a.to last (omega (arith, c.requires.1))
+    (omega (arith, whole, c.requires.2)) (omega (arith, whole, c.requires.3)) _ _ c.smaller_length-second.ensures
+    c.smaller_length-third.ensures _ _ _ _ c.copy_block.ensures c.copy_block-2.ensures
+    c.copy_block-3.ensures c.copy_block-4.ensures
     ∙ ap (paste a.target.now a.to (drop a.from a.source.now)) whole
 
 pub copy_page_spec : {M : Type 1} → statement M

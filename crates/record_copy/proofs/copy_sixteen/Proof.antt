@@ -30,20 +30,15 @@ same_length c = search rules
 
 returns : tie.Need-returns
 returns c =
-    let second = c.before.before in
-    let first = second.before.before.before.before in
-    let high = first.before.before in
-    let low = high.before in
-    let start = low.before.before.before in
-    let a = start.args in
-    let bytes = low.shared_slice_known-1.given in
+    let a = c.args in
+    let bytes = c.shared_slice_known-1.given in
     let are : AreBytes a.source.now = λ i. omega (arith, bytes i) in
     paste-part 8 a.source.now a.target.now a.from a.to 8 8 (omega arith) (omega arith)
-    start.requires.0 start.requires.1 _ _
-    (paste-number a.source.now a.target.now a.from a.to _ are (omega arith) low.read64-low.ensures _
-    first.write64.ensures)
-    (paste-number a.source.now _ (a.from + 8) (a.to + 8) _ are (omega arith) high.read64-high.ensures _
-    second.write64-2.ensures)
+    c.requires.0 c.requires.1 _ _
+    (paste-number a.source.now a.target.now a.from a.to _ are (omega arith) c.read64-low.ensures _
+    c.write64.ensures)
+    (paste-number a.source.now _ (a.from + 8) (a.to + 8) _ are (omega arith) c.read64-high.ensures _
+    c.write64-2.ensures)
 
 pub copy_sixteen_spec : {M : Type 1} → statement M
 copy_sixteen_spec =

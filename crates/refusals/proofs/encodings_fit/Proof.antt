@@ -17,8 +17,7 @@ four c = c.well_formed.1.0.1.1.0.1.0.1
 
 fit : (c : tie.After-widths_of-widths) → Fit (width_list c.widths_of-widths.result)
 fit c =
-    let s = c.before.before in
-    widths-fit s.args.shape (width_list c.widths_of-widths.result) s.requires c.widths_of-widths.ensures
+    widths-fit c.args.shape (width_list c.widths_of-widths.result) c.requires c.widths_of-widths.ensures
 
 widths-of-requires : tie.Need-widths_of-widths-requires
 widths-of-requires c κs = search rules
@@ -55,18 +54,16 @@ array-read-high-2 c = search rules
 
 cast-high-2 : tie.Need-overflow_cast-high-2
 cast-high-2 c =
-    let s = c.before.before.before.before.before in
-    elem_fits_field w32 w64 s.args.encoded.values _ 3 s.well_formed.1.0.1.1.0.1.1 tt
+    elem_fits_field w32 w64 c.args.encoded.values _ 3 c.well_formed.1.0.1.1.0.1.1 tt
 
 shr-high-2 : tie.Need-overflow_shr-high-2
 shr-high-2 c = omega (arith, fit c.before.before.before.before 3)
 
 returns : tie.Need-returns
 returns c =
-    let w = c.before.before.before.before in
-    let a = w.args in
-    index_fits-past a.shape a.encoded.values (four w.before.before) (width_list w.widths_of-widths.result)
-    w.widths_of-widths.ensures
+    let a = c.args in
+    index_fits-past a.shape a.encoded.values (four c.before.before.before.before.before.before) (width_list c.widths_of-widths.result)
+    c.widths_of-widths.ensures
 
 pub encodings_fit_spec : {M : Type 1} → statement M
 encodings_fit_spec =

@@ -14,10 +14,9 @@ use Rattle.refusals.proofs.lacks_memory.Tie as tie
 
 returns : tie.Need-returns-then-limits-gt63
 returns c =
-    let s = c.before.before.before in
-    let depth = s.args.state.limits.depth in
+    let depth = c.args.state.limits.depth in
     let more : 2 ^ 64 ≤ 2 ^ depth = pow_mono {i = 64} c.if-limits-gt63.true in
-    rw (lt-ltb s.args.words (2 ^ depth) (le_trans s.ranges.words.fits more)) refl
+    rw (lt-ltb c.args.words (2 ^ depth) (le_trans c.ranges.words.fits more)) refl
 
 cast-if2 : tie.Need-overflow_cast-limits
 cast-if2 c = search rules
@@ -27,11 +26,10 @@ shl-if2 c = search rules
 
 returns-2 : tie.Need-returns-then-words-limits
 returns-2 c =
-    let s = c.before.before.before.before.before in
-    let depth = s.args.state.limits.depth in
-    let few : s.args.words < 2 ^ depth =
+    let depth = c.args.state.limits.depth in
+    let few : c.args.words < 2 ^ depth =
     rw (one_shifted depth (omega (arith, c.if-limits-gt63.false))) at c.if-words-limits.true in
-    rw (lt-ltb s.args.words (2 ^ depth) few) refl
+    rw (lt-ltb c.args.words (2 ^ depth) few) refl
 
 cast-page-start : tie.Need-overflow_cast-shape
 cast-page-start c = search rules
@@ -41,17 +39,14 @@ cast-page-start-2 c = search rules
 
 page-start-requires : tie.Need-page_start-requires
 page-start-requires c κs =
-    let s = c.before.before.before.before.before.before.before.before in
-    (omega (arith, (capacity-bounds s.args.state.shape s.requires).1), omega arith)
+    (omega (arith, (capacity-bounds c.args.state.shape c.requires).1), omega arith)
 
 returns-3 : tie.Need-returns
 returns-3 c =
-    let left = c.before.before.before.before in
-    let s = left.before.before.before.before.before in
-    let depth = s.args.state.limits.depth in
-    let enough : 2 ^ depth ≤ s.args.words =
-    rw (one_shifted depth (omega (arith, left.if-limits-gt63.false))) at left.if-words-limits.false in
-    rw (c.page_start.ensures, le-ltb s.args.words (2 ^ depth) enough) refl
+    let depth = c.args.state.limits.depth in
+    let enough : 2 ^ depth ≤ c.args.words =
+    rw (one_shifted depth (omega (arith, c.if-limits-gt63.false))) at c.if-words-limits.false in
+    rw (c.page_start.ensures, le-ltb c.args.words (2 ^ depth) enough) refl
 
 pub lacks_memory_spec : {M : Type 1} → statement M
 lacks_memory_spec =

@@ -23,16 +23,14 @@ lacks-memory-requires c κs = in_bounds c
 
 returns-2 : tie.Need-returns-then-lacks_memory
 returns-2 c =
-    let e = c.before.before in
-    let s = e.args in
-    lent_number_by-lacks s.state s.words s.bytes (in_bounds e)
+    let s = c.args in
+    lent_number_by-lacks s.state s.words s.bytes (in_bounds c.before.before)
     (sym c.lacks_memory.ensures ∙ c.if-lacks_memory.true)
 
 returns-3 : tie.Need-returns-else-lacks_memory
 returns-3 c =
-    let e = c.before.before in
-    let s = e.args in
-    lent_number_by-enough s.state s.words s.bytes (in_bounds e)
+    let s = c.args in
+    lent_number_by-enough s.state s.words s.bytes (in_bounds c.before.before)
     (sym c.lacks_memory.ensures ∙ c.if-lacks_memory.false)
 
 pub lent_number_spec : {M : Type 1} → statement M

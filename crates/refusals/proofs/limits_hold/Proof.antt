@@ -32,23 +32,20 @@ widths-of-requires c κs = search rules
 
 total-of-requires : tie.Need-total_of-requires
 total-of-requires c κs =
-    let s = c.before.before.before.before.before.before.before.before in
-    widths-fit s.args.state.shape (width_list c.widths_of.result) s.requires c.widths_of.ensures
+    widths-fit c.args.state.shape (width_list c.widths_of.result) c.requires c.widths_of.ensures
 
 cast-if4 : tie.Need-overflow_cast-limits
 cast-if4 c = search rules
 
 returns-4 : tie.Need-returns-then-total_of-limits
 returns-4 c =
-    let t = c.before.before in
-    let st = t.args.state in
-    limits_hold-bits st (omega arith) (omega arith) (omega arith) (omega (arith, bits t))
+    let st = c.args.state in
+    limits_hold-bits st (omega arith) (omega arith) (omega arith) (omega (arith, bits c.before.before))
 
 returns-5 : tie.Need-returns
 returns-5 c =
-    let t = c.before.before.before.before in
-    let st = t.args.state in
-    limits_hold-depth st (omega arith) (omega arith) (omega arith) (omega (arith, bits t))
+    let st = c.args.state in
+    limits_hold-depth st (omega arith) (omega arith) (omega arith) (omega (arith, bits c.before.before.before.before))
 
 pub limits_hold_spec : {M : Type 1} → statement M
 limits_hold_spec =

@@ -22,11 +22,10 @@ same-length-2 c = search rules
 
 returns : tie.Need-returns-in_default
 returns c =
-    let call = c.before.before.before.before.before in
-    let a = call.args in
+    let a = c.args in
     replayed-file-refused a.file.now (memory a.dir.now a.pages.now) a.calls.now a.answers.now
-    a.out.now (made_answer call.load-made.result.answer) _
-    (refused-of-tag call.load-made.result.answer c.in_default.keys2) call.load-made.ensures
+    a.out.now (made_answer c.load-made.result.answer) _
+    (refused-of-tag c.load-made.result.answer c.in_default.keys2) c.load-made.ensures
 
 run-calls-requires : tie.Need-run_calls-state-requires
 run-calls-requires c κs = search rules
@@ -46,13 +45,10 @@ same-length-6 c = search rules
 returns-2 : tie.Need-returns
 unfolding made_answer
 returns-2 c =
-    let ran = c.before.before.before.before.before.before.before.before in
-    let told = ran.before.before.before.before.before.before in
-    let call = told.before.before.before.before.before in
-    let a = call.args in
+    let a = c.args in
     replayed-file-accepted a.file.now (memory a.dir.now a.pages.now) a.calls.now a.answers.now
-    a.out.now (made_answer call.load-made.result.answer) _ _ _ _ (ap made_answer told.in-Done.is)
-    call.load-made.ensures ran.run_calls-state.ensures
+    a.out.now (made_answer c.load-made.result.answer) _ _ _ _ (ap made_answer c.in-Done.is)
+    c.load-made.ensures c.run_calls-state.ensures
 
 pub replay_file_spec : {M : Type 1} → statement M
 replay_file_spec =

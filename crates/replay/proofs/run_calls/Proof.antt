@@ -42,9 +42,8 @@ loop-holds c =
 
 read-request-requires : tie.Need-read_request-request-requires invariant-loop decreases-loop
 read-request-requires c κs =
-    let s = c.before.before in
-    let a = s.args in
-    call_fits a.calls.now a.answers.now _ _ s.smaller_length-n.ensures c.loop-i-test.true
+    let a = c.args in
+    call_fits a.calls.now a.answers.now _ _ c.smaller_length-n.ensures c.loop-i-test.true
 
 sub-request-size : tie.Need-overflow_sub-out invariant-loop decreases-loop
 sub-request-size c = let inv = c.loop-i.invariant in omega (arith, inv.4, inv.5)
@@ -70,21 +69,17 @@ part-run-call-end c =
 
 run-call-requires : tie.Need-run_call-step-requires invariant-loop decreases-loop
 run-call-requires c κs =
-    let sized = c.before.before.before in
-    let loop = sized.loop-i in
-    let size = sized.request_size.ensures in
-    part-lent sized.read_request-request.result loop.start _ (length loop.out - loop.start) loop.out
+    let loop = c.loop-i in
+    let size = c.request_size.ensures in
+    part-lent c.read_request-request.result loop.start _ (length loop.out - loop.start) loop.out
     (ap (λ n. loop.start + n) size.0) (omega (arith, loop.invariant.4, loop.invariant.5, size.1))
 
 put-answer-requires : tie.Need-put_answer-requires invariant-loop decreases-loop
 put-answer-requires c κs =
-    let call = c.before.before.before.before.before.before.before.before in
-    let test = call.before.before.before.before.before.before in
-    let loop = test.loop-i in
-    let counted = test.before.before in
-    let a = counted.args in
-    let fits = answer-fits a.calls.now a.answers.now _ loop.i counted.smaller_length-n.ensures
-    test.loop-i-test.true in
+    let loop = c.loop-i in
+    let a = c.args in
+    let fits = answer-fits a.calls.now a.answers.now _ loop.i c.smaller_length-n.ensures
+    c.loop-i-test.true in
     subst (λ (k : ℕ). answer_size * loop.i + answer_size ≤ k) (sym loop.invariant.3) fits
 
 add-i : tie.Need-overflow_add-i invariant-loop decreases-loop
@@ -92,35 +87,29 @@ add-i c = search rules
 
 loop-less : tie.Need-loop-i-smaller invariant-loop decreases-loop
 loop-less c =
-    let call = c.before.before.before.before.before.before.before.before.before.before.before.before in
-    let test = call.before.before.before.before.before.before in
-    omega (arith, test.loop-i-test.true)
+    omega (arith, c.loop-i-test.true)
 
 loop-again : tie.Need-loop-i-preserved invariant-loop decreases-loop
 loop-again c =
-    let put = c.before.before.before in
-    let call = put.before.before.before.before.before.before.before.before.before in
-    let sized = call.before.before.before.before in
-    let test = sized.before.before in
-    let loop = test.loop-i in
+    let loop = c.loop-i in
     let inv = loop.invariant in
-    let a = test.args in
-    let request = sized.read_request-request in
-    let size = sized.request_size.ensures in
-    let kept = call.run_call-step.auto in
-    let part = call.run_call-step.new.out in
-    let end = loop.start + sized.request_size.result in
+    let a = c.args in
+    let request = c.read_request-request in
+    let size = c.request_size.ensures in
+    let kept = c.run_call-step.auto in
+    let part = c.run_call-step.new.out in
+    let end = loop.start + c.request_size.result in
     let e-size = size.0 ∙ ap (λ n. request_size request.result (n - loop.start)) inv.4 in
     let within : end ≤ length loop.out = omega (arith, inv.4, inv.5, size.1) in
     let whole = kept.1.1.1.1.0 ∙ mid_len loop.start end loop.out within in
     let more = ran-more (store a.state a.dir.now a.pages.now)
     (store loop.current loop.dir loop.pages) _ a.calls.now a.answers.now a.out.now
     loop.answers loop.out _ _ loop.i loop.start _ request.result inv.7 request.ensures
-    inv.6 (ap (λ n. loop.start + n) e-size) call.run_call-step.ensures whole _ put.put_answer.ensures in (
-      omega (arith, test.loop-i-test.true),
+    inv.6 (ap (λ n. loop.start + n) e-size) c.run_call-step.ensures whole _ c.put_answer.ensures in (
+      omega (arith, c.loop-i-test.true),
       kept.1.0 ∙ inv.1,
       kept.1.1.0 ∙ inv.2,
-      put.put_answer.auto.answers ∙ inv.3,
+      c.put_answer.auto.answers ∙ inv.3,
       same_len_mid loop.start (end - loop.start) loop.out part kept.1.1.1.1.0 ∙ inv.4,
       omega (arith, inv.4, within),
       more.0,
@@ -142,15 +131,14 @@ same-length-4 c = c.loop-i.invariant.4
 returns : tie.Need-returns invariant-loop decreases-loop
 returns c =
     let loop = c.loop-i in
-    let counted = c.before.before in
-    let a = counted.args in
-    let n = counted.smaller_length-n.result in
+    let a = c.args in
+    let n = c.smaller_length-n.result in
     let all : loop.i ≡ n = omega (arith, loop.invariant.0, c.loop-i-test.false) in
     subst
     (λ (k : ℕ). CallsRan (store a.state a.dir.now a.pages.now) a.calls.now a.answers.now
     a.out.now k
     (store loop.current loop.dir loop.pages) loop.answers loop.out)
-    (all ∙ call_count-as a.calls.now a.answers.now n counted.smaller_length-n.ensures) loop.invariant.7
+    (all ∙ call_count-as a.calls.now a.answers.now n c.smaller_length-n.ensures) loop.invariant.7
 
 pub run_calls_spec : {M : Type 1} → statement M
 run_calls_spec =

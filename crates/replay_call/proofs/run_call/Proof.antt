@@ -21,13 +21,10 @@ same-length-2 c = search rules
 
 returns : tie.Need-returns-then-request-eq0
 returns c =
-    let call = c.before.before.before.before.before in
-    let test = call.before.before.before in
-    let s = test.before.before.before.before.before.before in
-    let a = s.args in
+    let a = c.args in
     kept-insert (store a.state a.dir.now a.pages.now) a.request a.out.now _ _
-    c.changed_step.ensures.1 s.requires _ _ _ _ test.if-request-eq0.true c.changed_step.ensures.0
-    call.insert.ensures
+    c.changed_step.ensures.1 c.requires _ _ _ _ c.if-request-eq0.true c.changed_step.ensures.0
+    c.insert.ensures
 
 delete-requires : tie.Need-delete-requires
 delete-requires c κs = search rules
@@ -43,13 +40,10 @@ same-length-4 c = search rules
 
 returns-2 : tie.Need-returns-then-request-eq1
 returns-2 c =
-    let call = c.before.before.before.before.before in
-    let test = call.before.before.before in
-    let s = test.before.before.before.before.before.before.before.before in
-    let a = s.args in
+    let a = c.args in
     kept-delete (store a.state a.dir.now a.pages.now) a.request a.out.now _ _
-    c.changed_step-then-request-eq1.ensures.1 s.requires _ _ _ _ test.if-request-eq1.true c.changed_step-then-request-eq1.ensures.0
-    call.delete.ensures
+    c.changed_step-then-request-eq1.ensures.1 c.requires _ _ _ _ c.if-request-eq1.true c.changed_step-then-request-eq1.ensures.0
+    c.delete.ensures
 
 lookup-requires : tie.Need-lookup-requires
 lookup-requires c κs = search rules
@@ -65,11 +59,9 @@ same-length-6 c = search rules
 
 returns-3 : tie.Need-returns-then-request-eq2
 returns-3 c =
-    let test = c.before.before.before.before in
-    let s = test.before.before.before.before.before.before.before.before.before.before in
-    let a = s.args in
+    let a = c.args in
     kept-lookup (store a.state a.dir.now a.pages.now) a.request a.out.now _ _
-    c.found_words-words.ensures s.requires test.if3.true c.lookup.ensures
+    c.found_words-words.ensures c.requires c.if-request-eq2.true c.lookup.ensures
 
 query-of-requires : tie.Need-query_of-requires
 query-of-requires c κs = search rules
@@ -91,14 +83,10 @@ same-length-9 c = search rules
 
 returns-4 : tie.Need-returns-then-request-eq3
 returns-4 c =
-    let call = c.before.before.before in
-    let asked = call.before.before in
-    let test = asked.before.before.before in
-    let s = test.before.before.before.before.before.before.before.before.before.before.before.before in
-    let a = s.args in
+    let a = c.args in
     kept-query (store a.state a.dir.now a.pages.now) a.request a.out.now _ _
-    c.listed_words-words.ensures (wanted_values asked.query_of.result) _ test.if4.true
-    asked.query_of.ensures call.query.ensures
+    c.listed_words-words.ensures (wanted_values c.query_of.result) _ c.if-request-eq3.true
+    c.query_of.ensures c.query.ensures
 
 range-of-requires : tie.Need-range_of-requires
 range-of-requires c κs = search rules
@@ -120,18 +108,11 @@ same-length-12 c = search rules
 
 returns-5 : tie.Need-returns
 returns-5 c =
-    let call = c.before.before.before in
-    let asked = call.before.before in
-    let test = asked.before.before.before in
-    let lookup-test = test.before.before in
-    let delete-test = lookup-test.before.before in
-    let insert-test = delete-test.before.before in
-    let s = insert-test.before.before.before.before.before.before in
-    let a = s.args in
+    let a = c.args in
     kept-range (store a.state a.dir.now a.pages.now) a.request a.out.now _ _
-    c.listed_words-words-2.ensures (range_intervals asked.range_of.result) _
-    insert-test.if1.false delete-test.if2.false lookup-test.if3.false test.if4.false
-    asked.range_of.ensures call.range.ensures
+    c.listed_words-words-2.ensures (range_intervals c.range_of.result) _
+    c.if-request-eq0.false c.if-request-eq1.false c.if-request-eq2.false c.if-request-eq3.false
+    c.range_of.ensures c.range.ensures
 
 pub run_call_spec : {M : Type 1} → statement M
 run_call_spec =

@@ -51,10 +51,8 @@ four-words-requires-3 c κs = search rules
 
 returns : tie.Need-returns
 returns c =
-    let given = c.before.before.before in
-    let values = given.before in
-    let a = values.args in
-    request_at-read a.calls.now _ _ _ a.i values.four_words.ensures given.four_words-2.ensures
+    let a = c.args in
+    request_at-read a.calls.now _ _ _ a.i c.four_words.ensures c.four_words-2.ensures
     c.four_words-3.ensures
 
 pub read_request_spec : {M : Type 1} → statement M

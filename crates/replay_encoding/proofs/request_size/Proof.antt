@@ -10,7 +10,7 @@ use Rattle.replay_encoding.proofs.request_size.Tie as tie
 returns : tie.Need-returns-then-request-lt3
 returns c =
     let a = c.args in
-    (sym (request_size-none a.request a.room c.if-request-lt3.taken), omega arith)
+    (sym (request_size-none a.request a.room c.if-request-lt3.true), omega arith)
 
 cast-smaller-length : tie.Need-overflow_cast-request
 cast-smaller-length c = search rules
@@ -21,7 +21,7 @@ smaller-length-requires c κs = search rules
 returns-2 : tie.Need-returns
 returns-2 c =
     let a = c.args in
-    let listed : a.request.kind < 3 → ⊥ = λ h. omega (arith, h, c.if-request-lt3.left) in (
+    let listed : a.request.kind < 3 → ⊥ = λ h. omega (arith, h, c.if-request-lt3.false) in (
       c.smaller_length.ensures ∙ sym (request_size-listed a.request a.room listed),
       omega (arith, c.smaller_length.ensures),
     )

@@ -17,17 +17,15 @@ tabled : (c : tie.After-fill_limits)
     → Table c.args.state free_bits
     c.fill_limits.new.rows
 tabled c =
-    let filled = c.before.before in
-    let free = filled.free_query in
-    let s = filled.before.before.before.before.before.before.before in
-    let st = s.args.state in
+    let free = c.free_query in
+    let st = c.args.state in
     let ws = widths_of st.shape in
-    let rows = filled.fill_rows.new.rows in
+    let rows = c.fill_rows.new.rows in
     rw c.fill_limits.ensures
-    (Table-limited st rows s.requires.0.depth-twelve free_bits
+    (Table-limited st rows c.requires.0.depth-twelve free_bits
     (rows-free ws st.deepest rows
-    (subst (λ v. Rows ws (wanted_at ws v) st.deepest rows) free.ensures filled.fill_rows.ensures.1))
-    (omega (arith, filled.fill_rows.ensures.0)))
+    (subst (λ v. Rows ws (wanted_at ws v) st.deepest rows) free.ensures c.fill_rows.ensures.1))
+    (omega (arith, c.fill_rows.ensures.0)))
 
 free-query-requires : tie.Need-free_query-requires
 free-query-requires c κs = search rules
@@ -40,24 +38,20 @@ fill-rows-requires c κs = search rules
 
 fill-limits-requires : tie.Need-fill_limits-requires
 fill-limits-requires c κs =
-    let s = c.before.before.before.before.before.before.before.before in
-    shape_number-true s.args.state.shape s.requires.0.shape
+    shape_number-true c.args.state.shape c.requires.0.shape
 
 note-pages-requires : tie.Need-note_pages-requires
 note-pages-requires c κs =
-    let limited = c.before.before in
-    let s = limited.before.before.before.before.before.before.before.before.before in
-    let a = s.args in
-    walkable-free a.state (length a.dir.now) (length a.pages.now) s.requires.0 _ (length a.list.now)
-    (tabled limited) s.requires.1
+    let a = c.args in
+    walkable-free a.state (length a.dir.now) (length a.pages.now) c.requires.0 _ (length a.list.now)
+    (tabled c.before.before) c.requires.1
 
 same_length : tie.Need-shape_of-list
 same_length c = search rules
 
 returns : tie.Need-returns
 returns c =
-    let walk = c.before.before in
-    walk.note_pages.ensures free_bits (tabled walk.before.before.before)
+    c.note_pages.ensures free_bits (tabled c.before.before.before.before.before)
 
 pub note_all_spec : {M : Type 1} → statement M
 note_all_spec =

@@ -23,10 +23,9 @@ refuse-save-requires c κs = search rules
 
 returns : tie.Need-returns-then-number-ne0
 returns c =
-    let n = c.before.before in
-    let a = n.args in
+    let a = c.args in
     rw c.refuse_save.ensures
-    (promise-early a.state a.dir.now a.pages.now a.out.now _ n.lent_number-number.ensures
+    (promise-early a.state a.dir.now a.pages.now a.out.now _ c.lent_number-number.ensures
     c.if-number-ne0.true)
 
 limits-hold-requires : tie.Need-limits_hold-requires
@@ -56,9 +55,8 @@ slice-aggregate-note-all c = search rules
 
 note-all-requires : tie.Need-note_all-noted-requires
 note-all-requires c κs =
-    let w = c.before in
-    let a = w.args in
-    (limits-lent a.state a.dir.now a.pages.now (none w) (can w), omega arith)
+    let a = c.args in
+    (limits-lent a.state a.dir.now a.pages.now (none c.before) (can c.before), omega arith)
 
 enum-known-noted : tie.Need-enum_known-noted
 enum-known-noted c = search rules
@@ -69,10 +67,8 @@ enum_told c = search rules
 returns-3 : tie.Need-returns-in_default
 unfolding saved_answer
 returns-3 c =
-    let walk = c.before.before in
-    let w = walk.before.before in
-    let a = w.args in
-    nine-damaged a.state a.dir.now a.pages.now (none w) (can w) _ _ _ walk.note_all-noted.ensures a.out.now
+    let a = c.args in
+    nine-damaged a.state a.dir.now a.pages.now (none c.before.before.before.before) (can c.before.before.before.before) _ _ _ c.note_all-noted.ensures a.out.now
     c.in_default.is
 
 slice-aggregate-write-file : tie.Need-slice_bounds-write_file-end
@@ -80,13 +76,10 @@ slice-aggregate-write-file c = search rules
 
 write-file-requires : tie.Need-write_file-requires
 write-file-requires c κs =
-    let noted = c.before.before.before in
-    let walk = noted.before in
-    let w = walk.before.before in
-    let a = w.args in (
-      shape-of-none a.state a.dir.now a.pages.now (none w),
-      pages-within a.state a.dir.now a.pages.now (none w) (can w) _ _ _ walk.note_all-noted.ensures
-          walk.note_all-noted.auto.list (omega arith) _ noted.in-Pages.is,
+    let a = c.args in (
+      shape-of-none a.state a.dir.now a.pages.now (none c.before.before.before.before.before.before.before),
+      pages-within a.state a.dir.now a.pages.now (none c.before.before.before.before.before.before.before) (can c.before.before.before.before.before.before.before) _ _ _ c.note_all-noted.ensures
+          c.note_all-noted.auto.list (omega arith) _ c.in-Pages.is,
     )
 
 same_length : tie.Need-shape_of-out
@@ -94,15 +87,11 @@ same_length c = search rules
 
 returns-4 : tie.Need-returns
 returns-4 c =
-    let written = c.before.before in
-    let noted = written.before.before.before.before in
-    let walk = noted.before in
-    let w = walk.before.before in
-    let a = w.args in
-    let known = w.shared_slice_known-2-1.given in
-    promise-of-pages a.state a.dir.now a.pages.now (none w) (can w) _ _ _ walk.note_all-noted.ensures
-    walk.note_all-noted.auto.list (omega arith) _ noted.in-Pages.is (λ i. omega (arith, known i))
-    a.out.now _ _ written.write_file.ensures
+    let a = c.args in
+    let known = c.shared_slice_known-2-1.given in
+    promise-of-pages a.state a.dir.now a.pages.now (none c.before.before.before.before.before.before.before.before.before.before) (can c.before.before.before.before.before.before.before.before.before.before) _ _ _ c.note_all-noted.ensures
+    c.note_all-noted.auto.list (omega arith) _ c.in-Pages.is (λ i. omega (arith, known i))
+    a.out.now _ _ c.write_file.ensures
 
 pub save_spec : {M : Type 1} → statement M
 save_spec =

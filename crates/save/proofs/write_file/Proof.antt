@@ -24,10 +24,9 @@ add-size c = search rules
 returns : tie.Need-returns-then-out-size
 unfolding saved_answer
 returns c =
-    let counted = c.before in
-    let a = counted.args in
+    let a = c.args in
     filed-short a.shape (flat_map (page_fields a.shape.capacity a.pages.now) (take a.n a.list.now))
-    a.out.now _ counted.count_records-total.ensures.0 counted.count_records-total.ensures.1
+    a.out.now _ c.count_records-total.ensures.0 c.count_records-total.ensures.1
     (omega (arith, c.if-out-size.true))
 
 put-whole-requires : tie.Need-put_whole-requires
@@ -36,11 +35,7 @@ put-whole-requires c κs = search rules
 -- the whole file fits
 put-end-requires : tie.Need-put_end-requires
 put-end-requires c κs =
-    let put = c.before.before.before in
-    let test = put.before.before in
-    let counted = test.before in
-    let s = counted.before.before.before.before.before in
-    (s.requires.0, counted.count_records-total.ensures.1, omega (arith, test.if-out-size.false, put.put_whole.auto.out))
+    (c.requires.0, c.count_records-total.ensures.1, omega (arith, c.if-out-size.false, c.put_whole.auto.out))
 
 same_length : tie.Need-shape_of-out
 same_length c = search rules
@@ -48,15 +43,11 @@ same_length c = search rules
 returns-2 : tie.Need-returns
 unfolding saved_answer
 returns-2 c =
-    let ended = c.before.before in
-    let put = ended.before.before.before.before in
-    let test = put.before.before in
-    let counted = test.before in
-    let a = counted.args in
+    let a = c.args in
     filed-fits a.shape (flat_map (page_fields a.shape.capacity a.pages.now) (take a.n a.list.now))
-    a.out.now _ counted.count_records-total.ensures.0 counted.count_records-total.ensures.1
-    (omega (arith, test.if-out-size.false)) _
-    put.put_whole.ensures.bytes _ ended.put_end.ensures
+    a.out.now _ c.count_records-total.ensures.0 c.count_records-total.ensures.1
+    (omega (arith, c.if-out-size.false)) _
+    c.put_whole.ensures.bytes _ c.put_end.ensures
 
 pub write_file_spec : {M : Type 1} → statement M
 write_file_spec =

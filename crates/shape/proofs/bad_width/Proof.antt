@@ -28,9 +28,8 @@ cast-result c = search rules
 
 returns : tie.Need-returns-then-is_bad invariant-loop decreases-loop
 returns c =
-    let at = c.before.before.before in
-    sym (lowest_bad-found at.args.shape at.loop-j.j (omega arith)
-    (sym c.is_bad.ensures ∙ c.if-is_bad.true) at.loop-j.invariant.1)
+    sym (lowest_bad-found c.args.shape c.loop-j.j (omega arith)
+    (sym c.is_bad.ensures ∙ c.if-is_bad.true) c.loop-j.invariant.1)
 
 add-j : tie.Need-overflow_add-j invariant-loop decreases-loop
 add-j c = search rules
@@ -40,10 +39,9 @@ loop-less c = search rules
 
 loop-again : tie.Need-loop-j-preserved invariant-loop decreases-loop
 loop-again c =
-    let at = c.before.before.before in
     let last = sym c.is_bad.ensures ∙ c.if-is_bad.false in (
       omega arith,
-      rw (add-one at.loop-j.j) (below_suc (bad_width at.args.shape) at.loop-j.j at.loop-j.invariant.1 last),
+      rw (add-one c.loop-j.j) (below_suc (bad_width c.args.shape) c.loop-j.j c.loop-j.invariant.1 last),
     )
 
 returns-2 : tie.Need-returns invariant-loop decreases-loop

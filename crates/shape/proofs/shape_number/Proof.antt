@@ -23,24 +23,21 @@ widths-fit-requires c κs = within-le 1 4 _ (count-fits c)
 
 returns-2 : tie.Need-returns-then-not-widths_fit
 returns-2 c =
-    let fit = c.before in
-    sym (shape_number-width _ (count-fits fit.before) (sym fit.widths_fit.ensures ∙ not-true _ c.if-not-widths_fit.true-raw))
+    sym (shape_number-width _ (count-fits c.before.before) (sym c.widths_fit.ensures ∙ not-true _ c.if-not-widths_fit.true-raw))
 
 in-range-requires-2 : tie.Need-in_range-requires-2
 in-range-requires-2 c κs = search rules
 
 returns-3 : tie.Need-returns-then-in_range
 returns-3 c =
-    let fit = c.before.before.before in
-    sym (shape_number-capacity _ (count-fits fit.before)
-    (sym fit.widths_fit.ensures ∙ not-false _ c.if-not-widths_fit.false-raw) _
+    sym (shape_number-capacity _ (count-fits c.before.before.before.before)
+    (sym c.widths_fit.ensures ∙ not-false _ c.if-not-widths_fit.false-raw) _
     (sym c.in_range-2.ensures ∙ c.if-in_range.true))
 
 returns-4 : tie.Need-returns-else-in_range
 returns-4 c =
-    let fit = c.before.before.before in
-    sym (shape_number-capacity _ (count-fits fit.before)
-    (sym fit.widths_fit.ensures ∙ not-false _ c.if-not-widths_fit.false-raw) _
+    sym (shape_number-capacity _ (count-fits c.before.before.before.before)
+    (sym c.widths_fit.ensures ∙ not-false _ c.if-not-widths_fit.false-raw) _
     (sym c.in_range-2.ensures ∙ c.if-in_range.false))
 
 pub shape_number_spec : {M : Type 1} → statement M

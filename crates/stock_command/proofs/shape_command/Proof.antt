@@ -23,19 +23,17 @@ number-at-requires c κs = search rules
 returns-3 : tie.Need-returns-then-d-lt1
 returns-3 c =
     let n = c.number_at-d in
-    let two = c.before.before in
-    let line = two.args.line in
+    let line = c.args.line in
     let low : number_at line 0 < 1 = omega (arith, n.ensures, c.if-d-lt1.true) in
-    λ d. asked_shape-low line two.if-line.false two.if-line-eq0.false low
+    λ d. asked_shape-low line c.if-line.false c.if-line-eq0.false low
 
 returns-4 : tie.Need-returns-then-d-gt4
 returns-4 c =
     let n = c.number_at-d in
-    let two = c.before.before.before in
-    let line = two.args.line in
+    let line = c.args.line in
     let low : 1 ≤ number_at line 0 = omega (arith, n.ensures, c.if-d-lt1.false) in
     let high : 4 < number_at line 0 = omega (arith, n.ensures, c.if-d-gt4.true) in
-    λ d. asked_shape-high line two.if-line.false two.if-line-eq0.false low high
+    λ d. asked_shape-high line c.if-line.false c.if-line-eq0.false low high
 
 cast-if5 : tie.Need-overflow_cast-d
 cast-if5 c = search rules
@@ -45,24 +43,20 @@ add-if5 c = search rules
 
 returns-5 : tie.Need-returns-then-line-d
 returns-5 c =
-    let four = c.before.before in
-    let n = four.number_at-d in
-    let two = four.before.before.before in
-    let line = two.args.line in
-    let low : 1 ≤ number_at line 0 = omega (arith, n.ensures, four.if-d-lt1.false) in
-    let high : number_at line 0 ≤ 4 = omega (arith, n.ensures, four.if-d-gt4.false) in
-    λ d. asked_shape-new line two.if-line.false two.if-line-eq0.false low high
+    let n = c.number_at-d in
+    let line = c.args.line in
+    let low : 1 ≤ number_at line 0 = omega (arith, n.ensures, c.if-d-lt1.false) in
+    let high : number_at line 0 ≤ 4 = omega (arith, n.ensures, c.if-d-gt4.false) in
+    λ d. asked_shape-new line c.if-line.false c.if-line-eq0.false low high
     (c.if-line-d.true ∙ ap (λ v. v + 2) n.ensures)
 
 returns-6 : tie.Need-returns
 returns-6 c =
-    let four = c.before.before in
-    let n = four.number_at-d in
-    let two = four.before.before.before in
-    let line = two.args.line in
-    let low : 1 ≤ number_at line 0 = omega (arith, n.ensures, four.if-d-lt1.false) in
-    let high : number_at line 0 ≤ 4 = omega (arith, n.ensures, four.if-d-gt4.false) in
-    λ d. asked_shape-other line two.if-line.false two.if-line-eq0.false low high
+    let n = c.number_at-d in
+    let line = c.args.line in
+    let low : 1 ≤ number_at line 0 = omega (arith, n.ensures, c.if-d-lt1.false) in
+    let high : number_at line 0 ≤ 4 = omega (arith, n.ensures, c.if-d-gt4.false) in
+    λ d. asked_shape-other line c.if-line.false c.if-line-eq0.false low high
     (λ e. c.if-line-d.false (e ∙ ap (λ v. v + 2) (sym n.ensures)))
 
 pub shape_command_spec : {M : Type 1} → statement M

@@ -23,8 +23,7 @@ word-with-requires c κs = search rules
 returns-2 : tie.Need-returns-then-reading-eq0
 unfolding fed added
 returns-2 c =
-    let d = c.before.before.before.before in
-    rw (ne_eqb _ _ d.if-byte-eq32.false, eq-eqb _ _ c.if-reading-eq0.true, c.word_with.ensures)
+    rw (ne_eqb _ _ c.if-byte-eq32.false, eq-eqb _ _ c.if-reading-eq0.true, c.word_with.ensures)
 
 field-with-requires : tie.Need-field_with-requires
 field-with-requires c κs = search rules
@@ -32,8 +31,7 @@ field-with-requires c κs = search rules
 returns-3 : tie.Need-returns
 unfolding fed added
 returns-3 c =
-    let d = c.before.before.before.before in
-    rw (ne_eqb _ _ d.if-byte-eq32.false, ne_eqb _ _ c.if-reading-eq0.false, c.field_with.ensures)
+    rw (ne_eqb _ _ c.if-byte-eq32.false, ne_eqb _ _ c.if-reading-eq0.false, c.field_with.ensures)
 
 pub feed_spec : {M : Type 1} → statement M
 feed_spec =

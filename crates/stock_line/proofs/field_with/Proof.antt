@@ -25,10 +25,9 @@ is-digit-requires c κs = search rules
 returns-3 : tie.Need-returns-then-not-is_digit
 unfolding field_with digit_with
 returns-3 c =
-    let d = c.before.before in
     rw (
-      ne_eqb _ _ d.if-field-eq-EMPTY.false,
-      lt-leb _ _ d.if-field-ge-ANY.false,
+      ne_eqb _ _ c.if-field-eq-EMPTY.false,
+      lt-leb _ _ c.if-field-ge-ANY.false,
       sym c.is_digit.ensures ∙ not-true _ c.if-not-is_digit.true-raw,
     )
 
@@ -49,10 +48,9 @@ add-number c = search rules
 returns-4 : tie.Need-returns-then-number-lt-ANY
 unfolding field_with digit_with
 returns-4 c =
-    let d = c.before.before.before in
     rw (
-      ne_eqb _ _ d.if-field-eq-EMPTY.false,
-      lt-leb _ _ d.if-field-ge-ANY.false,
+      ne_eqb _ _ c.if-field-eq-EMPTY.false,
+      lt-leb _ _ c.if-field-ge-ANY.false,
       sym c.is_digit.ensures ∙ not-false _ c.if-not-is_digit.false-raw,
       lt-ltb _ _ c.if-number-lt-ANY.true,
     )
@@ -60,10 +58,9 @@ returns-4 c =
 returns-5 : tie.Need-returns-else-number-lt-ANY
 unfolding field_with digit_with
 returns-5 c =
-    let d = c.before.before.before in
     rw (
-      ne_eqb _ _ d.if-field-eq-EMPTY.false,
-      lt-leb _ _ d.if-field-ge-ANY.false,
+      ne_eqb _ _ c.if-field-eq-EMPTY.false,
+      lt-leb _ _ c.if-field-ge-ANY.false,
       sym c.is_digit.ensures ∙ not-false _ c.if-not-is_digit.false-raw,
       le-ltb _ _ c.if-number-lt-ANY.false,
     )

@@ -48,8 +48,7 @@ same-length-3 c = search rules
 returns-3 : tie.Need-returns-in-Refused
 unfolding changed_answer
 returns-3 c =
-    let at-answer = c in
-    rw at-answer.in-Refused.is c.put_refused-in-Refused.ensures
+    rw c.in-Refused.is c.put_refused-in-Refused.ensures
 
 same-length-4 : tie.Need-shape_of-text-in-Width
 same-length-4 c = search rules

@@ -10,8 +10,7 @@ enum-known-listed c = search rules
 put-found-requires : tie.Need-put_found-requires
 unfolding listed_answer
 put-found-requires c κs =
-    let at_pre = c.before.before.before.before in
-    let pre = at_pre.requires in
+    let pre = c.requires in
     let fits = rw c.in-Records.is at pre.1 in
     (pre.0, fits.0, fits.1, fits.2)
 
@@ -33,8 +32,7 @@ same_length c = search rules
 returns : tie.Need-returns-in-Records
 unfolding listed_answer
 returns c =
-    let at_Listed = c in
-    rw at_Listed.in-Records.is c.put_found.ensures
+    rw c.in-Records.is c.put_found.ensures
 
 same-length-2 : tie.Need-shape_of-text-in-Refused
 same-length-2 c = search rules
@@ -42,8 +40,7 @@ same-length-2 c = search rules
 returns-2 : tie.Need-returns-in-Refused
 unfolding listed_answer
 returns-2 c =
-    let at-listed2 = c in
-    rw at-listed2.in-Refused.is c.put_refused.ensures
+    rw c.in-Refused.is c.put_refused.ensures
 
 same-length-3 : tie.Need-shape_of-text-in-Width
 same-length-3 c = search rules

@@ -35,8 +35,7 @@ same-length-2 c = search rules
 returns-2 : tie.Need-returns-in-Refused
 unfolding made_answer
 returns-2 c =
-    let at-answer = c in
-    rw at-answer.in-Refused.is c.put_refused.ensures
+    rw c.in-Refused.is c.put_refused.ensures
 
 same-length-3 : tie.Need-shape_of-text-in-Width
 same-length-3 c = search rules

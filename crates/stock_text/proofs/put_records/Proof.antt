@@ -38,12 +38,11 @@ loop-less c = omega arith
 
 loop-again : tie.Need-loop-i-preserved invariant-loop decreases-loop
 loop-again c =
-    let call = c.before.before in
-    let loop = call.loop-i in
-    let a = call.args in (
+    let loop = c.loop-i in
+    let a = c.args in (
       omega arith,
-      omega (arith, loop.invariant.1, call.put_record-end.ensures.upper_bound),
-      Grown-record _ _ _ a.out.now _ _ _ a.d loop.i loop.invariant.2 call.put_record-end.ensures.grown,
+      omega (arith, loop.invariant.1, c.put_record-end.ensures.upper_bound),
+      Grown-record _ _ _ a.out.now _ _ _ a.d loop.i loop.invariant.2 c.put_record-end.ensures.grown,
     )
 
 same_length : tie.Need-shape_of-text invariant-loop decreases-loop

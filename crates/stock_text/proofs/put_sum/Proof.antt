@@ -23,11 +23,8 @@ same_length c = search rules
 returns : tie.Need-returns
 unfolding sum_text
 returns c =
-    let reads = c.before.before in
-    let total = reads.before.before.before.before in
-    let first = total.before.before.before.before in
-    Grown-then _ _ _ _ _ _ _ _ first.put_bytes-start.ensures
-    (Grown-then _ _ _ _ _ _ _ _ total.put_field-end.ensures.grown reads.put_field.ensures.grown)
+    Grown-then _ _ _ _ _ _ _ _ c.put_bytes-start.ensures
+    (Grown-then _ _ _ _ _ _ _ _ c.put_field-end.ensures.grown c.put_field.ensures.grown)
 
 pub put_sum_spec : {M : Type 1} → statement M
 put_sum_spec =

@@ -43,17 +43,14 @@ loop-less c = omega arith
 
 loop-again : tie.Need-loop-j-preserved invariant-loop decreases-loop
 loop-again c =
-    let call = c.before.before in
-    let read = call.read16 in
-    let test = call.before.before.before in
-    let loop = test.loop-j in
-    let s = test.before.before.before.before in
+    let read = c.read16 in
+    let loop = c.loop-j in
     let most = length-field_text-le 4 read.result space (omega (arith, read.ensures.1)) in (
       omega arith,
-      omega (arith, loop.invariant.1, call.put_field-end.ensures.grown.end_is, most),
-      Grown-value _ _ _ s.args.out.now _ _ _ s.args.start loop.j read.result
-          (omega (arith, test.loop-j-test.true, s.requires.0))
-          read.ensures.0 loop.invariant.2 call.put_field-end.ensures.grown,
+      omega (arith, loop.invariant.1, c.put_field-end.ensures.grown.end_is, most),
+      Grown-value _ _ _ c.args.out.now _ _ _ c.args.start loop.j read.result
+          (omega (arith, c.loop-j-test.true, c.requires.0))
+          read.ensures.0 loop.invariant.2 c.put_field-end.ensures.grown,
     )
 
 same_length : tie.Need-shape_of-text invariant-loop decreases-loop

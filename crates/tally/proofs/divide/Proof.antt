@@ -30,15 +30,14 @@ add-divide-once c = omega (arith, c.loop-i-test.true, c.requires.0)
 
 divide-once-requires : tie.Need-divide_once-divided-requires invariant-loop decreases-loop
 divide-once-requires c κs =
-    let s = c.before.before in
     let l = c.loop-i in
-    let deep : s.args.x + l.i < 12 = omega (arith, c.loop-i-test.true, s.requires.0) in
-    let next = s.args.x + l.i + 1 in (
+    let deep : c.args.x + l.i < 12 = omega (arith, c.loop-i-test.true, c.requires.0) in
+    let next = c.args.x + l.i + 1 in (
       deep,
       omega (
         arith,
         l.invariant.2 next (omega arith),
-        small-of-tally_holds s.args.tally.leaves s.requires.1 next (omega arith),
+        small-of-tally_holds c.args.tally.leaves c.requires.1 next (omega arith),
       ),
     )
 

@@ -30,17 +30,16 @@ sub-y c = omega (arith, c.loop-y-test.true)
 
 join-once-requires : tie.Need-join_once-joined-requires invariant-loop decreases-loop
 join-once-requires c κs =
-    let s = c.before.before in
     let l = c.loop-y in
     let y = l.y - 1 in
-    let leaves = s.args.tally.leaves in
-    let deep : y < 12 = omega (arith, c.loop-y-test.true, l.invariant.1, s.requires.0) in (
+    let leaves = c.args.tally.leaves in
+    let deep : y < 12 = omega (arith, c.loop-y-test.true, l.invariant.1, c.requires.0) in (
       deep,
       omega (
         arith,
         ap (λ ys. get_or ys y 0) l.invariant.2,
-        get_d-joined_tally-above l.y (s.args.x + s.args.n - l.y) leaves y (omega (arith, c.loop-y-test.true)),
-        small-of-tally_holds leaves s.requires.1 y (omega arith),
+        get_d-joined_tally-above l.y (c.args.x + c.args.n - l.y) leaves y (omega (arith, c.loop-y-test.true)),
+        small-of-tally_holds leaves c.requires.1 y (omega arith),
       ),
     )
 

@@ -13,10 +13,9 @@ first-bits-requires c κs = search rules
 
 returns : tie.Need-returns
 returns c =
-    let s = c.before in
-    let a = s.args in
+    let a = c.args in
     ap (λ n. eqb n a.string)
-    (c.first_bits.ensures ∙ sym (key_code-begins (width_list a.widths) (unpacked_key a.key) a.x s.requires.1))
+    (c.first_bits.ensures ∙ sym (key_code-begins (width_list a.widths) (unpacked_key a.key) a.x c.requires.1))
 
 pub begins_spec : {M : Type 1} → statement M
 begins_spec = tie.close (tie.spec first-bits-requires returns)

@@ -27,11 +27,10 @@ few c = omega (arith, c.requires.1, total-le (width_list c.args.widths) refl c.r
 -- a step is left
 next : (c : tie.In-loop-n invariant-loop decreases-loop) → c.loop-n.g < 64
 next c =
-    let s = c.before.before in
-    let w = s.args.widths in
+    let w = c.args.widths in
     let l = c.loop-n in
-    steps_before-lt w.w0 w.w1 w.w2 w.w3 l.n l.g s.requires.0
-    (omega (arith, c.loop-n-test.true, s.requires.1)) l.invariant.place
+    steps_before-lt w.w0 w.w1 w.w2 w.w3 l.n l.g c.requires.0
+    (omega (arith, c.loop-n-test.true, c.requires.1)) l.invariant.place
 
 loop-holds : tie.Need-loop-n-init invariant-loop decreases-loop
 loop-holds c = coded-zero (width_list c.args.widths) (unpacked_key c.args.key) c.args.x
@@ -44,14 +43,12 @@ value-at-requires c κs = omega arith
 
 bit-of-requires : tie.Need-bit_of-requires invariant-loop decreases-loop
 bit-of-requires c κs =
-    let e = c.before in
-    let g = e.loop-n.g in
-    (e.if-g-w.true, omega (arith, e.width_at-w.ensures, e.requires.0 (g % 4)))
+    let g = c.loop-n.g in
+    (c.if-g-w.true, omega (arith, c.width_at-w.ensures, c.requires.0 (g % 4)))
 
 add-n : tie.Need-overflow_add-n invariant-loop decreases-loop
 add-n c =
-    let turn = c.before.before.before.before in
-    record { fits = omega (arith, turn.loop-n-test.true, few turn.before.before) }
+    record { fits = omega (arith, c.loop-n-test.true, few c.before.before.before.before.before.before) }
 
 add-g : tie.Need-overflow_add-g invariant-loop decreases-loop
 add-g c = record { fits = omega (arith, next c.before.before) }
@@ -61,23 +58,21 @@ loop-less c = omega (arith, next c.before.before)
 
 loop-again : tie.Need-loop-n-preserved invariant-loop decreases-loop
 loop-again c =
-    let turn = c.before.before in
-    let s = turn.before.before in
-    let l = turn.loop-n in
-    let ws = width_list s.args.widths in
-    let key = unpacked_key s.args.key in
+    let l = c.loop-n in
+    let ws = width_list c.args.widths in
+    let key = unpacked_key c.args.key in
     let width = c.width_at-w.ensures in
     let j : l.g % 4 < 4 = omega arith in
     ⊎_elim
     (λ w.
-    let value = w.1.ensures ∙ sym (get_d-unpacked_key s.args.key (l.g % 4) j) in
+    let value = w.1.ensures ∙ sym (get_d-unpacked_key c.args.key (l.g % 4) j) in
     rw (w.3, w.4)
-    (coded-step ws key s.requires.0 s.args.x l.code l.n l.g l.invariant (next turn)
-    (subst (λ x. l.g / 4 < x) width w.0.taken) (few s) turn.loop-n-test.true _
+    (coded-step ws key c.requires.0 c.args.x l.code l.n l.g l.invariant (next c.before.before)
+    (subst (λ x. l.g / 4 < x) width w.0.taken) (few c.before.before.before.before) c.loop-n-test.true _
     (w.2.ensures ∙ (λ i. bit_value (bit_of (width i) (value i) (l.g / 4))))))
     (λ w.
     rw (w.1, w.2)
-    (coded-skip ws key s.requires.0 s.args.x l.code l.n l.g l.invariant (next turn)
+    (coded-skip ws key c.requires.0 c.args.x l.code l.n l.g l.invariant (next c.before.before)
     (subst (λ x. x ≤ l.g / 4) width w.0.left)))
     c.if-g-w.branch
 

@@ -18,9 +18,8 @@ step-from-requires c κs = search rules
 
 with-bit-requires : tie.Need-with_bit-set-requires
 with-bit-requires c κs =
-    let s = c.before.before in
     let pair = c.step_from-step.ensures in
-    (pair.low, region-small _ _ s.requires.2 s.requires.0 _ pair)
+    (pair.low, region-small _ _ c.requires.2 c.requires.0 _ pair)
 
 add-t9 : tie.Need-overflow_add-lower
 add-t9 c = search rules
@@ -30,9 +29,7 @@ add-t10 c = record { fits = omega (arith, few c.before.before.before.before.befo
 
 locate-requires : tie.Need-locate-requires
 locate-requires c κs =
-    let step = c.before.before.before in
-    let s = step.before.before in
-    upper-in_box _ _ s.requires.2 s.requires.0 _ step.step_from-step.ensures _ c.with_bit-set.ensures
+    upper-in_box _ _ c.requires.2 c.requires.0 _ c.step_from-step.ensures _ c.with_bit-set.ensures
 
 add-t10-2 : tie.Need-overflow_add-upper
 add-t10-2 c = search rules
@@ -42,11 +39,9 @@ add-t11 c = record { fits = omega (arith, few c.before.before.before.before.befo
 
 returns : tie.Need-returns
 returns c =
-    let set = c.before.before.before.before in
-    let s = set.before.before.before in
-    let low = string-lt _ _ s.requires.2 in
-    sides_of-parts _ s.args.region s.requires.2 s.requires.0 _ set.step_from-step.ensures _ refl refl refl refl
-    (string-lower _ _ low (few s)) (string-upper _ _ low (few s)) refl set.with_bit-set.ensures refl
+    let low = string-lt _ _ c.requires.2 in
+    sides_of-parts _ c.args.region c.requires.2 c.requires.0 _ c.step_from-step.ensures _ refl refl refl refl
+    (string-lower _ _ low (few c.before.before.before.before.before.before.before)) (string-upper _ _ low (few c.before.before.before.before.before.before.before)) refl c.with_bit-set.ensures refl
     c.locate.ensures
 
 pub sides_of_spec : {M : Type 1} → statement M

@@ -48,27 +48,20 @@ step-folds-requires c κs =
 
 returns : tie.Need-returns-then-not-step_folds invariant-loop decreases-loop
 returns c =
-    let found = c.before.before in
-    let turn = found.before in
-    let s = turn.before.before.before in
-    fold_told-no (ws s) _ _ _ _ _ turn.loop-s.invariant s.requires.0.fit turn.loop-s-test.true (deep s) _
-    found.locate_cell-own.ensures _ c.step_folds.ensures (not-true _ c.if-not-step_folds.true-raw)
+    fold_told-no (ws c.before.before.before.before.before.before) _ _ _ _ _ c.loop-s.invariant c.requires.0.fit c.loop-s-test.true (deep c.before.before.before.before.before.before) _
+    c.locate_cell-own.ensures _ c.step_folds.ensures (not-true _ c.if-not-step_folds.true-raw)
 
 add-s : tie.Need-overflow_add-s invariant-loop decreases-loop
 add-s c =
-    let turn = c.before.before.before in
-    record { fits = omega (arith, turn.loop-s-test.true, turn.requires.0.short) }
+    record { fits = omega (arith, c.loop-s-test.true, c.requires.0.short) }
 
 loop-less : tie.Need-loop-s-smaller invariant-loop decreases-loop
 loop-less c = omega (arith, c.loop-s-test.true)
 
 loop-again : tie.Need-loop-s-preserved invariant-loop decreases-loop
 loop-again c =
-    let found = c.before.before in
-    let turn = found.before in
-    let s = turn.before.before.before in
-    folded_from-suc (ws s) _ _ _ _ _ turn.loop-s.invariant s.requires.0.fit turn.loop-s-test.true (deep s) _
-    found.locate_cell-own.ensures _ c.step_folds.ensures (not-false _ c.if-not-step_folds.false-raw)
+    folded_from-suc (ws c.before.before.before.before.before.before) _ _ _ _ _ c.loop-s.invariant c.requires.0.fit c.loop-s-test.true (deep c.before.before.before.before.before.before) _
+    c.locate_cell-own.ensures _ c.step_folds.ensures (not-false _ c.if-not-step_folds.false-raw)
 
 returns-2 : tie.Need-returns invariant-loop decreases-loop
 returns-2 c = fold_told-yes _ _ _ _ _ _ c.loop-s.invariant c.loop-s-test.false

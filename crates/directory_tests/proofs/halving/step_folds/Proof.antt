@@ -28,30 +28,29 @@ abbrev Found : Type 0
 Found = tie.After-step_place-g invariant-loop decreases-loop
 
 abbrev ws : Found → List ℕ
-ws c = width_list c.before.before.args.widths
+ws c = width_list c.args.widths
 
 abbrev t : Found → ℕ
-t c = c.before.before.args.s
+t c = c.args.s
 
 -- 1 << s
 size_is : (c : Found) → (1 * 2 ^ t c) % 2 ^ 64 ≡ 2 ^ t c
-size_is c = one_shifted (t c) (omega (arith, c.before.before.requires.short))
+size_is c = one_shifted (t c) (omega (arith, c.requires.short))
 
 small : (c : Found) → 2 ^ suc (t c) ≤ 4096
-small c = le_trans (pow_mono c.before.before.requires.short) (omega arith)
+small c = le_trans (pow_mono c.requires.short) (omega arith)
 
 deep : (c : Found) → t c < length (steps (ws c))
-deep c = step_pair-lt (ws c) (t c) _ c.step-place.ensures c.before.before.requires.fit
+deep c = step_pair-lt (ws c) (t c) _ c.step_place-g.ensures c.requires.fit
 
-below : (c : tie.In-loop-r invariant-loop decreases-loop) → let s = c.before.before in
-    (1 * 2 ^ t s) % 2 ^ 64 + c.loop-r.r < 2 ^ suc (t s)
+below : (c : tie.In-loop-r invariant-loop decreases-loop) →
+    (1 * 2 ^ t c.before.before) % 2 ^ 64 + c.loop-r.r < 2 ^ suc (t c.before.before)
 below c = omega (arith, size_is c.before.before, c.loop-r-test.true)
 
 -- the whole cell's address
 low : (c : tie.After-whole_of-whole invariant-loop decreases-loop) → c.whole_of-whole.result < 2 ^ t c.before.before.before
 low c =
-    let s = c.before.before.before in
-    upper_half-lt (ws s) s.requires.fit (t s) (deep s) _ _ c.whole_of-whole.ensures
+    upper_half-lt (ws c.before.before.before) c.requires.fit (t c.before.before.before) (deep c.before.before.before) _ _ c.whole_of-whole.ensures
 
 step-place-requires : tie.Need-step_place-g-requires invariant-loop decreases-loop
 step-place-requires c κs = (c.requires.fit, c.requires.deep)
@@ -70,56 +69,48 @@ add_a c = record { fits = omega (arith, below c, small c.before.before) }
 
 whole-of-requires : tie.Need-whole_of-whole-requires invariant-loop decreases-loop
 whole-of-requires c κs =
-    let s = c.before.before in
     record {
-      fit = s.requires.fit;
+      fit = c.requires.fit;
       from = c.loop-r.invariant.low;
-      past = subst (λ n. (1 * 2 ^ t s) % 2 ^ 64 + c.loop-r.r < 2 ^ n) (sym (add-one (t s))) (below c);
-      pair = s.step_place-g.ensures;
+      past = subst (λ n. (1 * 2 ^ t c.before.before) % 2 ^ 64 + c.loop-r.r < 2 ^ n) (sym (add-one (t c.before.before))) (below c);
+      pair = c.step_place-g.ensures;
     }
 
 pair-folds-requires : tie.Need-pair_folds-requires invariant-loop decreases-loop
 pair-folds-requires c κs =
-    let s = c.before.before.before in
-    let room = s.requires.room in (
+    let room = c.requires.room in (
       omega (arith, below c.before, room),
       omega (arith, low c, room),
-      omega (arith, below c.before, small s),
-      omega (arith, low c, small s),
+      omega (arith, below c.before, small c.before.before.before),
+      omega (arith, low c, small c.before.before.before),
     )
 
 returns : tie.Need-returns-then-not-pair_folds invariant-loop decreases-loop
 returns c =
-    let w = c.before.before in
-    let s = w.before.before.before in
-    step_told-no (ws s) s.requires.fit (t s) _ (deep s) _ _ _ w.whole_of-whole.ensures _
+    step_told-no (ws c.before.before.before.before.before) c.requires.fit (t c.before.before.before.before.before) _ (deep c.before.before.before.before.before) _ _ _ c.whole_of-whole.ensures _
     (not-true _ c.if-not-pair_folds.true-raw) c.pair_folds.ensures
 
 add_r : tie.Need-overflow_add-r invariant-loop decreases-loop
 add_r c =
-    let turn = c.before.before.before in
-    record { fits = omega (arith, below turn, small turn.before.before) }
+    record { fits = omega (arith, below c.before.before.before, small c.before.before.before.before.before) }
 
 loop-less : tie.Need-loop-r-smaller invariant-loop decreases-loop
 loop-less c = omega (arith, c.loop-r-test.true)
 
 loop-again : tie.Need-loop-r-preserved invariant-loop decreases-loop
 loop-again c =
-    let w = c.before.before in
-    let l = w.loop-r in
-    let s = w.before.before.before in
-    let a = (1 * 2 ^ t s) % 2 ^ 64 + l.r in
-    let next : a + 1 ≡ (1 * 2 ^ t s) % 2 ^ 64 + (l.r + 1) = omega arith in
-    subst (FoldedTo (ws s) (t s) _ _) next
-    (folded_to-suc (ws s) s.requires.fit (t s) _ (deep s) _ a l.invariant _ (below w.before)
-    w.whole_of-whole.ensures _ (not-false _ c.if-not-pair_folds.false-raw) c.pair_folds.ensures)
+    let l = c.loop-r in
+    let a = (1 * 2 ^ t c.before.before.before.before.before) % 2 ^ 64 + l.r in
+    let next : a + 1 ≡ (1 * 2 ^ t c.before.before.before.before.before) % 2 ^ 64 + (l.r + 1) = omega arith in
+    subst (FoldedTo (ws c.before.before.before.before.before) (t c.before.before.before.before.before) _ _) next
+    (folded_to-suc (ws c.before.before.before.before.before) c.requires.fit (t c.before.before.before.before.before) _ (deep c.before.before.before.before.before) _ a l.invariant _ (below c.before.before.before)
+    c.whole_of-whole.ensures _ (not-false _ c.if-not-pair_folds.false-raw) c.pair_folds.ensures)
 
 returns-2 : tie.Need-returns invariant-loop decreases-loop
 returns-2 c =
     let l = c.loop-r in
-    let s = c.before.before in
-    step_told-yes (ws s) s.requires.fit (t s) _ (deep s) _ _ l.invariant
-    (omega (arith, size_is s, c.loop-r-test.false))
+    step_told-yes (ws c.before.before) c.requires.fit (t c.before.before) _ (deep c.before.before) _ _ l.invariant
+    (omega (arith, size_is c.before.before, c.loop-r-test.false))
 
 pub step_folds_spec : {M : Type 1} → statement M
 step_folds_spec =

@@ -46,19 +46,13 @@ with-bit-requires-2 c κs =
 
 block-holds-requires : tie.Need-block_holds-requires invariant-loop decreases-loop
 block-holds-requires c κs =
-    let step = c.before.before in
-    let turn = step.before in
-    block-fits _ _ _ _ _ _ _ turn.requires _ _ _ _ turn.loop-y.invariant _
-    step.step_from-step.ensures turn.loop-y-test.true _ _ c.with_bit-first.ensures c.with_bit-last.ensures
+    block-fits _ _ _ _ _ _ _ c.requires _ _ _ _ c.loop-y.invariant _
+    c.step_from-step.ensures c.loop-y-test.true _ _ c.with_bit-first.ensures c.with_bit-last.ensures
 
 returns : tie.Need-returns-then-not-block_holds invariant-loop decreases-loop
 returns c =
-    let bits = c.before.before in
-    let step = bits.before.before in
-    let turn = step.before in
-    let s = turn.before.before.before in
-    blocks_told-no _ _ _ _ _ _ _ s.requires (deep s) _ _ _ turn.loop-y.invariant _ step.step_from-step.ensures
-    turn.loop-y-test.true _ _ bits.with_bit-first.ensures bits.with_bit-last.ensures _
+    blocks_told-no _ _ _ _ _ _ _ c.requires (deep c.before.before.before.before.before.before.before.before) _ _ _ c.loop-y.invariant _ c.step_from-step.ensures
+    c.loop-y-test.true _ _ c.with_bit-first.ensures c.with_bit-last.ensures _
     (not-true _ c.if-not-block_holds.true-raw) c.block_holds.ensures
 
 add-g : tie.Need-overflow_add-g invariant-loop decreases-loop
@@ -66,26 +60,21 @@ add-g c = record { fits = omega (arith, c.step_from-step.ensures.low) }
 
 add-y : tie.Need-overflow_add-y invariant-loop decreases-loop
 add-y c =
-    let turn = c.before.before.before.before.before in
-    record { fits = omega (arith, turn.loop-y-test.true, turn.requires.fits.short) }
+    record { fits = omega (arith, c.loop-y-test.true, c.requires.fits.short) }
 
 loop-less : tie.Need-loop-y-smaller invariant-loop decreases-loop
 loop-less c = omega (arith, c.loop-y-test.true)
 
 loop-again : tie.Need-loop-y-preserved invariant-loop decreases-loop
 loop-again c =
-    let bits = c.before.before in
-    let step = bits.before.before in
-    let turn = step.before in
     let told = c.block_holds.ensures in
-    filled_to-suc _ _ _ _ _ _ _ turn.requires _ _ _ _ turn.loop-y.invariant _
-    step.step_from-step.ensures turn.loop-y-test.true _ _ bits.with_bit-first.ensures
-    bits.with_bit-last.ensures _ (block_filled _ _ _ _ _ _ (not-false _ c.if-not-block_holds.false-raw) told)
+    filled_to-suc _ _ _ _ _ _ _ c.requires _ _ _ _ c.loop-y.invariant _
+    c.step_from-step.ensures c.loop-y-test.true _ _ c.with_bit-first.ensures
+    c.with_bit-last.ensures _ (block_filled _ _ _ _ _ _ (not-false _ c.if-not-block_holds.false-raw) told)
 
 returns-2 : tie.Need-returns invariant-loop decreases-loop
 returns-2 c =
-    let s = c.before.before.before in
-    blocks_told-yes _ _ _ _ _ _ _ s.requires (deep s) _ _ _ c.loop-y.invariant c.loop-y-test.false
+    blocks_told-yes _ _ _ _ _ _ _ c.requires (deep c.before.before.before) _ _ _ c.loop-y.invariant c.loop-y-test.false
 
 pub blocks_hold_spec : {M : Type 1} → statement M
 blocks_hold_spec =

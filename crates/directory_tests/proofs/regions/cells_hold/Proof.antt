@@ -27,27 +27,24 @@ deep s = let w = s.args.widths in fits-steps w.w0 w.w1 w.w2 w.w3 _ _ s.requires.
 low : (c : tie.After-locate-own) → c.locate-own.result < 2 ^ c.args.t
 unfolding cell_address
 low c =
-    let s = c.before.before in
-    let own : cell_address (ws s) s.args.x s.requires.string.0 ≡ c.locate-own.result =
-    ap (address (ws s)) s.requires.string.1 ∙ sym c.locate-own.ensures in
-    subst (λ a. a < 2 ^ s.args.t) own
-    (own-lt (ws s) s.requires.fits.fit s.args.x s.args.t s.requires.within (deep s) s.requires.string.0)
+    let own : cell_address (ws c.before.before) c.args.x c.requires.string.0 ≡ c.locate-own.result =
+    ap (address (ws c.before.before)) c.requires.string.1 ∙ sym c.locate-own.ensures in
+    subst (λ a. a < 2 ^ c.args.t) own
+    (own-lt (ws c.before.before) c.requires.fits.fit c.args.x c.args.t c.requires.within (deep c.before.before) c.requires.string.0)
 
 -- the word at the region's own address
-at : (c : tie.After-locate-own) → let s = c.before.before in
-    get_or s.args.dir.now (address (ws s) (index_list s.args.index)) 0
-    ≡ get_or s.args.dir.now c.locate-own.result 0
+at : (c : tie.After-locate-own) →
+    get_or c.args.dir.now (address (ws c.before.before) (index_list c.args.index)) 0
+    ≡ get_or c.args.dir.now c.locate-own.result 0
 at c = ap (λ a. get_or c.args.dir.now a 0) (sym c.locate-own.ensures)
 
 locate-requires : tie.Need-locate-own-requires
 locate-requires c κs =
-    let s = c.before in
-    subst (InBox (ws s)) s.requires.string.1 (in_box-cell (ws s) s.requires.fits.fit s.args.x s.requires.string.0)
+    subst (InBox (ws c.before)) c.requires.string.1 (in_box-cell (ws c.before) c.requires.fits.fit c.args.x c.requires.string.0)
 
 mul-if1 : tie.Need-offset_bounds-dir-own
 mul-if1 c =
-    let s = c.before.before in
-    let top : 2 ^ s.args.t ≤ 2 ^ 12 = pow_mono s.requires.fits.short in
+    let top : 2 ^ c.args.t ≤ 2 ^ 12 = pow_mono c.requires.fits.short in
     record { fits = omega (arith, low c) }
 
 shared-slice-read-if1 : tie.Need-bounds-dir-own
@@ -55,18 +52,14 @@ shared-slice-read-if1 c = omega (arith, low c.before, c.requires.fits.room)
 
 returns : tie.Need-returns-then-dir-own
 returns c =
-    let l = c.before.before in
-    let s = l.before.before in
-    cells_told-own (ws s) s.requires.fits.fit _ _ s.requires.within (deep s) _ _ _ (λ e. c.if-dir-own.true (sym (at l) ∙ e))
+    cells_told-own (ws c.before.before.before.before) c.requires.fits.fit _ _ c.requires.within (deep c.before.before.before.before) _ _ _ (λ e. c.if-dir-own.true (sym (at c.before.before) ∙ e))
 
 blocks-hold-requires : tie.Need-blocks_hold-requires
 blocks-hold-requires c κs = search rules
 
 returns-2 : tie.Need-returns
 returns-2 c =
-    let l = c.before.before.before in
-    let s = l.before.before in
-    cells_told-blocks (ws s) s.requires.fits.fit _ _ s.requires.within (deep s) _ _ _ _ (at l ∙ c.if-dir-own.false)
+    cells_told-blocks (ws c.before.before.before.before.before) c.requires.fits.fit _ _ c.requires.within (deep c.before.before.before.before.before) _ _ _ _ (at c.before.before.before ∙ c.if-dir-own.false)
     c.blocks_hold.ensures
 
 pub cells_hold_spec : {M : Type 1} → statement M

@@ -36,18 +36,15 @@ sub-v c = omega (arith, c.loop-v-test.true)
 
 add-if2 : tie.Need-overflow_add-base-in-loop-v invariant-loop decreases-loop
 add-if2 c =
-    let s = c.before.before.before.before in
-    record { fits = omega (arith, s.requires.1, and_le_r (c.loop-v.v - 1) s.args.mask) }
+    record { fits = omega (arith, c.requires.1, and_le_r (c.loop-v.v - 1) c.args.mask) }
 
 mul-if2 : tie.Need-offset_bounds-dir-base-in-loop-v invariant-loop decreases-loop
 mul-if2 c =
-    let s = c.before.before.before.before in
-    record { fits = omega (arith, s.requires.1, and_le_r (c.loop-v.v - 1) s.args.mask) }
+    record { fits = omega (arith, c.requires.1, and_le_r (c.loop-v.v - 1) c.args.mask) }
 
 shared-slice-read-if2 : tie.Need-bounds-dir-base-in-loop-v invariant-loop decreases-loop
 shared-slice-read-if2 c =
-    let s = c.before.before.before.before.before in
-    omega (arith, s.requires.0, and_le_r (c.loop-v.v - 1) s.args.mask)
+    omega (arith, c.requires.0, and_le_r (c.loop-v.v - 1) c.args.mask)
 
 returns-2 : tie.Need-returns-then-dir-base-2 invariant-loop decreases-loop
 returns-2 c =

@@ -18,11 +18,10 @@ ws s = width_list s.args.widths
 abbrev string : tie.Start → ℕ → Bool
 string s = split_bit (ws s) s.args.key
 
-named : (c : tie.After-cell_before-index) → let s = c.before.before.before in
-    cell (ws s) s.args.x (string s) ≡ index_list c.cell_before-index.result
+named : (c : tie.After-cell_before-index) →
+    cell (ws c.before.before.before) c.args.x (string c.before.before.before) ≡ index_list c.cell_before-index.result
 named c =
-    let s = c.before.before.before in
-    ap (λ n. cell (ws s) n (string s)) (sym c.place_of-start.ensures.before) ∙ sym c.cell_before-index.ensures
+    ap (λ n. cell (ws c.before.before.before) n (string c.before.before.before)) (sym c.place_of-start.ensures.before) ∙ sym c.cell_before-index.ensures
 
 place-of-requires : tie.Need-place_of-start-requires
 place-of-requires c κs = search rules
@@ -32,12 +31,11 @@ cell-before-requires c κs = search rules
 
 cells-hold-requires : tie.Need-cells_hold-requires
 cells-hold-requires c κs =
-    let s = c.before.before.before in
     record {
-      string = (string s, named c);
+      string = (string c.before.before.before, named c);
       place = c.place_of-start.ensures;
-      within = s.requires.1;
-      fits = s.requires.0;
+      within = c.requires.1;
+      fits = c.requires.0;
     }
 
 returns : tie.Need-returns

@@ -48,12 +48,12 @@ bit_is c =
     ap (string s) (sym c.step_place-g.ensures.before) ∙ sym c.bit_at.ensures
 
 -- with bit 1 the sibling's vector is that one
-zero-half : (c : tie.Then-bit_at) → let at = c.before.before in let s = start at in
-    cell (ws s) (s.args.z + 1) (other s) ≡ index_list at.cell_before-index.result
+zero-half : (c : tie.Then-bit_at) → let s = start c.before.before in
+    cell (ws s) (s.args.z + 1) (other s) ≡ index_list c.cell_before-index.result
 zero-half c =
     let s = start c.before.before in
     ap (λ n. cell (ws s) n (other s)) (add-one s.args.z)
-    ∙ cell-sibling-zero (ws s) s.pre.0.fit _ _ c.step_place-g.ensures (string s)
+    ∙ cell-sibling-zero (ws s) s.requires.0.fit _ _ c.step_place-g.ensures (string s)
     (bit_is c.before ∙ c.if-bit_at.true)
     ∙ named c.before.before
 
@@ -61,19 +61,17 @@ zero-half c =
 one-half : (c : tie.After-with_bit-other) → let s = start c.before.before.before in
     cell (ws s) (s.args.z + 1) (other s) ≡ index_list c.with_bit-other.result
 one-half c =
-    let at = c.before.before.before in
-    let s = start at in
-    let g = at.step_place-g.result in
+    let s = start c.before.before.before in
+    let g = c.step_place-g.result in
     ap (λ n. cell (ws s) n (other s)) (add-one s.args.z)
-    ∙ cell-sibling-one (ws s) s.pre.0.fit _ g at.step_place-g.ensures (string s)
+    ∙ cell-sibling-one (ws s) s.requires.0.fit _ g c.step_place-g.ensures (string s)
     (bit_is c.before.before ∙ c.if-bit_at.false)
-    ∙ ap (bit_set g) (named at)
+    ∙ ap (bit_set g) (named c.before.before.before)
     ∙ sym c.with_bit-other.ensures
 
 step-place-requires : tie.Need-step_place-g-requires
 step-place-requires c κs =
-    let s = c.before in
-    (s.requires.0.fit, omega (arith, s.requires.0.deep, s.requires.1))
+    (c.requires.0.fit, omega (arith, c.requires.0.deep, c.requires.1))
 
 cell-before-requires : tie.Need-cell_before-index-requires
 cell-before-requires c κs = search rules
@@ -87,7 +85,7 @@ add-cells-hold c = record { fits = omega (arith, c.step_place-g.ensures.low) }
 add-cells-hold-2 : tie.Need-overflow_add-z
 add-cells-hold-2 c =
     let s = start c.before.before in
-    record { fits = omega (arith, s.pre.0.short, s.pre.1) }
+    record { fits = omega (arith, s.requires.0.short, s.requires.1) }
 
 cells-hold-requires : tie.Need-cells_hold-requires
 cells-hold-requires c κs =
@@ -95,8 +93,8 @@ cells-hold-requires c κs =
     record {
       string = (other s, zero-half c);
       place = steps_before-pair (ws s) _ _ c.step_place-g.ensures;
-      within = omega (arith, s.pre.1);
-      fits = s.pre.0;
+      within = omega (arith, s.requires.1);
+      fits = s.requires.0;
     }
 
 returns : tie.Need-returns-then-bit_at
@@ -107,12 +105,11 @@ returns c =
 
 with-bit-requires : tie.Need-with_bit-other-requires
 with-bit-requires c κs =
-    let at = c.before.before in
-    let s = start at in
-    let g = at.step_place-g.result in
-    let pair = at.step_place-g.ensures in (
+    let s = start c.before.before in
+    let g = c.step_place-g.result in
+    let pair = c.step_place-g.ensures in (
       pair.low,
-      subst (λ v. get_or v (g % 4) 0 < 2 ^ (g / 4)) (named at) (get_d-cell-lt (ws s) s.pre.0.fit _ g pair (string s)),
+      subst (λ v. get_or v (g % 4) 0 < 2 ^ (g / 4)) (named c.before.before) (get_d-cell-lt (ws s) s.requires.0.fit _ g pair (string s)),
     )
 
 add-cells-hold-3 : tie.Need-overflow_add-g-2
@@ -122,7 +119,7 @@ add-cells-hold-3 c =
 add-cells-hold-4 : tie.Need-overflow_add-z-2
 add-cells-hold-4 c =
     let s = start c.before.before.before in
-    record { fits = omega (arith, s.pre.0.short, s.pre.1) }
+    record { fits = omega (arith, s.requires.0.short, s.requires.1) }
 
 cells-hold-requires-2 : tie.Need-cells_hold-requires-2
 cells-hold-requires-2 c κs =
@@ -130,8 +127,8 @@ cells-hold-requires-2 c κs =
     record {
       string = (other s, one-half c);
       place = steps_before-pair (ws s) _ _ c.step_place-g.ensures;
-      within = omega (arith, s.pre.1);
-      fits = s.pre.0;
+      within = omega (arith, s.requires.1);
+      fits = s.requires.0;
     }
 
 returns-2 : tie.Need-returns

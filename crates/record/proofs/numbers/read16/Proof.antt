@@ -21,10 +21,9 @@ wide-requires-2 c κs = search rules
 
 returns : tie.Need-returns
 returns c =
-    let start = c.before.before.before.before.before in
     let low = c.wide in
     let high = c.wide-2 in
-    read-two start.args.bytes.now start.args.at low.result high.result low.ensures.0
+    read-two c.args.bytes.now c.args.at low.result high.result low.ensures.0
     low.ensures.1
     high.ensures.0 high.ensures.1
 

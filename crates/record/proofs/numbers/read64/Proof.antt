@@ -15,10 +15,9 @@ read32-requires-2 c κs = search rules
 
 returns : tie.Need-returns
 returns c =
-    let start = c.before.before.before in
     let low = c.read32 in
     let high = c.read32-2 in
-    read-eight start.args.bytes.now start.args.at low.result high.result low.ensures.0
+    read-eight c.args.bytes.now c.args.at low.result high.result low.ensures.0
     low.ensures.1
     high.ensures.0 high.ensures.1
 

@@ -18,9 +18,8 @@ same_length c = search rules
 
 returns : tie.Need-returns
 returns c =
-    let start = c.before.before.before.before.before.before.before.before.before in
-    let a = start.args in
-    write-four a.bytes.now _ _ a.at a.x start.requires
+    let a = c.args in
+    write-four a.bytes.now _ _ a.at a.x c.requires
     c.write16.ensures c.write16-2.ensures
 
 pub write32_spec : {M : Type 1} → statement M
