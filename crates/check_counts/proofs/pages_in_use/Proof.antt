@@ -2,7 +2,6 @@
 -- Assumes nothing.
 use Prim.Native.Nat.{◌+◌, ◌-◌, ◌*◌, ◌≤◌}
 use mathlib.Core.Path.{◌≡◌, refl, ap, ◌∙◌}
-use mathlib.Core.Logic.{⊎_elim}
 use native.Mathlib.Omega.{arith}
 use native.Mathlib.Nat.{suc-mul}
 use native.Mathlib.Numerals.{add-one}
@@ -13,6 +12,7 @@ use Rattle.page.specs.Page.{page_size}
 use Rattle.check_counts.specs.Counts.{used_pages}
 use Rattle.page.proofs.PartLaws.{page-end-le}
 use Rattle.check_counts.proofs.CountLaws.{count_of-page_at, used_pages-free, used_pages-used, used_pages-le}
+use Rattle.check_counts.proofs.pages_in_use.Lts.{then-number_at-ne0, else-number_at-ne0}
 use Rattle.check_counts.proofs.pages_in_use.Statement.{statement}
 use Rattle.check_counts.proofs.pages_in_use.Tie as tie
 
@@ -69,10 +69,12 @@ loop-again c =
     ∙ count_of-page_at b l.page s.pages.now in (
       omega (arith, c.loop-page-test.true),
       rw (l.invariant.1, size, add-one l.page, suc-mul l.page (page_size b)) refl,
-      ⊎_elim
-          (λ w. rw w.1 (used_pages-used b s.pages.now l.page l.used l.invariant.2 _ read w.0.taken))
-          (λ w. rw w.1 (used_pages-free b s.pages.now l.page l.used l.invariant.2 _ read w.0.left))
-          c.if-number_at-ne0.branch,
+      elim c.if-number_at-ne0.branch [
+        then-number_at-ne0 w ↦ rw w.used-is
+            (used_pages-used b s.pages.now l.page l.used l.invariant.2 _ read w.if-number_at-ne0.true)
+      | else-number_at-ne0 w ↦ rw w.used-is
+            (used_pages-free b s.pages.now l.page l.used l.invariant.2 _ read w.if-number_at-ne0.false)
+      ],
     )
 
 returns : tie.Need-returns invariant-loop decreases-loop

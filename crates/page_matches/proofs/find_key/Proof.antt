@@ -1,13 +1,13 @@
 -- `page_matches::find_key` meets its contract: a place past n among more records is none. Assumes nothing.
 use Prim.Native.Nat.{◌-◌, ◌/◌, min}
 use mathlib.Core.Path.{◌≡◌, ◌∙◌}
-use mathlib.Core.Logic.{⊎_elim}
 use native.Mathlib.Omega.{arith}
 use lib.ListN.{length}
 use Rattle.record.specs.Bytes.{record_size}
 use Rattle.page_matches.specs.KeyPlace.{key_place}
 use Rattle.page_matches.proofs.PlaceLaws.{key_place-cut}
 use borrow.Author.Rules.{rules}
+use Rattle.page_matches.proofs.find_key.Lts.{then-page-eq-SIXTEEN_RECORDS, else-page-eq-SIXTEEN_RECORDS}
 use Rattle.page_matches.proofs.find_key.Statement.{statement}
 use Rattle.page_matches.proofs.find_key.Tie as tie
 
@@ -28,10 +28,14 @@ cut c =
     let a = c.args in
     let page = a.page.now in
     let slots = (length page - 2) / record_size in
-    ⊎_elim
-    (λ w. key_place-cut a.key page a.n 16 _ (omega (arith, w.0.taken)) (w.2 ∙ w.1.ensures))
-    (λ w. key_place-cut a.key page a.n slots _ (omega arith) (w.2 ∙ w.1.ensures))
-    c.if-page-eq-SIXTEEN_RECORDS.branch
+    elim c.if-page-eq-SIXTEEN_RECORDS.branch [
+      then-page-eq-SIXTEEN_RECORDS w ↦
+          key_place-cut a.key page a.n 16 _ (omega (arith, w.if-page-eq-SIXTEEN_RECORDS.true))
+              (w.place-is ∙ w.find_among-place.ensures)
+    | else-page-eq-SIXTEEN_RECORDS w ↦
+          key_place-cut a.key page a.n slots _ (omega arith)
+              (w.place-is ∙ w.find_among-place-else-page-eq-SIXTEEN_RECORDS.ensures)
+    ]
 
 returns : tie.Need-returns-then-place-n
 returns c = omega (arith, cut c.before)

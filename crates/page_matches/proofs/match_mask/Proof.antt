@@ -1,13 +1,13 @@
 -- `page_matches::match_mask` meets its contract: the bits of the first n records of more. Assumes nothing.
 use Prim.Native.Nat.{◌-◌, ◌/◌}
 use mathlib.Core.Path.{◌∙◌}
-use mathlib.Core.Logic.{⊎_elim}
 use native.Mathlib.Omega.{arith}
 use lib.ListN.{length}
 use Rattle.record.specs.Bytes.{record_size}
 use Rattle.page_matches.specs.Pattern.{passes}
 use Rattle.page_matches.proofs.MaskLaws.{match_mask-cut, one-le-bit}
 use borrow.Author.Rules.{rules}
+use Rattle.page_matches.proofs.match_mask.Lts.{then-page-eq-SIXTEEN_RECORDS, else-page-eq-SIXTEEN_RECORDS}
 use Rattle.page_matches.proofs.match_mask.Statement.{statement}
 use Rattle.page_matches.proofs.match_mask.Tie as tie
 
@@ -33,10 +33,14 @@ returns c =
     let page = a.page.now in
     let test = passes a.pattern in
     let slots = (length page - 2) / record_size in
-    ⊎_elim
-    (λ w. match_mask-cut test page a.n 16 _ c.requires.0 (omega (arith, w.0.taken)) (w.2 ∙ w.1.ensures))
-    (λ w. match_mask-cut test page a.n slots _ c.requires.0 (omega arith) (w.2 ∙ w.1.ensures))
-    c.if-page-eq-SIXTEEN_RECORDS.branch
+    elim c.if-page-eq-SIXTEEN_RECORDS.branch [
+      then-page-eq-SIXTEEN_RECORDS w ↦
+          match_mask-cut test page a.n 16 _ c.requires.0 (omega (arith, w.if-page-eq-SIXTEEN_RECORDS.true))
+              (w.mask-is ∙ w.match_among-mask.ensures)
+    | else-page-eq-SIXTEEN_RECORDS w ↦
+          match_mask-cut test page a.n slots _ c.requires.0 (omega arith)
+              (w.mask-is ∙ w.match_among-mask-else-page-eq-SIXTEEN_RECORDS.ensures)
+    ]
 
 pub match_mask_spec : {M : Type 1} → statement M
 match_mask_spec =

@@ -1,12 +1,12 @@
 -- `page_matches::put_all` meets its contract: no room, or as many records as fit, in one move. Assumes nothing.
 use Prim.Native.Nat.{◌-◌, ◌/◌, min}
 use mathlib.Core.Path.{◌≡◌, refl, sym, ◌∙◌}
-use mathlib.Core.Logic.{⊎_elim}
 use native.Mathlib.Omega.{arith}
 use lib.ListN.{length}
 use Rattle.record.specs.Bytes.{record_size}
 use Rattle.page_matches.proofs.HitLaws.{emit-none, emit-all}
 use borrow.Author.Rules.{rules}
+use Rattle.page_matches.proofs.put_all.Lts.{then-n-fit, else-n-fit}
 use Rattle.page_matches.proofs.put_all.Statement.{statement}
 use Rattle.page_matches.proofs.put_all.Tie as tie
 use Rattle.page_matches.proofs.put_all.Reads as reads
@@ -32,7 +32,8 @@ mul-copy-records c = search rules
 fits : (c : lts.After-copy_records-arg-1 (copy-records-reads.Asked, copy-records-reads.Learnt) reads.Pre reads.Post)
     → let a = c.args in
     c.if-n-fit.fit ≡ min a.n (length a.out.now / record_size - a.total)
-fits c = ⊎_elim (λ w. w.1 ∙ omega arith) (λ w. w.1 ∙ omega arith) c.if-n-fit.branch
+fits c =
+    elim c.if-n-fit.branch [ then-n-fit w ↦ w.fit-is ∙ omega arith | else-n-fit w ↦ w.fit-is ∙ omega arith ]
 
 copy-records-requires : tie.Need-copy_records-requires
 copy-records-requires c κs = let most = fits c in (omega arith, omega arith)

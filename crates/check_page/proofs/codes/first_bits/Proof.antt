@@ -2,7 +2,6 @@
 -- Assumes nothing.
 use Prim.Native.Nat.{◌-◌, ◌/◌, ◌%◌, ◌≤◌, ◌<◌}
 use mathlib.Core.Path.{refl, sym, subst, ◌∙◌}
-use mathlib.Core.Logic.{⊎_elim}
 use native.Mathlib.Omega.{arith}
 use Rattle.shape.specs.Shape.{width_list}
 use Rattle.shape.proofs.ShapeLaws.{total-le}
@@ -12,6 +11,7 @@ use Rattle.record.specs.Packed.{unpacked_key}
 use Rattle.record.proofs.PackedLaws.{get_d-unpacked_key}
 use Rattle.pairs.proofs.PlaceLaws.{steps_before-lt}
 use Rattle.check_page.proofs.CodeLaws.{Coded, coded-zero, coded-skip, coded-step, coded-end}
+use Rattle.check_page.proofs.codes.first_bits.Lts.{then-g-w, else-g-w}
 use Rattle.check_page.proofs.codes.first_bits.Statement.{statement}
 use Rattle.check_page.proofs.codes.first_bits.Tie as tie
 
@@ -63,18 +63,19 @@ loop-again c =
     let key = unpacked_key c.args.key in
     let width = c.width_at-w.ensures in
     let j : l.g % 4 < 4 = omega arith in
-    ⊎_elim
-    (λ w.
-    let value = w.1.ensures ∙ sym (get_d-unpacked_key c.args.key (l.g % 4) j) in
-    rw (w.3, w.4)
-    (coded-step ws key c.requires.0 c.args.x l.code l.n l.g l.invariant (next c.before.before)
-    (subst (λ x. l.g / 4 < x) width w.0.taken) (few c.before.before.before.before) c.loop-n-test.true _
-    (w.2.ensures ∙ (λ i. bit_value (bit_of (width i) (value i) (l.g / 4))))))
-    (λ w.
-    rw (w.1, w.2)
-    (coded-skip ws key c.requires.0 c.args.x l.code l.n l.g l.invariant (next c.before.before)
-    (subst (λ x. x ≤ l.g / 4) width w.0.left)))
-    c.if-g-w.branch
+    elim c.if-g-w.branch [
+      then-g-w w ↦
+          let value = w.value_at.ensures ∙ sym (get_d-unpacked_key c.args.key (l.g % 4) j) in
+          rw (w.code-is, w.n-is)
+          (coded-step ws key c.requires.0 c.args.x l.code l.n l.g l.invariant (next c.before.before)
+          (subst (λ x. l.g / 4 < x) width w.if-g-w.true) (few c.before.before.before.before)
+          c.loop-n-test.true _
+          (w.bit_of.ensures ∙ (λ i. bit_value (bit_of (width i) (value i) (l.g / 4)))))
+    | else-g-w w ↦
+          rw (w.code-is, w.n-is)
+          (coded-skip ws key c.requires.0 c.args.x l.code l.n l.g l.invariant (next c.before.before)
+          (subst (λ x. x ≤ l.g / 4) width w.if-g-w.false))
+    ]
 
 returns : tie.Need-returns invariant-loop decreases-loop
 returns c =
