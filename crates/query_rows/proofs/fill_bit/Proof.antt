@@ -3,7 +3,6 @@
 use Prim.Native.Nat.{ℕ, ◌+◌, ◌-◌, ◌*◌, ◌/◌, ◌%◌, ◌≤◌, ◌<◌}
 use mathlib.Core.Path.{◌≡◌, refl, ap, ◌∙◌, subst}
 use mathlib.Core.List.{List}
-use mathlib.Core.Logic.{⊎_elim}
 use native.Mathlib.Omega.{arith}
 use lib.ListN.{get_or, length}
 use Rattle.shape.specs.Shape.{width_list}
@@ -11,6 +10,7 @@ use Rattle.shape.specs.Key.{wanted_values}
 use Rattle.query_rows.specs.Private.{RowsFilled}
 use Rattle.query_rows.specs.Rows.{wanted_at}
 use Rattle.query_rows.proofs.FilledLaws.{filled-done, filled-skip, fixed-fits, length-stored, filled-step}
+use Rattle.query_rows.proofs.fill_bit.Lts.{then-x-t+then-bit-width_at, then-x-t+else-bit-width_at, else-x-t}
 use Rattle.query_rows.proofs.fill_bit.Statement.{statement}
 use Rattle.query_rows.proofs.fill_bit.Tie as tie
 
@@ -103,21 +103,26 @@ loop-again c =
     let live_here = live a.bit l.z z ws in
     let lent : 83 ≤ length l.rows = omega (arith, c.requires.table-lent, l.invariant.1) in (
       omega (arith, z),
-      ⊎_elim
-          (λ w. length-stored _ _ _ _ _ _ here w.0.taken c.requires.fit (live_here _ w.1.ensures w.2.taken) _
-          w.4.ensures _ (w.6 ∙ w.5.ensures)
-          ∙ l.invariant.1)
-          (⊎_elim (λ w. ap length w.3 ∙ l.invariant.1) (λ w. ap length w.1 ∙ l.invariant.1)) c.if-x-t.branch,
+      elim c.if-x-t.branch [
+        then-x-t+then-bit-width_at w ↦
+            length-stored _ _ _ _ _ _ here w.if-x-t.true c.requires.fit
+            (live_here _ w.width_at.ensures w.if-bit-width_at.true) _ w.row_at.ensures _
+            (w.rows-is ∙ w.put_row.ensures)
+            ∙ l.invariant.1
+      | then-x-t+else-bit-width_at w ↦ ap length w.rows-is ∙ l.invariant.1
+      | else-x-t w ↦ ap length w.rows-is ∙ l.invariant.1
+      ],
       subst (λ g. RowsFilled ws (wanted_at ws (wanted_values a.query)) a.t g c.if-x-t.x c.if-x-t.rows) next
-          (⊎_elim
-          (λ w. filled-step _ _ _ _ _ _ here w.0.taken c.requires.fit
-          (live_here _ w.1.ensures w.2.taken) _ w.4.ensures low c.requires.deep lent _ _
-          (w.6 ∙ w.5.ensures) w.7)
-          (⊎_elim
-          (λ w. filled-skip _ _ _ _ _ _ here w.0.taken low
-          (past a.bit l.z z ws _ w.1.ensures w.2.left) _ _ w.3 w.4)
-          (λ w. filled-done _ _ _ _ _ _ here w.0.left low _ _ w.1 w.2))
-          c.if-x-t.branch),
+          (elim c.if-x-t.branch [
+            then-x-t+then-bit-width_at w ↦
+                filled-step _ _ _ _ _ _ here w.if-x-t.true c.requires.fit
+                (live_here _ w.width_at.ensures w.if-bit-width_at.true) _ w.row_at.ensures low
+                c.requires.deep lent _ _ (w.rows-is ∙ w.put_row.ensures) w.x-is
+          | then-x-t+else-bit-width_at w ↦
+                filled-skip _ _ _ _ _ _ here w.if-x-t.true low
+                (past a.bit l.z z ws _ w.width_at.ensures w.if-bit-width_at.false) _ _ w.rows-is w.x-is
+          | else-x-t w ↦ filled-done _ _ _ _ _ _ here w.if-x-t.false low _ _ w.rows-is w.x-is
+          ]),
     )
 
 returns : tie.Need-returns invariant-loop decreases-loop
