@@ -53,8 +53,7 @@ array-read-high-2 : tie.Need-bounds-values-3
 array-read-high-2 c = search rules
 
 cast-high-2 : tie.Need-overflow_cast-high-2
-cast-high-2 c =
-    elem_fits_field w32 w64 c.args.encoded.values _ 3 c.well_formed.1.0.1.1.0.1.1 tt
+cast-high-2 c = search rules
 
 shr-high-2 : tie.Need-overflow_shr-high-2
 shr-high-2 c = omega (arith, fit c.before.before.before.before 3)
