@@ -1,4 +1,0 @@
-pub mod Numbers
-pub mod Lending
-pub mod LentLaws
-pub mod ValueLaws
