@@ -44,7 +44,7 @@ found : (c : tie.After-key_word-at)
 found c =
     let a = c.args in
     key-word-is a.state.shape _ c.widths_of-widths.ensures a.state.deepest a.dir.now
-    a.encoded.values _ _ (back c.before) c.key_word-at.ensures.word_value
+    a.encoded.values _ _ (back c.before) c.key_word-at.ensures.0
 
 -- it holds
 held : (c : tie.Else-not-word_holds)
@@ -124,7 +124,7 @@ returns-3 c =
     let before = store a.state a.dir.now a.pages.now in
     refused-empty before a.encoded.values _ c.key_word-at.result.depth
     (ap leaf_of (sym (found c.before.before.before.before)) ∙ sym c.unpack-found.ensures ∙ c.in_default.is)
-    (held c.before.before) (c.key_word-at.ensures.depth_value ∙ ap depth_field (found c.before.before.before.before))
+    (held c.before.before) (c.key_word-at.ensures.1 ∙ ap depth_field (found c.before.before.before.before))
 
 plan-leaf-requires : tie.Need-plan_leaf-requires
 plan-leaf-requires c κs =

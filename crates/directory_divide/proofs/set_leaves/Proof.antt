@@ -26,7 +26,7 @@ other c = c.before.before.before
 
 -- m < 12
 small : (s : tie.Start) → s.args.m < 12
-small s = omega (arith, s.requires.directory_fits.0.short, s.requires.directory_fits.2)
+small s = omega (arith, s.requires.0.0.short, s.requires.0.2)
 
 set-siblings-requires : tie.Need-set_siblings-requires
 set-siblings-requires c κs = search rules

@@ -29,8 +29,8 @@ returns : tie.Need-returns
 returns c =
     (
       keeps-reported _ _ _ _ _ _ (subst (Promise c.before) c.state_in.ensures c.check.ensures)
-          c.checked_result.ensures.reports,
-      c.checked_result.ensures.sound_bound,
+          c.checked_result.ensures.0,
+      c.checked_result.ensures.1,
     )
 
 pub check_result_spec : {M : Type 1} → statement M

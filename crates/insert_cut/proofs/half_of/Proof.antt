@@ -44,7 +44,7 @@ returns-3 : tie.Need-returns-then-pair_bit
 returns-3 c =
     let a = c.args in
     own-high (width_list a.widths) a.bias a.page.now a.n a.key a.i a.pair _ c.first_one-start.ensures
-    (bit c.before.before.before ∙ c.if-pair_bit.true) (omega (arith, c.if-i-start.false)) c.if-start-eq0.false c.requires.le_n.0
+    (bit c.before.before.before ∙ c.if-pair_bit.true) (omega (arith, c.if-i-start.false)) c.if-start-eq0.false c.requires.0.0
 
 returns-4 : tie.Need-returns-then-start-i
 returns-4 c =

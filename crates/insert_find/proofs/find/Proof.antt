@@ -53,7 +53,7 @@ found : (c : tie.After-key_word-at)
 found c =
     let a = c.args in
     key-word-is a.state.shape _ c.widths_of-widths.ensures a.state.deepest a.dir.now
-    a.encoded.values _ _ (back c.before.before.before.before) c.key_word-at.ensures.word_value
+    a.encoded.values _ _ (back c.before.before.before.before) c.key_word-at.ensures.0
 
 widths-of-requires : tie.Need-widths_of-widths-requires
 widths-of-requires c κs = search rules

@@ -53,18 +53,18 @@ widths-of-requires : tie.Need-widths_of-requires
 widths-of-requires c κs = search rules
 
 bias-key-requires : tie.Need-bias_key-requires
-bias-key-requires c κs = c.requires.pages_lent.0.shape
+bias-key-requires c κs = c.requires.0.0.shape
 
 half-of-requires : tie.Need-half_of-half-requires
 half-of-requires c κs =
     let st = c.args.state in
-    let page = c.requires.pages_lent.1 in
+    let page = c.requires.0.1 in
     let pair = c.args.split.pair in
-    let b = capacity-bounds st.shape c.requires.pages_lent.0.shape in
+    let b = capacity-bounds st.shape c.requires.0.0.shape in
     let whole = ap length (part c.before.before.before)
     ∙ length-page_at st.shape.capacity c.args.split.page c.args.pages.now page.whole in (
-      (b.0, b.1, omega (arith, whole), widths-fit st.shape _ c.requires.pages_lent.0.shape c.widths_of.ensures),
-      (c.requires.pair_bound.0, subst (λ ws. pair / 4 < get_or ws (pair % 4) 0) (sym c.widths_of.ensures) c.requires.pair_bound.1),
+      (b.0, b.1, omega (arith, whole), widths-fit st.shape _ c.requires.0.0.shape c.widths_of.ensures),
+      (c.requires.1.0, subst (λ ws. pair / 4 < get_or ws (pair % 4) 0) (sym c.widths_of.ensures) c.requires.1.1),
     )
 
 enum-known-half : tie.Need-enum_known-half

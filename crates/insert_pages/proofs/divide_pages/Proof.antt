@@ -12,14 +12,14 @@ use Rattle.insert_pages.proofs.divide_pages.Tie as tie
 
 carry-requires : tie.Need-carry-requires
 carry-requires c κs =
-    (c.requires.page_lent, (c.requires.cut_fits.start-le, omega arith, omega arith))
+    (c.requires.0, (c.requires.1.start-le, omega arith, omega arith))
 
 either-requires : tie.Need-either-own-requires
 either-requires c κs = search rules
 
 sub-either : tie.Need-overflow_sub-capacity
 sub-either c =
-    omega (arith, c.requires.cut_fits.start-le)
+    omega (arith, c.requires.1.start-le)
 
 either-requires-2 : tie.Need-either-count-requires
 either-requires-2 c κs = search rules
@@ -27,9 +27,9 @@ either-requires-2 c κs = search rules
 insert-record-requires : tie.Need-insert_record-requires
 insert-record-requires c κs =
     let a = c.args in
-    let fits = c.requires.cut_fits in
+    let fits = c.requires.1 in
     let count = c.either-count in (
-      lent-carried a.capacity a.page a.free a.cut a.pages.now _ c.requires.page_lent.0 c.requires.page_lent.1 fits
+      lent-carried a.capacity a.page a.free a.cut a.pages.now _ c.requires.0.0 c.requires.0.1 fits
           c.carry.ensures _
           c.either-own.ensures,
       subst (λ k. a.cut.place ≤ k) (sym count.ensures) fits.place-le,

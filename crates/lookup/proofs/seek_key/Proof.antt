@@ -55,7 +55,7 @@ found : (c : tie.After-key_word-at)
 found c =
     let a = c.args in
     key-word-is a.state.shape _ c.widths_of-widths.ensures a.state.deepest a.dir.now
-    a.encoded.values _ _ (back c.before.before.before.before) c.key_word-at.ensures.word_value
+    a.encoded.values _ _ (back c.before.before.before.before) c.key_word-at.ensures.0
 
 widths-of-requires : tie.Need-widths_of-widths-requires
 widths-of-requires c κs = search rules
@@ -85,7 +85,7 @@ seek-by-word-requires c κs =
         fits = subst (λ k. index_fits (widths_of st.shape) (unpacked_key k) ≡ true) (sym c.pack_key-packed.ensures)
             (index_fits-passed _ _ p);
       },
-      c.key_word-at.ensures.depth_value,
+      c.key_word-at.ensures.1,
     )
 
 returns-2 : tie.Need-returns

@@ -44,7 +44,7 @@ loop-again : tie.Need-loop-left-preserved invariant-loop decreases-loop
 loop-again c =
     let a = c.args in
     let now = c.loop-left in
-    let k = now.false in (
+    let k = now.left in (
       omega arith,
       simp length-set now.invariant.1,
       ap (λ l. set l (a.to + (k - 1)) (get_or l (a.from + (k - 1)) 0)) now.invariant.2
@@ -58,7 +58,7 @@ same_length c = c.loop-left.invariant.1
 returns : tie.Need-returns invariant-loop decreases-loop
 returns c =
     let a = c.args in
-    let k = c.loop-left.false in
+    let k = c.loop-left.left in
     let at-to : a.to + k ≡ a.to = omega arith in
     let at_from : a.from + k ≡ a.from = omega arith in
     let all : a.n - k ≡ a.n = omega arith in

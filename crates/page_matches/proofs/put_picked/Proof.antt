@@ -27,17 +27,17 @@ loop-holds : tie.Need-loop-left-init invariant-loop decreases-loop
 loop-holds c = (omega arith, refl, refl, refl)
 
 cast-put-record : tie.Need-overflow_cast-left invariant-loop decreases-loop
-cast-put-record c = record { fits = omega (arith, trailing_le 64 c.loop-left.false) }
+cast-put-record c = record { fits = omega (arith, trailing_le 64 c.loop-left.left) }
 
 put-record-requires : tie.Need-put_record-requires invariant-loop decreases-loop
 put-record-requires c κs =
     let loop = c.loop-left in
     let page = c.args.page.now in
-    let some : 0 < loop.false = omega arith in
+    let some : 0 < loop.left = omega arith in
     let fits = lt_of_le_of_lt loop.invariant.0 c.ranges.mask.fits in
     let below = lt_of_le_of_lt loop.invariant.0 c.requires.0 in
-    let lt = trailing_lt page (slots_of page) loop.false fits some below in
-    let next = ap length (picked_next page (slots_of page) loop.false fits some below) in
+    let lt = trailing_lt page (slots_of page) loop.left fits some below in
+    let next = ap length (picked_next page (slots_of page) loop.left fits some below) in
     (omega arith, omega arith)
 
 add-found : tie.Need-overflow_add-found invariant-loop decreases-loop
@@ -48,7 +48,7 @@ sub-left c = omega arith
 
 loop-less : tie.Need-loop-left-smaller invariant-loop decreases-loop
 loop-less c =
-    let left = c.loop-left.false in
+    let left = c.loop-left.left in
     omega (arith, and_le_r left (left - 1))
 
 loop-again : tie.Need-loop-left-preserved invariant-loop decreases-loop
@@ -57,12 +57,12 @@ loop-again c =
     let put = c.put_record in
     let loop = c.loop-left in
     let page = c.args.page.now in
-    let some : 0 < loop.false = omega arith in
+    let some : 0 < loop.left = omega arith in
     let fits = lt_of_le_of_lt loop.invariant.0 c.ranges.mask.fits in
     let below = lt_of_le_of_lt loop.invariant.0 c.requires.0 in
-    let next = picked_next page (slots_of page) loop.false fits some below in
-    let less = and_le_r loop.false (loop.false - 1) in
-    let rest = picked_by (bit_and loop.false (loop.false - 1)) page in
+    let next = picked_next page (slots_of page) loop.left fits some below in
+    let less = and_le_r loop.left (loop.left - 1) in
+    let rest = picked_by (bit_and loop.left (loop.left - 1)) page in
     let count : loop.found + suc (length rest) ≡ loop.found + 1 + length rest = omega arith in (
       omega arith,
       put.auto.out ∙ loop.invariant.1,

@@ -36,7 +36,7 @@ compare-requires : tie.Need-compare-order-requires invariant-loop decreases-loop
 compare-requires c κs = c.requires.1
 
 enum_told : tie.Need-enum_told-1 invariant-loop decreases-loop
-enum_told c = c.in-Same.keys1
+enum_told c = c.in-Same-1.keys1
 
 returns : tie.Need-returns-in-Same invariant-loop decreases-loop
 returns c =
@@ -46,7 +46,7 @@ returns c =
     (omega arith, sym read ∙ sym c.compare-order.ensures ∙ c.in-Same.is)
 
 enum-told-2 : tie.Need-enum_told-in-Before invariant-loop decreases-loop
-enum-told-2 c = c.in-Before.keys2
+enum-told-2 c = c.in-Before-1.keys2
 
 loop-less : tie.Need-loop-low-smaller-in-Before invariant-loop decreases-loop
 loop-less c = omega arith
@@ -60,7 +60,7 @@ loop-again c =
     (omega arith, omega arith, loop.invariant.2, (λ l. sym read ∙ sym c.compare-order.ensures ∙ c.in-Before.is))
 
 enum-told-3 : tie.Need-enum_told-in-After invariant-loop decreases-loop
-enum-told-3 c = c.in-After.keys3
+enum-told-3 c = c.in-After-1.keys3
 
 add_low : tie.Need-overflow_add-low invariant-loop decreases-loop
 add_low c = omega arith

@@ -27,7 +27,7 @@ code-at-requires c κs = omega arith
 pair-bit-requires : tie.Need-pair_bit-requires invariant-loop decreases-loop
 pair-bit-requires c κs =
     let pre = c.requires in
-    (pre.n_in_bounds.1, pre.g_bound.0, pre.g_bound.1)
+    (pre.0.1, pre.1.0, pre.1.1)
 
 returns : tie.Need-returns-then-pair_bit invariant-loop decreases-loop
 returns c =

@@ -77,9 +77,9 @@ same_length c = search rules
 returns : tie.Need-returns
 returns c =
     let a = c.args in
-    put_mid-carried a.capacity a.p a.m a.n a.q a.j a.pages.now c.requires.page_lent.0
-    c.requires.page_lent.1
-    c.requires.m_le_n.0 c.requires.m_le_n.1 c.requires.m_le_n.2 _ _ _ c.page_start-from.ensures
+    put_mid-carried a.capacity a.p a.m a.n a.q a.j a.pages.now c.requires.0.0
+    c.requires.0.1
+    c.requires.1.0 c.requires.1.1 c.requires.1.2 _ _ _ c.page_start-from.ensures
     c.page_start-to.ensures c.page_size-size.ensures _ _ _ _ c.copy_records.ensures
     c.set_count.ensures
     c.append.ensures

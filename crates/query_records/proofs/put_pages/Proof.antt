@@ -45,7 +45,7 @@ returns-2 : tie.Need-returns
 returns-2 c =
     let a = c.args in
     emitted-as (matched_fields a.capacity a.pages.now) _ a.out.now _ _ _
-    c.put_matched.ensures c.match_pages-m.ensures.list_after
+    c.put_matched.ensures c.match_pages-m.ensures.1
 
 pub put_pages_spec : {M : Type 1} → statement M
 put_pages_spec =

@@ -58,7 +58,7 @@ loop-again c =
     let few = length-page_fields-le a.capacity a.pages.now _ c.requires.capacity (c.requires.each loop.i lt) in (
       omega (arith, lt),
       emitted_to-next f a.list.now a.out.now loop.i loop.total loop.out loop.invariant.1
-          (omega (arith, c.requires.within, lt)) few _ put.ensures.value _ put.ensures.out_after put.auto.out,
+          (omega (arith, c.requires.within, lt)) few _ put.ensures.0 _ put.ensures.1 put.auto.out,
     )
 
 same_length : tie.Need-shape_of-out invariant-loop decreases-loop

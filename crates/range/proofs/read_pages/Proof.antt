@@ -128,11 +128,11 @@ returns-2 c =
     promise-of-pages a.state a.dir.now a.pages.now (range_intervals a.range) c.requires.none c.requires.can
     a.list.now _ _ (met c.before.before.before.before.before.before.before.before.before.before.before) c.note_met-noted.auto.list c.requires.room-left _ found.1
     (λ i. omega (arith, known i)) a.out.now _ _ _
-    (put.ensures.value.0
+    (put.ensures.0.0
     ∙ (λ i. length (list_hits (lies_in (c.bias_key.ensures i) (c.low_key-low.ensures i) (c.high_key-high.ensures i)) a.state.shape.capacity
     a.pages.now noted)))
     (c.smaller_length.ensures ∙ ap (λ k. min put.result (k / record_size)) put.auto.out)
-    (put.ensures.out_after
+    (put.ensures.1
     ∙ (λ i. emit a.out.now 0
     (list_hits (lies_in (c.bias_key.ensures i) (c.low_key-low.ensures i) (c.high_key-high.ensures i)) a.state.shape.capacity
     a.pages.now noted)))

@@ -27,7 +27,7 @@ turn : (s : tie.Start)
     → Turn s.args.rows.now s.args.dir.now (length s.args.pages.now) (length s.args.list.now) 0 0 0 0
 turn s =
     Turn-start s.args.state s.args.rows.now s.args.dir.now s.args.pages.now
-    (length s.args.list.now) s.requires.walkable
+    (length s.args.list.now) s.requires.0
 
 -- where the call began
 abbrev start : tie.Joined-is_leaf → tie.Start
@@ -72,7 +72,7 @@ seen-wrote c enter tells =
 
 shared-slice-read-word : tie.Need-bounds-dir-0
 shared-slice-read-word c =
-    omega (arith, c.requires.walkable.words-lent, pow_pos c.args.state.deepest)
+    omega (arith, c.requires.0.words-lent, pow_pos c.args.state.deepest)
 
 is-leaf-requires : tie.Need-is_leaf-requires
 is-leaf-requires c κs = tt
@@ -83,10 +83,10 @@ note-requires c κs = leaf-asked (turn c.before.before.before.before.before.befo
 walk-requires : tie.Need-walk-count-requires
 walk-requires c κs =
     let a = c.args in
-    let all : deepest_in a.rows.now - 0 ≡ a.state.deepest = omega (arith, c.requires.walkable.table.depth-of) in (
+    let all : deepest_in a.rows.now - 0 ≡ a.state.deepest = omega (arith, c.requires.0.table.depth-of) in (
       turn c.before.before.before.before.before.before.before,
       (
-        rw all (omega (arith, c.requires.deepest_in_bounds)),
+        rw all (omega (arith, c.requires.1)),
         eqb-false _ _ (sym c.is_leaf.ensures ∙ c.if-is_leaf.false),
       ),
     )

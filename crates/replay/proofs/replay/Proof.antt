@@ -24,7 +24,7 @@ returns : tie.Need-returns-in_default
 returns c =
     let a = c.args in
     replayed-refused a.shape (memory a.dir.now a.pages.now) a.calls.now a.answers.now a.out.now
-    (made_answer c.fresh-made.result.answer) _ (refused-of-tag c.fresh-made.result.answer c.in_default.keys2)
+    (made_answer c.fresh-made.result.answer) _ (refused-of-tag c.fresh-made.result.answer c.in_default.in_default-own.keys2)
     c.fresh-made.ensures
 
 run-calls-requires : tie.Need-run_calls-state-requires

@@ -25,7 +25,7 @@ returns c =
     let a = c.args in
     replayed-file-refused a.file.now (memory a.dir.now a.pages.now) a.calls.now a.answers.now
     a.out.now (made_answer c.load-made.result.answer) _
-    (refused-of-tag c.load-made.result.answer c.in_default.keys2) c.load-made.ensures
+    (refused-of-tag c.load-made.result.answer c.in_default.in_default-own.keys2) c.load-made.ensures
 
 run-calls-requires : tie.Need-run_calls-state-requires
 run-calls-requires c κs = search rules

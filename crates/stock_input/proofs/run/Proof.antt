@@ -76,7 +76,7 @@ loop-again c =
       call.auto.out ∙ inv.2,
       inv.3,
       running-step a.piece.now a.from a.progress _ a.text.now loop.next loop.here _ loop.text
-          inv.4 _ _ _ c.loop-next-test.true call.ensures.stepped call.ensures.standable
+          inv.4 _ _ _ c.loop-next-test.true call.ensures.0 call.ensures.1
           call.auto.text,
     )
 

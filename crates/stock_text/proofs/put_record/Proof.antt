@@ -35,8 +35,8 @@ returns c =
     let most = length-field_text-le 9 read.result.payload newline (omega arith) in (
       Grown-payload _ _ _ c.args.out.now _ _ _ (record_size * c.args.i) c.args.d read.result.payload
           payload
-          values.0 c.put_field.ensures.grown,
-      omega (arith, c.requires.0, values.1, c.put_field.ensures.grown.end_is, most),
+          values.0 c.put_field.ensures.0,
+      omega (arith, c.requires.0, values.1, c.put_field.ensures.0.end_is, most),
     )
 
 pub put_record_spec : {M : Type 1} → statement M

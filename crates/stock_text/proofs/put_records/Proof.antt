@@ -41,8 +41,8 @@ loop-again c =
     let loop = c.loop-i in
     let a = c.args in (
       omega arith,
-      omega (arith, loop.invariant.1, c.put_record-end.ensures.upper_bound),
-      Grown-record _ _ _ a.out.now _ _ _ a.d loop.i loop.invariant.2 c.put_record-end.ensures.grown,
+      omega (arith, loop.invariant.1, c.put_record-end.ensures.1),
+      Grown-record _ _ _ a.out.now _ _ _ a.d loop.i loop.invariant.2 c.put_record-end.ensures.0,
     )
 
 same_length : tie.Need-shape_of-text invariant-loop decreases-loop

@@ -20,7 +20,7 @@ same_length c = search rules
 returns : tie.Need-returns
 unfolding refused_text
 returns c =
-    Grown-then _ _ _ _ _ _ _ _ c.put_bytes-end.ensures c.put_field.ensures.grown
+    Grown-then _ _ _ _ _ _ _ _ c.put_bytes-end.ensures c.put_field.ensures.0
 
 pub put_refused_spec : {M : Type 1} → statement M
 put_refused_spec =

@@ -24,7 +24,7 @@ returns : tie.Need-returns
 unfolding sum_text
 returns c =
     Grown-then _ _ _ _ _ _ _ _ c.put_bytes-start.ensures
-    (Grown-then _ _ _ _ _ _ _ _ c.put_field-end.ensures.grown c.put_field.ensures.grown)
+    (Grown-then _ _ _ _ _ _ _ _ c.put_field-end.ensures.0 c.put_field.ensures.0)
 
 pub put_sum_spec : {M : Type 1} → statement M
 put_sum_spec =

@@ -47,10 +47,10 @@ loop-again c =
     let loop = c.loop-j in
     let most = length-field_text-le 4 read.result space (omega (arith, read.ensures.1)) in (
       omega arith,
-      omega (arith, loop.invariant.1, c.put_field-end.ensures.grown.end_is, most),
+      omega (arith, loop.invariant.1, c.put_field-end.ensures.0.end_is, most),
       Grown-value _ _ _ c.args.out.now _ _ _ c.args.start loop.j read.result
           (omega (arith, c.loop-j-test.true, c.requires.0))
-          read.ensures.0 loop.invariant.2 c.put_field-end.ensures.grown,
+          read.ensures.0 loop.invariant.2 c.put_field-end.ensures.0,
     )
 
 same_length : tie.Need-shape_of-text invariant-loop decreases-loop
