@@ -34,7 +34,7 @@ abbrev encoding : tie.After-plan_delete-plan → tie.After-encode_key-encoded
 encoding p = p.before.before.before.before.before.before
 
 abbrev encoded : tie.After-plan_delete-plan → List ℕ
-encoded p = (encoding p).encode-key.result.values
+encoded p = (encoding p).encode_key-encoded.result.values
 
 -- where the call began, from the plan
 abbrev start : tie.After-plan_delete-plan → tie.Start
@@ -52,7 +52,7 @@ early c =
 called : (p : tie.After-plan_delete-plan) (X : List ℕ → Type 0) → OfValues (given (start p)) (encoded p) X
     → X (start p).args.key.values
 called p X told =
-    told (start p).args.key.values (early p.before.before) (sym (encoding p).encode-key.ensures)
+    told (start p).args.key.values (early p.before.before) (sym (encoding p).encode_key-encoded.ensures)
 
 -- the plan of a leaf that stays
 kept : (c : tie.In-Keep-2)

@@ -31,16 +31,16 @@ double-requires c κs =
 add-depth : tie.Need-overflow_add-depth invariant-loop decreases-loop
 add-depth c =
     record {
-      fits = omega (arith, (turn c).loop-test.true, (turn c).before.before.before.requires.0.short);
+      fits = omega (arith, (turn c).loop-depth-test.true, (turn c).before.before.before.requires.0.short);
     }
 
 loop-less : tie.Need-loop-depth-smaller invariant-loop decreases-loop
-loop-less c = omega (arith, (turn c).loop-test.true)
+loop-less c = omega (arith, (turn c).loop-depth-test.true)
 
 loop-again : tie.Need-loop-depth-preserved invariant-loop decreases-loop
 loop-again c =
     let doubled = c.double.ensures in
-    (omega (arith, (turn c).loop-test.true), deepened-next _ _ _ _ _ (turn c).before.loop.invariant.1 _ doubled)
+    (omega (arith, (turn c).loop-depth-test.true), deepened-next _ _ _ _ _ (turn c).before.loop-depth.invariant.1 _ doubled)
 
 same_length : tie.Need-shape_of-dir invariant-loop decreases-loop
 same_length c = c.loop-depth.invariant.1.size

@@ -52,7 +52,7 @@ fill-requires : tie.Need-fill-requires
 fill-requires c κs =
     let set = siblings c.before.before in
     let pre = (start set).requires.0 in
-    (fits-shallower _ _ _ _ _ pre.0 (omega arith) set.set-siblings.ensures.size, omega (arith, pre.2))
+    (fits-shallower _ _ _ _ _ pre.0 (omega arith) set.set_siblings.ensures.size, omega (arith, pre.2))
 
 page-of-bit-requires-2 : tie.Need-page_of_bit-requires-2
 page-of-bit-requires-2 c κs = search rules
@@ -74,7 +74,7 @@ fill-requires-2 c κs =
     let set = siblings (other filled) in
     let pre = (start set).requires.0 in (
       fits-shallower _ _ _ _ _ pre.0 (omega arith)
-          (filled.fill.ensures.size ∙ set.set-siblings.ensures.size),
+          (filled.fill.ensures.size ∙ set.set_siblings.ensures.size),
       omega (arith, pre.2),
     )
 
@@ -88,9 +88,9 @@ returns c =
     let set = siblings page in
     let a = (start set).args in
     let pre = (start set).requires in
-    leaves-of-whole _ _ _ _ _ _ pre.0.1 _ _ _ _ _ set.set-siblings.ensures
+    leaves-of-whole _ _ _ _ _ _ pre.0.1 _ _ _ _ _ set.set_siblings.ensures
     (filled-page _ _ _ _ _ _ _ _ _ refl filled.fill.ensures _ a.zero a.one a.bit
-    filled.before.before.pack-page.ensures page.page-of-bit.ensures pre.1.1)
+    filled.before.before.pack_page-other.ensures page.page_of_bit.ensures pre.1.1)
     (filled-page _ _ _ _ _ _ _ _ _ (add-one a.m) c.fill-2.ensures _ a.one a.zero a.bit
     c.pack_page-own.ensures c.page_of_bit-2.ensures pre.1.1)
 

@@ -53,14 +53,14 @@ add-y : tie.Need-overflow_add-y-in-loop-y invariant-loop decreases-loop
 add-y c = record { fits = omega (arith, small (turn c)) }
 
 loop-less : tie.Need-loop-y-smaller invariant-loop decreases-loop
-loop-less c = omega (arith, (turn c).loop-test.true)
+loop-less c = omega (arith, (turn c).loop-y-test.true)
 
 loop-again : tie.Need-loop-y-preserved invariant-loop decreases-loop
 loop-again c =
-    let l = (turn c).before.loop in (
-      omega (arith, l.inv.0),
-      omega (arith, (turn c).loop-test.true),
-      siblings-next _ _ _ _ _ _ _ l.inv.2 l.inv.0 _ _
+    let l = (turn c).before.loop-y in (
+      omega (arith, l.invariant.0),
+      omega (arith, (turn c).loop-y-test.true),
+      siblings-next _ _ _ _ _ _ _ l.invariant.2 l.invariant.0 _ _
           c.pack_empty-word.ensures c.fill.ensures,
     )
 

@@ -48,22 +48,22 @@ abbrev stepped : tie.After-slice_known-in-loop-y-1 invariant-loop decreases-loop
 stepped c = c.before.before.before.before.before.before
 
 add-g : tie.Need-overflow_add-g invariant-loop decreases-loop
-add-g c = record { fits = omega (arith, (stepped c).step_from.ensures.low) }
+add-g c = record { fits = omega (arith, (stepped c).step_from-step.ensures.low) }
 
 add-y : tie.Need-overflow_add-y invariant-loop decreases-loop
 add-y c =
     let turn = (stepped c).before in
-    record { fits = omega (arith, turn.loop-test.taken, turn.before.before.before.requires.fits.short) }
+    record { fits = omega (arith, turn.loop-y-test.true, turn.before.before.before.requires.fits.short) }
 
 loop-less : tie.Need-loop-y-smaller invariant-loop decreases-loop
-loop-less c = omega (arith, (stepped c).before.loop-test.true)
+loop-less c = omega (arith, (stepped c).before.loop-y-test.true)
 
 loop-again : tie.Need-loop-y-preserved invariant-loop decreases-loop
 loop-again c =
     let turn = (stepped c).before in
-    let l = turn.before.loop in
-    filled_to-suc _ _ _ _ _ _ _ turn.before.before.before.requires _ _ _ _ l.inv _ (stepped c).step_from.ensures
-    turn.loop-test.taken _ _ c.with_bit-first.ensures c.with_bit-last.ensures _
+    let l = turn.before.loop-y in
+    filled_to-suc _ _ _ _ _ _ _ turn.before.before.before.requires _ _ _ _ l.invariant _ (stepped c).step_from-step.ensures
+    turn.loop-y-test.true _ _ c.with_bit-first.ensures c.with_bit-last.ensures _
     c.fill_block.ensures
 
 same_length : tie.Need-shape_of-dir invariant-loop decreases-loop

@@ -28,7 +28,7 @@ abbrev encoding : tie.After-allocate-plan → tie.After-encode_key-encoded
 encoding p = p.before.before.before.before.before.before.before
 
 abbrev encoded : tie.After-allocate-plan → List ℕ
-encoded p = (encoding p).encode-key.result.values
+encoded p = (encoding p).encode_key-encoded.result.values
 
 -- where the function began
 abbrev start : tie.After-allocate-plan → tie.Start
@@ -47,7 +47,7 @@ planned p plan e = subst (InsertPlanned (given (start p)) (encoded p)) e p.alloc
 -- what holds of all values with these encodings holds of the call's
 called : (p : tie.After-allocate-plan) (X : List ℕ → Type 0) → OfValues (given (start p)) (encoded p) X
     → X (start p).args.key.values
-called p X told = told (start p).args.key.values (start p).requires (sym (encoding p).encode-key.ensures)
+called p X told = told (start p).args.key.values (start p).requires (sym (encoding p).encode_key-encoded.ensures)
 
 -- a payload has 32 bits: what owning the record tells
 small : (s : tie.Start) → s.args.content.payload < 2 ^ 32

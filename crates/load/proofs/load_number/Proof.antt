@@ -26,13 +26,13 @@ tested c = c.before.before.before
 whole : (c : tie.Else-not-is_whole) → is_whole (start c).args.file.now ≡ true
 whole c = sym c.is_whole.ensures ∙ not-false _ c.if-not-is_whole.false-raw
 
-good : (c : tie.Else-number-ne0) → shape_number (shaped c).shape-in.result ≡ 0
+good : (c : tie.Else-number-ne0) → shape_number (shaped c).shape_in-shape.result ≡ 0
 good c = sym c.shape_number-number.ensures ∙ c.if-number-ne0.false
 
 -- memory is not lacking
 lent : (c : tie.Else-lacking)
     → let shape = shaped (tested c).before in
-    let a = (start shape.before).args in lacks_word_or_page shape.shape-in.result a.words a.bytes ≡ false
+    let a = (start shape.before).args in lacks_word_or_page shape.shape_in-shape.result a.words a.bytes ≡ false
 lent c = sym c.lacks_word_or_page-lacking.ensures ∙ c.if-lacking.false
 
 is-whole-requires : tie.Need-is_whole-requires
@@ -61,7 +61,7 @@ returns-2 c =
 content-holds-requires : tie.Need-content_holds-content-requires
 content-holds-requires c κs =
     let shape = shaped c in
-    (whole shape.before, ap shape_number (sym shape.shape-in.ensures) ∙ good c)
+    (whole shape.before, ap shape_number (sym shape.shape_in-shape.ensures) ∙ good c)
 
 lacks-word-or-page-requires : tie.Need-lacks_word_or_page-lacking-requires
 lacks-word-or-page-requires c κs = search rules
@@ -70,14 +70,14 @@ returns-3 : tie.Need-returns-then-not-content
 returns-3 c =
     let shape = shaped c.before.before.before in
     let a = (start shape.before).args in
-    load_number_by-content-not a.file.now a.words a.bytes (whole shape.before) _ shape.shape-in.ensures
+    load_number_by-content-not a.file.now a.words a.bytes (whole shape.before) _ shape.shape_in-shape.ensures
     (good c.before.before.before) _ c.content_holds-content.ensures (not-true _ c.if-not-content.true-raw)
 
 returns-4 : tie.Need-returns-then-lacking
 returns-4 c =
     let shape = shaped c.before.before.before.before in
     let a = (start shape.before).args in
-    load_number_by-lacks a.file.now a.words a.bytes (whole shape.before) _ shape.shape-in.ensures
+    load_number_by-lacks a.file.now a.words a.bytes (whole shape.before) _ shape.shape_in-shape.ensures
     (good c.before.before.before.before) _ c.content_holds-content.ensures (not-false _ c.if-not-content.false-raw)
     (sym c.lacks_word_or_page-lacking.ensures ∙ c.if-lacking.true)
 
@@ -88,7 +88,7 @@ depth-limit-requires : tie.Need-depth_limit-requires
 depth-limit-requires c κs =
     let e = (tested c.before).before in
     let a = (start (shaped e).before).args in
-    (good e, word-of-lent (shaped e).shape-in.result a.words a.bytes (lent c.before))
+    (good e, word-of-lent (shaped e).shape_in-shape.result a.words a.bytes (lent c.before))
 
 record-count-requires : tie.Need-record_count-requires
 record-count-requires c κs = whole (shaped (tested c.before.before).before).before
@@ -98,8 +98,8 @@ room-number-requires c κs =
     let content = tested c.before.before.before in
     let shape = shaped content.before in
     let a = (start shape.before).args in
-    scannable a.file.now a.words a.bytes (whole shape.before) _ shape.shape-in.ensures
-    (good content.before) _ content.content-holds.ensures (not-false _ c.if-not-content.false-raw) _
+    scannable a.file.now a.words a.bytes (whole shape.before) _ shape.shape_in-shape.ensures
+    (good content.before) _ content.content_holds-content.ensures (not-false _ c.if-not-content.false-raw) _
     c.record_count.ensures.0 _ c.depth_limit.ensures c.record_count.ensures.1
 
 returns-5 : tie.Need-returns
@@ -107,8 +107,8 @@ returns-5 c =
     let content = tested c.before.before.before.before in
     let shape = shaped content.before in
     let a = (start shape.before).args in
-    load_number_by-room a.file.now a.words a.bytes (whole shape.before) _ shape.shape-in.ensures
-    (good content.before) _ content.content-holds.ensures (not-false _ c.if-not-content.false-raw) _
+    load_number_by-room a.file.now a.words a.bytes (whole shape.before) _ shape.shape_in-shape.ensures
+    (good content.before) _ content.content_holds-content.ensures (not-false _ c.if-not-content.false-raw) _
     c.record_count.ensures.0 _ c.depth_limit.ensures (lent c.before.before.before.before)
     c.page_limit.ensures _ c.room_number.ensures
 
