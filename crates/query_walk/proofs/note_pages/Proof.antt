@@ -2,7 +2,6 @@
 -- where it is a leaf. Assumes nothing.
 use Prim.Native.Nat.{ℕ}
 use mathlib.Core.Path.{◌≡◌, sym, ap, ◌∙◌, subst}
-use mathlib.Core.Logic.{⊎_elim}
 use native.Mathlib.Omega.{arith}
 use lib.ListN.{get_or, length}
 use lib.Pow.{pow_pos}
@@ -17,6 +16,7 @@ use Rattle.query_walk.proofs.StartLaws.{Turn-start, by_rows, by_rows-walk_seen, 
 use Rattle.query_walk.proofs.TurnLaws.{leaf-asked}
 use Rattle.query_walk.proofs.WroteLaws.{Wrote-same}
 use Rattle.query_walk.proofs.note_pages.Statement.{statement}
+use Rattle.query_walk.proofs.note_pages.Lts.{then-is_leaf, else-is_leaf}
 use Rattle.query_walk.proofs.note_pages.Tie as tie
 
 turn : (s : tie.Start)
@@ -38,22 +38,26 @@ wrote : (c : tie.Joined-is_leaf)
     c.if-is_leaf.count c.if-is_leaf.list
 wrote c =
     let a = (start c).args in
-    ⊎_elim
-    (λ w. Wrote-same w.6 w.5
-    (Wrote-leaf a.rows.now a.dir.now (leaf_by a.rows.now a.pages.now) (deepest_in a.rows.now) 0 0 0
-    (get_or a.dir.now 0 0) a.list.now 0 _ _
-    (eqb-true _ _ (sym c.is_leaf.ensures ∙ w.0.taken)) w.2.ensures))
-    (λ w. Wrote-same w.6 w.5 w.2.ensures)
-    c.if-is_leaf.branch
+    elim c.if-is_leaf.branch [
+      | then-is_leaf w ↦
+          Wrote-same w.count-is w.list-is
+          (Wrote-leaf a.rows.now a.dir.now (leaf_by a.rows.now a.pages.now) (deepest_in a.rows.now) 0 0 0
+          (get_or a.dir.now 0 0) a.list.now 0 _ _
+          (eqb-true _ _ (sym c.is_leaf.ensures ∙ w.if-is_leaf.true)) w.note-count.ensures)
+      | else-is_leaf w ↦ Wrote-same w.count-is w.list-is w.walk-count.ensures
+    ]
 
 same : (c : tie.Joined-is_leaf) → length c.if-is_leaf.list ≡ length (start c).args.list.now
 same c =
-    ⊎_elim (λ w. ap length w.5 ∙ w.2.kept.1.1.0) (λ w. ap length w.5 ∙ w.2.kept.1.1.1.0)
-    c.if-is_leaf.branch
+    elim c.if-is_leaf.branch [
+      | then-is_leaf w ↦ ap length w.list-is ∙ w.note-count.auto.list
+      | else-is_leaf w ↦ ap length w.list-is ∙ w.walk-count.auto.list
+    ]
 
 shared-slice-read-word : tie.Need-bounds-dir-0
 shared-slice-read-word c =
-    omega (arith, c.requires.words-lent, pow_pos c.args.state.deepest)
+    let s = c.before.before.before.before in
+    omega (arith, s.requires.words-lent, pow_pos s.args.state.deepest)
 
 is-leaf-requires : tie.Need-is_leaf-requires
 is-leaf-requires c κs = tt
