@@ -31,14 +31,14 @@ given s = store s.args.state s.args.dir.now s.args.pages.now
 
 -- where the key was encoded, and its encodings
 abbrev encoding : tie.After-plan_delete-plan → tie.After-encode_key-encoded
-encoding p = p.before.before.before.before.before.before
+encoding p = p.before.before.before.before.before
 
 abbrev encoded : tie.After-plan_delete-plan → List ℕ
 encoded p = (encoding p).encode_key-encoded.result.values
 
 -- where the call began, from the plan
 abbrev start : tie.After-plan_delete-plan → tie.Start
-start p = (encoding p).before.before.before.before.before
+start p = (encoding p).before.before.before.before.before.before
 
 -- the early refusals let the key pass
 early : (c : tie.Else-not-encodings_fit)
@@ -55,18 +55,18 @@ called p X told =
     told (start p).args.key.values (early p.before.before) (sym (encoding p).encode_key-encoded.ensures)
 
 -- the plan of a leaf that stays
-kept : (c : tie.In-Keep-2)
+kept : (c : tie.In-Keep)
     →
-    KeepPlanned (given (start c.before.before)) (encoded c.before.before) c.plan-in-Keep-1.given.0.0
+    KeepPlanned (given (start c.before)) (encoded c.before) c.in-Keep.found
 kept c =
-    subst (DeletePlanned (given (start c.before.before)) (encoded c.before.before)) c.plan-in-Keep-1.given.1 c.plan_delete-plan.ensures
+    subst (DeletePlanned (given (start c.before)) (encoded c.before)) c.in-Keep.is c.plan_delete-plan.ensures
 
 -- and of one that is joined
-joined : (c : tie.In-Join-2)
+joined : (c : tie.In-Join)
     →
-    JoinPlanned (given (start c.before.before)) (encoded c.before.before) c.plan-in-Join-1.given.0.0 c.plan-in-Join-1.given.0.1.0
+    JoinPlanned (given (start c.before)) (encoded c.before) c.in-Join.found c.in-Join.join
 joined c =
-    subst (DeletePlanned (given (start c.before.before)) (encoded c.before.before)) c.plan-in-Join-1.given.1 c.plan_delete-plan.ensures
+    subst (DeletePlanned (given (start c.before)) (encoded c.before)) c.in-Join.is c.plan_delete-plan.ensures
 
 lent-number-requires : tie.Need-lent_number-number-requires
 lent-number-requires c κs = search rules
@@ -117,7 +117,7 @@ enum-known-plan-3 c = search rules
 removal-keeps-requires : tie.Need-removal_keeps-requires
 removal-keeps-requires c κs =
     let s = start c.before in
-    let leaf = (kept c.before.before).found.leaf in
+    let leaf = (kept c).found.leaf in
     let few = (limits-parts s.args.state leaf.limits).1 in
     record {
       lent = directory_lent (given s) (encoded c.before) _ _ leaf;
@@ -135,13 +135,13 @@ returns-3 : tie.Need-returns-then-not-removal_keeps
 unfolding changed_answer
 returns-3 c =
     called c.before.before.before _
-    (promise-not-whole (given (start c.before.before.before)) (encoded c.before.before.before) _ (kept c.before.before.before.before) _
+    (promise-not-whole (given (start c.before.before.before)) (encoded c.before.before.before) _ (kept c.before.before) _
     c.removal_keeps.ensures (not-true _ c.if-not-removal_keeps.true-raw))
 
 keep-leaf-requires : tie.Need-keep_leaf-requires
 keep-leaf-requires c κs =
     let s = start c.before.before.before.before.before in
-    let f = (kept c.before.before.before.before.before.before).found in
+    let f = (kept c.before.before.before.before).found in
     record {
       lent = directory_lent (given s) (encoded c.before.before.before.before.before) _ _ f.leaf;
       deep = f.leaf.deep;
@@ -155,7 +155,7 @@ join-keeps-requires : tie.Need-join_keeps-requires
 join-keeps-requires c κs =
     let s = start c.before in
     let v = encoded c.before in
-    let k = joined c.before.before in
+    let k = joined c in
     let leaf = k.found.leaf in
     let few = (limits-parts s.args.state leaf.limits).1 in
     record {
@@ -175,14 +175,14 @@ returns-4 : tie.Need-returns-then-not-join_keeps
 unfolding changed_answer
 returns-4 c =
     called c.before.before.before _
-    (promise-not-whole (given (start c.before.before.before)) (encoded c.before.before.before) _ (joined c.before.before.before.before) _
+    (promise-not-whole (given (start c.before.before.before)) (encoded c.before.before.before) _ (joined c.before.before) _
     c.join_keeps.ensures (not-true _ c.if-not-join_keeps.true-raw))
 
 join-leaves-requires : tie.Need-join_leaves-joined-requires
 join-leaves-requires c κs =
     let s = start c.before.before.before.before.before in
     let v = encoded c.before.before.before.before.before in
-    let k = joined c.before.before.before.before.before.before in
+    let k = joined c.before.before.before.before in
     record {
       lent = directory_lent (given s) v _ _ k.found.leaf;
       leaves = leaves_lent (given s) v _ k.found _ k (thirteen s);
@@ -222,7 +222,7 @@ same-length-10 c = search rules
 returns-7 : tie.Need-returns-else-not-removal_keeps
 unfolding changed_answer
 returns-7 c =
-    let k = kept c.before.before.before.before.before.before.before.before.before.before.before in
+    let k = kept c.before.before.before.before.before.before.before.before.before in
     let done = c.keep_leaf in
     called c.before.before.before.before.before.before.before.before.before.before _
     (promise-kept (given (start c.before.before.before.before.before.before.before.before.before.before)) (encoded c.before.before.before.before.before.before.before.before.before.before) _ k.found _ _ done.ensures.words_are
@@ -238,7 +238,7 @@ same-length-12 c = search rules
 returns-8 : tie.Need-returns-else-not-join_keeps
 unfolding changed_answer
 returns-8 c =
-    let k = joined c.before.before.before.before.before.before.before.before.before.before.before in
+    let k = joined c.before.before.before.before.before.before.before.before.before in
     let done = c.join_leaves-joined in
     called c.before.before.before.before.before.before.before.before.before.before _
     (promise-joined (given (start c.before.before.before.before.before.before.before.before.before.before)) (encoded c.before.before.before.before.before.before.before.before.before.before) _ k.found _ k done.result _ _

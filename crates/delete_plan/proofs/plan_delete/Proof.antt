@@ -58,16 +58,16 @@ held c =
     ∙ not-false c.word_holds.result c.if-not-word_holds.false-raw
 
 -- the leaf with a page that it names
-named : (c : tie.In-Page-2)
+named : (c : tie.In-Page)
     →
     let a = c.args in
     let before = store a.state a.dir.now a.pages.now in
     leaf_of (word_on before (key_string before a.encoded.values))
-    ≡ Page c.found-1.given.0.0 c.found-1.given.0.1.0
+    ≡ Page c.in-Page.page c.in-Page.depth
 named c =
-    ap leaf_of (sym (found c.before.before.before.before.before))
+    ap leaf_of (sym (found c.before.before.before.before))
     ∙ sym c.unpack-found.ensures
-    ∙ c.found-1.given.1
+    ∙ c.in-Page.is
 
 limits-hold-requires : tie.Need-limits_hold-requires
 limits-hold-requires c κs = c.requires.shape
@@ -130,7 +130,7 @@ plan-leaf-requires : tie.Need-plan_leaf-requires
 plan-leaf-requires c κs =
     let a = c.args in
     let before = store a.state a.dir.now a.pages.now in
-    leaf_met before a.encoded.values c.requires (limited c.before.before.before.before.before.before.before.before.before) _ _ (named c.before)
+    leaf_met before a.encoded.values c.requires (limited c.before.before.before.before.before.before.before.before.before) _ _ (named c)
     (held c.before.before)
 
 returns-4 : tie.Need-returns

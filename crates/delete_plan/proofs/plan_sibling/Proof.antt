@@ -64,10 +64,10 @@ held c =
     (beside c.before.before) (sym holds.ensures ∙ not-false holds.result c.if-not-sibling_word_holds.false-raw)
 
 -- the leaf with a page that it names
-named : (c : tie.In-Page-2)
+named : (c : tie.In-Page)
     → leaf_of c.find_sibling-beside.result.word
-    ≡ Page c.sibling-1.given.0.0 c.sibling-1.given.0.1.0
-named c = sym c.unpack-sibling.ensures ∙ c.sibling-1.given.1
+    ≡ Page c.in-Page.other c.in-Page.depth
+named c = sym c.unpack-sibling.ensures ∙ c.in-Page.is
 
 pack-key-requires : tie.Need-pack_key-packed-requires
 pack-key-requires c κs = SixteenBits-passed _ _ c.requires.found.leaf.passed
@@ -130,7 +130,7 @@ returns-3 c =
       alone =
           stays-deep (given s) s.args.encoded.values s.args.found s.requires.found s.requires.divided _
           (beside c.before.before.before.before.before.before) (held c.before.before.before.before) _ _
-          (named c.before.before.before) c.if-depth-found.true;
+          (named c.before.before) c.if-depth-found.true;
     }
 
 plan-pair-requires : tie.Need-plan_pair-requires
@@ -138,7 +138,7 @@ plan-pair-requires c κs =
     let s = start c.before.before.before.before.before.before in
     sibling_met (given s) s.args.encoded.values s.args.found s.requires.found s.requires.divided _
     (beside c.before.before.before.before.before.before) (held c.before.before.before.before) _ _
-    (named c.before.before.before) c.if-depth-found.false s.args.mask s.requires.fixed _ (there c.before.before.before.before.before.before)
+    (named c.before.before) c.if-depth-found.false s.args.mask s.requires.fixed _ (there c.before.before.before.before.before.before)
 
 returns-4 : tie.Need-returns
 returns-4 c = c.plan_pair.ensures

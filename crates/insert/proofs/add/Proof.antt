@@ -25,14 +25,14 @@ given s = store s.args.state s.args.dir.now s.args.pages.now
 
 -- where the key was encoded, and its encodings
 abbrev encoding : tie.After-allocate-plan → tie.After-encode_key-encoded
-encoding p = p.before.before.before.before.before.before.before
+encoding p = p.before.before.before
 
 abbrev encoded : tie.After-allocate-plan → List ℕ
 encoded p = (encoding p).encode_key-encoded.result.values
 
 -- where the function began
 abbrev start : tie.After-allocate-plan → tie.Start
-start p = (encoding p).before.before.before
+start p = (encoding p).before.before.before.before
 
 -- the early refusals let the key pass
 through : (c : tie.After-encode_key-encoded)
@@ -73,7 +73,7 @@ to-fields-requires c κs = search rules
 
 -- where a page was allocated, and the packed fields that are written
 abbrev allocated : tie.After-to_fields-fields → tie.After-allocate-plan
-allocated f = f.before.before.before
+allocated f = f.before.before.before.before
 
 written : (f : tie.After-to_fields-fields)
     → f.to_fields-fields.result
@@ -214,7 +214,7 @@ divide-pages-requires c κs =
     )
 
 -- where the plan was taken, once the pages are divided
-abbrev dividing : tie.After-struct_known-in-Divide-2-1 → tie.In-Divide-2
+abbrev dividing : tie.After-struct_known-in-Divide-2-1 → tie.In-Divide
 dividing c =
     c.before.before.before.before.before.before.before.before.before.before.before.before.before.before.before.before
 

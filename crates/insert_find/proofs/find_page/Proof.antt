@@ -13,14 +13,14 @@ use Rattle.insert_find.proofs.find_page.Statement.{statement}
 use Rattle.insert_find.proofs.find_page.Tie as tie
 
 -- page and depth that the word names
-held : (c : tie.In-Page-2)
+held : (c : tie.In-Page)
     → let a = c.args in
-    let leaf = c.leaf-in-Page-1.given.0 in
+    let leaf = c.leaf2.given.0 in
     (leaf.0 < a.state.limits.pages) × (leaf.1.0 ≤ a.state.deepest) ×
     (a.word ≡ word_of (Page leaf.0 leaf.1.0))
 held c =
     held-page c.args.state c.args.word c.requires.1 _ _
-    (sym c.unpack-leaf.ensures ∙ c.leaf-in-Page-1.given.1)
+    (sym c.unpack-leaf.ensures ∙ c.in-Page.is)
 
 unpack-requires : tie.Need-unpack-leaf-requires
 unpack-requires c κs = search rules
@@ -35,7 +35,7 @@ find-place-requires : tie.Need-find_place-requires
 find-place-requires c κs =
     let st = c.args.state in
     let lent = c.requires.0 in
-    let h = held c.before in
+    let h = held c in
     let end = page-end-le st.shape.capacity c.in-Page.page st.limits.pages h.0 in (
       lent,
       record {
@@ -60,7 +60,7 @@ returns c words encoded m =
 
 returns-2 : tie.Need-returns-in-Page
 returns-2 c words encoded m =
-    let h = held c.before.before in
+    let h = held c.before in
     c.find_place.ensures words encoded
     (record {
       asked = m.asked;
