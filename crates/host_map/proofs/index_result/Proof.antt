@@ -42,20 +42,18 @@ returns-2 : tie.Need-returns-in-Refused
 unfolding index_answer_of
 returns-2 c =
     let s = c.args in
-    let told = c.before.before.answer2.given in
     let answer = index_answer s.shape s.address in
-    subst (λ values. Reports told.0.0 0 values zeros answer) (sym c.no_index.ensures)
+    subst (λ values. Reports c.in-Refused.number 0 values zeros answer) (sym c.no_index.ensures)
     (reports-refused answer _ zeros (index_answer-alone s.shape s.address)
-    (ap index_answer_of (sym told.1) ∙ c.index_at-answer.ensures))
+    (ap index_answer_of (sym c.in-Refused.is) ∙ c.index_at-answer.ensures))
 
 returns-3 : tie.Need-returns-in-Width
 unfolding index_answer_of
 returns-3 c =
     let s = c.args in
-    let told = c.before.before.answer3.given in
     let answer = index_answer s.shape s.address in
-    subst (λ values. Reports 14 told.0.0 values zeros answer) (sym c.no_index-in-Width.ensures)
-    (reports-width answer _ zeros (ap index_answer_of (sym told.1) ∙ c.index_at-answer.ensures))
+    subst (λ values. Reports 14 c.in-Width.attribute values zeros answer) (sym c.no_index-in-Width.ensures)
+    (reports-width answer _ zeros (ap index_answer_of (sym c.in-Width.is) ∙ c.index_at-answer.ensures))
 
 pub index_result_spec : {M : Type 1} → statement M
 index_result_spec =

@@ -15,9 +15,9 @@ use Rattle.insert_find.proofs.find_page.Tie as tie
 -- page and depth that the word names
 held : (c : tie.In-Page)
     → let a = c.args in
-    let leaf = c.leaf2.given.0 in
-    (leaf.0 < a.state.limits.pages) × (leaf.1.0 ≤ a.state.deepest) ×
-    (a.word ≡ word_of (Page leaf.0 leaf.1.0))
+    let leaf = c.in-Page in
+    (leaf.page < a.state.limits.pages) × (leaf.depth ≤ a.state.deepest) ×
+    (a.word ≡ word_of (Page leaf.page leaf.depth))
 held c =
     held-page c.args.state c.args.word c.requires.1 _ _
     (sym c.unpack-leaf.ensures ∙ c.in-Page.is)

@@ -121,12 +121,11 @@ returns-2 : tie.Need-returns
 unfolding listed_answer
 returns-2 c =
     let put = c.put_within-total in
-    let found = noted-at.noted.given in
     let a = c.args in
     let known = c.shared_slice_known-2-1.given in
-    let noted = take found.0.0 c.note_met-noted.new.list in
+    let noted = take c.in-Pages.n c.note_met-noted.new.list in
     promise-of-pages a.state a.dir.now a.pages.now (range_intervals a.range) c.requires.none c.requires.can
-    a.list.now _ _ (met c.before.before.before.before.before.before.before.before.before.before.before) c.note_met-noted.auto.list c.requires.room-left _ found.1
+    a.list.now _ _ (met c.before.before.before.before.before.before.before.before.before.before.before) c.note_met-noted.auto.list c.requires.room-left _ c.in-Pages.is
     (λ i. omega (arith, known i)) a.out.now _ _ _
     (put.ensures.0.0
     ∙ (λ i. length (list_hits (lies_in (c.bias_key.ensures i) (c.low_key-low.ensures i) (c.high_key-high.ensures i)) a.state.shape.capacity
