@@ -147,7 +147,6 @@ returns-4 c words encoded m =
 
 returns-5 : tie.Need-returns-then-n-capacity
 returns-5 c words encoded m =
-    let found = c.before.before.place in
     let a = c.args in
     let known = c.shared_slice_known-1.given in
     room-found (store a.state words a.pages.now) encoded a.key a.page a.depth m _
@@ -156,18 +155,14 @@ returns-5 c words encoded m =
     (subst
     (Placed (widths_of a.state.shape) (bias_key a.state.shape) (unpacked_key a.key)
     (page_at a.state.shape.capacity a.pages.now a.page) c.count_at-n.result)
-    found.given.1 (place c.before.before)) c.if-n-capacity.true
+    c.in-Before.is (place c.before.before)) c.if-n-capacity.true
 
 find-split-requires : tie.Need-find_split-requires
 find-split-requires c κs =
-    let f =
-    c.before.before.before.before.before.before.before.before.before.before.before.before.before.before in
-    let s = f.before.before.before.before in
-    (s.requires.0, s.requires.1)
+    (c.requires.0, c.requires.1)
 
 returns-6 : tie.Need-returns
 returns-6 c words encoded m =
-    let found = c.before.before.before.place in
     let a = c.args in
     let known = c.shared_slice_known-1.given in
     c.find_split.ensures words encoded
@@ -177,7 +172,7 @@ returns-6 c words encoded m =
     (subst
     (Placed (widths_of a.state.shape) (bias_key a.state.shape) (unpacked_key a.key)
     (page_at a.state.shape.capacity a.pages.now a.page) c.count_at-n.result)
-    found.given.1 (place c.before.before.before))
+    c.in-Before.is (place c.before.before.before))
     (omega (arith, c.if-n-capacity.false)))
 
 pub find_place_spec : {M : Type 1} → statement M
