@@ -18,6 +18,7 @@ module _ {R : Type 0} (bit : R → ℕ → Bool) (n t : ℕ) where
   -- one of the records that a record stands before
   before-member : (r : R) (rs : List R) → all (before bit n t r) rs ≡ true → (x : R) → Member x rs
       → before bit n t r x ≡ true
+  before-member r [] e x m = elim m [ ]
   before-member r (y ∷ ys) e x (inl d) =
       subst (λ z. before bit n t r z ≡ true) (sym d) (and_split (before bit n t r y) (all (before bit n t r) ys) e).0
   before-member r (y ∷ ys) e x (inr m) =

@@ -213,16 +213,11 @@ divide-pages-requires c κs =
       cut_fits (given s) (encoded p) s.args.content (small s) _ refl _ _ _ told.0 told.1,
     )
 
--- where the plan was taken, once the pages are divided
-abbrev dividing : tie.After-struct_known-in-Divide-2-1 → tie.In-Divide
-dividing c =
-    c.before.before.before.before.before.before.before.before.before.before.before.before.before.before.before.before
-
 -- the step's number is below L
-short : (c : tie.After-struct_known-in-Divide-2-1) → (dividing c).plan4.given.0.0.step < 12
+short : (c : tie.After-struct_known-in-Divide-2-1) → c.in-Divide.split.step < 12
 short c =
-    let plan = dividing c in
-    let found = (planned (allocated plan.before.before.before) _ plan.plan4.given.1).0.found in
+    let f = c.before.before.before.before.before.before.before.before.before.before.before.before.before.before.before.before.before in
+    let found = (planned (allocated f) _ c.in-Divide.is).0.found in
     omega (arith, found.met.deep, found.asked.short)
 
 cast-depth : tie.Need-overflow_cast-depth

@@ -76,7 +76,7 @@ add-requires c κs =
 
 add-i : tie.Need-overflow_add-i invariant-loop decreases-loop
 add-i c =
-    record { fits = omega (arith, c.loop-i-test.true, (start c.before.before.before.before.before.before.before.before.before.before.before.before.before).fits.n.fits) }
+    record { fits = omega (arith, c.loop-i-test.true, c.ranges.n.fits) }
 
 loop-less : tie.Need-loop-i-smaller invariant-loop decreases-loop
 loop-less c =

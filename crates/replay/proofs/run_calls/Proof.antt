@@ -101,16 +101,16 @@ loop-again c =
     let end = loop.start + c.request_size.result in
     let e-size = size.0 ∙ ap (λ n. request_size request.result (n - loop.start)) inv.4 in
     let within : end ≤ length loop.out = omega (arith, inv.4, inv.5, size.1) in
-    let whole = kept.1.1.1.1.0 ∙ mid_len loop.start end loop.out within in
+    let whole = kept.out ∙ mid_len loop.start end loop.out within in
     let more = ran-more (store a.state a.dir.now a.pages.now)
     (store loop.current loop.dir loop.pages) _ a.calls.now a.answers.now a.out.now
     loop.answers loop.out _ _ loop.i loop.start _ request.result inv.7 request.ensures
     inv.6 (ap (λ n. loop.start + n) e-size) c.run_call-step.ensures whole _ c.put_answer.ensures in (
       omega (arith, c.loop-i-test.true),
-      kept.1.0 ∙ inv.1,
-      kept.1.1.0 ∙ inv.2,
+      kept.dir ∙ inv.1,
+      kept.pages ∙ inv.2,
       c.put_answer.auto.answers ∙ inv.3,
-      same_len_mid loop.start (end - loop.start) loop.out part kept.1.1.1.1.0 ∙ inv.4,
+      same_len_mid loop.start (end - loop.start) loop.out part kept.out ∙ inv.4,
       omega (arith, inv.4, within),
       more.0,
       more.1,
