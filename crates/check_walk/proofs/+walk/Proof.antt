@@ -64,16 +64,16 @@ abbrev Start : ℕ → Type 0
 Start t = walk-lts.Start (near t) (walk_at t) walk.Post
 
 abbrev Deeper : ℕ → Type 0
-Deeper t = walk-lts.Else1 (near t) (walk_at t) walk.Post
+Deeper t = walk-lts.Else-depth_of-region (near t) (walk_at t) walk.Post
 
 abbrev Sides : ℕ → Type 0
-Sides t = walk-lts.After-sides-of (near t) (walk_at t) walk.Post
+Sides t = walk-lts.After-sides_of-sides (near t) (walk_at t) walk.Post
 
 abbrev First : ℕ → Type 0
-First t = walk-lts.After-walk (near t) (walk_at t) walk.Post
+First t = walk-lts.After-walk-lower (near t) (walk_at t) walk.Post
 
 abbrev Second : ℕ → Type 0
-Second t = walk-lts.After-walk2 (near t) (walk_at t) walk.Post
+Second t = walk-lts.After-walk-upper (near t) (walk_at t) walk.Post
 
 abbrev of-deeper : (t : ℕ) → Deeper t → Start t
 of-deeper t c = c.before.before.before.before.before.before.before
@@ -82,10 +82,10 @@ abbrev of-sides : (t : ℕ) → Sides t → Start t
 of-sides t c = of-deeper t c.before.before.before.before
 
 abbrev of-first : (t : ℕ) → First t → Start t
-of-first t c = of-sides t c.before.before
+of-first t c = of-sides t c.before.before.before
 
 abbrev first : (t : ℕ) → Second t → First t
-first t c = c.before.before.before.before.before.before
+first t c = c.before.before.before.before.before.before.before
 
 abbrev of-second : (t : ℕ) → Second t → Start t
 of-second t c = of-first t (first t c)
@@ -120,30 +120,31 @@ here t s p n =
     k.within a.dir.now p n
 
 -- the depth of the word, as the test has it
-depth : (t : ℕ) (c : walk-lts.After-depth-of (near t) (walk_at t) walk.Post) (p : ℕ → Bool)
+depth : (t : ℕ) (c : walk-lts.After-depth_of (near t) (walk_at t) walk.Post) (p : ℕ → Bool)
     → let s = c.before.before.before.before.before in
-    IsNamed t s p → c.depth-of.result ≡ depth_field ((view t s).word p)
-depth t c p n = c.depth-of.ensures ∙ ap depth_field (sym (here t c.before.before.before.before.before p n))
+    IsNamed t s p → c.depth_of.result ≡ depth_field ((view t s).word p)
+depth t c p n = c.depth_of.ensures ∙ ap depth_field (sym (here t c.before.before.before.before.before p n))
 
 deeper : (t : ℕ) (c : Deeper t) (p : ℕ → Bool) → let s = of-deeper t c in
     IsNamed t s p → s.args.region.depth < depth_field ((view t s).word p)
-deeper t c p n = subst (λ d. (of-deeper t c).args.region.depth < d) (depth t c.before.before p n) c.if1.false
+deeper t c p n =
+    subst (λ d. (of-deeper t c).args.region.depth < d) (depth t c.before.before p n) c.if-depth_of-region.false
 
 -- the region is divided, and a step is left
 divided : (t : ℕ) (c : Sides t) (p : ℕ → Bool) → let s = of-sides t c in
-    let y = c.sides-of.result.lower.depth in
+    let y = c.sides_of-sides.result.lower.depth in
     IsNamed t s p → Divided (view t s) (steps t s) (s.args.state.deepest - y) p s.args.region.depth y
 divided t c p n =
-    let next = c.sides-of.ensures.lower-depth in
-    let left = c.before.if2.false in
+    let next = c.sides_of-sides.ensures.lower-depth in
+    let left = c.if-state-region.false in
     record { deeper = deeper t c.before.before.before.before p n; steps = omega arith; next = omega arith }
 
 -- the sides have the same depth
-level : (t : ℕ) (c : Sides t) → c.sides-of.result.upper.depth ≡ c.sides-of.result.lower.depth
-level t c = c.sides-of.ensures.upper-depth ∙ sym c.sides-of.ensures.lower-depth
+level : (t : ℕ) (c : Sides t) → c.sides_of-sides.result.upper.depth ≡ c.sides_of-sides.result.lower.depth
+level t c = c.sides_of-sides.ensures.upper-depth ∙ sym c.sides_of-sides.ensures.lower-depth
 
 abbrev lower-depth : (t : ℕ) → First t → ℕ
-lower-depth t c = c.before.before.sides-of.result.lower.depth
+lower-depth t c = c.sides_of-sides.result.lower.depth
 
 -- what is told of a side with the bit β, at the depth y
 abbrev Told : (t : ℕ) → Start t → (ℕ → Bool) → Bool → List ℕ → Seen → List ℕ → ℕ → Type 0
@@ -154,155 +155,149 @@ Told t s p β before seen after y =
 
 -- the tally that a call leaves
 abbrev tally-lower : (t : ℕ) → First t → List ℕ
-tally-lower t c = c.walk.new.1.1.1.1.1.0
+tally-lower t c = c.walk-lower.new.tally
 
 abbrev tally-upper : (t : ℕ) → Second t → List ℕ
-tally-upper t c = c.walk2.new.1.1.1.1.1.0
+tally-upper t c = c.walk-upper.new.tally
 
 told-lower : (t : ℕ) (c : First t) (p : ℕ → Bool) → let s = of-first t c in
-    IsNamed t s p → Told t s p false s.args.tally.now c.walk.result (tally-lower t c) (lower-depth t c)
-told-lower t c p n = c.walk.ensures _ (c.before.before.sides-of.ensures.lower-names p n)
+    IsNamed t s p → Told t s p false s.args.tally.now c.walk-lower.result (tally-lower t c) (lower-depth t c)
+told-lower t c p n = c.walk-lower.ensures _ (c.sides_of-sides.ensures.lower-names p n)
 
 told-upper : (t : ℕ) (c : Second t) (p : ℕ → Bool) → IsNamed t (of-second t c) p
-    → Told t (of-second t c) p true (tally-lower t (first t c)) c.walk2.result (tally-upper t c)
+    → Told t (of-second t c) p true (tally-lower t (first t c)) c.walk-upper.result (tally-upper t c)
     (lower-depth t (first t c))
 told-upper t c p n =
-    let sides = (first t c).before.before in
-    subst (Told t (of-second t c) p true (tally-lower t (first t c)) c.walk2.result (tally-upper t c))
-    (level t sides) (c.walk2.ensures _ (sides.sides-of.ensures.upper-names p n))
+    let sides = (first t c).before.before.before in
+    subst (Told t (of-second t c) p true (tally-lower t (first t c)) c.walk-upper.result (tally-upper t c))
+    (level t sides) (c.walk-upper.ensures _ (sides.sides_of-sides.ensures.upper-names p n))
 
 -- ---- the needs
 
-walk-mul-word : (t : ℕ) → walk-lts.Need-overflow-mul-word (near t) (walk_at t) walk.Post
+walk-mul-word : (t : ℕ) → walk-lts.Need-offset_bounds-dir-region (near t) (walk_at t) walk.Post
 walk-mul-word t c = record { fits = omega (arith, (low t c.before.before.before).1) }
 
-walk-shared-slice-read-word : (t : ℕ) → walk-lts.Need-shared-slice-read-word (near t) (walk_at t) walk.Post
+walk-shared-slice-read-word : (t : ℕ) → walk-lts.Need-bounds-dir-region (near t) (walk_at t) walk.Post
 walk-shared-slice-read-word t c = (low t c.before.before.before.before).0
 
-walk-depth-of-requires : (t : ℕ) → walk-lts.Need-depth-of-requires (near t) (walk_at t) walk.Post
+walk-depth-of-requires : (t : ℕ) → walk-lts.Need-depth_of-requires (near t) (walk_at t) walk.Post
 walk-depth-of-requires t c κs = tt
 
 walk-leaf-requires : (t : ℕ) → walk-lts.Need-leaf-requires (near t) (walk_at t) walk.Post
-walk-leaf-requires t c κs =
-    let s = c.before.before.before.before.before.before.before.before in (s.requires.1.0, s.requires.1.1, refl)
+walk-leaf-requires t c κs = (c.requires.1.0, c.requires.1.1, refl)
 
-walk-same-length : (t : ℕ) → walk-lts.Need-same-length (near t) (walk_at t) walk.Post
-walk-same-length t c = c.before.before.leaf.auto.1.1.1.1.1.1.0
+walk-same-length : (t : ℕ) → walk-lts.Need-shape_of-tally-then-depth_of-region (near t) (walk_at t) walk.Post
+walk-same-length t c = c.leaf.auto.tally
 
-walk-returns : (t : ℕ) → walk-lts.Need-returns (near t) (walk_at t) walk.Post
+walk-returns : (t : ℕ) → walk-lts.Need-returns-then-depth_of-region (near t) (walk_at t) walk.Post
 walk-returns t c =
     let test = c.before.before.before.before in
     let s = test.before.before.before.before.before.before.before in
     let x = s.args.region.depth in
     λ p n.
     region-leaf (view t s) (steps t s) p x
-    (subst (λ d. d ≤ x) (depth t test.before.before p n) test.if1.true) _ _ _
-    (c.before.before.leaf.ensures p n)
+    (subst (λ d. d ≤ x) (depth t test.before.before p n) test.if-depth_of-region.true) _ _ _
+    (c.leaf.ensures p n)
 
-walk-cast-if2 : (t : ℕ) → walk-lts.Need-overflow-cast-if2 (near t) (walk_at t) walk.Post
+walk-cast-if2 : (t : ℕ) → walk-lts.Need-overflow_cast-state (near t) (walk_at t) walk.Post
 walk-cast-if2 t c = search rules
 
 walk-fails-requires : (t : ℕ) → walk-lts.Need-fails-requires (near t) (walk_at t) walk.Post
 walk-fails-requires t c κs = tt
 
-walk-returns-2 : (t : ℕ) → walk-lts.Need-returns-2 (near t) (walk_at t) walk.Post
+walk-returns-2 : (t : ℕ) → walk-lts.Need-returns-then-state-region (near t) (walk_at t) walk.Post
 walk-returns-2 t c =
     let s = c.before.before.before.before.before.before.before.before.before.before.before in
     let x = s.args.region.depth in
     λ p n.
     rw c.fails.ensures
     (region-too-deep (view t s) (steps t s) p x (deeper t c.before.before.before.before p n)
-    (omega (arith, c.before.if2.true))
+    (omega (arith, c.if-state-region.true))
     s.args.tally.now)
 
-walk-sides-of-requires : (t : ℕ) → walk-lts.Need-sides-of-requires (near t) (walk_at t) walk.Post
+walk-sides-of-requires : (t : ℕ) → walk-lts.Need-sides_of-sides-requires (near t) (walk_at t) walk.Post
 walk-sides-of-requires t c κs =
-    let s = c.before.before.before.before.before.before.before.before.before.before in
-    let k = s.requires.1.0 in
-    (k.directory.fit, omega (arith, c.if2.false, k.directory.deep), k.region)
+    let k = c.requires.1.0 in
+    (k.directory.fit, omega (arith, c.if-state-region.false, k.directory.deep), k.region)
 
-walk-walk-requires : (t : ℕ) → walk-lts.Need-walk-requires (near t) (walk_at t) walk.Post
+walk-walk-requires : (t : ℕ) → walk-lts.Need-walk-lower-requires (near t) (walk_at t) walk.Post
 walk-walk-requires t c κs =
-    let s = c.before.before.before.before.before.before.before.before.before.before.before.before in
-    let k = s.requires.1.0 in
-    let sides = c.before.sides-of.ensures in
-    let d = divided t c.before k.region.named.0 k.region.named.1 in (
-      omega (arith, s.requires.0, d.steps),
+    let k = c.requires.1.0 in
+    let sides = c.sides_of-sides.ensures in
+    let d = divided t c.before.before k.region.named.0 k.region.named.1 in (
+      omega (arith, c.requires.0, d.steps),
       (
-        sub-walks _ _ _ _ _ k _ sides.lower_in sides.lower-depth c.before.before.if2.false,
-        room-lower _ _ d.steps _ s.requires.1.1,
+        sub-walks _ _ _ _ _ k _ sides.lower_in sides.lower-depth c.if-state-region.false,
+        room-lower _ _ d.steps _ c.requires.1.1,
       ),
     )
 
-walk-same-length-2 : (t : ℕ) → walk-lts.Need-same-length-2 (near t) (walk_at t) walk.Post
-walk-same-length-2 t c = c.before.before.before.before.walk.auto.1.1.1.1.1.0
+walk-same-length-2 : (t : ℕ) → walk-lts.Need-shape_of-tally-then-not-lower (near t) (walk_at t) walk.Post
+walk-same-length-2 t c = c.walk-lower.auto.tally
 
-walk-returns-3 : (t : ℕ) → walk-lts.Need-returns-3 (near t) (walk_at t) walk.Post
+walk-returns-3 : (t : ℕ) → walk-lts.Need-returns-then-not-lower (near t) (walk_at t) walk.Post
 walk-returns-3 t c =
     let lower = c.before.before.before.before in
     λ p n.
-    region-lower-fails _ _ _ _ _ _ (divided t lower.before.before p n) _ _ _ (told-lower t lower p n)
-    (not-true _ c.if3.true)
+    region-lower-fails _ _ _ _ _ _ (divided t lower.before.before.before p n) _ _ _ (told-lower t lower p n)
+    (not-true _ c.if-not-lower.true)
 
-walk-walk-requires-2 : (t : ℕ) → walk-lts.Need-walk-requires-2 (near t) (walk_at t) walk.Post
+walk-walk-requires-2 : (t : ℕ) → walk-lts.Need-walk-upper-requires (near t) (walk_at t) walk.Post
 walk-walk-requires-2 t c κs =
-    let lower = c.before.before.before.before.before in
-    let sides = lower.before.before in
+    let lower = c.before.before.before.before.before.before in
+    let sides = lower.before.before.before in
     let s = of-sides t sides in
-    let k = s.pre.1.0 in
+    let k = s.requires.1.0 in
     let p = k.region.named.0 in
     let n = k.region.named.1 in
     let d = divided t sides p n in (
-      omega (arith, s.pre.0, d.steps, level t sides),
+      omega (arith, s.requires.0, d.steps, level t sides),
       (
-        sub-walks _ _ _ _ _ k _ sides.sides-of.ensures.upper_in sides.sides-of.ensures.upper-depth
-            sides.before.if2.false,
+        sub-walks _ _ _ _ _ k _ sides.sides_of-sides.ensures.upper_in sides.sides_of-sides.ensures.upper-depth
+            c.if-state-region.false,
         subst (λ y. TallyRoom (s.args.state.deepest - y) (tally-lower t lower)) (sym (level t sides))
-            (room-upper _ _ _ _ _ _ d _ _ _ (told-lower t lower p n) (not-false _ c.before.if3.false) s.pre.1.1
-            lower.walk.auto.1.1.1.1.1.0),
+            (room-upper _ _ _ _ _ _ d _ _ _ (told-lower t lower p n) (not-false _ c.if-not-lower.false)
+            s.requires.1.1 c.walk-lower.auto.tally),
       ),
     )
 
-walk-same-length-3 : (t : ℕ) → walk-lts.Need-same-length-3 (near t) (walk_at t) walk.Post
-walk-same-length-3 t c =
-    let upper = c.before.before.before.before in
-    upper.walk2.auto.1.1.1.1.1.0 ∙ (first t upper).walk.auto.1.1.1.1.1.0
+walk-same-length-3 : (t : ℕ) → walk-lts.Need-shape_of-tally-then-not-upper (near t) (walk_at t) walk.Post
+walk-same-length-3 t c = c.walk-upper.auto.tally ∙ c.walk-lower.auto.tally
 
-walk-returns-4 : (t : ℕ) → walk-lts.Need-returns-4 (near t) (walk_at t) walk.Post
+walk-returns-4 : (t : ℕ) → walk-lts.Need-returns-then-not-upper (near t) (walk_at t) walk.Post
 walk-returns-4 t c =
     let upper = c.before.before.before.before in
     let lower = first t upper in
     λ p n.
-    region-upper-fails _ _ _ _ _ _ (divided t lower.before.before p n) _ _ _ (told-lower t lower p n)
-    (not-false _ upper.before.before.if3.false) _ _ (told-upper t upper p n) (not-true _ c.if4.true)
+    region-upper-fails _ _ _ _ _ _ (divided t lower.before.before.before p n) _ _ _ (told-lower t lower p n)
+    (not-false _ c.if-not-lower.false) _ _ (told-upper t upper p n) (not-true _ c.if-not-upper.true)
 
 walk-joined-requires : (t : ℕ) → walk-lts.Need-joined-requires (near t) (walk_at t) walk.Post
 walk-joined-requires t c κs =
     let upper = c.before.before.before.before in
     let lower = first t upper in
-    let k = (of-first t lower).pre.1.0 in
+    let k = (of-first t lower).requires.1.0 in
     let p = k.region.named.0 in
     let n = k.region.named.1 in
-    let d = divided t lower.before.before p n in
-    sums-fit _ _ _ _ _ _ d _ _ _ (told-lower t lower p n) (not-false _ upper.before.before.if3.false) _ _
-    (told-upper t upper p n) (not-false _ c.if4.false) k.capacity (omega (arith, d.steps, k.directory.short))
+    let d = divided t lower.before.before.before p n in
+    sums-fit _ _ _ _ _ _ d _ _ _ (told-lower t lower p n) (not-false _ c.if-not-lower.false) _ _
+    (told-upper t upper p n) (not-false _ c.if-not-upper.false) k.capacity
+    (omega (arith, d.steps, k.directory.short))
 
-walk-same-length-4 : (t : ℕ) → walk-lts.Need-same-length-4 (near t) (walk_at t) walk.Post
-walk-same-length-4 t c =
-    let upper = c.before.before.before.before.before in
-    upper.walk2.auto.1.1.1.1.1.0 ∙ (first t upper).walk.auto.1.1.1.1.1.0
+walk-same-length-4 : (t : ℕ) → walk-lts.Need-shape_of-tally (near t) (walk_at t) walk.Post
+walk-same-length-4 t c = c.walk-upper.auto.tally ∙ c.walk-lower.auto.tally
 
-walk-returns-5 : (t : ℕ) → walk-lts.Need-returns-5 (near t) (walk_at t) walk.Post
+walk-returns-5 : (t : ℕ) → walk-lts.Need-returns (near t) (walk_at t) walk.Post
 walk-returns-5 t c =
     let upper = c.before.before.before.before.before in
     let lower = first t upper in
     λ p n.
     rw c.joined.ensures
-    (region-joined _ _ _ _ _ _ (divided t lower.before.before p n) _ _ _ (told-lower t lower p n)
-    (not-false _ upper.before.before.if3.false) _ _ (told-upper t upper p n) (not-false _ c.before.if4.false))
+    (region-joined _ _ _ _ _ _ (divided t lower.before.before.before p n) _ _ _ (told-lower t lower p n)
+    (not-false _ c.if-not-lower.false) _ _ (told-upper t upper p n) (not-false _ c.if-not-upper.false))
 
-pub +walk-spec : {M : Type 1} → statement M
-+walk-spec = close μ-walk λ t. walk-lts.spec (near t)
+pub +walk_spec : {M : Type 1} → statement M
++walk_spec = close μ-walk λ t. walk-lts.spec (near t)
     (walk_at t)
     walk.Post
     (walk-mul-word t)

@@ -1,9 +1,8 @@
 -- `range_walk::note_met` meets its contract: the walk by rows starts at the empty string, whose region is noted where
 -- it is a leaf. Assumes nothing.
 use Prim.Native.Nat.{ℕ, ◌-◌}
-use mathlib.Core.Path.{◌≡◌, sym, ap, ◌∙◌, subst}
+use mathlib.Core.Path.{◌≡◌, sym, ◌∙◌, subst}
 use mathlib.Core.Bool.{Bool}
-use mathlib.Core.Logic.{⊎_elim}
 use native.Mathlib.Omega.{arith}
 use lib.ListN.{get_or, length}
 use lib.Pow.{pow_pos}
@@ -21,6 +20,7 @@ use Rattle.range_walk.specs.Private.{meets_by_row}
 use Rattle.range_walk.proofs.StartLaws.{met_by_rows, met_by_rows-walk_seen_by, length-walk_seen_by-le}
 use Rattle.range_walk.proofs.TurnLaws.{Wrote-leaf}
 use Rattle.range_walk.proofs.note_met.Statement.{statement}
+use Rattle.range_walk.proofs.note_met.Lts.{then-is_leaf, else-is_leaf}
 use Rattle.range_walk.proofs.note_met.Tie as tie
 
 turn : (s : tie.Start)
@@ -41,21 +41,19 @@ wrote : (c : tie.Joined-is_leaf)
     a.low a.high)
     c.if-is_leaf.count c.if-is_leaf.list
 wrote c =
-    let a = (start c).args in
-    ⊎_elim
-    (λ w. Wrote-same w.6 w.5
-    (Wrote-leaf a.rows.now a.dir.now (leaf_by a.rows.now a.pages.now)
-    (meets_by_row a.rows.now a.low a.high) (deepest_in a.rows.now) 0 0 0
-    (get_or a.dir.now 0 0) a.list.now 0 _ _
-    (eqb-true _ _ (sym c.is_leaf.ensures ∙ w.0.taken)) w.2.ensures))
-    (λ w. Wrote-same w.6 w.5 w.2.ensures)
-    c.if-is_leaf.branch
+    let a = c.args in
+    elim c.if-is_leaf.branch [
+      | then-is_leaf w ↦
+          Wrote-same w.count-is w.list-is
+          (Wrote-leaf a.rows.now a.dir.now (leaf_by a.rows.now a.pages.now)
+          (meets_by_row a.rows.now a.low a.high) (deepest_in a.rows.now) 0 0 0
+          (get_or a.dir.now 0 0) a.list.now 0 _ _
+          (eqb-true _ _ (sym c.is_leaf.ensures ∙ w.if-is_leaf.true)) w.note-count.ensures)
+      | else-is_leaf w ↦ Wrote-same w.count-is w.list-is w.walk-count.ensures
+    ]
 
 same : (c : tie.Joined-is_leaf) → length c.if-is_leaf.list ≡ length (start c).args.list.now
-same c =
-    ⊎_elim (λ w. ap length w.5 ∙ w.2.kept.1.1.0)
-    (λ w. ap length w.5 ∙ w.2.kept.1.1.1.1.1.0)
-    c.if-is_leaf.branch
+same c = c.if-is_leaf.long-list
 
 -- for each test that tells which regions meet the box
 seen-wrote : (c : tie.Joined-is_leaf) (enter : ℕ → (ℕ → Bool) → Bool)
@@ -72,7 +70,8 @@ seen-wrote c enter tells =
 
 shared-slice-read-word : tie.Need-bounds-dir-0
 shared-slice-read-word c =
-    omega (arith, c.requires.0.words-lent, pow_pos c.args.state.deepest)
+    let s = c.before.before.before.before in
+    omega (arith, s.requires.0.words-lent, pow_pos s.args.state.deepest)
 
 is-leaf-requires : tie.Need-is_leaf-requires
 is-leaf-requires c κs = tt
@@ -82,11 +81,12 @@ note-requires c κs = leaf-asked (turn c.before.before.before.before.before.befo
 
 walk-requires : tie.Need-walk-count-requires
 walk-requires c κs =
-    let a = c.args in
-    let all : deepest_in a.rows.now - 0 ≡ a.state.deepest = omega (arith, c.requires.0.table.depth-of) in (
-      turn c.before.before.before.before.before.before.before,
+    let s = c.before.before.before.before.before.before.before in
+    let a = s.args in
+    let all : deepest_in a.rows.now - 0 ≡ a.state.deepest = omega (arith, s.requires.0.table.depth-of) in (
+      turn s,
       (
-        rw all (omega (arith, c.requires.1)),
+        rw all (omega (arith, s.requires.1)),
         eqb-false _ _ (sym c.is_leaf.ensures ∙ c.if-is_leaf.false),
       ),
     )

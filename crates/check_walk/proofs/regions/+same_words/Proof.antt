@@ -4,7 +4,6 @@ use mathlib.Core.Path.{sym, ◌∙◌}
 use mathlib.Core.Bool.{Bool}
 use native.Mathlib.Omega.{arith}
 use lib.ListN.{length}
-use borrow.Author.Tests.{not-true, not-false}
 use Rattle.shape.specs.Shape.{width_list}
 use Rattle.directory_tests.specs.Intact.{cell_word}
 use Rattle.check_walk.proofs.RegionLaws.{cell_word-first, region-lt}
@@ -41,6 +40,10 @@ near t = (
 abbrev Start : ℕ → Type 0
 Start t = same-words-lts.Start (near t) (same-words-at t) same-words.Post
 
+abbrev of-sides : (t : ℕ)
+    → same-words-lts.After-sides_of-sides (near t) (same-words-at t) same-words.Post → Start t
+of-sides t c = c.before.before.before.before
+
 abbrev words : (t : ℕ) → Start t → (ℕ → Bool) → ℕ
 words t s = cell_word (width_list s.args.widths) s.args.t s.args.dir.now
 
@@ -52,72 +55,68 @@ low t s =
     region-lt w.w0 w.w1 w.w2 w.w3 s.args.region q.2 s.args.t _ q.0 q.1
 
 same-words-sides-of-requires : (t : ℕ)
-    → same-words-lts.Need-sides-of-requires (near t) (same-words-at t) same-words.Post
+    → same-words-lts.Need-sides_of-sides-requires (near t) (same-words-at t) same-words.Post
 same-words-sides-of-requires t c κs =
-    let s = c.before.before.before in
-    let q = s.requires.1 in
-    (q.0.fit, omega (arith, c.if1.true, q.0.deep), q.2)
+    let q = c.requires.1 in
+    (q.0.fit, omega (arith, c.if-region-t.true, q.0.deep), q.2)
 
 same-words-same-words-requires : (t : ℕ)
-    → same-words-lts.Need-same-words-requires (near t) (same-words-at t) same-words.Post
+    → same-words-lts.Need-same_words-requires (near t) (same-words-at t) same-words.Post
 same-words-same-words-requires t c κs =
-    let s = c.before.before.before.before in
-    let q = s.requires.1 in
-    let l = c.before.if1.true in
-    let d = c.sides-of.ensures in
-    (omega (arith, s.requires.0, l, d.lower-depth), (q.0, omega (arith, l, d.lower-depth), d.lower_in))
+    let q = c.requires.1 in
+    let l = c.if-region-t.true in
+    let d = c.sides_of-sides.ensures in
+    (omega (arith, c.requires.0, l, d.lower-depth), (q.0, omega (arith, l, d.lower-depth), d.lower_in))
 
-same-words-returns : (t : ℕ) → same-words-lts.Need-returns (near t) (same-words-at t) same-words.Post
+same-words-returns : (t : ℕ)
+    → same-words-lts.Need-returns-then-not-same_words (near t) (same-words-at t) same-words.Post
 same-words-returns t c =
-    let first = c.before in
-    let sides = first.before in
-    let a = sides.before.before.before.before.args in
-    let d = sides.sides-of.ensures in
+    let s = of-sides t c.before.before.before in
+    let a = s.args in
+    let d = c.sides_of-sides.ensures in
     λ p n.
-    same_words-lower-fails (words t sides.before.before.before.before) a.t a.region.depth p a.word
-    sides.before.if1.true _
-    d.lower-depth (sym (first.same-words.ensures _ (d.lower-names p n)) ∙ not-true _ c.if2.true)
+    same_words-lower-fails (words t s) a.t a.region.depth p a.word c.if-region-t.true _
+    d.lower-depth (sym (c.same_words.ensures _ (d.lower-names p n)) ∙ c.if-not-same_words.true)
 
 same-words-same-words-requires-2 : (t : ℕ)
-    → same-words-lts.Need-same-words-requires-2 (near t) (same-words-at t) same-words.Post
+    → same-words-lts.Need-same_words-requires-then-region-t (near t) (same-words-at t) same-words.Post
 same-words-same-words-requires-2 t c κs =
-    let s = c.before.before.before.before.before.before in
-    let q = s.requires.1 in
-    let l = c.before.before.before.if1.true in
-    let d = c.before.before.sides-of.ensures in
-    (omega (arith, s.requires.0, l, d.upper-depth), (q.0, omega (arith, l, d.upper-depth), d.upper_in))
+    let q = c.requires.1 in
+    let l = c.if-region-t.true in
+    let d = c.sides_of-sides.ensures in
+    (omega (arith, c.requires.0, l, d.upper-depth), (q.0, omega (arith, l, d.upper-depth), d.upper_in))
 
-same-words-returns-2 : (t : ℕ) → same-words-lts.Need-returns-2 (near t) (same-words-at t) same-words.Post
+same-words-returns-2 : (t : ℕ)
+    → same-words-lts.Need-returns-then-region-t (near t) (same-words-at t) same-words.Post
 same-words-returns-2 t c =
-    let first = c.before.before in
-    let sides = first.before in
-    let a = sides.before.before.before.before.args in
-    let d = sides.sides-of.ensures in
+    let s = of-sides t c.before.before.before.before.before in
+    let a = s.args in
+    let d = c.sides_of-sides.ensures in
     λ p n.
-    same_words-upper (words t sides.before.before.before.before) a.t a.region.depth p a.word
-    sides.before.if1.true _
-    d.lower-depth (sym (first.same-words.ensures _ (d.lower-names p n)) ∙ not-false _ c.before.if2.false) _
-    d.upper-depth _ (c.same-words2.ensures _ (d.upper-names p n))
+    same_words-upper (words t s) a.t a.region.depth p a.word c.if-region-t.true _
+    d.lower-depth (sym (c.same_words.ensures _ (d.lower-names p n)) ∙ c.if-not-same_words.false) _
+    d.upper-depth _ (c.same_words-then-region-t.ensures _ (d.upper-names p n))
 
-same-words-mul-result : (t : ℕ) → same-words-lts.Need-overflow-mul-result (near t) (same-words-at t) same-words.Post
+same-words-mul-result : (t : ℕ)
+    → same-words-lts.Need-offset_bounds-dir-region (near t) (same-words-at t) same-words.Post
 same-words-mul-result t c = record { fits = omega (arith, (low t c.before.before.before).1) }
 
 same-words-shared-slice-read-result : (t : ℕ)
-    → same-words-lts.Need-shared-slice-read-result (near t) (same-words-at t) same-words.Post
+    → same-words-lts.Need-bounds-dir-region (near t) (same-words-at t) same-words.Post
 same-words-shared-slice-read-result t c = (low t c.before.before.before.before).0
 
-same-words-returns-3 : (t : ℕ) → same-words-lts.Need-returns-3 (near t) (same-words-at t) same-words.Post
+same-words-returns-3 : (t : ℕ) → same-words-lts.Need-returns (near t) (same-words-at t) same-words.Post
 same-words-returns-3 t c =
     let s = c.before.before.before.before in
     let a = s.args in
     let w = a.widths in
     let k = s.requires.1 in
     λ p n.
-    same_words-cell (words t s) a.t a.region.depth p a.word c.before.if1.false k.1 _
+    same_words-cell (words t s) a.t a.region.depth p a.word c.if-region-t.false k.1 _
     (cell_word-first w.w0 w.w1 w.w2 w.w3 a.region k.2 a.t _ k.0 k.1 a.dir.now p n)
 
-pub +same-words-spec : {M : Type 1} → statement M
-+same-words-spec = close μ-same-words λ t. same-words-lts.spec (near t)
+pub +same_words_spec : {M : Type 1} → statement M
++same_words_spec = close μ-same-words λ t. same-words-lts.spec (near t)
     (same-words-at t)
     same-words.Post
     (same-words-sides-of-requires t)
