@@ -54,7 +54,7 @@ returns c =
     let loop = c.before.loop-i in
     let a = c.before.before.before.before.args in
     let all : loop.i ≡ a.n = omega arith in
-    let text = subst (λ i. Grown a.text.now a.at (records_text a.d i a.out.now) loop.text-1 loop.end)
+    let text = subst (λ i. Grown a.text.now a.at (records_text a.d i a.out.now) loop.text loop.end)
     all loop.invariant.2 in
     (text, omega (arith, all, loop.invariant.1))
 

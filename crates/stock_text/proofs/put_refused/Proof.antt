@@ -5,9 +5,6 @@ use Rattle.stock_text.proofs.GrownLaws.{Grown-then}
 use Rattle.stock_text.proofs.put_refused.Statement.{statement}
 use Rattle.stock_text.proofs.put_refused.Tie as tie
 
-slice-aggregate-put-bytes : tie.Need-slice-aggregate-put-bytes
-slice-aggregate-put-bytes c = search rules
-
 put-bytes-requires : tie.Need-put_bytes-end-requires
 put-bytes-requires c κs = search rules
 
@@ -26,4 +23,4 @@ returns c =
 pub put_refused_spec : {M : Type 1} → statement M
 put_refused_spec =
     tie.close
-    (tie.spec slice-aggregate-put-bytes put-bytes-requires put-field-requires same_length returns)
+    (tie.spec put-bytes-requires put-field-requires same_length returns)

@@ -5,9 +5,6 @@ use Rattle.stock_text.proofs.GrownLaws.{Grown-then}
 use Rattle.stock_text.proofs.put_sum.Statement.{statement}
 use Rattle.stock_text.proofs.put_sum.Tie as tie
 
-slice-aggregate-put-bytes : tie.Need-slice-aggregate-put-bytes
-slice-aggregate-put-bytes c = search rules
-
 put-bytes-requires : tie.Need-put_bytes-start-requires
 put-bytes-requires c κs = search rules
 
@@ -33,7 +30,6 @@ pub put_sum_spec : {M : Type 1} → statement M
 put_sum_spec =
     tie.close
     (tie.spec
-    slice-aggregate-put-bytes
     put-bytes-requires
     put-field-requires
     put-field-requires-2

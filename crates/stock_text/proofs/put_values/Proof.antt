@@ -65,7 +65,7 @@ returns c =
     let a = c.before.before.before.before.args in
     let all : loop.j ≡ a.d = omega arith in
     let text = subst (λ j. Grown a.text.now a.at (values_text j (field a.out.now a.start record_size))
-    loop.text-1 loop.end) all loop.invariant.2 in
+    loop.text loop.end) all loop.invariant.2 in
     (text, omega (arith, all, loop.invariant.1))
 
 pub put_values_spec : {M : Type 1} → statement M
