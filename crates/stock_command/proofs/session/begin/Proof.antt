@@ -16,15 +16,15 @@ enum-told-3 c = search rules
 
 returns : tie.Need-returns-in-Done
 unfolding made_answer
-returns c = rw c.enum_told-1.given.1 refl
+returns c = rw c.in-Done.is refl
 
 returns-2 : tie.Need-returns-in-Refused
 unfolding made_answer
-returns-2 c = rw c.enum_told-in-Refused-1.given.1 refl
+returns-2 c = rw c.in-Refused.is refl
 
 returns-3 : tie.Need-returns-in-Width
 unfolding made_answer
-returns-3 c = rw c.enum_told-in-Width-1.given.1 refl
+returns-3 c = rw c.in-Width.is refl
 
 pub begin_spec : {M : Type 1} → statement M
 begin_spec = tie.close (tie.spec enum_told enum-told-2 enum-told-3 returns returns-2 returns-3)
