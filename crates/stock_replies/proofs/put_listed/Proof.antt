@@ -10,9 +10,9 @@ enum-known-listed c = search rules
 put-found-requires : tie.Need-put_found-requires
 unfolding listed_answer
 put-found-requires c κs =
-    let at_pre = c.before.before.before.before.before.before in
+    let at_pre = c.before.before.before.before in
     let pre = at_pre.requires in
-    let fits = rw c.before.before.listed-1.given.1 at pre.1 in
+    let fits = rw c.before.in-Records.is at pre.1 in
     (pre.0, fits.0, fits.1, fits.2)
 
 enum-known-listed-2 : tie.Need-enum_known-listed-in-Refused-1
@@ -32,25 +32,21 @@ same_length c = search rules
 
 returns : tie.Need-returns-in-Records
 unfolding listed_answer
-returns c =
-    let at_Listed = c.before.before.before.before.before in
-    rw at_Listed.listed-1.given.1 c.before.before.put_found.ensures
+returns c = rw c.before.before.before.before.in-Records.is c.before.before.put_found.ensures
 
 same-length-2 : tie.Need-shape_of-text-in-Refused
 same-length-2 c = search rules
 
 returns-2 : tie.Need-returns-in-Refused
 unfolding listed_answer
-returns-2 c =
-    let at-listed2 = c.before.before.before.before.before in
-    rw at-listed2.listed-in-Refused-1.given.1 c.before.before.put_refused.ensures
+returns-2 c = rw c.before.before.before.before.in-Refused.is c.before.before.put_refused.ensures
 
 same-length-3 : tie.Need-shape_of-text-in-Width
 same-length-3 c = search rules
 
 returns-3 : tie.Need-returns-in-Width
 unfolding listed_answer
-returns-3 c = rw c.before.before.before.before.enum_told-1.given.1 c.before.before.put_refused-in-Width.ensures
+returns-3 c = rw c.before.before.before.before.in-Width.is c.before.before.put_refused-in-Width.ensures
 
 pub put_listed_spec : {M : Type 1} → statement M
 put_listed_spec =
