@@ -6,42 +6,58 @@ ghost use Rattle.std.specs.Prelude.{◌≤◌, length};
 ghost use Rattle.stock_replies.specs.Replies.{reply_size};
 ghost use Rattle.stock.specs.Lends.{Lends};
 
-use libc::{STDIN_FILENO, STDOUT_FILENO};
+use std::io::{self, Input, Read, Write};
 use stock_input::{Progress, is_empty, printed, run, start, step};
 use stock_replies::OUTPUT_SIZE;
 
 // Lends 4,096 words, 32,768 page bytes, 256 output records, and a text.
-fn main() {
-    let mut piece = io::large_buffer();
-    let mut text = io::large_buffer();
+fn main(rt: HostRuntime) {
+    let mut piece = [0u8; 65536];
+    let mut text = [0u8; 65536];
     let mut dir = [0u32; 4096];
     let mut pages = [0u8; 32768];
     let mut out = [0u8; OUTPUT_SIZE];
-    serve(&mut piece, &mut dir, &mut pages, &mut out, &mut text);
+    let mut input = rt.reader();
+    let mut output = io::writer(&rt);
+    serve(
+        &mut input,
+        &mut output,
+        &mut piece,
+        &mut dir,
+        &mut pages,
+        &mut out,
+        &mut text,
+    );
 }
 
-// Reads pieces until the input ends. A proved loop has to end, and nothing says that the input
-// does: so it counts its turns down, from a number that no run uses up.
-fn serve(piece: &mut [u8], dir: &mut [u32], pages: &mut [u8], out: &mut [u8], text: &mut [u8])
+// Reads pieces until the input ends, or until a read fails. A proved loop has to end, and nothing says
+// that the input does: so it counts its turns, up to a number that no run uses up.
+fn serve<R: Read, W: Write>(
+    input: &mut R,
+    output: &mut W,
+    piece: &mut [u8],
+    dir: &mut [u32],
+    pages: &mut [u8],
+    out: &mut [u8],
+    text: &mut [u8],
+)
     requires { Lends dir.old pages.old out.old × (reply_size ≤ length text.old) }
 {
     let mut progress = start();
-    let mut turns = u64::MAX;
-    while turns > 0 {
-        let got = libc::read(STDIN_FILENO, piece);
-        let n = io::count(got, piece);
+    for _ in 0..u64::MAX {
+        let n = input.read(piece).unwrap_or(0);
         if n == 0 {
-            finish(progress, dir, pages, out, text);
+            finish(progress, output, dir, pages, out, text);
             return;
         }
-        progress = answer(progress, &piece[..n], dir, pages, out, text);
-        turns -= 1;
+        progress = answer(progress, output, &piece[..n], dir, pages, out, text);
     }
 }
 
-// Replies to the lines that end in a piece.
-fn answer(
+// Replies to the lines that end in a piece. A write that fails is passed over.
+fn answer<W: Write>(
     progress: Progress,
+    output: &mut W,
     piece: &[u8],
     dir: &mut [u32],
     pages: &mut [u8],
@@ -58,13 +74,20 @@ fn answer(
         let reach = run(printed(here), piece, at, dir, pages, out, text);
         here = reach.progress;
         at = reach.next;
-        io::write_all(STDOUT_FILENO, &text[..here.end]);
+        let _ = output.write_all(&text[..here.end]);
     }
     here
 }
 
 // Replies to a last line that no newline ends.
-fn finish(progress: Progress, dir: &mut [u32], pages: &mut [u8], out: &mut [u8], text: &mut [u8])
+fn finish<W: Write>(
+    progress: Progress,
+    output: &mut W,
+    dir: &mut [u32],
+    pages: &mut [u8],
+    out: &mut [u8],
+    text: &mut [u8],
+)
     requires { (progress.reading.fields ≤ 7) × Lends dir.old pages.old out.old
         × (reply_size ≤ length text.old) }
 {
@@ -73,5 +96,5 @@ fn finish(progress: Progress, dir: &mut [u32], pages: &mut [u8], out: &mut [u8],
         return;
     }
     let last = step(printed(progress), 10, dir, pages, out, text);
-    io::write_all(STDOUT_FILENO, &text[..last.end]);
+    let _ = output.write_all(&text[..last.end]);
 }

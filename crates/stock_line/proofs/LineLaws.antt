@@ -107,16 +107,28 @@ or-false : (β : Bool) → (β || false) ≡ β
 or-false true = refl
 or-false false = refl
 
+-- an item's number has a code below that of `*`
+abbrev Fits : Option (Option ℕ) → Type 0
+Fits none = Unit {0}
+Fits (some none) = Unit {0}
+Fits (some (some v)) = v < 4294967296
+
+fits : (i : Option (Option ℕ)) (code : ℕ) → CodeFor i code → Fits i
+fits none code (for-none l) = tt
+fits (some none) code for-star = tt
+fits (some (some v)) code (for-number l) = l
+
 code_of-le : (item : Option ℕ) → CodeFor (some item) (code_of item) → code_of item ≤ 4294967296
 code_of-le none c = omega arith
-code_of-le (some v) (for-number l) = omega arith
+code_of-le (some v) c = omega (arith, fits (some (some v)) v c)
 
 star_with-item : (β : Bool) (item : Option ℕ) (items : List (Option ℕ)) → CodeFor (some item) (code_of item)
     → (star_with β (code_of item) || has_star items) ≡ (β || has_star (item ∷ items))
 unfolding star_with
 star_with-item true item items c = refl
 star_with-item false none items c = refl
-star_with-item false (some v) items (for-number l) = rw (ne_eqb v 4294967296 (λ e. omega arith))
+star_with-item false (some v) items c =
+    rw (ne_eqb v 4294967296 (λ e. omega (arith, fits (some (some v)) v c)))
 
 -- the items of the others are kept
 kept-suc : (r : Reading) (item : Option ℕ) (items : List (Option ℕ)) (q : Reading) → length r.codes ≡ 6

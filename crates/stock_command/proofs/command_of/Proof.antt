@@ -41,49 +41,57 @@ has-fields-requires c κs = search rules
 
 returns : tie.Need-returns-in-Bad
 returns c =
-    let a = c.args in asked-bad a.session a.line c.in-Bad.is
+    let at-args = c.before.before.before.before in
+    let a = at-args.args in asked-bad a.session a.line c.in-Bad.is
 
 returns-2 : tie.Need-returns-in-Shape
 returns-2 c =
-    let a = c.args in
+    let at-args = c.before.before.before.before.before in
+    let a = at-args.args in
     c.shape_command.ensures a.session.state.shape.attributes
-    ∙ asked-shape a.session a.line c.in-Shape.is
+    ∙ asked-shape a.session a.line c.before.in-Shape.is
 
 returns-3 : tie.Need-returns-then-has_numbers
 returns-3 c =
-    let a = c.args in
-    asked-put a.session a.line true c.in-Put.is
-    (sym c.if-has_numbers.true ∙ c.has_numbers.ensures)
+    let at-args = c.before.before.before.before.before.before in
+    let a = at-args.args in
+    asked-put a.session a.line true c.before.before.in-Put.is
+    (sym c.if-has_numbers.true ∙ c.before.has_numbers.ensures)
 
 returns-4 : tie.Need-returns-else-has_numbers
 returns-4 c =
-    let a = c.args in
-    asked-put a.session a.line false c.in-Put.is
-    (sym c.if-has_numbers.false ∙ c.has_numbers.ensures)
+    let at-args = c.before.before.before.before.before.before in
+    let a = at-args.args in
+    asked-put a.session a.line false c.before.before.in-Put.is
+    (sym c.if-has_numbers.false ∙ c.before.has_numbers.ensures)
 
 returns-5 : tie.Need-returns-then-has_numbers-2
 returns-5 c =
-    let a = c.args in
-    asked-cut a.session a.line true c.in-Cut.is
-    (sym c.if-has_numbers-2.true ∙ c.has_numbers-in-Cut.ensures)
+    let at-args = c.before.before.before.before.before.before in
+    let a = at-args.args in
+    asked-cut a.session a.line true c.before.before.in-Cut.is
+    (sym c.if-has_numbers-2.true ∙ c.before.has_numbers-in-Cut.ensures)
 
 returns-6 : tie.Need-returns-else-has_numbers-2
 returns-6 c =
-    let a = c.args in
-    asked-cut a.session a.line false c.in-Cut.is
-    (sym c.if-has_numbers-2.false ∙ c.has_numbers-in-Cut.ensures)
+    let at-args = c.before.before.before.before.before.before in
+    let a = at-args.args in
+    asked-cut a.session a.line false c.before.before.in-Cut.is
+    (sym c.if-has_numbers-2.false ∙ c.before.has_numbers-in-Cut.ensures)
 
 returns-7 : tie.Need-returns-then-has_fields
 returns-7 c =
-    let a = c.args in
-    asked-list a.session a.line true c.in-List.is
-    (sym c.if-has_fields.true ∙ c.has_fields.ensures)
+    let at-args = c.before.before.before.before.before.before in
+    let a = at-args.args in
+    asked-list a.session a.line true c.before.before.in-List.is
+    (sym c.if-has_fields.true ∙ c.before.has_fields.ensures)
 
 returns-8 : tie.Need-returns-else-has_fields
 returns-8 c =
-    let a = c.args in
-    asked-list a.session a.line false c.in-List.is
-    (sym c.if-has_fields.false ∙ c.has_fields.ensures)
+    let at-args = c.before.before.before.before.before.before in
+    let a = at-args.args in
+    asked-list a.session a.line false c.before.before.in-List.is
+    (sym c.if-has_fields.false ∙ c.before.has_fields.ensures)
 
 pub command_of_spec : {M : Type 1} → statement M
 command_of_spec =

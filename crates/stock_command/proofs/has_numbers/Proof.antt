@@ -7,7 +7,7 @@ use Rattle.stock_command.proofs.has_numbers.Tie as tie
 
 returns : tie.Need-returns-then-line
 returns c =
-    let a = c.args in
+    let a = c.before.args in
     numbers-none a.begun a.line.star (eqb a.line.count a.n) c.if-line.true
 
 has-fields-requires : tie.Need-has_fields-requires
@@ -15,8 +15,8 @@ has-fields-requires c κs = search rules
 
 returns-2 : tie.Need-returns
 returns-2 c =
-    let a = c.args in
-    numbers-all a.begun a.line.star (eqb a.line.count a.n) c.has_fields.result c.if-line.false
+    let a = c.before.before.args in
+    numbers-all a.begun a.line.star (eqb a.line.count a.n) c.has_fields.result c.before.if-line.false
     c.has_fields.ensures
 
 pub has_numbers_spec : {M : Type 1} → statement M

@@ -11,29 +11,31 @@ use Rattle.stock_command.proofs.shape_command.Statement.{statement}
 use Rattle.stock_command.proofs.shape_command.Tie as tie
 
 returns : tie.Need-returns-then-line
-returns c = λ d. asked_shape-star c.args.line c.if-line.true
+returns c = λ d. asked_shape-star c.before.args.line c.if-line.true
 
 returns-2 : tie.Need-returns-then-line-eq0
 returns-2 c =
-    λ d. asked_shape-none c.args.line c.if-line.false c.if-line-eq0.true
+    λ d. asked_shape-none c.before.before.before.args.line c.before.before.if-line.false c.if-line-eq0.true
 
 number-at-requires : tie.Need-number_at-d-requires
 number-at-requires c κs = search rules
 
 returns-3 : tie.Need-returns-then-d-lt1
 returns-3 c =
-    let n = c.number_at-d in
-    let line = c.args.line in
+    let n = c.before.number_at-d in
+    let two = c.before.before in
+    let line = two.before.before.before.args.line in
     let low : number_at line 0 < 1 = omega (arith, n.ensures, c.if-d-lt1.true) in
-    λ d. asked_shape-low line c.if-line.false c.if-line-eq0.false low
+    λ d. asked_shape-low line two.before.before.if-line.false two.if-line-eq0.false low
 
 returns-4 : tie.Need-returns-then-d-gt4
 returns-4 c =
-    let n = c.number_at-d in
-    let line = c.args.line in
-    let low : 1 ≤ number_at line 0 = omega (arith, n.ensures, c.if-d-lt1.false) in
+    let n = c.before.before.number_at-d in
+    let two = c.before.before.before in
+    let line = two.before.before.before.args.line in
+    let low : 1 ≤ number_at line 0 = omega (arith, n.ensures, c.before.if-d-lt1.false) in
     let high : 4 < number_at line 0 = omega (arith, n.ensures, c.if-d-gt4.true) in
-    λ d. asked_shape-high line c.if-line.false c.if-line-eq0.false low high
+    λ d. asked_shape-high line two.before.before.if-line.false two.if-line-eq0.false low high
 
 cast-if5 : tie.Need-overflow_cast-d
 cast-if5 c = search rules
@@ -43,20 +45,24 @@ add-if5 c = search rules
 
 returns-5 : tie.Need-returns-then-line-d
 returns-5 c =
-    let n = c.number_at-d in
-    let line = c.args.line in
-    let low : 1 ≤ number_at line 0 = omega (arith, n.ensures, c.if-d-lt1.false) in
-    let high : number_at line 0 ≤ 4 = omega (arith, n.ensures, c.if-d-gt4.false) in
-    λ d. asked_shape-new line c.if-line.false c.if-line-eq0.false low high
+    let four = c.before.before in
+    let n = four.before.before.number_at-d in
+    let two = four.before.before.before in
+    let line = two.before.before.before.args.line in
+    let low : 1 ≤ number_at line 0 = omega (arith, n.ensures, four.before.if-d-lt1.false) in
+    let high : number_at line 0 ≤ 4 = omega (arith, n.ensures, four.if-d-gt4.false) in
+    λ d. asked_shape-new line two.before.before.if-line.false two.if-line-eq0.false low high
     (c.if-line-d.true ∙ ap (λ v. v + 2) n.ensures)
 
 returns-6 : tie.Need-returns
 returns-6 c =
-    let n = c.number_at-d in
-    let line = c.args.line in
-    let low : 1 ≤ number_at line 0 = omega (arith, n.ensures, c.if-d-lt1.false) in
-    let high : number_at line 0 ≤ 4 = omega (arith, n.ensures, c.if-d-gt4.false) in
-    λ d. asked_shape-other line c.if-line.false c.if-line-eq0.false low high
+    let four = c.before.before in
+    let n = four.before.before.number_at-d in
+    let two = four.before.before.before in
+    let line = two.before.before.before.args.line in
+    let low : 1 ≤ number_at line 0 = omega (arith, n.ensures, four.before.if-d-lt1.false) in
+    let high : number_at line 0 ≤ 4 = omega (arith, n.ensures, four.if-d-gt4.false) in
+    λ d. asked_shape-other line two.before.before.if-line.false two.if-line-eq0.false low high
     (λ e. c.if-line-d.false (e ∙ ap (λ v. v + 2) (sym n.ensures)))
 
 pub shape_command_spec : {M : Type 1} → statement M

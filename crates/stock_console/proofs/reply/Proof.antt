@@ -54,24 +54,28 @@ same_length c = search rules
 
 returns : tie.Need-returns-in-Nothing
 returns c =
-    let a = c.args in
+    let at-command-of = c.before.before.before.before.before.before in
+    let at-args = at-command-of.before.before.before.before.before in
+    let a = at-args.args in
     reply-asked a.session a.line _ _ _ _ _ _ _
     (ap (asked_as a.line a.session.state.shape.attributes)
-    (sym c.in-Nothing.is)
-    ∙ c.command_of-command.ensures)
-    (c.reply_bad.ensures _)
+    (sym c.before.before.before.before.enum_told-1.given.1)
+    ∙ at-command-of.command_of-command.ensures)
+    (c.before.before.reply_bad.ensures _)
 
 same-length-2 : tie.Need-shape_of-text-in-NoShape
 same-length-2 c = search rules
 
 returns-2 : tie.Need-returns-in-NoShape
 returns-2 c =
-    let a = c.args in
+    let at-command-of = c.before.before.before.before.before.before in
+    let at-args = at-command-of.before.before.before.before.before in
+    let a = at-args.args in
     reply-asked a.session a.line _ _ _ _ _ _ _
     (ap (asked_as a.line a.session.state.shape.attributes)
-    (sym c.in-NoShape.is)
-    ∙ c.command_of-command.ensures)
-    (c.reply_outside.ensures _)
+    (sym c.before.before.before.before.enum_told-in-NoShape-1.given.1)
+    ∙ at-command-of.command_of-command.ensures)
+    (c.before.before.reply_outside.ensures _)
 
 same-length-3 : tie.Need-shape_of-dir-in-NewShape
 same-length-3 c = search rules
@@ -84,13 +88,18 @@ same-length-5 c = search rules
 
 returns-3 : tie.Need-returns-in-NewShape
 returns-3 c =
-    let a = c.args in
+    let at-reply-shape = c.before.before.before.before.before.before in
+    let at-shape-of = at-reply-shape.before.before.before.before in
+    let at-enum-told3 = at-shape-of.before in
+    let at-command-of = at-enum-told3.before.before in
+    let at-args = at-command-of.before.before.before.before.before in
+    let a = at-args.args in
     reply-asked a.session a.line _ _ _ _ _ _ _
-    (ap new_shape c.shape_of.ensures
+    (ap new_shape at-shape-of.shape_of.ensures
     ∙ (ap (asked_as a.line a.session.state.shape.attributes)
-    (sym c.in-NewShape.is)
-    ∙ c.command_of-command.ensures))
-    (c.reply_shape.ensures _)
+    (sym at-enum-told3.enum_told-in-NewShape-1.given.1)
+    ∙ at-command-of.command_of-command.ensures))
+    (at-reply-shape.reply_shape.ensures _)
 
 same-length-6 : tie.Need-shape_of-dir-in-Put
 same-length-6 c = search rules
@@ -103,12 +112,16 @@ same-length-8 c = search rules
 
 returns-4 : tie.Need-returns-in-Put
 returns-4 c =
-    let a = c.args in
+    let at-reply-put = c.before.before.before.before.before.before in
+    let at-enum-told4 = at-reply-put.before.before.before.before in
+    let at-command-of = at-enum-told4.before.before in
+    let at-args = at-command-of.before.before.before.before.before in
+    let a = at-args.args in
     reply-asked a.session a.line _ _ _ _ _ _ _
     (ap (asked_as a.line a.session.state.shape.attributes)
-    (sym c.in-Put.is)
-    ∙ c.command_of-command.ensures)
-    (c.reply_put.ensures _)
+    (sym at-enum-told4.enum_told-in-Put-1.given.1)
+    ∙ at-command-of.command_of-command.ensures)
+    (at-reply-put.reply_put.ensures _)
 
 same-length-9 : tie.Need-shape_of-dir-in-Cut
 same-length-9 c = search rules
@@ -121,12 +134,16 @@ same-length-11 c = search rules
 
 returns-5 : tie.Need-returns-in-Cut
 returns-5 c =
-    let a = c.args in
+    let at-reply-cut = c.before.before.before.before.before.before in
+    let at-enum-told5 = at-reply-cut.before.before.before.before in
+    let at-command-of = at-enum-told5.before.before in
+    let at-args = at-command-of.before.before.before.before.before in
+    let a = at-args.args in
     reply-asked a.session a.line _ _ _ _ _ _ _
     (ap (asked_as a.line a.session.state.shape.attributes)
-    (sym c.in-Cut.is)
-    ∙ c.command_of-command.ensures)
-    (c.reply_cut.ensures _)
+    (sym at-enum-told5.enum_told-in-Cut-1.given.1)
+    ∙ at-command-of.command_of-command.ensures)
+    (at-reply-cut.reply_cut.ensures _)
 
 same-length-12 : tie.Need-shape_of-dir-in-List
 same-length-12 c = search rules
@@ -142,12 +159,15 @@ same-length-15 c = search rules
 
 returns-6 : tie.Need-returns-in-List
 returns-6 c =
-    let a = c.args in
+    let at-enum-told6 = c.before.before.before.before.before.before.before.before.before in
+    let at-command-of = at-enum-told6.before.before in
+    let at-args = at-command-of.before.before.before.before.before in
+    let a = at-args.args in
     reply-asked a.session a.line _ _ _ _ _ _ _
     (ap (asked_as a.line a.session.state.shape.attributes)
-    (sym c.in-List.is)
-    ∙ c.command_of-command.ensures)
-    c.reply_list.ensures
+    (sym at-enum-told6.enum_told-in-List-1.given.1)
+    ∙ at-command-of.command_of-command.ensures)
+    c.before.before.before.before.reply_list.ensures
 
 pub reply_spec : {M : Type 1} → statement M
 reply_spec =

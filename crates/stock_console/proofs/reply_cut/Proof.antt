@@ -27,9 +27,11 @@ same-length-3 c = search rules
 
 returns : tie.Need-returns
 returns c =
-    let a = c.args in
-    reply-cut a.session a.line _ _ _ _ _ _ _ _ _ _ _ c.key_of-key.ensures
-    c.put_changed-end.ensures c.delete-change.ensures
+    let call = c.before.before.before.before.before.before.before.before.before in
+    let at-args = call.before.before.before.before.before.before.before.before.before.before in
+    let a = at-args.args in
+    reply-cut a.session a.line _ _ _ _ _ _ _ _ _ _ _ call.before.before.before.key_of-key.ensures
+    c.before.before.before.put_changed-end.ensures call.delete-change.ensures
 
 pub reply_cut_spec : {M : Type 1} → statement M
 reply_cut_spec =

@@ -17,10 +17,12 @@ query-requires c κs = search rules
 
 put-listed-requires : tie.Need-put_listed-end-requires
 put-listed-requires c κs =
-    let a = c.args in (
-      omega (arith, c.requires.0),
-      printable a.session.state a.dir.now a.pages.now _ a.out.now _ c.requires.1 _
-          c.query-listed.ensures,
+    let between = c.before.before.before.before.before.before.before.before.before.before.before in
+    let s = between.before.before.before in
+    let a = s.args in (
+      omega (arith, s.requires.0),
+      printable a.session.state a.dir.now a.pages.now _ a.out.now _ s.requires.1 _
+          c.before.before.before.before.query-listed.ensures,
     )
 
 same_length : tie.Need-shape_of-out
@@ -31,10 +33,12 @@ same-length-2 c = search rules
 
 returns : tie.Need-returns
 returns c =
-    let a = c.args in
-    reply-list a.session a.line _ _ _ _ _ _ _ _ _ _ c.query_of.ensures
-    c.query-listed.ensures
-    c.put_listed-end.ensures
+    let call = c.before.before.before.before.before.before.before in
+    let at-args = call.before.before.before.before.before.before.before.before.before.before in
+    let a = at-args.args in
+    reply-list a.session a.line _ _ _ _ _ _ _ _ _ _ call.before.before.query_of.ensures
+    call.query-listed.ensures
+    c.before.before.put_listed-end.ensures
 
 pub reply_list_spec : {M : Type 1} → statement M
 reply_list_spec =

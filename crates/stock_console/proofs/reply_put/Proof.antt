@@ -30,9 +30,12 @@ same-length-3 c = search rules
 
 returns : tie.Need-returns
 returns c =
-    let a = c.args in
-    reply-put a.session a.line _ _ _ _ _ _ _ _ _ _ _ c.key_of-key.ensures
-    c.put_changed-end.ensures _ c.content_of-content.ensures c.insert-change.ensures
+    let call = c.before.before.before.before.before.before.before.before.before in
+    let at-args = call.before.before.before.before.before.before.before.before.before.before.before in
+    let a = at-args.args in
+    let content = call.before.before.before in
+    reply-put a.session a.line _ _ _ _ _ _ _ _ _ _ _ content.before.key_of-key.ensures
+    c.before.before.before.put_changed-end.ensures _ content.content_of-content.ensures call.insert-change.ensures
 
 pub reply_put_spec : {M : Type 1} → statement M
 reply_put_spec =

@@ -22,81 +22,95 @@ decreases-loop piece from dir₀ pages₀ out₀ text₀ here₀ next₀ dir pag
 
 loop-holds : tie.Need-loop-next-init invariant-loop decreases-loop
 loop-holds c =
-    let a = c.args in
-    (refl, refl, refl, c.requires.2, running-start a.piece.now a.from a.progress _ _ c.requires.1 c.requires.0)
+    let s = c.before.before.before.before.before in
+    let a = s.args in
+    (refl, refl, refl, s.requires.2, running-start a.piece.now a.from a.progress _ _ s.requires.1 s.requires.0)
 
 sub-if1 : tie.Need-overflow_sub-text invariant-loop decreases-loop
-sub-if1 c = c.loop-next.invariant.4.stands.within
+sub-if1 c = c.before.before.loop-next.invariant.4.stands.within
 
 same_length : tie.Need-shape_of-dir-then-text-here-lt-REPLY_SIZE invariant-loop decreases-loop
-same_length c = c.loop-next.invariant.0
+same_length c = c.before.before.before.loop-next.invariant.0
 
 same-length-2 : tie.Need-shape_of-pages-then-text-here-lt-REPLY_SIZE invariant-loop decreases-loop
-same-length-2 c = c.loop-next.invariant.1
+same-length-2 c = c.before.before.before.loop-next.invariant.1
 
 same-length-3 : tie.Need-shape_of-out-then-text-here-lt-REPLY_SIZE invariant-loop decreases-loop
-same-length-3 c = c.loop-next.invariant.2
+same-length-3 c = c.before.before.before.loop-next.invariant.2
 
 same-length-4 : tie.Need-shape_of-text-then-text-here-lt-REPLY_SIZE invariant-loop decreases-loop
-same-length-4 c = c.loop-next.invariant.4.same_length
+same-length-4 c = c.before.before.before.loop-next.invariant.4.same_length
 
 returns : tie.Need-returns-then-text-here-lt-REPLY_SIZE invariant-loop decreases-loop
 returns c =
-    let a = c.args in
-    let loop = c.loop-next in
-    run-promise a.piece.now a.from a.progress _ a.text.now loop.next loop.here _ loop.text
+    let at-args = c.before.before.before.before.before.before.before.before.before in
+    let a = at-args.args in
+    let loop = c.before.before.before.loop-next in
+    run-promise a.piece.now a.from a.progress _ a.text.now loop.next loop.here _ loop.text-1
     loop.invariant.4
     (inr (omega (arith, c.if-text-here-lt-REPLY_SIZE.true, loop.invariant.4.stands.within)))
 
 shared-slice-read-step : tie.Need-bounds-piece-next invariant-loop decreases-loop
-shared-slice-read-step c = c.loop-next-test.true
+shared-slice-read-step c = c.before.before.before.loop-next-test.true
 
 step-requires : tie.Need-step-here-requires invariant-loop decreases-loop
 step-requires c κs =
-    let loop = c.loop-next in
+    let at-if1 = c.before.before.before.before.before in
+    let at-loop = at-if1.before.before.before in
+    let loop = at-loop.loop-next in
     let stands = loop.invariant.4.stands in
-    (stands.counted, omega (arith, c.if-text-here-lt-REPLY_SIZE.false, stands.within), omega (arith, loop.invariant.2, loop.invariant.3))
+    (stands.counted, omega (arith, at-if1.if-text-here-lt-REPLY_SIZE.false, stands.within), omega (arith, loop.invariant.2, loop.invariant.3))
 
 add-next : tie.Need-overflow_add-next invariant-loop decreases-loop
 add-next c =
-    record { fits = omega (arith, c.loop-next-test.true, c.well_formed.1.0) }
+    let between = c.before.before.before.before.before.before.before.before.before.before.before in
+    let at-loop-test = between.before.before.before.before.before in
+    let at-good = at-loop-test.before.before.before.before.before.before.before in
+    record { fits = omega (arith, at-loop-test.loop-next-test.true, at-good.well-formed.1.0) }
 
 loop-less : tie.Need-loop-next-smaller invariant-loop decreases-loop
 loop-less c =
-    omega (arith, c.loop-next-test.true)
+    let between = c.before.before.before.before.before.before.before.before.before.before.before in
+    let at-loop-test = between.before.before.before.before.before in
+    omega (arith, at-loop-test.loop-next-test.true)
 
 loop-again : tie.Need-loop-next-preserved invariant-loop decreases-loop
 loop-again c =
-    let call = c.step-here in
-    let loop = c.loop-next in
+    let at-step = c.before.before.before.before.before.before.before.before in
+    let at-loop-test = at-step.before.before.before.before.before.before.before.before in
+    let at-loop = at-loop-test.before in
+    let at-args = at-loop.before.before.before.before.before.before in
+    let call = at-step.step-here in
+    let loop = at-loop.loop-next in
     let inv = loop.invariant in
-    let a = c.args in (
-      call.auto.dir ∙ inv.0,
-      call.auto.pages ∙ inv.1,
-      call.auto.out ∙ inv.2,
+    let a = at-args.args in (
+      call.auto.1.1.0 ∙ inv.0,
+      call.auto.1.1.1.0 ∙ inv.1,
+      call.auto.1.1.1.1.0 ∙ inv.2,
       inv.3,
-      running-step a.piece.now a.from a.progress _ a.text.now loop.next loop.here _ loop.text
-          inv.4 _ _ _ c.loop-next-test.true call.ensures.0 call.ensures.1
-          call.auto.text,
+      running-step a.piece.now a.from a.progress _ a.text.now loop.next loop.here _ loop.text-1
+          inv.4 _ _ _ at-loop-test.loop-next-test.true call.ensures.0 call.ensures.1
+          call.auto.1.1.1.1.1.0,
     )
 
 same-length-5 : tie.Need-shape_of-dir invariant-loop decreases-loop
-same-length-5 c = c.loop-next.invariant.0
+same-length-5 c = c.before.loop-next.invariant.0
 
 same-length-6 : tie.Need-shape_of-pages invariant-loop decreases-loop
-same-length-6 c = c.loop-next.invariant.1
+same-length-6 c = c.before.loop-next.invariant.1
 
 same-length-7 : tie.Need-shape_of-out invariant-loop decreases-loop
-same-length-7 c = c.loop-next.invariant.2
+same-length-7 c = c.before.loop-next.invariant.2
 
 same-length-8 : tie.Need-shape_of-text invariant-loop decreases-loop
-same-length-8 c = c.loop-next.invariant.4.same_length
+same-length-8 c = c.before.loop-next.invariant.4.same_length
 
 returns-2 : tie.Need-returns invariant-loop decreases-loop
 returns-2 c =
-    let a = c.args in
-    let loop = c.loop-next in
-    run-promise a.piece.now a.from a.progress _ a.text.now loop.next loop.here _ loop.text
+    let at-args = c.before.before.before.before.before.before.before in
+    let a = at-args.args in
+    let loop = c.before.loop-next in
+    run-promise a.piece.now a.from a.progress _ a.text.now loop.next loop.here _ loop.text-1
     loop.invariant.4
     (inl (omega (arith, c.loop-next-test.false)))
 

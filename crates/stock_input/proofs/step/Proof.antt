@@ -29,14 +29,18 @@ same-length-4 c = search rules
 
 returns : tie.Need-returns-then-byte-eq-NEWLINE
 returns c =
-    let p = c.args.progress in (
+    let call = c.before.before.before.before.before.before.before.before.before.before in
+    let between = call.before.before.before.before.before.before.before.before.before.before.before in
+    let s = between.before.before in
+    let line = call.before.before.before.before.before in
+    let p = s.args.progress in (
       inl (
-        c.if-byte-eq-NEWLINE.true,
-        line-ended p _ _ _ _ _ _ _ c.end.ensures c.begin-nothing.ensures
-            c.reply-next.ensures,
+        line.before.if-byte-eq-NEWLINE.true,
+        line-ended p _ _ _ _ _ _ _ line.end.ensures c.begin-nothing.ensures
+            call.reply-next.ensures,
       ),
-      line-stands p _ _ _ _ _ _ _ c.end.ensures c.begin-nothing.ensures c.reply-next.ensures
-          (omega (arith, c.requires.1)),
+      line-stands p _ _ _ _ _ _ _ line.end.ensures c.begin-nothing.ensures call.reply-next.ensures
+          (omega (arith, s.requires.1)),
     )
 
 feed-requires : tie.Need-feed-more-requires
@@ -44,9 +48,10 @@ feed-requires c κs = search rules
 
 returns-2 : tie.Need-returns
 returns-2 c =
-    let p = c.args.progress in (
-      inr (c.if-byte-eq-NEWLINE.false, byte-read p _ _ _ _ c.feed-more.ensures),
-      byte-stands p _ _ _ c.feed-more.ensures c.requires.0 (omega (arith, c.requires.1)),
+    let s = c.before.before.before.before.before.before.before.before in
+    let p = s.args.progress in (
+      inr (c.before.if-byte-eq-NEWLINE.false, byte-read p _ _ _ _ c.feed-more.ensures),
+      byte-stands p _ _ _ c.feed-more.ensures s.requires.0 (omega (arith, s.requires.1)),
     )
 
 pub step_spec : {M : Type 1} → statement M

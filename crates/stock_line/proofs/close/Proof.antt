@@ -27,21 +27,23 @@ array-write-codes c = search rules
 returns-2 : tie.Need-returns-then-reading-lt7
 unfolding closed
 returns-2 c =
+    let k = c.before.before.before.before in
     rw (
-      ne_eqb _ _ c.if-reading-eq0.false,
-      c.kept_word-word.ensures,
-      c.is_any-star.ensures,
+      ne_eqb _ _ k.before.before.if-reading-eq0.false,
+      k.before.kept_word-word.ensures,
+      k.is_any-star.ensures,
       lt-ltb _ _
-          c.if-reading-lt7.true,
+          c.before.if-reading-lt7.true,
     )
 
 returns-3 : tie.Need-returns-else-reading-lt7
 unfolding closed
 returns-3 c =
+    let k = c.before.before.before in
     rw (
-      ne_eqb _ _ c.if-reading-eq0.false,
-      c.kept_word-word.ensures,
-      c.is_any-star.ensures,
+      ne_eqb _ _ k.before.before.if-reading-eq0.false,
+      k.before.kept_word-word.ensures,
+      k.is_any-star.ensures,
       le-ltb _ _
           c.if-reading-lt7.false,
     )

@@ -12,7 +12,7 @@ kind-of-requires c κs = search rules
 
 returns : tie.Need-returns
 unfolding ended
-returns c = rw (c.kind_of.ensures, c.close-last.ensures)
+returns c = rw (c.kind_of.ensures, c.before.before.close-last.ensures)
 
 pub end_spec : {M : Type 1} → statement M
 end_spec = tie.close (tie.spec close-requires kind-of-requires returns)

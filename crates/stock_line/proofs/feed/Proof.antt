@@ -11,11 +11,11 @@ close-requires : tie.Need-close-requires
 close-requires c κs = search rules
 
 open-requires : tie.Need-open-requires
-open-requires c κs = rw c.close.ensures (closed-fields c.args.reading c.requires)
+open-requires c κs = rw c.close.ensures (closed-fields c.before.before.args.reading c.before.before.requires)
 
 returns : tie.Need-returns-then-byte-eq32
 unfolding fed
-returns c = rw (eq-eqb _ _ c.if-byte-eq32.true) (c.«open».ensures ∙ ap opened c.close.ensures)
+returns c = rw (eq-eqb _ _ c.before.before.if-byte-eq32.true) (c.«open».ensures ∙ ap opened c.before.close.ensures)
 
 word-with-requires : tie.Need-word_with-requires
 word-with-requires c κs = search rules
@@ -23,7 +23,8 @@ word-with-requires c κs = search rules
 returns-2 : tie.Need-returns-then-reading-eq0
 unfolding fed added
 returns-2 c =
-    rw (ne_eqb _ _ c.if-byte-eq32.false, eq-eqb _ _ c.if-reading-eq0.true, c.word_with.ensures)
+    let d = c.before.before.before.before in
+    rw (ne_eqb _ _ d.if-byte-eq32.false, eq-eqb _ _ c.before.if-reading-eq0.true, c.word_with.ensures)
 
 field-with-requires : tie.Need-field_with-requires
 field-with-requires c κs = search rules
@@ -31,7 +32,8 @@ field-with-requires c κs = search rules
 returns-3 : tie.Need-returns
 unfolding fed added
 returns-3 c =
-    rw (ne_eqb _ _ c.if-byte-eq32.false, ne_eqb _ _ c.if-reading-eq0.false, c.field_with.ensures)
+    let d = c.before.before.before.before in
+    rw (ne_eqb _ _ d.if-byte-eq32.false, ne_eqb _ _ c.before.if-reading-eq0.false, c.field_with.ensures)
 
 pub feed_spec : {M : Type 1} → statement M
 feed_spec =

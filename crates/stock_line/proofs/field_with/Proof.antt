@@ -13,11 +13,11 @@ first-of-requires c κs = search rules
 
 returns : tie.Need-returns-then-field-eq-EMPTY
 unfolding field_with
-returns c = rw (eq-eqb _ _ c.if-field-eq-EMPTY.true) c.first_of.ensures
+returns c = rw (eq-eqb _ _ c.before.if-field-eq-EMPTY.true) c.first_of.ensures
 
 returns-2 : tie.Need-returns-then-field-ge-ANY
 unfolding field_with
-returns-2 c = rw (ne_eqb _ _ c.if-field-eq-EMPTY.false, le-leb _ _ c.if-field-ge-ANY.true)
+returns-2 c = rw (ne_eqb _ _ c.before.if-field-eq-EMPTY.false, le-leb _ _ c.if-field-ge-ANY.true)
 
 is-digit-requires : tie.Need-is_digit-requires
 is-digit-requires c κs = search rules
@@ -25,10 +25,11 @@ is-digit-requires c κs = search rules
 returns-3 : tie.Need-returns-then-not-is_digit
 unfolding field_with digit_with
 returns-3 c =
+    let d = c.before.before in
     rw (
-      ne_eqb _ _ c.if-field-eq-EMPTY.false,
-      lt-leb _ _ c.if-field-ge-ANY.false,
-      sym c.is_digit.ensures ∙ not-true _ c.if-not-is_digit.true-raw,
+      ne_eqb _ _ d.before.if-field-eq-EMPTY.false,
+      lt-leb _ _ d.if-field-ge-ANY.false,
+      sym c.before.is_digit.ensures ∙ not-true _ c.if-not-is_digit.true-raw,
     )
 
 mul-number : tie.Need-overflow_mul-number
@@ -37,7 +38,7 @@ mul-number c = search rules
 sub_number : tie.Need-overflow_sub-number
 unfolding is_digit
 sub_number c =
-    leb-true _ _ (and_split _ _ (sym c.is_digit.ensures ∙ not-false _ c.if-not-is_digit.false-raw)).0
+    leb-true _ _ (and_split _ _ (sym c.before.is_digit.ensures ∙ not-false _ c.if-not-is_digit.false-raw)).0
 
 cast-number : tie.Need-overflow_cast-number
 cast-number c = search rules
@@ -48,20 +49,22 @@ add-number c = search rules
 returns-4 : tie.Need-returns-then-number-lt-ANY
 unfolding field_with digit_with
 returns-4 c =
+    let d = c.before.before.before in
     rw (
-      ne_eqb _ _ c.if-field-eq-EMPTY.false,
-      lt-leb _ _ c.if-field-ge-ANY.false,
-      sym c.is_digit.ensures ∙ not-false _ c.if-not-is_digit.false-raw,
+      ne_eqb _ _ d.before.if-field-eq-EMPTY.false,
+      lt-leb _ _ d.if-field-ge-ANY.false,
+      sym c.before.before.is_digit.ensures ∙ not-false _ c.before.if-not-is_digit.false-raw,
       lt-ltb _ _ c.if-number-lt-ANY.true,
     )
 
 returns-5 : tie.Need-returns-else-number-lt-ANY
 unfolding field_with digit_with
 returns-5 c =
+    let d = c.before.before.before in
     rw (
-      ne_eqb _ _ c.if-field-eq-EMPTY.false,
-      lt-leb _ _ c.if-field-ge-ANY.false,
-      sym c.is_digit.ensures ∙ not-false _ c.if-not-is_digit.false-raw,
+      ne_eqb _ _ d.before.if-field-eq-EMPTY.false,
+      lt-leb _ _ d.if-field-ge-ANY.false,
+      sym c.before.before.is_digit.ensures ∙ not-false _ c.before.if-not-is_digit.false-raw,
       le-ltb _ _ c.if-number-lt-ANY.false,
     )
 

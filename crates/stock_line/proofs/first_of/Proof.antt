@@ -18,7 +18,7 @@ is-digit-requires c κs = search rules
 sub-result : tie.Need-overflow_sub-result
 unfolding is_digit
 sub-result c =
-    let digit = sym c.is_digit.ensures ∙ c.if-is_digit.true in
+    let digit = sym c.before.is_digit.ensures ∙ c.if-is_digit.true in
     leb-true _ _ (and_split _ _ digit).0
 
 cast-result : tie.Need-overflow_cast-result
@@ -27,12 +27,12 @@ cast-result c = search rules
 returns-2 : tie.Need-returns-then-is_digit
 unfolding first_of
 returns-2 c =
-    rw (ne_eqb _ _ c.if-byte-eq42.false, sym c.is_digit.ensures ∙ c.if-is_digit.true)
+    rw (ne_eqb _ _ c.before.before.if-byte-eq42.false, sym c.before.is_digit.ensures ∙ c.if-is_digit.true)
 
 returns-3 : tie.Need-returns
 unfolding first_of
 returns-3 c =
-    rw (ne_eqb _ _ c.if-byte-eq42.false, sym c.is_digit.ensures ∙ c.if-is_digit.false)
+    rw (ne_eqb _ _ c.before.before.if-byte-eq42.false, sym c.before.is_digit.ensures ∙ c.if-is_digit.false)
 
 pub first_of_spec : {M : Type 1} → statement M
 first_of_spec = tie.close (tie.spec returns is-digit-requires sub-result cast-result returns-2 returns-3)

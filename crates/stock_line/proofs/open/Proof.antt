@@ -13,14 +13,14 @@ add-fields c = search rules
 returns : tie.Need-returns-then-reading-lt7
 unfolding opened
 returns c =
-    let r = c.args.reading in
-    let e : r.fields + 1 ≡ min 7 (suc r.fields) = omega (arith, c.if-reading-lt7.true) in
+    let r = c.before.before.before.before.args.reading in
+    let e : r.fields + 1 ≡ min 7 (suc r.fields) = omega (arith, c.before.if-reading-lt7.true) in
     rw e
 
 returns-2 : tie.Need-returns-else-reading-lt7
 unfolding opened
 returns-2 c =
-    let r = c.args.reading in
+    let r = c.before.before.before.args.reading in
     let e : 7 ≡ min 7 (suc r.fields) = omega (arith, c.if-reading-lt7.false) in
     rw (sym e)
 

@@ -33,29 +33,28 @@ same_length c = search rules
 
 returns : tie.Need-returns-in-Done
 unfolding changed_answer
-returns c = rw c.in-Done.is c.put_ok.ensures
+returns c = rw c.before.before.before.before.in-Done.is c.before.before.put_ok.ensures
 
 same-length-2 : tie.Need-shape_of-text-in-Absent
 same-length-2 c = search rules
 
 returns-2 : tie.Need-returns-in-Absent
 unfolding changed_answer
-returns-2 c = rw c.in-Absent.is c.put_refused.ensures
+returns-2 c = rw c.before.before.before.before.in-Absent.is c.before.before.put_refused.ensures
 
 same-length-3 : tie.Need-shape_of-text-in-Refused
 same-length-3 c = search rules
 
 returns-3 : tie.Need-returns-in-Refused
 unfolding changed_answer
-returns-3 c =
-    rw c.in-Refused.is c.put_refused-in-Refused.ensures
+returns-3 c = rw c.before.before.before.before.in-Refused.is c.before.before.put_refused-in-Refused.ensures
 
 same-length-4 : tie.Need-shape_of-text-in-Width
 same-length-4 c = search rules
 
 returns-4 : tie.Need-returns-in-Width
 unfolding changed_answer
-returns-4 c = rw c.in-Width.is c.put_refused-in-Width.ensures
+returns-4 c = rw c.before.before.before.before.in-Width.is c.before.before.put_refused-in-Width.ensures
 
 pub put_changed_spec : {M : Type 1} → statement M
 put_changed_spec =

@@ -15,7 +15,8 @@ same_length c = search rules
 
 returns : tie.Need-returns
 returns c =
-    Grown-then _ _ _ _ _ _ _ _ c.put_records-end.ensures.0 c.put_sum.ensures
+    let at-put-records = c.before.before.before.before.before.before in
+    Grown-then _ _ _ _ _ _ _ _ at-put-records.put_records-end.ensures.0 c.before.before.put_sum.ensures
 
 pub put_found_spec : {M : Type 1} → statement M
 put_found_spec = tie.close (tie.spec put-records-requires put-sum-requires same_length returns)

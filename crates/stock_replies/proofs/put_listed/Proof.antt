@@ -10,8 +10,9 @@ enum-known-listed c = search rules
 put-found-requires : tie.Need-put_found-requires
 unfolding listed_answer
 put-found-requires c κs =
-    let pre = c.requires in
-    let fits = rw c.in-Records.is at pre.1 in
+    let at_pre = c.before.before.before.before in
+    let pre = at_pre.requires in
+    let fits = rw c.before.in-Records.is at pre.1 in
     (pre.0, fits.0, fits.1, fits.2)
 
 enum-known-listed-2 : tie.Need-enum_known-listed-in-Refused-1
@@ -31,23 +32,21 @@ same_length c = search rules
 
 returns : tie.Need-returns-in-Records
 unfolding listed_answer
-returns c =
-    rw c.in-Records.is c.put_found.ensures
+returns c = rw c.before.before.before.before.in-Records.is c.before.before.put_found.ensures
 
 same-length-2 : tie.Need-shape_of-text-in-Refused
 same-length-2 c = search rules
 
 returns-2 : tie.Need-returns-in-Refused
 unfolding listed_answer
-returns-2 c =
-    rw c.in-Refused.is c.put_refused.ensures
+returns-2 c = rw c.before.before.before.before.in-Refused.is c.before.before.put_refused.ensures
 
 same-length-3 : tie.Need-shape_of-text-in-Width
 same-length-3 c = search rules
 
 returns-3 : tie.Need-returns-in-Width
 unfolding listed_answer
-returns-3 c = rw c.in-Width.is c.put_refused-in-Width.ensures
+returns-3 c = rw c.before.before.before.before.in-Width.is c.before.before.put_refused-in-Width.ensures
 
 pub put_listed_spec : {M : Type 1} → statement M
 put_listed_spec =

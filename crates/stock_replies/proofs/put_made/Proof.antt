@@ -27,22 +27,21 @@ same_length c = search rules
 
 returns : tie.Need-returns-in-Done
 unfolding made_answer
-returns c = rw c.in-Done.is c.put_ok.ensures
+returns c = rw c.before.before.before.before.in-Done.is c.before.before.put_ok.ensures
 
 same-length-2 : tie.Need-shape_of-text-in-Refused
 same-length-2 c = search rules
 
 returns-2 : tie.Need-returns-in-Refused
 unfolding made_answer
-returns-2 c =
-    rw c.in-Refused.is c.put_refused.ensures
+returns-2 c = rw c.before.before.before.before.in-Refused.is c.before.before.put_refused.ensures
 
 same-length-3 : tie.Need-shape_of-text-in-Width
 same-length-3 c = search rules
 
 returns-3 : tie.Need-returns-in-Width
 unfolding made_answer
-returns-3 c = rw c.in-Width.is c.put_refused-in-Width.ensures
+returns-3 c = rw c.before.before.before.before.in-Width.is c.before.before.put_refused-in-Width.ensures
 
 pub put_made_spec : {M : Type 1} → statement M
 put_made_spec =

@@ -15,8 +15,9 @@ same_length c = search rules
 
 returns : tie.Need-returns
 returns c =
-    let a = c.args in
-    Grown-paste a.text.now a.at a.bytes.now _ c.requires c.copy.ensures
+    let start = c.before.before.before.before.before.before in
+    let a = start.args in
+    Grown-paste a.text.now a.at a.bytes.now _ start.requires c.before.before.copy.ensures
 
 pub put_bytes_spec : {M : Type 1} → statement M
 put_bytes_spec = tie.close (tie.spec copy-requires add-result same_length returns)

@@ -17,8 +17,9 @@ put-decimal-requires c κs = search rules
 
 put-byte-requires : tie.Need-put_byte-requires
 put-byte-requires c κs =
-    let number = c.put_decimal-end.ensures in
-    omega (arith, c.requires, number.end_is, number.length-is, most c.before.before.before.before.before.before)
+    let s = c.before.before.before.before.before.before in
+    let number = c.before.before.before.put_decimal-end.ensures in
+    omega (arith, s.requires, number.end_is, number.length-is, most s)
 
 same_length : tie.Need-shape_of-text
 same_length c = search rules
@@ -26,9 +27,11 @@ same_length c = search rules
 returns : tie.Need-returns
 unfolding field_text
 returns c =
-    (
-      Grown-then _ _ _ _ _ _ _ _ c.put_decimal-end.ensures c.put_byte.ensures,
-      omega (arith, c.put_decimal-end.ensures.end_is, c.put_byte.ensures.end_is, most c.before.before.before.before.before.before.before.before.before),
+    let call = c.before.before in
+    let number = call.before.before.before.before in
+    let s = number.before.before.before in (
+      Grown-then _ _ _ _ _ _ _ _ number.put_decimal-end.ensures call.put_byte.ensures,
+      omega (arith, number.put_decimal-end.ensures.end_is, call.put_byte.ensures.end_is, most s),
     )
 
 pub put_field_spec : {M : Type 1} → statement M

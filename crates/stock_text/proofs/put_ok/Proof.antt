@@ -4,9 +4,6 @@ use Rattle.stock_text.specs.Text.{ok_text}
 use Rattle.stock_text.proofs.put_ok.Statement.{statement}
 use Rattle.stock_text.proofs.put_ok.Tie as tie
 
-slice-aggregate-put-bytes : tie.Need-slice-aggregate-put-bytes
-slice-aggregate-put-bytes c = search rules
-
 put-bytes-requires : tie.Need-put_bytes-requires
 put-bytes-requires c κs = search rules
 
@@ -15,7 +12,7 @@ same_length c = search rules
 
 returns : tie.Need-returns
 unfolding ok_text
-returns c = c.put_bytes.ensures
+returns c = c.before.before.put_bytes.ensures
 
 pub put_ok_spec : {M : Type 1} → statement M
-put_ok_spec = tie.close (tie.spec slice-aggregate-put-bytes put-bytes-requires same_length returns)
+put_ok_spec = tie.close (tie.spec put-bytes-requires same_length returns)

@@ -29,14 +29,16 @@ same_length c = search rules
 
 returns : tie.Need-returns
 returns c =
-    let read = c.read_content-content in
-    let values = c.put_values-end.ensures in
+    let call = c.before.before in
+    let read = call.before.before.before.read_content-content in
+    let values = call.before.before.before.before.before.before.put_values-end.ensures in
+    let s = call.before.before.before.before.before.before.before.before.before.before in
     let payload = ap (λ r. r.payload) read.ensures in
     let most = length-field_text-le 9 read.result.payload newline (omega arith) in (
-      Grown-payload _ _ _ c.args.out.now _ _ _ (record_size * c.args.i) c.args.d read.result.payload
+      Grown-payload _ _ _ s.args.out.now _ _ _ (record_size * s.args.i) s.args.d read.result.payload
           payload
-          values.0 c.put_field.ensures.0,
-      omega (arith, c.requires.0, values.1, c.put_field.ensures.0.end_is, most),
+          values.0 call.put_field.ensures.0,
+      omega (arith, s.requires.0, values.1, call.put_field.ensures.0.end_is, most),
     )
 
 pub put_record_spec : {M : Type 1} → statement M

@@ -5,9 +5,6 @@ use Rattle.stock_text.proofs.GrownLaws.{Grown-then}
 use Rattle.stock_text.proofs.put_sum.Statement.{statement}
 use Rattle.stock_text.proofs.put_sum.Tie as tie
 
-slice-aggregate-put-bytes : tie.Need-slice-aggregate-put-bytes
-slice-aggregate-put-bytes c = search rules
-
 put-bytes-requires : tie.Need-put_bytes-start-requires
 put-bytes-requires c κs = search rules
 
@@ -23,14 +20,16 @@ same_length c = search rules
 returns : tie.Need-returns
 unfolding sum_text
 returns c =
-    Grown-then _ _ _ _ _ _ _ _ c.put_bytes-start.ensures
-    (Grown-then _ _ _ _ _ _ _ _ c.put_field-end.ensures.0 c.put_field.ensures.0)
+    let reads = c.before.before in
+    let total = reads.before.before.before.before in
+    let first = total.before.before.before.before in
+    Grown-then _ _ _ _ _ _ _ _ first.put_bytes-start.ensures
+    (Grown-then _ _ _ _ _ _ _ _ total.put_field-end.ensures.0 reads.put_field.ensures.0)
 
 pub put_sum_spec : {M : Type 1} → statement M
 put_sum_spec =
     tie.close
     (tie.spec
-    slice-aggregate-put-bytes
     put-bytes-requires
     put-field-requires
     put-field-requires-2

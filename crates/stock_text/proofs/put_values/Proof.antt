@@ -18,7 +18,7 @@ decreases-loop text₀ at out start d end₀ j₀ text end j = d - j
 
 loop-holds : tie.Need-loop-j-init invariant-loop decreases-loop
 loop-holds c =
-    let a = c.args in
+    let a = c.before.before.args in
     (omega arith, omega arith, Grown-no-values a.text.now a.at (field a.out.now a.start record_size))
 
 mul-read16 : tie.Need-overflow_mul-j invariant-loop decreases-loop
@@ -32,7 +32,7 @@ read16-requires c κs = omega arith
 
 put-field-requires : tie.Need-put_field-end-requires invariant-loop decreases-loop
 put-field-requires c κs =
-    let loop = c.loop-j in
+    let loop = c.before.before.before.loop-j in
     omega (arith, loop.invariant.2.length-is)
 
 add-j : tie.Need-overflow_add-j invariant-loop decreases-loop
@@ -43,23 +43,26 @@ loop-less c = omega arith
 
 loop-again : tie.Need-loop-j-preserved invariant-loop decreases-loop
 loop-again c =
-    let read = c.read16 in
-    let loop = c.loop-j in
+    let call = c.before.before in
+    let read = call.before.read16 in
+    let test = call.before.before.before in
+    let loop = test.before.loop-j in
+    let s = test.before.before.before.before in
     let most = length-field_text-le 4 read.result space (omega (arith, read.ensures.1)) in (
       omega arith,
-      omega (arith, loop.invariant.1, c.put_field-end.ensures.0.end_is, most),
-      Grown-value _ _ _ c.args.out.now _ _ _ c.args.start loop.j read.result
-          (omega (arith, c.loop-j-test.true, c.requires.0))
-          read.ensures.0 loop.invariant.2 c.put_field-end.ensures.0,
+      omega (arith, loop.invariant.1, call.put_field-end.ensures.0.end_is, most),
+      Grown-value _ _ _ s.args.out.now _ _ _ s.args.start loop.j read.result
+          (omega (arith, test.loop-j-test.true, s.requires.0))
+          read.ensures.0 loop.invariant.2 call.put_field-end.ensures.0,
     )
 
 same_length : tie.Need-shape_of-text invariant-loop decreases-loop
-same_length c = c.loop-j.invariant.2.length-is
+same_length c = c.before.loop-j.invariant.2.length-is
 
 returns : tie.Need-returns invariant-loop decreases-loop
 returns c =
-    let loop = c.loop-j in
-    let a = c.args in
+    let loop = c.before.loop-j in
+    let a = c.before.before.before.before.args in
     let all : loop.j ≡ a.d = omega arith in
     let text = subst (λ j. Grown a.text.now a.at (values_text j (field a.out.now a.start record_size))
     loop.text loop.end) all loop.invariant.2 in

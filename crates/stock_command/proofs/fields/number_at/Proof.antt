@@ -6,7 +6,7 @@ use Rattle.stock_command.proofs.fields.number_at.Statement.{statement}
 use Rattle.stock_command.proofs.fields.number_at.Tie as tie
 
 returns : tie.Need-returns-then-j-ge6
-returns c = let a = c.args in number_at-past a.line a.j c.if-j-ge6.true
+returns c = let a = c.before.before.args in number_at-past a.line a.j c.if-j-ge6.true
 
 mul-code : tie.Need-offset_bounds-codes-j
 mul-code c = search rules
@@ -19,13 +19,13 @@ cast-result c = search rules
 
 returns-2 : tie.Need-returns-then-code-lt-ANY
 returns-2 c =
-    let a = c.args in
-    number_at-number a.line a.j (omega (arith, c.if-j-ge6.false)) c.if-code-lt-ANY.true
+    let a = c.before.before.before.args in
+    number_at-number a.line a.j (omega (arith, c.before.if-j-ge6.false)) c.if-code-lt-ANY.true
 
 returns-3 : tie.Need-returns-else-code-lt-ANY
 returns-3 c =
-    let a = c.args in
-    number_at-star a.line a.j (omega (arith, c.if-j-ge6.false)) (omega (arith, c.if-code-lt-ANY.false))
+    let a = c.before.before.before.args in
+    number_at-star a.line a.j (omega (arith, c.before.if-j-ge6.false)) (omega (arith, c.if-code-lt-ANY.false))
 
 pub number_at_spec : {M : Type 1} → statement M
 number_at_spec =

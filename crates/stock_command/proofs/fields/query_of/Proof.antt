@@ -20,10 +20,12 @@ attribute-at-requires-4 c κs = search rules
 returns : tie.Need-returns
 unfolding wanted_values items_of
 returns c =
+    let three = c.before in
+    let two = three.before in
     rw (
-      c.attribute_at-a0.ensures,
-      c.attribute_at-a1.ensures,
-      c.attribute_at-a2.ensures,
+      two.before.attribute_at-a0.ensures,
+      two.attribute_at-a1.ensures,
+      three.attribute_at-a2.ensures,
       c.attribute_at-a3.ensures,
     )
 

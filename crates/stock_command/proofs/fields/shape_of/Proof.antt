@@ -21,7 +21,7 @@ number-at-requires-2 c κs = search rules
 
 returns : tie.Need-returns
 unfolding shape_in
-returns c = rw (c.number_at-capacity.ensures, c.values_from-widths.ensures, c.number_at-attributes.ensures)
+returns c = rw (c.number_at-capacity.ensures, c.before.values_from-widths.ensures, c.before.before.number_at-attributes.ensures)
 
 pub shape_of_spec : {M : Type 1} → statement M
 shape_of_spec =

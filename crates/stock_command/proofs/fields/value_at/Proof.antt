@@ -17,13 +17,13 @@ number-at-requires c κs = search rules
 
 returns : tie.Need-returns-then-j-d
 returns c =
-    let a = c.args in
+    let a = c.before.before.args in
     c.number_at.ensures
-    ∙ sym (ap (λ β. cond β (number_at a.line (a.from + a.j)) 0) (lt-ltb a.j a.d c.if-j-d.true))
+    ∙ sym (ap (λ β. cond β (number_at a.line (a.from + a.j)) 0) (lt-ltb a.j a.d c.before.if-j-d.true))
 
 returns-2 : tie.Need-returns
 returns-2 c =
-    let a = c.args in
+    let a = c.before.args in
     sym (ap (λ β. cond β (number_at a.line (a.from + a.j)) 0) (le-ltb a.j a.d (omega (arith, c.if-j-d.false))))
 
 pub value_at_spec : {M : Type 1} → statement M

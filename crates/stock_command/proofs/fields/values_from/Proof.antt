@@ -19,7 +19,9 @@ value-at-requires-4 c κs = search rules
 returns : tie.Need-returns
 unfolding values_from
 returns c =
-    rw (c.value_at-v0.ensures, c.value_at-v1.ensures, c.value_at-v2.ensures, c.value_at-v3.ensures)
+    let three = c.before in
+    let two = three.before in
+    rw (two.before.value_at-v0.ensures, two.value_at-v1.ensures, three.value_at-v2.ensures, c.value_at-v3.ensures)
 
 pub values_from_spec : {M : Type 1} → statement M
 values_from_spec =
