@@ -1,6 +1,6 @@
 # Builds the library and installs it for hosts in C and Python.
 #
-#   make             proves and builds the archive (rt staticlib mdeh), and links the shared library from it
+#   make             proves and builds the archive (rt lib in crates/mdeh), and links the shared library from it
 #   make install     header, both libraries, the pkg-config file, the Python package and the command `mdeh`
 #   make uninstall   removes what install wrote
 #   make clean       removes what make wrote
@@ -32,9 +32,10 @@ $(SHARED): $(ARCHIVE)
 	@mkdir -p $(@D)
 	$(call link,$@)
 
-target/staticlib/libmdeh.a: crates.txt $(shell find crates -name '*.rt' -o -name '*.antt')
-	rt staticlib mdeh
-	@touch $@
+target/staticlib/lib%.a: crates.txt $(shell find crates -name out -prune -o \( -name '*.rt' -o -name '*.antt' \) -print)
+	cd crates/$* && rt lib
+	@mkdir -p $(@D)
+	@cp crates/$*/out/lib$*.a $@
 
 install: $(ARCHIVE)
 	install -d '$(include)' '$(lib)/pkgconfig' '$(package)' '$(bin)'

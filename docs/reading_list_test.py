@@ -56,7 +56,7 @@ class ReadingList(unittest.TestCase):
         self.assertGreater(len(places), 40)
         for path, at in places.items():
             text = (self.root / path).read_text(encoding="utf-8")
-            for crate, name in re.findall(r"(?m)^use Rattle·(\w+?)(?:·specs)?\.specs\.(?!declared)(\w+)", text):
+            for crate, name in re.findall(r"(?m)^use Rattle\.(?!std\.)(\w+)\.specs\.(?!declared)(\w+)", text):
                 self.assertLess(places[f"crates/{crate}/specs/{name}.antt"], at, path)
 
     def test_document_holds_the_list(self):
@@ -81,12 +81,12 @@ class ReadingList(unittest.TestCase):
         self.refused(SPLIT, "No such file")
 
     def test_definition_that_rests_on_a_proof(self):
-        self.edit(SPLIT, "use lib.Dec.", "use Rattle·shape.proofs.ShapeLaws.{x}\nuse lib.Dec.")
+        self.edit(SPLIT, "use Rattle.split.", "use Rattle.shape.proofs.ShapeLaws.{x}\nuse Rattle.split.")
         self.refused(f"{SPLIT}:", "rests on a proof")
 
     def test_imports_of_other_forms(self):
         text = (self.root / SPLIT).read_text(encoding="utf-8")
-        module = "Rattle·shape.specs.Key"
+        module = "Rattle.shape.specs.Key"
         forms = (f"use {module}.{{", "use Key.{x}", f"  use {module}.{{x}}", f"y = {module}.x", "y = package.Key.x")
         for line in forms:
             (self.root / SPLIT).write_text(f"{text}{line}\n", encoding="utf-8")
@@ -102,10 +102,10 @@ class ReadingList(unittest.TestCase):
     def test_contract_that_names_another_file(self):
         before = self.run_it()[1]
         self.assertNotIn("crates/shape/specs/Integers.antt", before.split("\n2. ")[0])
-        path, line = "crates/mdeh/src/lib.rt", "ghost use Prim.Native.Nat.{_≤_};\n"
-        self.edit(path, line, f"{line}ghost use Rattle·shape.specs.Integers.{{integerOf}};\n")
+        path, line = "crates/mdeh/src/lib.rt", "ghost use Rattle.host_state.specs.Image.{state_in};\n"
+        self.edit(path, line, f"{line}ghost use Rattle.shape.specs.Integers.{{integer_of}};\n")
         self.assertEqual(self.run_it()[1], before)
-        self.edit(path, "⌜ r .sound ≤ 1 ⌝", "⌜ integerOf (r .sound) ≤ 1 ⌝")
+        self.edit(path, "{ result.sound ≤ 1 }", "{ integer_of result.sound ≤ 1 }")
         self.assertIn("crates/shape/specs/Integers.antt", self.run_it()[1].split("\n2. ")[0])
 
     def test_readme_without_statements(self):

@@ -2,7 +2,7 @@
  * A multidimensional extendible hash store in memory that its host lends: the C interface.
  *
  * Records have a key of one to four values and a payload of 32 bits. A query gives some of the values, a range the
- * intervals of some, and both leave the others free. The library is libmdeh.a: code for x86-64 (System V) that calls
+ * intervals of some, and both leave the others free. The library is libmdeh.a: code for x86-64-v2 (System V) that calls
  * memcpy, memmove and memset alone. C99 or later, or C++. `make` proves and builds it, `make install` installs it with
  * libmdeh.so, the same code; then `gcc host.c $(pkg-config --cflags --libs mdeh)` links a host. It takes libmdeh.so;
  * -l:libmdeh.a, in place of -lmdeh, takes the archive. With a PREFIX outside of the system's folders pkg-config needs

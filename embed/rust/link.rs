@@ -1,4 +1,4 @@
-//! Links a static library that `rt staticlib NAME` writes. It is looked for in the folder that the environment variable
+//! Links a static library that the repository's `make` writes. It is looked for in the folder that the environment variable
 //! `MDEH_LIB_DIR` names, which has to have it, then beside the package's `Cargo.toml`, then in the repository's
 //! `target/staticlib`.
 use std::env;
@@ -45,7 +45,7 @@ fn own_folders(root: &str) -> Vec<PathBuf> {
 fn warn(name: &str, archives: impl Iterator<Item = PathBuf>) {
     archives.for_each(|archive| println!("cargo::rerun-if-changed={}", archive.display()));
     println!(
-        "cargo::warning=lib{name}.a is missing, and what links will fail: run `rt staticlib {name}` in the repository, \
-         or name the folder that has it by {VARIABLE}"
+        "cargo::warning=lib{name}.a is missing, and what links will fail: run `make target/staticlib/lib{name}.a` in the \
+         repository, or name the folder that has it by {VARIABLE}"
     );
 }

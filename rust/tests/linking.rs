@@ -82,7 +82,7 @@ impl Copied {
 #[test]
 fn without_the_archive() {
     let copied = Copied::new("without");
-    let warning = "libmdeh.a is missing, and what links will fail: run `rt staticlib mdeh`";
+    let warning = "libmdeh.a is missing, and what links will fail: run `make target/staticlib/libmdeh.a`";
     copied.told(&["check"], None, true, warning);
     copied.told(&["doc"], None, true, warning);
     assert!(copied.folder.join("target/doc/mdeh/index.html").is_file());

@@ -1,5 +1,5 @@
-//! The program `stock`, which `rt check stock` writes to `target/bin`: long runs with every answer compared with that of
-//! the plain store, and the edges of the line form.
+//! The program `stock`, which `rt ci`, and `rt run` in its folder, write to `crates/stock/out`: long runs with every answer
+//! compared with that of the plain store, and the edges of the line form.
 use mdeh_tests::plain::console::Console;
 use mdeh_tests::plain::lines::{random_line, EDGES};
 use mdeh_tests::random::Random;
@@ -13,8 +13,8 @@ const SEED: u64 = 0x6d64_6568_2d30_3131;
 fn program() -> PathBuf {
     let root =
         Path::new(env!("CARGO_MANIFEST_DIR")).parent().expect("the package is a folder of the repository");
-    let path = root.join("target").join("bin").join("stock");
-    assert!(path.is_file(), "{} is missing: run `rt check stock` first", path.display());
+    let path = root.join("crates/stock/out/stock");
+    assert!(path.is_file(), "{} is missing: run `rt run` in crates/stock first", path.display());
     path
 }
 

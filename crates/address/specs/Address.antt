@@ -33,7 +33,7 @@ rank (J ∷ Js) (i ∷ is) = i * product Js + rank Js is
 unfoldable pub formula : ℕ → List ℕ → List ℕ → ℕ
 formula z Js is = get_or is z 0 * product (without z Js) + rank (without z Js) (without z is)
 
--- "Let z be the attribute whose step is latest, and J_j the number 2^h_j just before that step": by latestStep's number
+-- "Let z be the attribute whose step is latest, and J_j the number 2^h_j just before that step": by latest_step's number
 unfoldable pub address_from : List ℕ → List ℕ → ℕ → ℕ
 address_from ws is zero = 0
 address_from ws is (suc t) = formula (step ws t).attribute (sides ws t) is

@@ -324,7 +324,7 @@
 //!
 //! # Linking
 //!
-//! `rt staticlib mdeh` in the repository writes `libmdeh.a`, the proved library. It is code for x86-64 and needs nothing
+//! `make` in the repository writes `libmdeh.a`, the proved library. It is code for x86-64-v2 and needs nothing
 //! but `memcpy`, `memmove` and `memset`. The build script looks for it in the folder that the environment variable
 //! `MDEH_LIB_DIR` names, which has to have it, then beside this crate's `Cargo.toml`, then in the repository's
 //! `target/staticlib`. Without the library `cargo check` and `cargo doc` work, and the build script warns; a build that
