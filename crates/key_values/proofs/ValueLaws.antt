@@ -1,6 +1,6 @@
 -- Laws of values from packed encodings: an encoding less its bias, a shape without marks, four results of
 -- calls. Assumes nothing.
-use Rattle.std.proofs.Common.{◌≡◌, ℕ, ◌+◌, ◌-◌, ◌%◌, ◌^◌, ◌<◌, Bool, true, false, cond, List, [], ◌∷◌, get_or, sym, refl, ap, ◌∙◌, arith}
+use Rattle.std.proofs.Common.{◌≡◌, ℕ, ◌+◌, ◌-◌, ◌%◌, ◌^◌, ◌<◌, Bool, true, false, cond, [], ◌∷◌, get_or, sym, refl, ap, ◌∙◌, arith}
 use Rattle.shape.specs.Shape.{shape_number}
 use Rattle.shape.specs.Key.{per_attribute, marked, bias, decode}
 use Rattle.shape.specs.declared.Shape.{Shape}

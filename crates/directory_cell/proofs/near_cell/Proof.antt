@@ -30,45 +30,41 @@ value-at-requires : tie.Need-value_at-requires
 value-at-requires c κs = search rules
 
 index-of-few-requires : tie.Need-index_of_few-i0-requires
-index-of-few-requires c κs =
-    (
-      omega (arith, c.depth_before-d0.ensures),
-      c.requires.0 0,
-      depth-few _ _ 0 _ c.requires.1 c.depth_before-d0.ensures,
-    )
+index-of-few-requires c κs = (
+  omega (arith, c.depth_before-d0.ensures),
+  c.requires.0 0,
+  depth-few _ _ 0 _ c.requires.1 c.depth_before-d0.ensures,
+)
 
 value-at-requires-2 : tie.Need-value_at-requires-2
 value-at-requires-2 c κs = search rules
 
 index-of-few-requires-2 : tie.Need-index_of_few-i1-requires
-index-of-few-requires-2 c κs =
-    (
-      omega (arith, c.depth_before-d1.ensures),
-      c.requires.0 1,
-      depth-few _ _ 1 _ c.requires.1 c.depth_before-d1.ensures,
-    )
+index-of-few-requires-2 c κs = (
+  omega (arith, c.depth_before-d1.ensures),
+  c.requires.0 1,
+  depth-few _ _ 1 _ c.requires.1 c.depth_before-d1.ensures,
+)
 
 value-at-requires-3 : tie.Need-value_at-requires-3
 value-at-requires-3 c κs = search rules
 
 index-of-few-requires-3 : tie.Need-index_of_few-i2-requires
-index-of-few-requires-3 c κs =
-    (
-      omega (arith, c.depth_before-d2.ensures),
-      c.requires.0 2,
-      depth-few _ _ 2 _ c.requires.1 c.depth_before-d2.ensures,
-    )
+index-of-few-requires-3 c κs = (
+  omega (arith, c.depth_before-d2.ensures),
+  c.requires.0 2,
+  depth-few _ _ 2 _ c.requires.1 c.depth_before-d2.ensures,
+)
 
 value-at-requires-4 : tie.Need-value_at-requires-4
 value-at-requires-4 c κs = search rules
 
 index-of-few-requires-4 : tie.Need-index_of_few-i3-requires
-index-of-few-requires-4 c κs =
-    (
-      omega (arith, c.depth_before-d3.ensures),
-      c.requires.0 3,
-      depth-few _ _ 3 _ c.requires.1 c.depth_before-d3.ensures,
-    )
+index-of-few-requires-4 c κs = (
+  omega (arith, c.depth_before-d3.ensures),
+  c.requires.0 3,
+  depth-few _ _ 3 _ c.requires.1 c.depth_before-d3.ensures,
+)
 
 -- an index from a value that was taken out of the key
 taken : (w h v v' i : ℕ) → i ≡ sum_bits (bit_of w v) h → v ≡ v' → i ≡ sum_bits (bit_of w v') h

@@ -1,7 +1,6 @@
 -- `key_encoding::encode_key` meets its contract: without marks a value is its encoding, and a key has four; else value
 -- by value. Assumes nothing.
-use Rattle.std.proofs.Common.{◌≡◌, length, sym, ◌∙◌, rules}
-use lib.ListN.{length-map}
+use Rattle.std.proofs.Common.{◌≡◌, length, sym, rules}
 use Rattle.shape.proofs.UnmarkedLaws.{encodings-none}
 use Rattle.key_encoding.proofs.CodeLaws.{encodings-listed}
 use Rattle.key_encoding.proofs.encode_key.Statement.{statement}

@@ -48,12 +48,12 @@ loop-again c =
     let ws = width_list c.args.widths in
     let width = c.width_at.ensures in
     elim c.if-g-width_at.branch [
-      then-g-width_at w ↦ rw w.before-is (
+      | then-g-width_at w ↦ rw w.before-is (
         omega (arith, c.loop-before-test.true),
         steps_before-step ws l.before l.g l.invariant.1
             (next c.before.before) (subst (λ x. l.g / 4 < x) width w.if-g-width_at.true),
       )
-    | else-g-width_at w ↦ rw w.before-is (
+      | else-g-width_at w ↦ rw w.before-is (
         l.invariant.0,
         steps_before-skip ws l.before l.g l.invariant.1
             (next c.before.before) (subst (λ x. x ≤ l.g / 4) width w.if-g-width_at.false),
