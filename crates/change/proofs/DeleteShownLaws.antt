@@ -1,7 +1,7 @@
 -- The store after a delete that joins: its tally and T are those of the set without the key, and it shows that set.
 -- Bounds of the numbers that the code computes on the way. Assumes nothing.
-use Prim.Native.Nat.{ℕ, zero, suc, ◌+◌, ◌-◌, ◌^◌, ◌≤◌, ◌<◌}
-use mathlib.Core.Path.{◌≡◌, refl, sym, ap, ◌∙◌}
+use Prim.Native.Nat.{ℕ, suc, ◌+◌, ◌-◌, ◌^◌, ◌≤◌, ◌<◌}
+use mathlib.Core.Path.{◌≡◌, sym, ap, ◌∙◌}
 use mathlib.Core.List.{List, [], ◌∷◌}
 use mathlib.Core.Logic.{◌⊎◌, inl, inr}
 use native.Mathlib.Omega.{arith}
@@ -22,7 +22,7 @@ use Rattle.store.proofs.ShownLaws.{division_on, shape-of-Sound, leaf_depth-le-de
 use Rattle.change.specs.Delete.{joined_tally, tally_depth, JoinFound, LeafJoined}
 use Rattle.change.proofs.RegionLaws.{changed_store, RegionChanged, sound-of-region}
 use Rattle.change.proofs.TallyLaws.{tallies-of}
-use Rattle.change.proofs.BoundLaws.{get_d-leaves, leaves-le}
+use Rattle.change.proofs.BoundLaws.{get_d-leaves}
 use Rattle.change.proofs.PromiseLaws.{ShowsNext, shows_next-of-region}
 use Rattle.change.proofs.DeleteKeyLaws.{KeyJoined, tally-at, tally-between, tally-below, tally-above, tally-past}
 use Rattle.change.proofs.DeleteTallyLaws.{length-joined_tally, get_d-joined_tally-above, get_d-joined_tally-past}

@@ -13,9 +13,7 @@ use Rattle.shape.specs.Shape.{widths_of}
 use Rattle.shape.specs.declared.Shape.{Shape}
 use Rattle.cell.specs.Cell.{cell_address, Agree}
 use Rattle.directory.specs.Directory.{Doubled, Filled}
-use Rattle.region.specs.Strings.{with_bit}
-use Rattle.region.proofs.StringLaws.{with_bit-same}
-use Rattle.cell.proofs.AgreeLaws.{agree-with_bit, agree-suc}
+use Rattle.cell.proofs.AgreeLaws.{agree-suc}
 use Rattle.region.specs.Division.{Division}
 use Rattle.record.specs.Record.{Record}
 use Rattle.directory_word.specs.Word.{word_of}
@@ -23,7 +21,6 @@ use Rattle.directory_word.specs.declared.Leaf.TheVariants.{Empty, Page}
 use Rattle.store.specs.Store.{Memory, memory}
 use Rattle.store.specs.Sound.{Shows}
 use Rattle.change.specs.Divided.{Deepened, Leaves, SiblingsSet, LeavesSet}
-use Rattle.change.proofs.ChainLaws.{agree-of-leaves}
 
 -- ---- doubling
 

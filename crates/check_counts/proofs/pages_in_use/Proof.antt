@@ -70,9 +70,9 @@ loop-again c =
       omega (arith, c.loop-page-test.true),
       rw (l.invariant.1, size, add-one l.page, suc-mul l.page (page_size b)) refl,
       elim c.if-number_at-ne0.branch [
-        then-number_at-ne0 w ↦ rw w.used-is
+        | then-number_at-ne0 w ↦ rw w.used-is
             (used_pages-used b s.pages.now l.page l.used l.invariant.2 _ read w.if-number_at-ne0.true)
-      | else-number_at-ne0 w ↦ rw w.used-is
+        | else-number_at-ne0 w ↦ rw w.used-is
             (used_pages-free b s.pages.now l.page l.used l.invariant.2 _ read w.if-number_at-ne0.false)
       ],
     )

@@ -23,8 +23,7 @@ cast-sibling-word c = search rules
 sibling-word-requires : tie.Need-sibling_word-word-requires
 sibling-word-requires c κs =
     let place = c.step_place-g in
-    let w = c.widths_of-widths in
-    (
+    let w = c.widths_of-widths in (
       step_within c.args.state (width_list w.result) w.ensures c.args.z c.requires.below _ c.requires.lent
           place.result place.ensures,
       c.requires.lent.room,
@@ -33,8 +32,7 @@ sibling-word-requires c κs =
 flipped-requires : tie.Need-flipped-requires
 flipped-requires c κs =
     let place = c.step_place-g in
-    let w = c.widths_of-widths in
-    (
+    let w = c.widths_of-widths in (
       (step-asked c.args.state (width_list w.result) w.ensures c.args.z c.requires.below _
           c.requires.lent).0,
       place.ensures.live,

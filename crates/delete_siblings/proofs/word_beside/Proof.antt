@@ -21,8 +21,7 @@ cast-sibling-word c = search rules
 sibling-word-requires : tie.Need-sibling_word-requires
 sibling-word-requires c κs =
     let place = c.step_place-g in
-    let w = c.widths_of-widths in
-    (
+    let w = c.widths_of-widths in (
       step_within c.args.state (width_list w.result) w.ensures c.args.z c.requires.1 _ c.requires.0
           place.result place.ensures,
       c.requires.0.room,

@@ -15,7 +15,6 @@ use Rattle.directory.proofs.RegionLaws.{own-lt}
 use Rattle.region.specs.Strings.{sibling}
 use Rattle.record.specs.Packed.{unpacked_key}
 use Rattle.directory_sibling.proofs.CellLaws.{cell_address-cut-deeper}
-use borrow.Author.Rules.{rules}
 use Rattle.directory_sibling.proofs.sibling_word.Statement.{statement}
 use Rattle.directory_sibling.proofs.sibling_word.Tie as tie
 

@@ -17,12 +17,11 @@ cast-scan : tie.Need-overflow_cast-shape
 cast-scan c = search rules
 
 scan-requires : tie.Need-scan-requires
-scan-requires c κs =
-    (
-      widths-fit c.args.shape _ c.requires.shape c.widths_of.ensures,
-      (capacity-bounds c.args.shape c.requires.shape).0,
-      c.requires.lent,
-    )
+scan-requires c κs = (
+  widths-fit c.args.shape _ c.requires.shape c.widths_of.ensures,
+  (capacity-bounds c.args.shape c.requires.shape).0,
+  c.requires.lent,
+)
 
 returns : tie.Need-returns
 returns c =

@@ -26,12 +26,11 @@ checked-result-requires : tie.Need-checked_result-requires
 checked-result-requires c κs = check-numbers _ _ c.check.ensures
 
 returns : tie.Need-returns
-returns c =
-    (
-      keeps-reported _ _ _ _ _ _ (subst (Promise c.before) c.state_in.ensures c.check.ensures)
-          c.checked_result.ensures.0,
-      c.checked_result.ensures.1,
-    )
+returns c = (
+  keeps-reported _ _ _ _ _ _ (subst (Promise c.before) c.state_in.ensures c.check.ensures)
+      c.checked_result.ensures.0,
+  c.checked_result.ensures.1,
+)
 
 pub check_result_spec : {M : Type 1} → statement M
 check_result_spec = tie.close (tie.spec state-in-requires check-requires checked-result-requires returns)

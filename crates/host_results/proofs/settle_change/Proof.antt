@@ -1,6 +1,6 @@
 -- `host_results::settle_change` meets its contract: each arm is a law of the words after a change. Assumes nothing.
 use mathlib.Core.Path.{◌≡◌, sym, ap, ◌∙◌}
-use lib.ListN.{length, length-map}
+use lib.ListN.{length}
 use Rattle.shape.specs.Refusal.{is_refused, number_told, carried_beside}
 use Rattle.store.specs.Answers.{changed_answer}
 use Rattle.store.specs.declared.Changed.{Changed}

@@ -83,12 +83,11 @@ loop-less c =
     omega (arith, c.loop-i-test.true)
 
 loop-again : tie.Need-loop-i-preserved invariant-loop decreases-loop
-loop-again c =
-    (
-      omega (arith, c.loop-i-test.true),
-      joined-more _ _ _ _ _ (start c.before.before.before.before.before.before.before.before.before.before.before.before.before).requires c.loop-i.invariant.1
-          c.loop-i-test.true _ _ (values-as c.before.before.before.before.before.before.before.before.before) c.read_content-content.ensures _ _ c.add-step.ensures,
-    )
+loop-again c = (
+  omega (arith, c.loop-i-test.true),
+  joined-more _ _ _ _ _ (start c.before.before.before.before.before.before.before.before.before.before.before.before.before).requires c.loop-i.invariant.1
+      c.loop-i-test.true _ _ (values-as c.before.before.before.before.before.before.before.before.before) c.read_content-content.ensures _ _ c.add-step.ensures,
+)
 
 same_length : tie.Need-shape_of-dir invariant-loop decreases-loop
 same_length c = c.loop-i.invariant.1.words-length

@@ -29,12 +29,12 @@ cut c =
     let page = a.page.now in
     let slots = (length page - 2) / record_size in
     elim c.if-page-eq-SIXTEEN_RECORDS.branch [
-      then-page-eq-SIXTEEN_RECORDS w ↦
+      | then-page-eq-SIXTEEN_RECORDS w ↦
           key_place-cut a.key page a.n 16 _ (omega (arith, w.if-page-eq-SIXTEEN_RECORDS.true))
-              (w.place-is ∙ w.find_among-place.ensures)
-    | else-page-eq-SIXTEEN_RECORDS w ↦
+          (w.place-is ∙ w.find_among-place.ensures)
+      | else-page-eq-SIXTEEN_RECORDS w ↦
           key_place-cut a.key page a.n slots _ (omega arith)
-              (w.place-is ∙ w.find_among-place-else-page-eq-SIXTEEN_RECORDS.ensures)
+          (w.place-is ∙ w.find_among-place-else-page-eq-SIXTEEN_RECORDS.ensures)
     ]
 
 returns : tie.Need-returns-then-place-n

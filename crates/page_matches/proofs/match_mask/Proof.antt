@@ -34,12 +34,12 @@ returns c =
     let test = passes a.pattern in
     let slots = (length page - 2) / record_size in
     elim c.if-page-eq-SIXTEEN_RECORDS.branch [
-      then-page-eq-SIXTEEN_RECORDS w ↦
+      | then-page-eq-SIXTEEN_RECORDS w ↦
           match_mask-cut test page a.n 16 _ c.requires.0 (omega (arith, w.if-page-eq-SIXTEEN_RECORDS.true))
-              (w.mask-is ∙ w.match_among-mask.ensures)
-    | else-page-eq-SIXTEEN_RECORDS w ↦
+          (w.mask-is ∙ w.match_among-mask.ensures)
+      | else-page-eq-SIXTEEN_RECORDS w ↦
           match_mask-cut test page a.n slots _ c.requires.0 (omega arith)
-              (w.mask-is ∙ w.match_among-mask-else-page-eq-SIXTEEN_RECORDS.ensures)
+          (w.mask-is ∙ w.match_among-mask-else-page-eq-SIXTEEN_RECORDS.ensures)
     ]
 
 pub match_mask_spec : {M : Type 1} → statement M

@@ -34,12 +34,12 @@ returns c =
     let test = lies_in a.bias a.low a.high in
     let slots = (length page - 2) / record_size in
     elim c.if-page-eq-SIXTEEN_RECORDS.branch [
-      then-page-eq-SIXTEEN_RECORDS w ↦
+      | then-page-eq-SIXTEEN_RECORDS w ↦
           match_mask-cut test page a.n 16 _ c.requires.0 (omega (arith, w.if-page-eq-SIXTEEN_RECORDS.true))
-              (w.between-is ∙ w.lie_among-between.ensures)
-    | else-page-eq-SIXTEEN_RECORDS w ↦
+          (w.between-is ∙ w.lie_among-between.ensures)
+      | else-page-eq-SIXTEEN_RECORDS w ↦
           match_mask-cut test page a.n slots _ c.requires.0 (omega arith)
-              (w.between-is ∙ w.lie_among-between-else-page-eq-SIXTEEN_RECORDS.ensures)
+          (w.between-is ∙ w.lie_among-between-else-page-eq-SIXTEEN_RECORDS.ensures)
     ]
 
 pub within_mask_spec : {M : Type 1} → statement M

@@ -73,13 +73,12 @@ row-at-requires c κs =
     }
 
 put-row-requires : tie.Need-put_row-requires invariant-loop decreases-loop
-put-row-requires c κs =
-    (
-      omega (arith, c.if-x-t.true, c.requires.deep),
-      fixed-fits _ _ _ _ _ _ c.loop-z.invariant.2 c.if-x-t.true c.requires.fit
-          (live c.args.bit _ c.loop-z-test.true (width_list c.args.widths) _
-          c.width_at.ensures c.if-bit-width_at.true) _ c.row_at.ensures,
-    )
+put-row-requires c κs = (
+  omega (arith, c.if-x-t.true, c.requires.deep),
+  fixed-fits _ _ _ _ _ _ c.loop-z.invariant.2 c.if-x-t.true c.requires.fit
+      (live c.args.bit _ c.loop-z-test.true (width_list c.args.widths) _
+      c.width_at.ensures c.if-bit-width_at.true) _ c.row_at.ensures,
+)
 
 add-x : tie.Need-overflow_add-x invariant-loop decreases-loop
 add-x c =
@@ -104,24 +103,24 @@ loop-again c =
     let lent : 83 ≤ length l.rows = omega (arith, c.requires.table-lent, l.invariant.1) in (
       omega (arith, z),
       elim c.if-x-t.branch [
-        then-x-t+then-bit-width_at w ↦
+        | then-x-t+then-bit-width_at w ↦
             length-stored _ _ _ _ _ _ here w.if-x-t.true c.requires.fit
             (live_here _ w.width_at.ensures w.if-bit-width_at.true) _ w.row_at.ensures _
             (w.rows-is ∙ w.put_row.ensures)
             ∙ l.invariant.1
-      | then-x-t+else-bit-width_at w ↦ ap length w.rows-is ∙ l.invariant.1
-      | else-x-t w ↦ ap length w.rows-is ∙ l.invariant.1
+        | then-x-t+else-bit-width_at w ↦ ap length w.rows-is ∙ l.invariant.1
+        | else-x-t w ↦ ap length w.rows-is ∙ l.invariant.1
       ],
       subst (λ g. RowsFilled ws (wanted_at ws (wanted_values a.query)) a.t g c.if-x-t.x c.if-x-t.rows) next
           (elim c.if-x-t.branch [
-            then-x-t+then-bit-width_at w ↦
+            | then-x-t+then-bit-width_at w ↦
                 filled-step _ _ _ _ _ _ here w.if-x-t.true c.requires.fit
                 (live_here _ w.width_at.ensures w.if-bit-width_at.true) _ w.row_at.ensures low
                 c.requires.deep lent _ _ (w.rows-is ∙ w.put_row.ensures) w.x-is
-          | then-x-t+else-bit-width_at w ↦
+            | then-x-t+else-bit-width_at w ↦
                 filled-skip _ _ _ _ _ _ here w.if-x-t.true low
                 (past a.bit l.z z ws _ w.width_at.ensures w.if-bit-width_at.false) _ _ w.rows-is w.x-is
-          | else-x-t w ↦ filled-done _ _ _ _ _ _ here w.if-x-t.false low _ _ w.rows-is w.x-is
+            | else-x-t w ↦ filled-done _ _ _ _ _ _ here w.if-x-t.false low _ _ w.rows-is w.x-is
           ]),
     )
 

@@ -4,7 +4,7 @@ use Prim.Native.Nat.{◌≤◌}
 use mathlib.Core.Path.{◌≡◌, sym, ap, ◌∙◌}
 use mathlib.Core.List.{[]}
 use native.Mathlib.Omega.{arith}
-use lib.ListN.{drop, length, length-map, drop_of_length-le}
+use lib.ListN.{drop, length, drop_of_length-le}
 use Rattle.query_rows.specs.Rows.{tallied_depths}
 use Rattle.query_rows.proofs.DepthLaws.{tallied_depths-before}
 use Rattle.query_rows.proofs.tallied_depths.Statement.{statement}

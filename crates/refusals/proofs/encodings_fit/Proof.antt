@@ -1,10 +1,9 @@
 -- `refusals::encodings_fit` meets its contract: a shift by a width leaves what an encoding has past it. Assumes
 -- nothing.
-use mathlib.Core.Path.{◌≡◌, sym, ◌∙◌}
+use mathlib.Core.Path.{◌≡◌, ◌∙◌}
 use native.Mathlib.Omega.{arith}
-use lib.ListN.{length, length-map}
-use mir.Syntax.{w32, w64}
-use borrow.Author.Rules.{rules, elem_fits_field}
+use lib.ListN.{length}
+use borrow.Author.Rules.{rules}
 use Rattle.shape.specs.Shape.{Fit, width_list}
 use Rattle.shape.proofs.ShapeLaws.{widths-fit}
 use Rattle.refusals.proofs.FitLaws.{index_fits-past}

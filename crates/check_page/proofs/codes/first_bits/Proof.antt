@@ -64,14 +64,14 @@ loop-again c =
     let width = c.width_at-w.ensures in
     let j : l.g % 4 < 4 = omega arith in
     elim c.if-g-w.branch [
-      then-g-w w ↦
+      | then-g-w w ↦
           let value = w.value_at.ensures ∙ sym (get_d-unpacked_key c.args.key (l.g % 4) j) in
           rw (w.code-is, w.n-is)
           (coded-step ws key c.requires.0 c.args.x l.code l.n l.g l.invariant (next c.before.before)
           (subst (λ x. l.g / 4 < x) width w.if-g-w.true) (few c.before.before.before.before)
           c.loop-n-test.true _
           (w.bit_of.ensures ∙ (λ i. bit_value (bit_of (width i) (value i) (l.g / 4)))))
-    | else-g-w w ↦
+      | else-g-w w ↦
           rw (w.code-is, w.n-is)
           (coded-skip ws key c.requires.0 c.args.x l.code l.n l.g l.invariant (next c.before.before)
           (subst (λ x. x ≤ l.g / 4) width w.if-g-w.false))
