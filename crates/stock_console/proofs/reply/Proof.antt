@@ -54,12 +54,12 @@ same_length c = search rules
 
 returns : tie.Need-returns-in-Nothing
 returns c =
-    let at-command-of = c.before.before.before.before.before.before in
+    let at-command-of = c.before.before.before.before.before in
     let at-args = at-command-of.before.before.before.before.before in
     let a = at-args.args in
     reply-asked a.session a.line _ _ _ _ _ _ _
     (ap (asked_as a.line a.session.state.shape.attributes)
-    (sym c.before.before.before.before.enum_told-1.given.1)
+    (sym c.before.before.before.before.in-Nothing.is)
     ∙ at-command-of.command_of-command.ensures)
     (c.before.before.reply_bad.ensures _)
 
@@ -68,12 +68,12 @@ same-length-2 c = search rules
 
 returns-2 : tie.Need-returns-in-NoShape
 returns-2 c =
-    let at-command-of = c.before.before.before.before.before.before in
+    let at-command-of = c.before.before.before.before.before in
     let at-args = at-command-of.before.before.before.before.before in
     let a = at-args.args in
     reply-asked a.session a.line _ _ _ _ _ _ _
     (ap (asked_as a.line a.session.state.shape.attributes)
-    (sym c.before.before.before.before.enum_told-in-NoShape-1.given.1)
+    (sym c.before.before.before.before.in-NoShape.is)
     ∙ at-command-of.command_of-command.ensures)
     (c.before.before.reply_outside.ensures _)
 
@@ -90,14 +90,14 @@ returns-3 : tie.Need-returns-in-NewShape
 returns-3 c =
     let at-reply-shape = c.before.before.before.before.before.before in
     let at-shape-of = at-reply-shape.before.before.before.before in
-    let at-enum-told3 = at-shape-of.before in
-    let at-command-of = at-enum-told3.before.before in
+    let at-arm = at-shape-of.before in
+    let at-command-of = at-arm.before in
     let at-args = at-command-of.before.before.before.before.before in
     let a = at-args.args in
     reply-asked a.session a.line _ _ _ _ _ _ _
     (ap new_shape at-shape-of.shape_of.ensures
     ∙ (ap (asked_as a.line a.session.state.shape.attributes)
-    (sym at-enum-told3.enum_told-in-NewShape-1.given.1)
+    (sym at-arm.in-NewShape.is)
     ∙ at-command-of.command_of-command.ensures))
     (at-reply-shape.reply_shape.ensures _)
 
@@ -113,13 +113,13 @@ same-length-8 c = search rules
 returns-4 : tie.Need-returns-in-Put
 returns-4 c =
     let at-reply-put = c.before.before.before.before.before.before in
-    let at-enum-told4 = at-reply-put.before.before.before.before in
-    let at-command-of = at-enum-told4.before.before in
+    let at-arm = at-reply-put.before.before.before.before in
+    let at-command-of = at-arm.before in
     let at-args = at-command-of.before.before.before.before.before in
     let a = at-args.args in
     reply-asked a.session a.line _ _ _ _ _ _ _
     (ap (asked_as a.line a.session.state.shape.attributes)
-    (sym at-enum-told4.enum_told-in-Put-1.given.1)
+    (sym at-arm.in-Put.is)
     ∙ at-command-of.command_of-command.ensures)
     (at-reply-put.reply_put.ensures _)
 
@@ -135,13 +135,13 @@ same-length-11 c = search rules
 returns-5 : tie.Need-returns-in-Cut
 returns-5 c =
     let at-reply-cut = c.before.before.before.before.before.before in
-    let at-enum-told5 = at-reply-cut.before.before.before.before in
-    let at-command-of = at-enum-told5.before.before in
+    let at-arm = at-reply-cut.before.before.before.before in
+    let at-command-of = at-arm.before in
     let at-args = at-command-of.before.before.before.before.before in
     let a = at-args.args in
     reply-asked a.session a.line _ _ _ _ _ _ _
     (ap (asked_as a.line a.session.state.shape.attributes)
-    (sym at-enum-told5.enum_told-in-Cut-1.given.1)
+    (sym at-arm.in-Cut.is)
     ∙ at-command-of.command_of-command.ensures)
     (at-reply-cut.reply_cut.ensures _)
 
@@ -159,13 +159,13 @@ same-length-15 c = search rules
 
 returns-6 : tie.Need-returns-in-List
 returns-6 c =
-    let at-enum-told6 = c.before.before.before.before.before.before.before.before.before in
-    let at-command-of = at-enum-told6.before.before in
+    let at-arm = c.before.before.before.before.before.before.before in
+    let at-command-of = at-arm.before in
     let at-args = at-command-of.before.before.before.before.before in
     let a = at-args.args in
     reply-asked a.session a.line _ _ _ _ _ _ _
     (ap (asked_as a.line a.session.state.shape.attributes)
-    (sym at-enum-told6.enum_told-in-List-1.given.1)
+    (sym at-arm.in-List.is)
     ∙ at-command-of.command_of-command.ensures)
     c.before.before.before.before.reply_list.ensures
 

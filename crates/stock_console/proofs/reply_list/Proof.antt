@@ -17,12 +17,12 @@ query-requires c κs = search rules
 
 put-listed-requires : tie.Need-put_listed-end-requires
 put-listed-requires c κs =
-    let between = c.before.before.before.before.before.before.before.before.before.before.before in
+    let between = c.before.before.before.before.before.before.before.before.before.before in
     let s = between.before.before.before in
     let a = s.args in (
       omega (arith, s.requires.0),
       printable a.session.state a.dir.now a.pages.now _ a.out.now _ s.requires.1 _
-          c.before.before.before.before.query-listed.ensures,
+          c.before.before.before.query-listed.ensures,
     )
 
 same_length : tie.Need-shape_of-out
@@ -33,7 +33,7 @@ same-length-2 c = search rules
 
 returns : tie.Need-returns
 returns c =
-    let call = c.before.before.before.before.before.before.before in
+    let call = c.before.before.before.before.before.before in
     let at-args = call.before.before.before.before.before.before.before.before.before.before in
     let a = at-args.args in
     reply-list a.session a.line _ _ _ _ _ _ _ _ _ _ call.before.before.query_of.ensures

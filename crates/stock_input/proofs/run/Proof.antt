@@ -46,7 +46,7 @@ returns c =
     let at-args = c.before.before.before.before.before.before.before.before.before in
     let a = at-args.args in
     let loop = c.before.before.before.loop-next in
-    run-promise a.piece.now a.from a.progress _ a.text.now loop.next loop.here _ loop.text-1
+    run-promise a.piece.now a.from a.progress _ a.text.now loop.next loop.here _ loop.text
     loop.invariant.4
     (inr (omega (arith, c.if-text-here-lt-REPLY_SIZE.true, loop.invariant.4.stands.within)))
 
@@ -66,7 +66,7 @@ add-next c =
     let between = c.before.before.before.before.before.before.before.before.before.before.before in
     let at-loop-test = between.before.before.before.before.before in
     let at-good = at-loop-test.before.before.before.before.before.before.before in
-    record { fits = omega (arith, at-loop-test.loop-next-test.true, at-good.well-formed.1.0) }
+    record { fits = omega (arith, at-loop-test.loop-next-test.true, at-good.well_formed.1.0) }
 
 loop-less : tie.Need-loop-next-smaller invariant-loop decreases-loop
 loop-less c =
@@ -84,13 +84,13 @@ loop-again c =
     let loop = at-loop.loop-next in
     let inv = loop.invariant in
     let a = at-args.args in (
-      call.auto.1.1.0 ∙ inv.0,
-      call.auto.1.1.1.0 ∙ inv.1,
-      call.auto.1.1.1.1.0 ∙ inv.2,
+      call.auto.dir ∙ inv.0,
+      call.auto.pages ∙ inv.1,
+      call.auto.out ∙ inv.2,
       inv.3,
-      running-step a.piece.now a.from a.progress _ a.text.now loop.next loop.here _ loop.text-1
+      running-step a.piece.now a.from a.progress _ a.text.now loop.next loop.here _ loop.text
           inv.4 _ _ _ at-loop-test.loop-next-test.true call.ensures.0 call.ensures.1
-          call.auto.1.1.1.1.1.0,
+          call.auto.text,
     )
 
 same-length-5 : tie.Need-shape_of-dir invariant-loop decreases-loop
@@ -110,7 +110,7 @@ returns-2 c =
     let at-args = c.before.before.before.before.before.before.before in
     let a = at-args.args in
     let loop = c.before.loop-next in
-    run-promise a.piece.now a.from a.progress _ a.text.now loop.next loop.here _ loop.text-1
+    run-promise a.piece.now a.from a.progress _ a.text.now loop.next loop.here _ loop.text
     loop.invariant.4
     (inl (omega (arith, c.loop-next-test.false)))
 
