@@ -1,5 +1,5 @@
 -- `stock::serve` meets its contract: at first nothing is read. Assumes nothing.
-use Rattle.std.proofs.Common.{rules, arith}
+use Rattle.std.proofs.Common.{arith}
 use Rattle.stock_line.specs.LineBytes.{start}
 use Rattle.stock.proofs.serve.Goals as goal
 
