@@ -1,0 +1,4 @@
+pub mod Numbers
+pub mod Lending
+pub mod LentLaws
+pub mod ValueLaws
