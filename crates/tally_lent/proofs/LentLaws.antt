@@ -101,12 +101,12 @@ module _ {M : Type 1} {𝓤 : Ura M} (𝓛 : Logic 𝓤) (update : Update) (k : 
           qed 𝓛 ((‵ (flft κ q) ⊛ ‵ ftrue) ∷ ‵ (owns (MutRef (named 0) κ S.the_row ∷ usize ∷ usize ∷ []) args at) ∷ []) ∵
           split ! $ move ! (2 ∷ []) $ fsplit ! $ move ! (1 ∷ []) $ fsplit ! $ move ! (1 ∷ []) $ fsplit ! $
           peeks ! usize (Is usize) (shows 𝓛 usize) n (vint w64 n ∷ []) (λ is-n. move ! (2 ∷ []) $
-          peeks ! usize (Is usize) (shows 𝓛 usize) x (vint w64 x ∷ []) (λ is_x. move ! (3 ∷ []) $ fsplit3 ! $
+          peeks ! usize (Is usize) (shows 𝓛 usize) x (vint w64 x ∷ []) (λ is-x. move ! (3 ∷ []) $ fsplit3 ! $
           drop ! $ move ! (0 ∷ 1 ∷ 5 ∷ []) $
           -- [obs; the borrow; the token; what x and n own; true; true]
           enter ! C Λ (lent-code k i j) (vptr b o ∷ vint w64 x ∷ vint w64 n ∷ []) _ $
           alloc1 ! (λ l₀. alloc1 ! (λ l₁. alloc1 ! (λ l₂. alloc1 ! (λ l₃. alloc1 ! (λ l₄. alloc1 ! (λ l₅. alloc0 ! $
-          params1 ! $ pass1 ! (init ! 8 refl (tt, tt)) $ pass1 ! (init ! 6 refl (tt, record { fits = is_x.1 })) $
+          params1 ! $ pass1 ! (init ! 8 refl (tt, tt)) $ pass1 ! (init ! 6 refl (tt, record { fits = is-x.1 })) $
           pass1 ! (init ! 4 refl (tt, record { fits = is-n.1 })) $ pass0 ! $
           move ! (12 ∷ 13 ∷ 14 ∷ []) $ opens ! tt S.the_row {h = h} b o (λ vs.
           spelt ! S.the_row (Is S.the_row) (shows 𝓛 S.the_row) vals (LL.tells S.the_type S'.the_laws) full_share h vs
@@ -115,7 +115,7 @@ module _ {M : Type 1} {𝓤 : Ura M} (𝓛 : Logic 𝓤) (update : Update) (k : 
           -- [the cell; what the tally owns; the open borrow; obs; auth; _5; _4; _3; _2; _1; _0]
           assigns ! (of_opd ! (load ! (from ! (hop ! (look ! 13 refl) (stop !))) (look_raw ! 0 refl))) (from ! (stop !))
           (init ! 5 refl (typed 𝓛 h _ was)) $
-          use0 𝓛 (‵ (numbers x n)) (numbers-owned 𝓛 x n is_x.1 is-n.1) $ move ! (2 ∷ 0 ∷ []) $
+          use0 𝓛 (‵ (numbers x n)) (numbers-owned 𝓛 x n is-x.1 is-n.1) $ move ! (2 ∷ 0 ∷ []) $
           use2 𝓛 (raw ((ByValue 𝓤 update 𝓛).pre at_call)) asked $
           -- [what the call asks; the cell; the open borrow; obs; auth; _5; _4; _3; _2; _1; _0]
           calls_at ! fm (ByValue 𝓤 update 𝓛) known at_call
@@ -138,7 +138,7 @@ module _ {M : Type 1} {𝓤 : Ura M} (𝓛 : Logic 𝓤) (update : Update) (k : 
           forget ! 11 refl $ forget ! 13 refl $
           move ! (13 ∷ 14 ∷ []) $ free1 ! $ move ! (11 ∷ 12 ∷ []) $ free1 ! $ move ! (9 ∷ 10 ∷ []) $ free1 ! $
           move ! (7 ∷ 8 ∷ []) $ free1 ! $ move ! (5 ∷ 6 ∷ []) $ free1 ! $ move ! (3 ∷ 4 ∷ []) $ free1 ! $ free0 ! $
-          keep ! (0 ∷ 1 ∷ 2 ∷ []) $ by ! (exits r e is_x.1 is-n.1)))))))))))))))
+          keep ! (0 ∷ 1 ∷ 2 ∷ []) $ by ! (exits r e is-x.1 is-n.1)))))))))))))))
 
   goes : AllGo 𝓛 1 lent.signature.params lent.kept stayed
   goes = (

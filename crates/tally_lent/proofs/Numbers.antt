@@ -37,9 +37,9 @@ numbers-owned 𝓛 x n fits-x fits-n =
 -- the number that an operand passes
 pub data Passes (x n : ℕ) : Operand → ℕ → Type 0 where
   x-passed : Passes x n (copy (place 2 [])) x
-  n_passed : Passes x n (copy (place 3 [])) n
+  n-passed : Passes x n (copy (place 3 [])) n
 
-pub ruleset passing = (x-passed, n_passed)
+pub ruleset passing = (x-passed, n-passed)
 
 -- two operands pass x and n
 abbrev pub Pass : Operand → Operand → Type 0
@@ -50,7 +50,7 @@ module _ {M : Type 1} {𝓤 : Ura M} {𝓛 : Logic 𝓤} {K : Type 0} {Γ : List
   number : {i : Operand} {y : ℕ} → Passes x n i y → Opd K 𝓛 Γ E (copy (place 2 [])) (vint w64 x)
       → Opd K 𝓛 Γ E (copy (place 3 [])) (vint w64 n) → Opd K 𝓛 Γ E i (vint w64 y)
   number x-passed of-x of-n = of-x
-  number n_passed of-x of-n = of-n
+  number n-passed of-x of-n = of-n
 
   -- they are evaluated as the parameters are
   pub and-numbers : K → {i j : Operand} → Pass i j → Opd K 𝓛 Γ E (copy (place 2 [])) (vint w64 x)
