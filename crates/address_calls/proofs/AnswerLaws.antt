@@ -1,18 +1,19 @@
--- Laws of the two calls' answers: one for each way that a call ends; the number of a refusal that carries nothing.
--- Assumes nothing.
+-- Laws of the two calls' answers: one for each way that a call ends; none of their refusals carries a depth. Assumes
+-- nothing.
 use Prim.Native.Nat.{ℕ, ◌^◌}
-use mathlib.Core.Path.{◌≡◌, refl, sym, ap, ◌∙◌}
-use mathlib.Core.Bool.{Bool, true, false, not, cond, false≢true}
+use mathlib.Core.Path.{◌≡◌, sym, ap, ◌∙◌}
+use mathlib.Core.Bool.{Bool, true, false, not, cond}
 use mathlib.Core.List.{List, [], ◌∷◌, ◌++◌}
 use native.Mathlib.Omega.{arith}
 use lib.Dec.{ltb}
 use lib.ListN.{get_or}
-use Rattle.shape.specs.Refusal.{accepted, refused, refused_with, answered_by, refusal, number_told}
+use Rattle.shape.specs.Refusal.{accepted, refused, refused_with, answered_by, refusal, number_told, told}
 use Rattle.shape.specs.Shape.{count_fits, widths_fit, capacity_fits, lowest_bad, shape_conditions, shape_number, widths_of}
 use Rattle.shape.specs.Shape.{total, index_fits}
-use Rattle.shape.specs.Amiss.{refused_for}
 use Rattle.shape.specs.declared.Shape.{Shape}
-use Rattle.shape.proofs.RefusalLaws.{accepted-refused, answered_by-shape-out, answered_by-first, answered_by-behind}
+use Rattle.shape.specs.declared.refusal.Refusal.{Refusal}
+use Rattle.shape.proofs.RefusalLaws.{answered_by-first, answered_by-behind}
+use Rattle.shape.proofs.TestLaws.{told-append}
 use Rattle.address.specs.Address.{address}
 use Rattle.address.specs.Doubling.{doubling_array}
 use Rattle.address_calls.specs.Answers.{address_refusals, address_answer, index_refusals, index_answer}
@@ -20,17 +21,18 @@ use Rattle.address_calls.specs.Answers.{address_refusals, address_answer, index_
 module _ (s : Shape) where
   -- ---- something is amiss in the shape
 
-  pub address_answer-shape-out : (is : List ℕ) → (shape_number s ≡ 0 → ⊥)
-      → refused_for s (shape_number s) ≡ address_answer s is
-  unfolding address_answer address_refusals
-  address_answer-shape-out is n =
-      answered_by-shape-out s (address (widths_of s) is) (refusal 3 (not (index_fits (widths_of s) is)) ∷ []) (refl, tt) n
+  module _ (r : Refusal) (told-shape : told r ≡ answered_by (shape_conditions s) (tt {0})) where
+    pub address_answer-shape-out : (is : List ℕ) → told r ≡ address_answer s is
+    unfolding address_answer address_refusals
+    address_answer-shape-out is =
+        told-append tt r (shape_conditions s) (refusal 3 (not (index_fits (widths_of s) is)) ∷ [])
+        (address (widths_of s) is) told-shape
 
-  pub index_answer-shape-out : (a : ℕ) → (shape_number s ≡ 0 → ⊥) → refused_for s (shape_number s) ≡ index_answer s a
-  unfolding index_answer index_refusals
-  index_answer-shape-out a n =
-      answered_by-shape-out s (get_or (doubling_array (widths_of s) (total (widths_of s))) a [])
-      (refusal 3 (not (ltb a (2 ^ total (widths_of s)))) ∷ []) (refl, tt) n
+    pub index_answer-shape-out : (a : ℕ) → told r ≡ index_answer s a
+    unfolding index_answer index_refusals
+    index_answer-shape-out a =
+        told-append tt r (shape_conditions s) (refusal 3 (not (ltb a (2 ^ total (widths_of s)))) ∷ [])
+        (get_or (doubling_array (widths_of s) (total (widths_of s))) a []) told-shape
 
   -- ---- nothing is: the widths that the code works with
 
@@ -68,27 +70,26 @@ module _ (s : Shape) where
         (answered_by-behind s (get_or (doubling_array (widths_of s) (total (widths_of s))) a []) 2
         (not (ltb a (2 ^ total (widths_of s)))) [] n within)
 
-  -- ---- a refusal by its number alone
+  -- ---- no refusal has the number 5, which carries a depth
 
-  alone : {A : Type 0} (x : A) (holds : Bool) (m : ℕ)
-      → answered_by (shape_conditions s ++ refusal 3 holds ∷ []) x ≡ refused m → (m ≡ 0 → ⊥) × (m ≡ 14 → ⊥)
+  no_depth : {A : Type 0} (x : A) (holds : Bool)
+      → number_told (answered_by (shape_conditions s ++ refusal 3 holds ∷ []) x) ≡ 5 → ⊥
   unfolding shape_conditions answered_by
-  alone x holds m e = row (count_fits s) (widths_fit s) (capacity_fits s) holds e
+  no_depth {A} x holds e = row (count_fits s) (widths_fit s) (capacity_fits s) holds e
     where
       row : (a b c d : Bool)
-          → cond (not a) (refused 1) (cond (not b) (refused_with 14 (lowest_bad s)) (cond (not c) (refused 15)
-          (cond d (refused 3) (accepted x)))) ≡ refused m → (m ≡ 0 → ⊥) × (m ≡ 14 → ⊥)
-      row false b c d f = let one : 1 ≡ m = ap number_told f in (λ z. omega arith, λ z. omega arith)
-      row true false c d f = let z : false ≡ true = cc in absurd (false≢true z)
-      row true true false d f = let fifteen : 15 ≡ m = ap number_told f in (λ z. omega arith, λ z. omega arith)
-      row true true true true f = let three : 3 ≡ m = ap number_told f in (λ z. omega arith, λ z. omega arith)
-      row true true true false f = accepted-refused x m f
+          → number_told {A = A} (cond (not a) (refused 1) (cond (not b) (refused_with 14 (lowest_bad s))
+          (cond (not c) (refused 15) (cond d (refused 3) (accepted x))))) ≡ 5 → ⊥
+      row false b c d f = omega arith
+      row true false c d f = omega arith
+      row true true false d f = omega arith
+      row true true true true f = omega arith
+      row true true true false f = omega arith
 
-  -- it is not 0, the number of an accepted call, nor 14, which names an attribute
-  pub address_answer-alone : (is : List ℕ) → (address_answer s is ≡ refused 0 → ⊥) × (address_answer s is ≡ refused 14 → ⊥)
+  pub address_answer-no_depth : (is : List ℕ) → number_told (address_answer s is) ≡ 5 → ⊥
   unfolding address_answer address_refusals
-  address_answer-alone is = (λ e. (alone _ _ 0 e).0 refl, λ e. (alone _ _ 14 e).1 refl)
+  address_answer-no_depth is = no_depth _ _
 
-  pub index_answer-alone : (a : ℕ) → (index_answer s a ≡ refused 0 → ⊥) × (index_answer s a ≡ refused 14 → ⊥)
+  pub index_answer-no_depth : (a : ℕ) → number_told (index_answer s a) ≡ 5 → ⊥
   unfolding index_answer index_refusals
-  index_answer-alone a = (λ e. (alone _ _ 0 e).0 refl, λ e. (alone _ _ 14 e).1 refl)
+  index_answer-no_depth a = no_depth _ _

@@ -1,16 +1,14 @@
 -- What the two calls of the address map answer (document 01, "Address map" and "Refused calls" 1 and 3; document 02,
 -- request 7). Assumes nothing.
-use Rattle.std.specs.Prelude.{ℕ, ◌^◌, not, List, [], ◌∷◌, ◌++◌, ltb, get_or}
-use Rattle.shape.specs.Refusal.{Condition, Answer, accepted, refused, refused_with, answered_by, refusal, first_number}
+use Rattle.std.specs.Prelude.{ℕ, ◌^◌, Result, not, List, [], ◌∷◌, ◌++◌, ltb, get_or}
+use Rattle.shape.specs.Refusal.{Condition, Answer, answered_by, answer_of, refusal, first_number}
 use Rattle.shape.specs.Shape.{shape_conditions, widths_of, total, index_fits}
 use Rattle.shape.specs.declared.Shape.{Shape}
+use Rattle.shape.specs.declared.refusal.Refusal.{Refusal}
 use Rattle.address.specs.Address.{address}
 use Rattle.address.specs.Doubling.{doubling_array}
 use Rattle.address_formula.specs.Index.{index_list}
-use Rattle.address_calls.specs.declared.AddressAnswer.{AddressAnswer}
-use Rattle.address_calls.specs.declared.AddressAnswer.TheVariants as located
-use Rattle.address_calls.specs.declared.IndexAnswer.{IndexAnswer}
-use Rattle.address_calls.specs.declared.IndexAnswer.TheVariants as found
+use Rattle.address_formula.specs.declared.Index.{Index}
 
 -- ---- index to address
 
@@ -25,11 +23,9 @@ address_number s is = first_number (address_refusals s is)
 unfoldable pub address_answer : Shape → List ℕ → Answer ℕ
 address_answer s is = answered_by (address_refusals s is) (address (widths_of s) is)
 
--- each case of the enum: its number and value
-unfoldable pub address_answer_of : AddressAnswer → Answer ℕ
-address_answer_of (located.Address a) = accepted a
-address_answer_of (located.Refused n) = refused n
-address_answer_of (located.Width attribute) = refused_with 14 attribute
+-- what the code returns: the address
+abbrev pub address_answer_of : Result ℕ Refusal → Answer ℕ
+address_answer_of r = answer_of (λ a. a) r
 
 -- ---- address to index
 
@@ -44,8 +40,6 @@ index_number s a = first_number (index_refusals s a)
 unfoldable pub index_answer : Shape → ℕ → Answer (List ℕ)
 index_answer s a = answered_by (index_refusals s a) (get_or (doubling_array (widths_of s) (total (widths_of s))) a [])
 
--- each case of the enum: its number and values
-unfoldable pub index_answer_of : IndexAnswer → Answer (List ℕ)
-index_answer_of (found.Index i) = accepted (index_list i)
-index_answer_of (found.Refused n) = refused n
-index_answer_of (found.Width attribute) = refused_with 14 attribute
+-- what the code returns: the indices
+abbrev pub index_answer_of : Result Index Refusal → Answer (List ℕ)
+index_answer_of r = answer_of index_list r

@@ -11,7 +11,7 @@ ghost use Rattle.address_formula.specs.Digits.{append_digit};
 ghost use Rattle.address_formula.specs.Index.{index_list};
 ghost use Rattle.address_formula.specs.LatestPair.{creating_pair, latest_pair};
 
-use numbers::{below, one_of, smaller};
+use numbers::{below, one_of};
 use pairs::depth_before;
 use shape::Widths;
 
@@ -79,7 +79,7 @@ fn latest_pair(index: Index) -> u64
     let n1 = pairs_after(index.i1, 1);
     let n2 = pairs_after(index.i2, 2);
     let n3 = pairs_after(index.i3, 3);
-    let n = smaller(n0, smaller(n1, smaller(n2, n3)));
+    let n = n0.min(n1).min(n2).min(n3);
     if n < 256 { 256 - n } else { 0 }
 }
 

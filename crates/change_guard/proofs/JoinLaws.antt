@@ -30,47 +30,30 @@ module _ (st : State) (words encoded : List ℕ) where
 
   -- ---- the empty siblings
 
-  pub record EmptyTo (m y z : ℕ) : Type 0 where
-    pub from : y ≤ z
-    pub within : z ≤ m
-    pub empty : (i : ℕ) → y ≤ i → i < z → SiblingTested st words encoded i (word_of (Empty (suc i)))
+  -- those of depths y + 1 to z
+  abbrev pub EmptyTo : ℕ → ℕ → Type 0
+  EmptyTo y z = (i : ℕ) → y ≤ i → i < z → SiblingTested st words encoded i (word_of (Empty (suc i)))
 
-  module _ (m y : ℕ) where
-    pub empty_to-start : y ≤ m → EmptyTo m y y
-    empty_to-start l = record { from = omega arith; within = l; empty = λ i a b. absurd (omega arith) }
+  module _ (m y z : ℕ) (from : y ≤ z) (l : z < m) (word : ℕ) (named : word ≡ word_of (Empty (z + 1))) (held : Bool)
+      (told : RegionTold ws st.deepest (suc z) (sibling key z) word words held) where
+    by : RegionTold ws st.deepest (suc z) (sibling key z) (word_of (Empty (suc z))) words held
+    by = subst (λ w. RegionTold ws st.deepest (suc z) (sibling key z) w words held)
+        (named ∙ ap (λ n. word_of (Empty n)) (add-one z)) told
 
-    module _ (z : ℕ) (inv : EmptyTo m y z) where
-      pub empties_told-yes : m ≤ z → EmptiesTold st words encoded m y true
-      empties_told-yes l = record {
-        yes = λ e i a b. inv.empty i a (omega arith);
-        no = λ e. absurd (false≢true (sym e));
-      }
+    pub empty_to-suc : EmptyTo y z → held ≡ true → EmptyTo y (z + 1)
+    empty_to-suc inv e i a b = at (eq-or-ne i z)
+      where
+        at : (i ≡ z) ⊎ (i ≡ z → ⊥) → SiblingTested st words encoded i (word_of (Empty (suc i)))
+        at (inl d) =
+            subst (λ n. SiblingTested st words encoded n (word_of (Empty (suc n)))) (sym d) (by.yes e)
+        at (inr n) = inv i a (omega arith)
 
-      module _ (l : z < m) (word : ℕ) (named : word ≡ word_of (Empty (z + 1))) (held : Bool)
-          (told : RegionTold ws st.deepest (suc z) (sibling key z) word words held) where
-        by : RegionTold ws st.deepest (suc z) (sibling key z) (word_of (Empty (suc z))) words held
-        by = subst (λ w. RegionTold ws st.deepest (suc z) (sibling key z) w words held)
-            (named ∙ ap (λ n. word_of (Empty n)) (add-one z)) told
-
-        pub empty_to-suc : held ≡ true → EmptyTo m y (z + 1)
-        empty_to-suc e = record {
-          from = omega (arith, inv.from);
-          within = omega arith;
-          empty = λ i a b. at i a b (eq-or-ne i z);
-        }
-          where
-            at : (i : ℕ) → y ≤ i → i < z + 1 → (i ≡ z) ⊎ (i ≡ z → ⊥)
-                → SiblingTested st words encoded i (word_of (Empty (suc i)))
-            at i a b (inl d) =
-                subst (λ n. SiblingTested st words encoded n (word_of (Empty (suc n)))) (sym d) (by.yes e)
-            at i a b (inr n) = inv.empty i a (omega arith)
-
-        pub empties_told-no : held ≡ false → EmptiesTold st words encoded m y false
-        empties_told-no e = record {
-          yes = λ f. absurd (false≢true f);
-          no = λ f all. false≢true (sym e ∙ region-passes ws st.deepest (suc z) (sibling key z) _ words held
-              (all z inv.from l) by);
-        }
+    pub empties_told-no : held ≡ false → EmptiesTold st words encoded m y false
+    empties_told-no e = record {
+      yes = λ f. absurd (false≢true f);
+      no = λ f all. false≢true (sym e ∙ region-passes ws st.deepest (suc z) (sibling key z) _ words held
+          (all z from l) by);
+    }
 
   -- ---- the tests of a join
 

@@ -1,7 +1,6 @@
 -- What the tests of a change before its first write ask and tell. Page bytes are not looked at: what is told
 -- holds whatever they are. Assumes nothing.
-use Rattle.std.specs.Prelude.{ℕ, suc, ◌≤◌, ◌<◌, ◌≡◌, Bool, true, false, List, [], ◌∷◌}
-use Prim.{Unit}
+use Rattle.std.specs.Prelude.{Ok, ℕ, suc, ◌≤◌, ◌<◌, ◌≡◌, Bool, true, false, List, [], ◌∷◌}
 use Rattle.shape.specs.Shape.{widths_of}
 use Rattle.split.specs.Bits.{split_bit}
 use Rattle.cell.specs.Cell.{Agree}
@@ -58,8 +57,6 @@ pub record KeyHeld (encoded : List ℕ) (S : List Record) : Type 0 where
 
 module _ (st : State) (words encoded : List ℕ) where
   abbrev pub DeleteGuarded : delete-plan.Plan → Type 0
-  DeleteGuarded (delete-plans.Refused n) = Unit
-  DeleteGuarded (delete-plans.Absent x) = Unit
   DeleteGuarded (delete-plans.Keep r) =
       r.count ≡ 1 → LeafTested st words encoded r.depth (word_of (Page r.page r.depth))
   DeleteGuarded (delete-plans.Join r j) = JoinTested st words encoded r j
@@ -71,10 +68,10 @@ module _ (st : State) (words encoded : List ℕ) where
   -- where a test fails, no sound store has these words and this plan
   pub record DeleteTold (plan : delete-plan.Plan) (held : Bool) : Type 0 where
     pub yes : held ≡ true → DeleteGuarded plan
-    pub no : held ≡ false → (bytes : List ℕ) → delete.DeletePlanned (store st words bytes) encoded plan
+    pub no : held ≡ false → (bytes : List ℕ) → delete.DeletePlanned (store st words bytes) encoded (Ok plan)
         → (S : List Record) → Sound (store st words bytes) S → KeyStored bytes S → ⊥
 
-  -- of the two plans that an accepted delete has
+  -- of the two plans
   abbrev pub RemovalTold : Stored → Bool → Type 0
   RemovalTold r = DeleteTold (delete-plans.Keep r)
 

@@ -95,13 +95,11 @@ fn empties_whole(state: State, dir: &[u32], encoded: [u32; 4], m: u32, y: u32) -
     requires { EmptiesAsked state (length dir.now) m y }
     ensures { EmptiesTold state dir.now encoded m y result }
 {
-    let mut z = y;
-    while z < m {
+    for z in y..m {
         let word = pack_empty(z + 1);
         if !sibling_whole(state, dir, encoded, z, word) {
             return false;
         }
-        z += 1;
     }
     true
 }

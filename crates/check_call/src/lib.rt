@@ -11,26 +11,21 @@ ghost use Rattle.check_call.specs.Private.{StoreLent};
 use check_counts::{pages_in_use, same_tally};
 use check_walk::regions::whole_region;
 use check_walk::walk;
-use refusals::{lent_number, limits_hold};
+use refusals::{limits_hold, validate_lent};
+use shape::refusal::Refusal;
 use shape::widths_of;
-use store::{Checked, State, refuse_check};
+use store::State;
 
 // Whether the lent store is sound: yes exactly for a sound store, otherwise no. Refused with 1, 14 or
 // 15 for a shape outside its bounds, then with 2 for fewer than 2^L words or P pages. Writes nothing.
-pub fn check(state: State, dir: &[u32], pages: &[u8]) -> Checked
+pub fn check(state: State, dir: &[u32], pages: &[u8]) -> Result<bool, Refusal>
     ensures { CheckPromise (store state dir.now pages.now) (checked_answer result) }
 {
-    let number = lent_number(state, dir.len(), pages.len());
-    if number != 0 {
-        return refuse_check(state.shape, number);
-    }
+    validate_lent(state, dir.len(), pages.len())?;
     if !limits_hold(state) {
-        return Checked::No;
+        return Ok(false);
     }
-    if shows_leaves(state, dir, pages) {
-        return Checked::Yes;
-    }
-    Checked::No
+    Ok(shows_leaves(state, dir, pages))
 }
 
 // Whether words and pages show the leaves of some set, and T, the tally and the pages in use are
@@ -42,10 +37,9 @@ fn shows_leaves(state: State, dir: &[u32], pages: &[u8]) -> bool
 {
     let widths = widths_of(state.shape);
     let mut tally = [0u32; 13];
-    let seen = walk(state, widths, whole_region(), dir, pages, &mut tally);
-    if !seen.ok {
+    let Some(seen) = walk(state, widths, whole_region(), dir, pages, &mut tally) else {
         return false;
-    }
+    };
     if seen.depth != state.deepest {
         return false;
     }

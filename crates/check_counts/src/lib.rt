@@ -6,8 +6,8 @@ ghost use Rattle.std.specs.Prelude.{◌≡◌, ◌*◌, ◌≤◌, length};
 ghost use Rattle.page.specs.Page.{page_size};
 ghost use Rattle.check_counts.specs.Counts.{used_pages, same_tally};
 
-use check_page::bytes::number_at;
 use page::page_size;
+use record::numbers::read16;
 use store::Tally;
 
 // How many of the first n pages of b records are not free.
@@ -17,14 +17,10 @@ pub fn pages_in_use(capacity: u32, n: u32, pages: &[u8]) -> u32
 {
     let size = page_size(capacity as usize);
     let mut used: u32 = 0;
-    let mut page: u32 = 0;
-    let mut start: usize = 0;
-    while page < n {
-        if number_at(pages, start) != 0 {
+    for page in 0..n as usize {
+        if read16(pages, page * size) != 0 {
             used += 1;
         }
-        start += size;
-        page += 1;
     }
     used
 }
@@ -34,13 +30,5 @@ pub fn same_tally(tally: Tally, counts: &[u32]) -> bool
     requires { length counts.now ≡ 13 }
     ensures { (result ≡ same_tally tally.leaves counts.now) × (length tally.leaves ≡ 13) }
 {
-    let leaves = tally.leaves;
-    let mut x: usize = 0;
-    while x < 13 {
-        if leaves[x] != counts[x] {
-            return false;
-        }
-        x += 1;
-    }
-    true
+    tally.leaves[..] == counts[..]
 }

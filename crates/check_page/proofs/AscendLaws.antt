@@ -172,18 +172,18 @@ module _ (w0 w1 w2 w3 bias : ℕ) (page : List ℕ) (n last bits k : ℕ) where
         ∙ ap (λ o. (ordered && ascend_after ws bias page (key_code ws (unpacked_key key)) (n - (k + 1)) o)
         && all_fit ws bias page n 2) behind
 
-    pub risen-stop : ordered ≡ false → false ≡ ascending ws bias page n
-    risen-stop e = sym (next ∙ rw e)
+    pub risen-stop : false ≡ ordered → false ≡ ascending ws bias page n
+    risen-stop e = sym (next ∙ rw (sym e))
 
     and_assoc : (α β γ : Bool) → (α && (β && γ)) ≡ ((α && β) && γ)
     and_assoc true β γ = refl
     and_assoc false β γ = refl
 
-    pub risen-next : ordered ≡ true → Risen ws bias page n key (bit_or bits key) (k + 1)
+    pub risen-next : true ≡ ordered → Risen ws bias page n key (bit_or bits key) (k + 1)
     risen-next e =
         let here = index_fits ws (unpacked_key bits) in
         record {
-          order = next ∙ ap (λ β. (β && later) && all_fit ws bias page n 2) e;
+          order = next ∙ ap (λ β. (β && later) && all_fit ws bias page n 2) (sym e);
           fits =
               risen.fits
               ∙ ap (λ j. here && all_fit ws bias page j (2 + record_size * k)) more

@@ -4,8 +4,7 @@ use Prim.Native.Nat.{ℕ, zero, suc, ◌+◌, ◌*◌, ◌%◌, ◌^◌, ◌<◌
 use mathlib.Core.Path.{◌≡◌, refl, sym, ap, ◌∙◌}
 use mathlib.Core.List.{List, [], ◌∷◌}
 use native.Mathlib.Omega.{arith}
-use native.Mathlib.Nat.{add-zero, add_assoc, mod-eq_of_lt}
-use lib.Bits.{bit_or, or_shifted_r}
+use native.Mathlib.Nat.{add-zero, add_assoc}
 use lib.ListN.{get_or, take, drop}
 use lib.Seq.{get_or-take, get_or-drop}
 use borrow.Author.Tests.{lt-ltb}
@@ -30,19 +29,10 @@ number_of-two [] = refl
 number_of-two (x ∷ []) = omega arith
 number_of-two (x ∷ y ∷ xs) = omega arith
 
-pub number_of-field-two : (page : List ℕ) (at : ℕ)
+number_of-field-two : (page : List ℕ) (at : ℕ)
     → number_of (field page at 2) ≡ get_or page at 0 + get_or page (at + 1) 0 * 256
 number_of-field-two page at =
     number_of-two (drop at page) ∙ rw (get_or-drop at page 0 0, get_or-drop at page 1 0, add-zero at)
-
--- as the code puts them together
-pub number-of-bytes : (page : List ℕ) (at lo hi : ℕ) → lo ≡ get_or page at 0 → hi ≡ get_or page (at + 1) 0
-    → lo < 256 → hi < 256
-    → (bit_or lo (hi * 256 % 2 ^ 32) ≡ number_of (field page at 2)) × (bit_or lo (hi * 256 % 2 ^ 32) < 65536)
-number-of-bytes page at lo hi el eh hl hh =
-    let m : hi * 256 % 2 ^ 32 ≡ hi * 2 ^ 8 = mod-eq_of_lt (omega arith) in
-    let sum : bit_or lo (hi * 256 % 2 ^ 32) ≡ hi * 2 ^ 8 + lo = ap (bit_or lo) m ∙ or_shifted_r hi 8 lo (omega arith) in
-    (omega (arith, sum, number_of-field-two page at, el, eh), omega (arith, sum))
 
 -- ---- a record's key
 

@@ -3,10 +3,10 @@
 use Prim.Native.Nat.{ℕ, suc, ◌+◌, ◌-◌, ◌*◌, ◌/◌, ◌%◌, ◌^◌, ◌≤◌, ◌<◌}
 use mathlib.Core.Path.{◌≡◌, refl, sym, ap, ◌∙◌}
 use mathlib.Core.Bool.{Bool, true, false, cond}
-use mathlib.Core.List.{List}
+use mathlib.Core.List.{List, [], ◌∷◌}
 use native.Mathlib.Omega.{arith}
 use native.Mathlib.Nat.{zero-add, mod-eq_of_lt, pow-zero, two-pow-succ}
-use lib.Bits.{bit_and, bit_or, and_mask, or_shifted}
+use lib.Bits.{bit_or, or_shifted}
 use lib.Dec.{leb, ltb, eqb}
 use lib.ListN.{get_or}
 use lib.Pow.{pow_mono}
@@ -16,13 +16,12 @@ use Rattle.split.specs.Steps.{bit_value}
 use Rattle.split.specs.Bits.{bit_of, split_bit}
 use Rattle.split.proofs.BitLaws.{split_bit-step_number}
 use Rattle.pairs.specs.Pairs.{StepPair, StepsBefore}
-use Rattle.cell.proofs.Strings.{bit_value-digit}
-use Rattle.pairs.proofs.PlaceLaws.{steps_before-zero, steps_before-step, steps_before-skip, step_number-pair}
+use Rattle.pairs.proofs.PlaceLaws.{steps_before-zero, steps_before-lt, steps_before-step, steps_before-skip, step_number-pair}
 use Rattle.region.specs.Strings.{same_bits}
 use Rattle.region.specs.Sets.{before}
 use Rattle.key_order.specs.Order.{first_step, compared}
-use Rattle.key_order.specs.declared.Order.{Order}
-use Rattle.key_order.specs.declared.Order.TheVariants.{Same, Before, After}
+use Rattle.std.specs.Ordering.{is_lt}
+use Rattle.std.specs.declared.cmp.Ordering.TheVariants.{Less, Equal, Greater}
 use Rattle.key_order.proofs.FirstLaws.{same_bits-first_step}
 use Rattle.check_test.specs.Codes.{code}
 use Rattle.check_test.proofs.CodeLaws.{code_lt, code-add, code-div, same_bits-code, before-code}
@@ -31,14 +30,6 @@ use Rattle.check_page.specs.PageTest.{key_code}
 bit_value-lt : (β : Bool) → bit_value β < 2 ^ 1
 bit_value-lt true = omega arith
 bit_value-lt false = omega arith
-
--- a bit of an encoding, shifted down and masked
-pub bit_and-bit_of : (w encoding k : ℕ) → bit_and (encoding / 2 ^ (w - 1 - k)) 1 ≡ bit_value (bit_of w encoding k)
-bit_and-bit_of w encoding k =
-    let e : w - 1 - k ≡ w - suc k = omega arith in
-    ap (λ m. bit_and (encoding / 2 ^ m) 1) e
-    ∙ and_mask (encoding / 2 ^ (w - suc k)) 1
-    ∙ sym (bit_value-digit (encoding / 2 ^ (w - suc k) % 2) (omega arith))
 
 -- ---- the loop over the pairs
 
@@ -50,6 +41,12 @@ pub record Coded (ws key : List ℕ) (x c n g : ℕ) : Type 0 where
 
 pub coded-zero : (ws key : List ℕ) (x : ℕ) → Coded ws key x 0 0 0
 coded-zero ws key x = record { most = omega arith; place = steps_before-zero ws; bits = refl }
+
+-- a step is left
+pub coded-left : (w0 w1 w2 w3 : ℕ) (key : List ℕ) (x c n g : ℕ) → Fit (w0 ∷ w1 ∷ w2 ∷ w3 ∷ [])
+    → x ≤ total (w0 ∷ w1 ∷ w2 ∷ w3 ∷ []) → Coded (w0 ∷ w1 ∷ w2 ∷ w3 ∷ []) key x c n g → n < x → g < 64
+coded-left w0 w1 w2 w3 key x c n g fit h inv l =
+    steps_before-lt w0 w1 w2 w3 n g fit (omega arith) inv.place
 
 module _ (ws key : List ℕ) (fit : Fit ws) (x c n g : ℕ) (inv : Coded ws key x c n g) (next : g < 64) where
   -- no step
@@ -124,17 +121,10 @@ module _ (ws a b : List ℕ) (x : ℕ) (most : x ≤ total ws) where
 
 -- ---- order
 
--- whether an order is that of a key before another
-abbrev pub is_before : Order → Bool
-is_before Same = false
-is_before Before = true
-is_before After = false
-
-pub is_before-compared : (ws a b : List ℕ) (o : Order) → compared ws a b ≡ o
-    → is_before o ≡ ltb (key_code ws a) (key_code ws b)
+pub is_lt-compared : (ws a b : List ℕ) → is_lt (compared ws a b) ≡ ltb (key_code ws a) (key_code ws b)
 unfolding compared key_code
-is_before-compared ws a b o e =
-    ap is_before (sym e) ∙ go same first (same_bits-code (split_bit ws a) (split_bit ws b) (total ws) 0)
+is_lt-compared ws a b =
+    go same first (same_bits-code (split_bit ws a) (split_bit ws b) (total ws) 0)
     (before-code (split_bit ws) (total ws) 0 a b)
   where
     first : Bool
@@ -144,7 +134,7 @@ is_before-compared ws a b o e =
     same = same_bits (split_bit ws a) (split_bit ws b) (total ws) 0
 
     go : (α β : Bool) → α ≡ eqb (key_code ws a) (key_code ws b) → β ≡ ltb (key_code ws a) (key_code ws b)
-        → is_before (cond α Same (cond β Before After)) ≡ ltb (key_code ws a) (key_code ws b)
+        → is_lt (cond α Equal (cond β Less Greater)) ≡ ltb (key_code ws a) (key_code ws b)
     go true β p q =
         let even : key_code ws a ≡ key_code ws b = eqb-true _ _ (sym p) in
         sym (le-ltb (key_code ws a) (key_code ws b) (omega arith))

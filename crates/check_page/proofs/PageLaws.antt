@@ -7,7 +7,7 @@ use mathlib.Core.List.{List}
 use native.Mathlib.Omega.{arith}
 use lib.Dec.{leb, eqb}
 use lib.ListN.{length}
-use borrow.Author.Tests.{le-leb, lt-leb, eq-eqb}
+use borrow.Author.Tests.{le-leb, lt-leb, eq-eqb, eqb-true}
 use Rattle.lists.proofs.Bools.{and_split}
 use Rattle.shape.specs.Shape.{shape_number, total, index_fits}
 use Rattle.shape.specs.declared.Shape.{Shape}
@@ -15,13 +15,18 @@ use Rattle.split.specs.Bits.{split_bit}
 use Rattle.record.specs.Record.{Record}
 use Rattle.record.specs.Bytes.{record_size, field, record_of}
 use Rattle.record.specs.Lanes.{bias_key}
+use Rattle.record.specs.Packed.{unpacked_key}
+use Rattle.record.proofs.ByteLaws.{AreBytes}
 use Rattle.page.specs.Page.{count_of, records_from, records_of}
+use Rattle.page.specs.Fields.{code_at}
 use Rattle.page.proofs.FieldLaws.{length-records_from}
+use Rattle.key_order.specs.Order.{first_step}
 use Rattle.check_test.specs.Codes.{code, record_here, chain_after, chain, page_chain}
 use Rattle.check_page.specs.PageTest.{encodings_at, key_code, record_passes, records_after, records_pass, page_passes}
 use Rattle.check_page.specs.PageTest.{ascend_after, all_fit, ascending}
 use Rattle.check_page.proofs.AscendLaws.{last_code, last_code-at, both, last_begins, records_after-ascend}
-use Rattle.check_page.proofs.ByteLaws.{key-record_of}
+use Rattle.check_page.proofs.ByteLaws.{key-record_of, unpacked_key-code_at}
+use Rattle.check_page.proofs.CodeLaws.{begins-same, begins-other}
 
 -- ---- by case
 
@@ -91,6 +96,39 @@ module _ (ws : List ℕ) (b x s bias : ℕ) (page : List ℕ) (n : ℕ) (count :
             ∙ both ws x s bias page fits rise fit rest
             (records_after-ascend ws x s bias page (n - 1) c (2 + record_size) begins-first l)
             ∙ ap (λ k. rise && all_fit ws bias page k 2) e)
+
+-- ---- by the keys of the first and of the last record, as they are read
+
+module _ (ws : List ℕ) (b x s bias : ℕ) (page : List ℕ) (bytes : AreBytes page) (within : x ≤ total ws) (n : ℕ)
+    (count : n ≡ count_of page) (some : n ≡ 0 → ⊥) (most : n ≤ b) (first : ℕ) (read : first ≡ code_at bias page 0) where
+  at-first : unpacked_key first ≡ encodings_at bias page 2
+  at-first = ap unpacked_key read ∙ unpacked_key-code_at page bytes bias 0
+
+  abbrev begins : Bool
+  begins = eqb (key_code ws (unpacked_key first) / 2 ^ (total ws - x)) s
+
+  pub page_passes-other : false ≡ begins → false ≡ page_passes ws b x s bias page
+  page_passes-other e = page_passes-first ws b x s bias page n count some most (unpacked_key first) at-first (sym e)
+
+  module _ (e : true ≡ begins) (last : ℕ) (read-last : last ≡ code_at bias page (n - 1)) (step : ℕ)
+      (told : step ≡ first_step ws (unpacked_key first) (unpacked_key last)) where
+    begun-first : begun ws b x s bias page n count some most (unpacked_key first)
+    begun-first = eqb-true _ _ (sym e)
+
+    at-last : unpacked_key last ≡ encodings_at bias page (2 + record_size * (n - 1))
+    at-last = ap unpacked_key read-last ∙ unpacked_key-code_at page bytes bias (n - 1)
+
+    pub page_passes-parted : step < x → false ≡ page_passes ws b x s bias page
+    page_passes-parted h =
+        page_passes-last ws b x s bias page n count some most (unpacked_key first) at-first begun-first (unpacked_key last)
+        at-last
+        (λ k. begins-other ws (unpacked_key first) (unpacked_key last) x within (omega (arith, told)) (begun-first ∙ sym k))
+
+    pub page_passes-alike : x ≤ step → ascending ws bias page n ≡ page_passes ws b x s bias page
+    page_passes-alike h =
+        page_passes-ascends ws b x s bias page n count some most (unpacked_key first) at-first begun-first (unpacked_key last)
+        at-last
+        (sym (begins-same ws (unpacked_key first) (unpacked_key last) x within (omega (arith, told))) ∙ begun-first)
 
 -- ---- over the page's records
 

@@ -1,12 +1,12 @@
 -- What the contracts of the test of a page cite: the key in a record's bytes, with the bias that a shape adds to its
 -- fields, and the test by codes in the code's order.
 -- Assumes nothing.
-use Rattle.std.specs.Prelude.{ℕ, zero, suc, ◌+◌, ◌-◌, ◌*◌, ◌/◌, ◌^◌, ◌≤◌, ◌≡◌, Bool, true, false, ◌&&◌, List, leb, ltb, eqb}
+use Rattle.std.specs.Prelude.{ℕ, zero, suc, ◌+◌, ◌-◌, ◌*◌, ◌/◌, ◌^◌, ◌≤◌, ◌<◌, ◌≡◌, Bool, true, false, ◌&&◌, List, leb, ltb, eqb}
 use Rattle.shape.specs.Shape.{Fit, total, index_fits}
 use Rattle.shape.specs.Key.{per_attribute, biased}
 use Rattle.split.specs.Bits.{split_bit}
 use Rattle.record.specs.Bytes.{record_size, number_of, field}
-use Rattle.record.specs.Packed.{packed_value}
+use Rattle.record.specs.Packed.{packed_value, unpacked_key}
 use Rattle.page.specs.Page.{page_size, count_of}
 use Rattle.check_test.specs.Codes.{code}
 
@@ -17,6 +17,11 @@ fields_at page at = per_attribute (λ j. number_of (field page (at + 2 * j) 2))
 -- their encodings, where a packed bias is added
 abbrev pub encodings_at : ℕ → List ℕ → ℕ → List ℕ
 encodings_at bias page at = per_attribute (λ j. biased (packed_value bias j) (number_of (field page (at + 2 * j) 2)))
+
+-- what is read of each of the n records of a page, where a packed bias is added: its packed encodings
+abbrev pub Reads : (ℕ → ℕ → Type 0) → List ℕ → ℕ → ℕ → Type 0
+Reads read page bias n =
+    (k key : ℕ) → k < n → read k key → unpacked_key key ≡ encodings_at bias page (2 + record_size * k)
 
 -- all split bits of a key as one number
 unfoldable pub key_code : List ℕ → List ℕ → ℕ

@@ -1,20 +1,17 @@
 // The test of one page of a lent store (document 01, "Lent memory"): its count and its records.
 #![tactic(auto)]
 
-pub mod bytes;
 pub mod codes;
 
-ghost use Rattle.std.specs.Prelude.{◌≡◌, ◌<◌, ◌≤◌, ltb, length};
+ghost use Rattle.std.specs.Prelude.{◌≡◌, ◌<◌, ◌≤◌, ℕ, List, ltb, length};
 ghost use Rattle.shape.specs.Shape.{Fit, width_list, index_fits};
 ghost use Rattle.record.specs.Packed.{unpacked_key};
-ghost use Rattle.page.specs.Fields.{record_offset};
-ghost use Rattle.check_page.specs.PageTest.{key_code, ascending, page_passes, TestedPage};
+ghost use Rattle.check_page.specs.PageTest.{key_code, Reads, ascending, page_passes, TestedPage};
 
-use bytes::number_at;
 use codes::begins;
-use key_order::{Order, compare, first_step};
+use key_order::{compare, first_step};
 use numbers::below;
-use page::{code_at, key_at};
+use page::{code_at, count, key_at};
 use record::value_at;
 use shape::Widths;
 
@@ -32,65 +29,43 @@ pub fn page_passes(
     requires { TestedPage (width_list widths) capacity x (length page.now) }
     ensures { result ≡ page_passes (width_list widths) capacity x string bias page.now }
 {
-    let n = number_at(page, 0);
+    let n = count(page);
     if n == 0 {
         return false;
     }
-    if capacity < n {
+    if (capacity as usize) < n {
         return false;
     }
-    let count = n as usize;
     let first = code_at(page, 0, bias);
     if !begins(widths, first, x, string) {
         return false;
     }
-    if first_step(widths, first, code_at(page, count - 1, bias)) < x {
+    if first_step(widths, first, code_at(page, n - 1, bias)) < x {
         return false;
     }
     if bias == 0 {
-        return ascends(widths, page, count);
+        return ascends(widths, n, |k| key_at(page, k));
     }
-    marked_ascends(widths, bias, page, count)
+    ascends(widths, n, |k| code_at(page, k, bias))
 }
 
-// Whether the n records of a page are in split order, each within the widths, where a shape has no
-// marks: a record's fields are its encodings. The bits that any of them has are those of a key
-// within the widths.
-fn ascends(widths: Widths, page: &[u8], n: usize) -> bool
-    requires { (0 < n) × (record_offset n ≤ length page.now) × Fit (width_list widths) }
-    ensures { result ≡ ascending (width_list widths) 0 page.now n }
+// Whether the n records of a page are in split order, each within the widths. `read` gives the
+// packed encodings of record k: of a shape without marks they are the record's fields. The bits
+// that any of the keys has are those of a key within the widths.
+fn ascends<F: Fn(usize) -> u64>(widths: Widths, n: usize, read: F) -> bool
+    requires bounds { (0 < n) × Fit (width_list widths) }
+    requires readable { (k : ℕ) → k < n → F.pre read k }
+    ensures { (page : List ℕ) (bias : ℕ) → Reads (F.post read) page bias n → result ≡ ascending (width_list widths) bias page n }
 {
-    let mut last = key_at(page, 0);
+    let mut last = read(0);
     let mut bits = last;
-    let mut k = 1;
-    while k < n {
-        let key = key_at(page, k);
+    for k in 1..n {
+        let key = read(k);
         if !stands_before(widths, last, key) {
             return false;
         }
         bits = bits | key;
         last = key;
-        k += 1;
-    }
-    key_fits(widths, bits)
-}
-
-// The same of a shape with marks, which adds a bias to a record's fields.
-fn marked_ascends(widths: Widths, bias: u64, page: &[u8], n: usize) -> bool
-    requires { (0 < n) × (record_offset n ≤ length page.now) × Fit (width_list widths) }
-    ensures { result ≡ ascending (width_list widths) bias page.now n }
-{
-    let mut last = code_at(page, 0, bias);
-    let mut bits = last;
-    let mut k = 1;
-    while k < n {
-        let code = code_at(page, k, bias);
-        if !stands_before(widths, last, code) {
-            return false;
-        }
-        bits = bits | code;
-        last = code;
-        k += 1;
     }
     key_fits(widths, bits)
 }
@@ -101,12 +76,7 @@ fn stands_before(widths: Widths, x: u64, y: u64) -> bool
     ensures { result
         ≡ ltb (key_code (width_list widths) (unpacked_key x)) (key_code (width_list widths) (unpacked_key y)) }
 {
-    let order = compare(widths, x, y);
-    match order {
-        Order::Same => false,
-        Order::Before => true,
-        Order::After => false,
-    }
+    compare(widths, x, y).is_lt()
 }
 
 // Whether each value of a packed key is below 2^w_j.

@@ -1,26 +1,22 @@
 -- What the walk tells of a page and of two sides. Assumes nothing.
-use Rattle.std.specs.Prelude.{ℕ, ◌+◌, ◌^◌, max, ◌≤◌, ◌<◌, true, false, cond, List, ltb}
+use Rattle.std.specs.Prelude.{ℕ, ◌+◌, ◌^◌, max, ◌≤◌, ◌<◌, cond, List, ltb, Option, Some, None}
 use Rattle.page.specs.Page.{count_of}
 use Rattle.check_page.specs.PageTest.{page_passes}
 use Rattle.check_seen.specs.declared.Seen.{Seen}
 
-unfoldable pub failed : Seen
-failed = record { ok = false; records = 0; pages = 0; depth = 0 }
-
 -- a leaf with a page of so many bytes
-unfoldable pub page_seen : List ℕ → ℕ → ℕ → ℕ → ℕ → List ℕ → Seen
+unfoldable pub page_seen : List ℕ → ℕ → ℕ → ℕ → ℕ → List ℕ → Option Seen
 page_seen ws b x s bias page =
-    cond (page_passes ws b x s bias page) (record { ok = true; records = count_of page; pages = 1; depth = 0 }) failed
+    cond (page_passes ws b x s bias page) (Some (record { records = count_of page; pages = 1; depth = 0 })) None
+
+-- the sums over a region's sides
+abbrev pub sums_of : Seen → Seen → Seen
+sums_of l u =
+    record { records = l.records + u.records; pages = l.pages + u.pages; depth = 1 + max l.depth u.depth }
 
 -- a region from its sides
-unfoldable pub joined_seen : ℕ → Seen → Seen → Seen
-joined_seen b l u =
-    record {
-      ok = ltb b (l.records + u.records);
-      records = l.records + u.records;
-      pages = l.pages + u.pages;
-      depth = 1 + max l.depth u.depth;
-    }
+unfoldable pub joined_seen : ℕ → Seen → Seen → Option Seen
+joined_seen b l u = cond (ltb b (l.records + u.records)) (Some (sums_of l u)) None
 
 -- the sums fit
 pub record JoinFits (l u : Seen) : Type 0 where

@@ -6,17 +6,16 @@ ghost use Rattle.std.specs.Prelude.{◌≡◌, max, length};
 ghost use Rattle.shape.specs.Shape.{width_list};
 ghost use Rattle.directory_word.specs.Word.{depth_field};
 ghost use Rattle.check_page.specs.PageTest.{TestedPage};
-ghost use Rattle.check_seen.specs.Seen.{failed, page_seen, joined_seen, JoinFits};
+ghost use Rattle.check_seen.specs.Seen.{page_seen, joined_seen, JoinFits};
 
-use check_page::bytes::number_at;
 use check_page::page_passes;
+use page::count;
 use shape::Widths;
 
-// What a region has: whether it passes, and if so its records, its leaves with a page, and how far
-// below it its deepest leaf is.
+// What a region that passes has: its records, its leaves with a page, and how far below it its
+// deepest leaf is.
 #[derive(Clone, Copy)]
 pub struct Seen {
-    pub ok: bool,
     pub records: u32,
     pub pages: u32,
     pub depth: u32,
@@ -29,51 +28,41 @@ pub fn depth_of(word: u32) -> u64
     (word >> 16) as u64
 }
 
-// What is told of a region that does not pass.
-pub fn fails() -> Seen
-    ensures { result ≡ failed }
-{
-    Seen {
-        ok: false,
-        records: 0,
-        pages: 0,
-        depth: 0,
-    }
-}
-
-// What a leaf with a page has, where a shape adds a bias to its values.
-pub fn page_seen(widths: Widths, capacity: u32, bias: u64, page: &[u8], x: u64, string: u64) -> Seen
+// What a leaf with a page has, where a shape adds a bias to its values: none if the page does not
+// pass.
+pub fn page_seen(
+    widths: Widths,
+    capacity: u32,
+    bias: u64,
+    page: &[u8],
+    x: u64,
+    string: u64,
+) -> Option<Seen>
     requires { TestedPage (width_list widths) capacity x (length page.now) }
     ensures { result ≡ page_seen (width_list widths) capacity x string bias page.now }
 {
     if !page_passes(widths, capacity, bias, page, x, string) {
-        return fails();
+        return None;
     }
-    Seen {
-        ok: true,
-        records: number_at(page, 0),
+    Some(Seen {
+        records: count(page) as u32,
         pages: 1,
         depth: 0,
-    }
+    })
 }
 
-// What a divided region has, from its sides: it passes if it has more than b records.
-pub fn joined(capacity: u32, lower: Seen, upper: Seen) -> Seen
+// What a divided region has, from its sides: none if it has no more than b records.
+pub fn joined(capacity: u32, lower: Seen, upper: Seen) -> Option<Seen>
     requires { JoinFits lower upper }
     ensures { result ≡ joined_seen capacity lower upper }
 {
     let records = lower.records + upper.records;
-    Seen {
-        ok: capacity < records,
+    if records <= capacity {
+        return None;
+    }
+    Some(Seen {
         records,
         pages: lower.pages + upper.pages,
-        depth: 1 + larger(lower.depth, upper.depth),
-    }
-}
-
-// The larger of two numbers.
-fn larger(a: u32, b: u32) -> u32
-    ensures { result ≡ max a b }
-{
-    if a < b { b } else { a }
+        depth: 1 + lower.depth.max(upper.depth),
+    })
 }

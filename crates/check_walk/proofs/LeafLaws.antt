@@ -5,7 +5,8 @@ use mathlib.Core.Bool.{Bool, true, false, cond, not, false≢true}
 use mathlib.Core.List.{List}
 use native.Mathlib.Omega.{arith}
 use lib.ListN.{length, take, drop}
-use borrow.Author.Tests.{le-ltb, ne_eqb}
+use Rattle.std.specs.Prelude.{Option, Some, None}
+use borrow.Author.Tests.{ne_eqb}
 use Rattle.lists.specs.Filter.{non_empty}
 use Rattle.shape.specs.Shape.{shape_number, total}
 use Rattle.region.specs.Division.{leaf}
@@ -22,11 +23,11 @@ use Rattle.check_page.specs.PageTest.{page_passes, TestedPage}
 use Rattle.page.proofs.PartLaws.{page-end-le, mid_of-page}
 use Rattle.check_page.proofs.PageLaws.{page_passes-none, page_chain-page_passes}
 use Rattle.check_seen.specs.declared.Seen.{Seen}
-use Rattle.check_seen.specs.Seen.{failed, page_seen}
+use Rattle.check_seen.specs.Seen.{page_seen}
 use Rattle.check_walk.specs.declared.regions.Region.{Region}
 use Rattle.check_walk.specs.Regions.{RegionNamed, RegionIn}
 use Rattle.check_walk.specs.Sums.{view_by, Sees, PageAsked, Walks}
-use Rattle.check_walk.proofs.SumLaws.{sees-failed}
+use Rattle.check_walk.proofs.SumLaws.{sees-some, sees-none}
 
 -- ---- where it lies
 
@@ -78,20 +79,12 @@ module _ (st : State) (ws words bytes : List ℕ) (r : Region) (p : ℕ → Bool
   abbrev v : View Record
   v = view_by ws st words bytes
 
-  abbrev Told : Seen → Type 0
-  Told seen = Sees (page_test v p r.depth f) (leaf (field_records v f)) seen
-
-  pub page-none : f ≡ 0 → Told (record { ok = true; records = 0; pages = 0; depth = 0 })
-  page-none e = rw e (record { ok = refl; records = λ k. refl; pages = λ k. refl; depth = λ k. refl })
+  abbrev Told : Option Seen → Type 0
+  Told told = Sees (page_test v p r.depth f) (leaf (field_records v f)) told
 
   module _ (some : f ≡ 0 → ⊥) where
     field : f ≡ suc (f - 1)
     field = omega arith
-
-    pub page-past : st.limits.pages ≤ f - 1 → Told failed
-    page-past h =
-        sees-failed (page_test v p r.depth f) (leaf (field_records v f))
-        (ap (page_test v p r.depth) field ∙ rw (le-ltb (f - 1) st.limits.pages h))
 
     module _ (good : shape_number st.shape ≡ 0) (number : f - 1 < st.limits.pages) (bits : r.depth ≤ total ws) where
       abbrev b : ℕ
@@ -120,17 +113,17 @@ module _ (st : State) (ws words bytes : List ℕ) (r : Region) (p : ℕ → Bool
 
       told : (γ : Bool) → passes ≡ γ
           → Sees γ (leaf (records_of st.shape page))
-          (cond γ (record { ok = true; records = count_of page; pages = 1; depth = 0 }) failed)
+          (cond γ (Some (record { records = count_of page; pages = 1; depth = 0 })) None)
       told true e =
-          record {
-            ok = refl;
-            records = λ k. sym (length-records_from st.shape (count_of page) 2 page);
-            pages = λ k. rw (filled e) refl;
-            depth = λ k. refl;
-          }
-      told false e = sees-failed false (leaf (records_of st.shape page)) refl
+          sees-some (leaf (records_of st.shape page)) (record { records = count_of page; pages = 1; depth = 0 })
+          (record {
+            records = sym (length-records_from st.shape (count_of page) 2 page);
+            pages = rw (filled e) refl;
+            depth = refl;
+          })
+      told false e = sees-none false (leaf (records_of st.shape page)) refl
 
-      pub page-told : (seen : Seen) → seen ≡ page_seen ws b r.depth r.string (bias_key st.shape) page
+      pub page-told : (seen : Option Seen) → seen ≡ page_seen ws b r.depth r.string (bias_key st.shape) page
           → Told seen
       unfolding page_seen
       page-told seen e =

@@ -7,6 +7,8 @@ use mathlib.Core.List.{List}
 use mathlib.Core.Logic.{◌⊎◌, inl, inr}
 use native.Mathlib.Omega.{arith}
 use native.Mathlib.Nat.{le_trans, le-mul_of_pos_right, mul-add, two-pow-succ}
+use Rattle.std.specs.Prelude.{Option, Some, None}
+use Rattle.std.proofs.lemmas.Option.{none-some, same_Some}
 use lib.Dec.{leb, ltb, eqb}
 use lib.ListN.{get_or, length, set}
 use lib.Pow.{pow_pos}
@@ -26,27 +28,20 @@ use Rattle.check_test.proofs.ViewLaws.{page-of-test}
 use Rattle.check_test.proofs.WalkLaws.{read_division-leaf, region_test-leaf, record_count-divided}
 use Rattle.check_test.proofs.WalkLaws.{region_test-divided, read_division-all}
 use Rattle.check_seen.specs.declared.Seen.{Seen}
-use Rattle.check_seen.specs.Seen.{failed}
-use Rattle.check_walk.specs.Sums.{leaves_at, Sees, Tallied, Tells}
+use Rattle.check_walk.specs.Sums.{leaves_at, SumsOf, Sees, Tallied, Tells}
 
 -- ---- a region that does not pass
 
-sees-false : (test : Bool) (D : Division Record) (seen : Seen) → test ≡ false → seen.ok ≡ false → Sees test D seen
-sees-false test D seen e ok =
-    let no : test ≡ true → ⊥ = λ k. false≢true (sym e ∙ k) in
-    record { ok = ok ∙ sym e; records = λ k. absurd (no k); pages = λ k. absurd (no k); depth = λ k. absurd (no k) }
+pub sees-some : (D : Division Record) (seen : Seen) → SumsOf D seen → Sees true D (Some seen)
+sees-some D seen k = record { ok = refl; sums = λ other e. subst (SumsOf D) (same_Some seen other e) k }
 
-module _ (x : ℕ) (before after : List ℕ) (test : Bool) (D : Division Record) (e : test ≡ false) where
-  pub tells-false : (seen : Seen) → seen.ok ≡ false → Tells x before seen after test D
-  tells-false seen ok = record { sees = sees-false test D seen e ok; tallied = λ k. absurd (false≢true (sym e ∙ k)) }
+pub sees-none : (test : Bool) (D : Division Record) → test ≡ false → Sees test D None
+sees-none test D e = record { ok = sym e; sums = λ seen some. absurd (none-some seen some) }
 
-  pub tells-failed : Tells x before failed after test D
-  unfolding failed
-  tells-failed = tells-false failed refl
-
-pub sees-failed : (test : Bool) (D : Division Record) → test ≡ false → Sees test D failed
-unfolding failed
-sees-failed test D e = sees-false test D failed e refl
+pub tells-none : (x : ℕ) (before after : List ℕ) (test : Bool) (D : Division Record) → test ≡ false
+    → Tells x before None after test D
+tells-none x before after test D e =
+    record { sees = sees-none test D e; tallied = λ k. absurd (false≢true (sym e ∙ k)) }
 
 -- ---- a leaf
 
@@ -73,32 +68,30 @@ module _ (v : View Record) (n : ℕ) (p : ℕ → Bool) (x w : ℕ) (here : v.wo
   test =
       ap (λ y. eqb (depth_field y) x && (page_test v p x (page_field y) && same_words v.word n p x y)) here
 
-  pub leaf-depth-fails : (depth_field w ≡ x → ⊥) → Tells x before failed after (leaf_test v n p x) shown
-  leaf-depth-fails ne = tells-failed x before after (leaf_test v n p x) shown (test ∙ rw (ne_eqb (depth_field w) x ne))
+  pub leaf-depth-fails : (depth_field w ≡ x → ⊥) → Tells x before None after (leaf_test v n p x) shown
+  leaf-depth-fails ne = tells-none x before after (leaf_test v n p x) shown (test ∙ rw (ne_eqb (depth_field w) x ne))
 
-  module _ (depth : depth_field w ≡ x) (seen : Seen)
-      (page : Sees (page_test v p x (page_field w)) (leaf (field_records v (page_field w))) seen) where
-    pub leaf-page-fails : seen.ok ≡ false → Tells x before seen after (leaf_test v n p x) shown
-    leaf-page-fails e =
-        tells-false x before after (leaf_test v n p x) shown
-        (test ∙ rw (eq-eqb (depth_field w) x depth, sym page.ok ∙ e)) seen e
+  module _ (depth : depth_field w ≡ x) where
+    abbrev Told : Option Seen → Type 0
+    Told told = Sees (page_test v p x (page_field w)) (leaf (field_records v (page_field w))) told
 
-    module _ (ok : seen.ok ≡ true) where
+    pub leaf-page-fails : Told None → Tells x before None after (leaf_test v n p x) shown
+    leaf-page-fails page =
+        tells-none x before after (leaf_test v n p x) shown
+        (test ∙ rw (eq-eqb (depth_field w) x depth, sym page.ok))
+
+    module _ (seen : Seen) (page : Told (Some seen)) where
       rest : leaf_test v n p x ≡ same_words v.word n p x w
-      rest = test ∙ rw (eq-eqb (depth_field w) x depth, sym page.ok ∙ ok)
+      rest = test ∙ rw (eq-eqb (depth_field w) x depth, sym page.ok)
 
-      pub leaf-words-fail : same_words v.word n p x w ≡ false → Tells x before failed after (leaf_test v n p x) shown
-      leaf-words-fail e = tells-failed x before after (leaf_test v n p x) shown (rest ∙ e)
+      pub leaf-words-fail : same_words v.word n p x w ≡ false → Tells x before None after (leaf_test v n p x) shown
+      leaf-words-fail e = tells-none x before after (leaf_test v n p x) shown (rest ∙ e)
 
       pub leaf-passes : same_words v.word n p x w ≡ true → length before ≡ 13
-          → after ≡ set before x (get_or before x 0 + 1) → Tells x before seen after (leaf_test v n p x) shown
+          → after ≡ set before x (get_or before x 0 + 1) → Tells x before (Some seen) after (leaf_test v n p x) shown
       leaf-passes e len set = record {
-        sees = subst (λ y. Sees (leaf_test v n p x) (leaf (field_records v (page_field y))) seen) (sym here) (record {
-          ok = ok ∙ sym (rest ∙ e);
-          records = λ k. page.records (sym page.ok ∙ ok);
-          pages = λ k. page.pages (sym page.ok ∙ ok);
-          depth = λ k. page.depth (sym page.ok ∙ ok);
-        });
+        sees = subst (λ y. Sees (leaf_test v n p x) (leaf (field_records v (page_field y))) (Some seen)) (sym here)
+            (record { ok = sym (rest ∙ e); sums = page.sums });
         tallied = λ k. rw set (tallied-one (field_records v (page_field (v.word p))) x before len);
       }
 

@@ -8,15 +8,15 @@ ghost use Rattle.std.specs.Prelude.{◌≡◌, ◌-◌, length, get_or};
 ghost use Rattle.shape.specs.Shape.{width_list};
 ghost use Rattle.check_walk.specs.Sums.{PageSeen, LeafSeen, Walked, PageAsked, Walks, TallyRoom};
 
-use check_seen::{Seen, depth_of, fails, joined, page_seen};
+use check_seen::{Seen, depth_of, joined, page_seen};
 use key_encoding::bias_key;
 use page::page_size;
 use regions::{Region, same_words, sides_of};
 use shape::Widths;
 use store::State;
 
-// Walks a region, bit 0 before bit 1, and adds its leaves to the tally. A region is a leaf if the word
-// of its first cell has no greater depth.
+// Walks a region, bit 0 before bit 1, and adds its leaves to the tally: none if it does not pass. A
+// region is a leaf if the word of its first cell has no greater depth.
 pub fn walk(
     state: State,
     widths: Widths,
@@ -24,7 +24,7 @@ pub fn walk(
     dir: &[u32],
     pages: &[u8],
     tally: &mut [u32],
-) -> Seen
+) -> Option<Seen>
     requires { Walks state (width_list widths) (length dir.now) (length pages.now) region
         × TallyRoom (state.deepest - region.depth) tally.old }
     ensures { Walked state (width_list widths) dir.now pages.now region
@@ -35,17 +35,11 @@ pub fn walk(
         return leaf(state, widths, region, word, dir, pages, tally);
     }
     if (state.deepest as u64) <= region.depth {
-        return fails();
+        return None;
     }
     let sides = sides_of(widths, region);
-    let lower = walk(state, widths, sides.lower, dir, pages, tally);
-    if !lower.ok {
-        return lower;
-    }
-    let upper = walk(state, widths, sides.upper, dir, pages, tally);
-    if !upper.ok {
-        return upper;
-    }
+    let lower = walk(state, widths, sides.lower, dir, pages, tally)?;
+    let upper = walk(state, widths, sides.upper, dir, pages, tally)?;
     joined(state.shape.capacity, lower, upper)
 }
 
@@ -58,43 +52,39 @@ fn leaf(
     dir: &[u32],
     pages: &[u8],
     tally: &mut [u32],
-) -> Seen
+) -> Option<Seen>
     requires { Walks state (width_list widths) (length dir.now) (length pages.now) region
         × TallyRoom (state.deepest - region.depth) tally.old × (word ≡ get_or dir.now region.address 0) }
     ensures { LeafSeen state (width_list widths) dir.now pages.now region
         tally.old result tally.new }
 {
     if depth_of(word) != region.depth {
-        return fails();
+        return None;
     }
-    let seen = leaf_page(state, widths, region, word & 0xffff, pages);
-    if !seen.ok {
-        return seen;
-    }
+    let seen = leaf_page(state, widths, region, word & 0xffff, pages)?;
     if !same_words(widths, region, state.deepest as u64, word, dir) {
-        return fails();
+        return None;
     }
     let x = region.depth as usize;
     tally[x] = tally[x] + 1;
-    seen
+    Some(seen)
 }
 
 // Tests the page that a word's lower half names: none, or one of the P pages.
-fn leaf_page(state: State, widths: Widths, region: Region, field: u32, pages: &[u8]) -> Seen
+fn leaf_page(state: State, widths: Widths, region: Region, field: u32, pages: &[u8]) -> Option<Seen>
     requires { PageAsked state (width_list widths) (length pages.now) region }
     ensures { PageSeen state (width_list widths) pages.now region field result }
 {
     if field == 0 {
-        return Seen {
-            ok: true,
+        return Some(Seen {
             records: 0,
             pages: 0,
             depth: 0,
-        };
+        });
     }
     let page = field - 1;
     if state.limits.pages <= page {
-        return fails();
+        return None;
     }
     let capacity = state.shape.capacity;
     let size = page_size(capacity as usize);

@@ -2,7 +2,7 @@
 // (document 01, "Calls").
 #![tactic(auto)]
 
-ghost use Rattle.store.specs.Answers.{changed_answer};
+ghost use Rattle.store.specs.Answers.{changed_answer, changed_state};
 ghost use Rattle.store.specs.Promises.{DeletePromise};
 ghost use Rattle.store.specs.Store.{store};
 
@@ -10,68 +10,46 @@ use change_guard::{join_keeps, removal_keeps};
 use delete_plan::{Plan, plan_delete};
 use delete_steps::{join_leaves, keep_leaf};
 use key_encoding::encode_key;
-use refusals::{encodings_fit, lent_number};
+use refusals::{encodings_fit, validate_lent};
 use shape::Key;
-use store::{Change, Changed, State, refuse_change};
+use shape::refusal::Refusal;
+use store::{Changed, State};
 
 // Removes the record with a key, joins leaves until the leaves of the set without it stand, and
 // returns the depth of the key's leaf afterwards. Refused with 1, 14, 15, 2, 3, 5 or 9, the first
 // that holds in this order; 5 carries the depth of the leaf in which the absent key falls; a refused
 // call changes nothing. On any store no word and no page of a leaf that is not joined is lost.
-pub fn delete(state: State, dir: &mut [u32], pages: &mut [u8], key: Key) -> Change
+pub fn delete(state: State, dir: &mut [u32], pages: &mut [u8], key: Key) -> Result<Changed, Refusal>
     ensures { DeletePromise (store state dir.old pages.old) key.values
-        (changed_answer result.answer) (store result.state dir.new pages.new) }
+        (changed_answer result) (store (changed_state state result) dir.new pages.new) }
 {
-    let number = lent_number(state, dir.len(), pages.len());
-    if number != 0 {
-        return Change {
-            answer: refuse_change(state.shape, number),
-            state,
-        };
-    }
+    validate_lent(state, dir.len(), pages.len())?;
     let encoded = encode_key(state.shape, key);
     if !encodings_fit(state.shape, encoded) {
-        return Change {
-            answer: Changed::Refused(3),
-            state,
-        };
+        return Err(Refusal::Value);
     }
     let encodings = encoded.values;
-    let plan = plan_delete(state, dir, pages, encoded);
+    let plan = plan_delete(state, dir, pages, encoded)?;
     match plan {
-        Plan::Refused(n) => Change {
-            answer: Changed::Refused(n),
-            state,
-        },
-        Plan::Absent(depth) => Change {
-            answer: Changed::Absent(depth),
-            state,
-        },
         Plan::Keep(found) => {
             if !removal_keeps(state, dir, encodings, found) {
-                return Change {
-                    answer: Changed::Refused(9),
-                    state,
-                };
+                return Err(Refusal::Unsound);
             }
             keep_leaf(state, dir, pages, encodings, found);
-            Change {
-                answer: Changed::Done(found.depth),
+            Ok(Changed {
                 state,
-            }
+                depth: found.depth,
+            })
         }
         Plan::Join(found, join) => {
             if !join_keeps(state, dir, encodings, found, join) {
-                return Change {
-                    answer: Changed::Refused(9),
-                    state,
-                };
+                return Err(Refusal::Unsound);
             }
             let joined = join_leaves(state, dir, pages, encodings, found, join);
-            Change {
-                answer: Changed::Done(join.top),
+            Ok(Changed {
                 state: joined,
-            }
+                depth: join.top,
+            })
         }
     }
 }

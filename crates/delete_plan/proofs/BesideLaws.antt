@@ -8,7 +8,7 @@ use native.Mathlib.Omega.{arith}
 use lib.Dec.{ltb}
 use borrow.Author.Tests.{ltb-false}
 use Rattle.lists.proofs.Bools.{and_split}
-use Rattle.shape.specs.Refusal.{refused}
+use Rattle.shape.specs.declared.refusal.Refusal.TheVariants as why
 use Rattle.shape.specs.Shape.{widths_of}
 use Rattle.cell.specs.Cell.{Agree}
 use Rattle.region.specs.Strings.{sibling}
@@ -62,12 +62,12 @@ module _ (before : Store) (encoded : List ℕ) (r : Stored) (f : RecordFound bef
   -- ---- the word of a cell of the sibling
 
   module _ (divided : 0 < x) (word : ℕ) (c : AtSibling before encoded (x - 1) (λ w. word ≡ w)) where
-    refused-word-there : word_holds before.state word ≡ false → RefusalMet before encoded (refused 9)
+    refused-word-there : word_holds before.state word ≡ false → RefusalMet before encoded why.Unsound
     refused-word-there e =
         refused-word before encoded c.0 (ap (word_holds before.state) (sym c.2) ∙ e)
 
     -- a leaf above the key's leaf, or an empty one beside it
-    refused-shallow : word ≤ word_of (Empty x) → RefusalMet before encoded (refused 9)
+    refused-shallow : word ≤ word_of (Empty x) → RefusalMet before encoded why.Unsound
     refused-shallow l =
         let step : suc (x - 1) ≡ x = omega arith in
         refused-unsound before encoded
@@ -76,11 +76,11 @@ module _ (before : Store) (encoded : List ℕ) (r : Stored) (f : RecordFound bef
         (f.leaf.own ∙ ap (λ y. word_of (Page g y)) (sym step))
         (c.0, c.1, rw (step, sym c.2) l))
 
-    pub refused-sibling : sibling_holds before.state x word ≡ false → RefusalMet before encoded (refused 9)
+    pub refused-sibling : sibling_holds before.state x word ≡ false → RefusalMet before encoded why.Unsound
     unfolding sibling_holds
     refused-sibling e = by_word (word_holds before.state word) refl
       where
-        by_word : (β : Bool) → word_holds before.state word ≡ β → RefusalMet before encoded (refused 9)
+        by_word : (β : Bool) → word_holds before.state word ≡ β → RefusalMet before encoded why.Unsound
         by_word false h = refused-word-there h
         by_word true h =
             refused-shallow (ltb-false (word_of (Empty x)) word

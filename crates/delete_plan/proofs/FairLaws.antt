@@ -5,6 +5,7 @@ use mathlib.Core.Path.{◌≡◌, refl, sym, ◌∙◌}
 use mathlib.Core.Bool.{Bool, true, false, not, true≢false, false≢true}
 use mathlib.Core.List.{List}
 use native.Mathlib.Omega.{arith}
+use Rattle.std.specs.Prelude.{Option, Some, None}
 use Rattle.lists.proofs.Bools.{and_split}
 use Rattle.shape.specs.Shape.{widths_of, total, index_fits}
 use Rattle.shape.specs.declared.Shape.{Shape}
@@ -18,8 +19,8 @@ use Rattle.record.specs.Packed.{unpacked_key}
 use Rattle.page.specs.Page.{count_of, page_at}
 use Rattle.page.specs.Fields.{code_at}
 use Rattle.page_ends.specs.Ends.{key_begins, ends_begin, ends_agree, fixed_bits}
-use Rattle.page_ends.specs.Fair.{fair_count}
-use Rattle.page_ends.proofs.FairLaws.{fair_count-own, fair-of-count}
+use Rattle.page_ends.specs.Fair.{fair_count, positive}
+use Rattle.page_ends.proofs.FairLaws.{fair_count-own, fair-of-count, some-positive, none-positive}
 use Rattle.directory_word.specs.Word.{word_of}
 use Rattle.directory_word.specs.declared.Leaf.TheVariants.{Page}
 use Rattle.store.specs.Store.{Store}
@@ -31,13 +32,12 @@ use Rattle.delete_plan.specs.Met.{LeafCount}
 
 -- ---- the count
 
-pub leaf_count : (b bias mask key : ℕ) (page : List ℕ) (n : ℕ)
-    → n ≡ fair_count b (ends_agree bias mask key page (count_of page)) page → LeafCount b bias mask key page n
-leaf_count b bias mask key page n e = record { is = e; few = at_most n e }
-  where
-    at_most : (n : ℕ) → n ≡ fair_count b (ends_agree bias mask key page (count_of page)) page → n ≤ b
-    at_most zero e = omega arith
-    at_most (suc n) e = (fair-of-count b _ page (suc n) e (λ z. absurd (omega arith))).few
+pub leaf_count : (b bias mask key : ℕ) (page : List ℕ) (r : Option ℕ)
+    → r ≡ positive (fair_count b (ends_agree bias mask key page (count_of page)) page) → LeafCount b bias mask key page r
+leaf_count b bias mask key page None e = none-positive _ e
+leaf_count b bias mask key page (Some n) e =
+    let k = some-positive n _ e in
+    record { is = k.0; some = k.1; few = (fair-of-count b _ page n k.0 k.1).few }
 
 -- ---- a sound store
 

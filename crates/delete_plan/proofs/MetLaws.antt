@@ -1,17 +1,20 @@
 -- Laws of what the plan of a delete meets at the key's leaf: the refusals 5 and 9, and the key's record. Assumes
 -- nothing.
 use Prim.Native.Nat.{ℕ, zero, suc, ◌+◌, ◌-◌, ◌*◌, ◌%◌, ◌^◌, ◌≤◌, ◌<◌}
-use mathlib.Core.Path.{◌≡◌, refl, sym, ap, ◌∙◌, subst}
+use mathlib.Core.Path.{◌≡◌, refl, sym, ap, ◌∙◌}
 use mathlib.Core.Bool.{Bool, true, false, cond, true≢false}
 use mathlib.Core.List.{List}
 use native.Mathlib.Nat.{le_trans}
 use native.Mathlib.Omega.{arith}
-use lib.Dec.{eqb}
+use lib.Dec.{eqb, ltb}
 use lib.ListN.{length}
 use lib.Pow.{pow_mono}
-use borrow.Author.Tests.{eqb-true}
+use borrow.Author.Tests.{eqb-true, ltb-true, ltb-false}
+use Rattle.std.specs.Prelude.{Option, Some, None, Result, Ok, Err}
+use Rattle.std.proofs.lemmas.Option.{none-some, cond_some}
 use Rattle.lists.specs.Filter.{non_empty}
-use Rattle.shape.specs.Refusal.{refused, refused_with}
+use Rattle.shape.specs.declared.refusal.Refusal.{Refusal}
+use Rattle.shape.specs.declared.refusal.Refusal.TheVariants as why
 use Rattle.shape.specs.Shape.{widths_of, total, index_fits}
 use Rattle.shape.specs.declared.Shape.{Shape}
 use Rattle.shape.proofs.ShapeLaws.{capacity-bounds}
@@ -24,7 +27,7 @@ use Rattle.page.specs.Page.{count_of, records_of, records_from, page_size, page_
 use Rattle.page.specs.Fields.{key_at}
 use Rattle.pages.specs.Pages.{PageLent}
 use Rattle.page.proofs.PartLaws.{page-end-le}
-use Rattle.page_matches.specs.KeyPlace.{key_place}
+use Rattle.page_matches.specs.KeyPlace.{key_place, place_below}
 use Rattle.page_matches.proofs.PlaceLaws.{key_place-le}
 use Rattle.page_matches.proofs.StoredLaws.{same_key-absent}
 use Rattle.directory_word.specs.Word.{depth_field, leaf_of}
@@ -46,7 +49,7 @@ use Rattle.leaf_word.specs.Hold.{word_holds, own_page}
 use Rattle.leaf_word.proofs.HoldLaws.{word-of-sound, held-empty, held-page}
 use Rattle.leaf_word.proofs.PageLaws.{ends_agree-mask}
 use Rattle.delete_plan.specs.Plan.{LeafMet, RecordFound, RefusalMet}
-use Rattle.delete_plan.specs.Met.{Sought}
+use Rattle.delete_plan.specs.Met.{sought, sought_at, sought_among}
 use Rattle.delete_plan.specs.declared.Stored.{Stored}
 use Rattle.directory_lent.specs.Lent.{DirectoryLent}
 use Rattle.refusals.specs.Passed.{Passed}
@@ -67,6 +70,24 @@ module _ (key : ℕ) (page : List ℕ) where
       go true e h ih = eqb-true (key_at page i) key e
       go false e h ih = ih (omega arith)
 
+  module _ (g x : ℕ) where
+    pub among-absent : (n : ℕ) → (n ≡ 0 → ⊥) → place_below n (key_place key page n 0) ≡ None
+        → Err (why.Absent x) ≡ sought_among key page g x n
+    among-absent zero some e = absurd (some refl)
+    among-absent (suc n) some e = go (ltb (key_place key page (suc n) 0) (suc n)) _ e
+      where
+        go : (β : Bool) (there : Result Stored Refusal) → cond β (Some (key_place key page (suc n) 0)) None ≡ None
+            → Err (why.Absent x) ≡ cond β there (Err (why.Absent x))
+        go true there e = absurd (none-some _ (sym e))
+        go false there e = refl
+
+    pub among-there : (n i : ℕ) → (n ≡ 0 → ⊥) → place_below n (key_place key page n 0) ≡ Some i
+        → Ok (record { page = g; depth = x; place = i; count = n }) ≡ sought_among key page g x n
+    among-there zero i some e = absurd (some refl)
+    among-there (suc n) i some e =
+        let there = cond_some (ltb (key_place key page (suc n) 0) (suc n)) (key_place key page (suc n) 0) i e in
+        rw (there.0, there.1)
+
 -- ---- a store
 
 module _ (before : Store) (encoded : List ℕ) where
@@ -79,23 +100,23 @@ module _ (before : Store) (encoded : List ℕ) where
   abbrev p : ℕ → Bool
   p = key_string before encoded
 
-  pub refused-unsound : ((S : List Record) → Sound before S → ⊥) → RefusalMet before encoded (refused 9)
+  pub refused-unsound : ((S : List Record) → Sound before S → ⊥) → RefusalMet before encoded why.Unsound
   refused-unsound none values early same = delete-unsound before values early none
 
   -- ---- before the key's leaf
 
-  pub refused-limits : limits_hold before.state ≡ false → RefusalMet before encoded (refused 9)
+  pub refused-limits : limits_hold before.state ≡ false → RefusalMet before encoded why.Unsound
   refused-limits e = refused-unsound (λ S sound. true≢false (sym (limits-of-sound before S sound) ∙ e))
 
   -- a word at any cell that does not hold
   pub refused-word : (q : ℕ → Bool) → word_holds before.state (word_on before q) ≡ false
-      → RefusalMet before encoded (refused 9)
+      → RefusalMet before encoded why.Unsound
   refused-word q e = refused-unsound (λ S sound. true≢false (sym (word-of-sound before S sound q) ∙ e))
 
   -- the key's leaf is empty, of depth y
   pub refused-empty : (x y : ℕ) → leaf_of (word_on before p) ≡ Empty x
       → word_holds before.state (word_on before p) ≡ true → y ≡ depth_field (word_on before p)
-      → RefusalMet before encoded (refused_with 5 y)
+      → RefusalMet before encoded (why.Absent y)
   refused-empty x y e h d values early same =
       delete-empty before values early y (depth_at-encoded before encoded values same y (sym d))
       (λ S sound. rw same
@@ -114,6 +135,11 @@ module _ (before : Store) (encoded : List ℕ) where
         holds = h;
         own = l.2;
       }
+
+  -- what a search for the key in a leaf of depth x answers
+  abbrev pub SoughtMet : ℕ → Result Stored Refusal → Type 0
+  SoughtMet x (Ok r) = RecordFound before encoded r × (r.depth ≡ x)
+  SoughtMet x (Err r) = RefusalMet before encoded r
 
   -- ---- at the leaf, with page g
 
@@ -177,7 +203,7 @@ module _ (before : Store) (encoded : List ℕ) where
     -- a leaf's page has 1 to b records, the first and the last of which begin with the leaf's string
     pub refused-page : (mask n : ℕ) → mask ≡ fixed_bits (widths_of s) x
         → n ≡ fair_count s.capacity (ends_agree (bias_key s) mask (packed_key encoded) page (count_of page)) page → n ≡ 0
-        → RefusalMet before encoded (refused 9)
+        → RefusalMet before encoded why.Unsound
     refused-page mask n fixed e none =
         refused-unsound
         (λ S sound.
@@ -196,39 +222,54 @@ module _ (before : Store) (encoded : List ℕ) where
 
       -- no record of the page has the key
       pub refused-absent : (i : ℕ) → i ≡ key_place (fields_key s (packed_key encoded)) page n 0 → i ≡ n
-          → RefusalMet before encoded (refused_with 5 x)
+          → RefusalMet before encoded (why.Absent x)
       refused-absent i q h values early same =
           delete-absent before values early g x (depth_at-encoded before encoded values same x depth)
           (λ S sound. rw same field)
           (λ S sound. rw same
           (ap non_empty (ap (stored encoded) (sym counted) ∙ same_key-absent s m.passed.shape encoded six page page-are n (sym q ∙ h))))
 
-    -- the record that was sought
-    pub record_found : (mask : ℕ) → mask ≡ fixed_bits (widths_of s) x → (r : Stored)
-        → Sought s.capacity (bias_key s) (packed_key encoded) mask page g x r → (r.count ≡ 0 → ⊥) → (r.place ≡ r.count → ⊥)
-        → RecordFound before encoded r
-    record_found mask fixed r k some h =
-        let n = r.count in
-        let fields = fields_key s (packed_key encoded) in
-        let fair = fair-of-count s.capacity _ page n k.counted some in
-        let l : r.place < n = omega (arith, k.placed, key_place-le fields page n 0) in
-        let within : key_place fields page n 0 < 0 + n = omega (arith, k.placed) in
-        record {
-          leaf =
-              subst (λ h. LeafMet before encoded h r.depth) (sym k.page-is)
-              (subst (λ y. LeafMet before encoded g y) (sym k.depth_is) m);
-          counted = fair.counted ∙ ap count_before (sym k.page-is);
-          few = fair.few;
-          ends =
-              subst (λ y. own_page s y (packed_key encoded) (page_of r.page) n ≡ true) (sym k.depth_is)
-              (ap (λ h. own_page s x (packed_key encoded) (page_of h) n) k.page-is
-              ∙ sym (ends_agree-mask s m.passed.shape x deep (widths_of s) refl (bias_key s) mask fixed
-              (packed_key encoded) packed-fits page n)
-              ∙ ap (ends_agree (bias_key s) mask (packed_key encoded) page) fair.counted
-              ∙ fair.owned);
-          place-lt = l;
-          here =
-              ap (λ h. key_at (page_of h) r.place) k.page-is
-              ∙ ap (key_at page) k.placed
-              ∙ key_at-key_place fields page n 0 within;
-        }
+    module _ (are : AreBytes before.memory.bytes) (mask : ℕ) (fixed : mask ≡ fixed_bits (widths_of s) x) where
+      abbrev fields : ℕ
+      fields = fields_key s (packed_key encoded)
+
+      abbrev own : Bool
+      own = ends_agree (bias_key s) mask (packed_key encoded) page (count_of page)
+
+      -- the record that was sought
+      record_found : (n i : ℕ) → n ≡ fair_count s.capacity own page → (n ≡ 0 → ⊥) → i ≡ key_place fields page n 0 → i < n
+          → RecordFound before encoded (record { page = g; depth = x; place = i; count = n })
+      record_found n i e some q l =
+          let fair = fair-of-count s.capacity own page n e some in
+          let within : key_place fields page n 0 < 0 + n = omega (arith, q) in
+          record {
+            leaf = m;
+            counted = fair.counted;
+            few = fair.few;
+            ends =
+                sym (ends_agree-mask s m.passed.shape x deep (widths_of s) refl (bias_key s) mask fixed
+                (packed_key encoded) packed-fits page n)
+                ∙ ap (ends_agree (bias_key s) mask (packed_key encoded) page) fair.counted
+                ∙ fair.owned;
+            place-lt = l;
+            here = ap (key_at page) q ∙ key_at-key_place fields page n 0 within;
+          }
+
+      pub sought-met : SoughtMet x (sought s.capacity (bias_key s) (packed_key encoded) mask page g x)
+      unfolding sought
+      sought-met = by-count (fair_count s.capacity own page) refl
+        where
+          by-place : (n i : ℕ) → n ≡ fair_count s.capacity own page → (n ≡ 0 → ⊥) → i ≡ key_place fields page n 0
+              → SoughtMet x (sought_at g x n i)
+          by-place n i e some q = go (ltb i n) refl
+            where
+              go : (β : Bool) → ltb i n ≡ β
+                  → SoughtMet x (cond β (Ok (record { page = g; depth = x; place = i; count = n })) (Err (why.Absent x)))
+              go true t = (record_found n i e some q (ltb-true i n t), refl)
+              go false f =
+                  refused-absent are n (fair-of-count s.capacity own page n e some).counted i q
+                  (omega (arith, q, key_place-le fields page n 0, ltb-false i n f))
+
+          by-count : (n : ℕ) → n ≡ fair_count s.capacity own page → SoughtMet x (sought_among fields page g x n)
+          by-count zero e = refused-page mask zero fixed e refl
+          by-count (suc n) e = by-place (suc n) (key_place fields page (suc n) 0) e (λ z. absurd (omega arith)) refl

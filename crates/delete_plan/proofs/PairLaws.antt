@@ -5,7 +5,7 @@ use mathlib.Core.Path.{◌≡◌, refl, sym, ap, ◌∙◌, subst}
 use mathlib.Core.Bool.{Bool, true, false, true≢false}
 use mathlib.Core.List.{List}
 use native.Mathlib.Omega.{arith}
-use Rattle.shape.specs.Refusal.{refused}
+use Rattle.shape.specs.declared.refusal.Refusal.TheVariants as why
 use Rattle.shape.specs.Shape.{widths_of, total, shape_number}
 use Rattle.split.specs.Bits.{split_bit}
 use Rattle.cell.specs.Cell.{Agree}
@@ -83,7 +83,7 @@ module _ (before : Store) (encoded : List ℕ) (r : Stored) (mask h beside : ℕ
   -- its page has 1 to b records, the first and the last of which begin with the sibling's string
   pub refused-other : (k : ℕ) → k ≡ fair_count b (ends_agree bias mask beside (page_of h) (count_of (page_of h))) (page_of h)
       → k ≡ 0
-      → RefusalMet before encoded (refused 9)
+      → RefusalMet before encoded why.Unsound
   refused-other k e none =
       refused-unsound before encoded
       (λ S sound.
@@ -92,7 +92,7 @@ module _ (before : Store) (encoded : List ℕ) (r : Stored) (mask h beside : ℕ
       (λ t l. sym (there t (omega (arith, s.leaf.divided))) ∙ c.1 t (omega (arith, s.leaf.divided)))
       (sym e ∙ none))
 
-  pub refused-tally : tally_holds before.state.tally.leaves ≡ false → RefusalMet before encoded (refused 9)
+  pub refused-tally : tally_holds before.state.tally.leaves ≡ false → RefusalMet before encoded why.Unsound
   refused-tally e =
       refused-unsound before encoded (λ S sound. true≢false (sym (tally_holds-of-sound before S sound) ∙ e))
 

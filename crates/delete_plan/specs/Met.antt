@@ -1,6 +1,8 @@
 -- What the plan of a delete meets on its way: the key's record on the page of its leaf, the leaf's sibling, and the
 -- join that it makes of both. Private functions' contracts cite these. Assumes nothing.
-use Rattle.std.specs.Prelude.{ℕ, suc, ◌-◌, ◌≤◌, ◌<◌, ◌≡◌, List}
+use Rattle.std.specs.Prelude.{Option, Some, None, Result, Ok, Err, ℕ, zero, suc, ◌-◌, ◌≤◌, ◌<◌, ◌≡◌, cond, List, ltb}
+use Rattle.shape.specs.declared.refusal.Refusal.{Refusal}
+use Rattle.shape.specs.declared.refusal.Refusal.TheVariants as why
 use Rattle.shape.specs.Shape.{widths_of}
 use Rattle.split.specs.Bits.{split_bit}
 use Rattle.record.specs.Lanes.{lane_difference}
@@ -20,18 +22,30 @@ use Rattle.delete_plan.specs.Plan.{RecordFound}
 use Rattle.delete_plan.specs.declared.Stored.{Stored}
 use Rattle.delete_plan.specs.declared.Join.{Join}
 
--- a page has n records, 1 to b of them, and the first and the last agree with a packed key in the bits of a mask; n is
--- 0 for another page
-pub record LeafCount (b bias mask key : ℕ) (page : List ℕ) (n : ℕ) : Type 0 where
+-- a page has n records, 1 to b of them, and the first and the last agree with a packed key in the bits of a mask
+pub record Counted (b bias mask key : ℕ) (page : List ℕ) (n : ℕ) : Type 0 where
   pub is : n ≡ fair_count b (ends_agree bias mask key page (count_of page)) page
+  pub some : n ≡ 0 → ⊥
   pub few : n ≤ b
 
--- where a packed key is on page g of a leaf of depth x that fixes the bits of a mask
-pub record Sought (b bias key mask : ℕ) (page : List ℕ) (g x : ℕ) (r : Stored) : Type 0 where
-  pub page-is : r.page ≡ g
-  pub depth_is : r.depth ≡ x
-  pub counted : r.count ≡ fair_count b (ends_agree bias mask key page (count_of page)) page
-  pub placed : r.place ≡ key_place (lane_difference key bias) page r.count 0
+-- so many it has, or it is another page
+abbrev pub LeafCount : ℕ → ℕ → ℕ → ℕ → List ℕ → Option ℕ → Type 0
+LeafCount b bias mask key page (Some n) = Counted b bias mask key page n
+LeafCount b bias mask key page None = 0 ≡ fair_count b (ends_agree bias mask key page (count_of page)) page
+
+-- where a packed key is on page g of a leaf of depth x, among n records: 5 at place n
+abbrev pub sought_at : ℕ → ℕ → ℕ → ℕ → Result Stored Refusal
+sought_at g x n i = cond (ltb i n) (Ok (record { page = g; depth = x; place = i; count = n })) (Err (why.Absent x))
+
+-- among the n records of its page; 9 for no records, as a page has that is not the leaf's
+abbrev pub sought_among : ℕ → List ℕ → ℕ → ℕ → ℕ → Result Stored Refusal
+sought_among fields page g x zero = Err why.Unsound
+sought_among fields page g x (suc n) = sought_at g x (suc n) (key_place fields page (suc n) 0)
+
+-- on the page of a leaf that fixes the bits of a mask
+unfoldable pub sought : ℕ → ℕ → ℕ → ℕ → List ℕ → ℕ → ℕ → Result Stored Refusal
+sought b bias key mask page g x =
+    sought_among (lane_difference key bias) page g x (fair_count b (ends_agree bias mask key page (count_of page)) page)
 
 module _ (before : Store) (encoded : List ℕ) where
   -- the key's record is found, in a leaf below depth 0 that fixes the bits of a mask

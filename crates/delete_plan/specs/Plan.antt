@@ -1,7 +1,8 @@
 -- What the plan of a delete says of a store, sound or not: each case holds the facts that the steps and the promise
 -- of delete need. `encoded` are the encodings of the key. Assumes nothing.
-use Rattle.std.specs.Prelude.{ℕ, suc, ◌+◌, ◌≤◌, ◌<◌, ◌≡◌, true, List}
-use Rattle.shape.specs.Refusal.{Answer, refused, refused_with}
+use Rattle.std.specs.Prelude.{Result, Ok, Err, ℕ, suc, ◌+◌, ◌≤◌, ◌<◌, ◌≡◌, true, List}
+use Rattle.shape.specs.Refusal.{told}
+use Rattle.shape.specs.declared.refusal.Refusal.{Refusal}
 use Rattle.shape.specs.Shape.{widths_of}
 use Rattle.region.specs.Strings.{sibling}
 use Rattle.record.specs.Lanes.{bias_key, fields_key}
@@ -10,7 +11,6 @@ use Rattle.page.specs.Page.{count_of, page_at}
 use Rattle.page.specs.Fields.{key_at}
 use Rattle.directory_word.specs.Word.{word_of}
 use Rattle.directory_word.specs.declared.Leaf.TheVariants.{Page}
-use Rattle.model.specs.Model.{Reply}
 use Rattle.store.specs.Store.{Store, word_at}
 use Rattle.store.specs.Promises.{DeletePromise}
 use Rattle.change.specs.Delete.{key_string, AtSibling, JoinFound}
@@ -85,11 +85,10 @@ module _ (before : Store) (encoded : List ℕ) where
     pub tally : tally_holds before.state.tally.leaves ≡ true
 
   -- a refusal is what delete promises of the call's values
-  abbrev pub RefusalMet : Answer Reply → Type 0
-  RefusalMet answer = OfValues before encoded (λ values. DeletePromise before values answer before)
+  abbrev pub RefusalMet : Refusal → Type 0
+  RefusalMet r = OfValues before encoded (λ values. DeletePromise before values (told r) before)
 
-  abbrev pub DeletePlanned : Plan → Type 0
-  DeletePlanned (plan.Refused n) = RefusalMet (refused n)
-  DeletePlanned (plan.Absent x) = RefusalMet (refused_with 5 x)
-  DeletePlanned (plan.Keep r) = KeepPlanned r
-  DeletePlanned (plan.Join r j) = JoinPlanned r j
+  abbrev pub DeletePlanned : Result Plan Refusal → Type 0
+  DeletePlanned (Ok (plan.Keep r)) = KeepPlanned r
+  DeletePlanned (Ok (plan.Join r j)) = JoinPlanned r j
+  DeletePlanned (Err r) = RefusalMet r

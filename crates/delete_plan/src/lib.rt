@@ -6,11 +6,11 @@ ghost use Rattle.std.specs.Prelude.{◌≡◌, ◌≤◌, length};
 ghost use Rattle.record.specs.Packed.{unpacked_key};
 ghost use Rattle.page.specs.Page.{page_at};
 ghost use Rattle.pages.specs.Pages.{PageLent};
-ghost use Rattle.page_matches.specs.KeyPlace.{key_place};
+ghost use Rattle.page_matches.specs.KeyPlace.{key_place, place_below};
 ghost use Rattle.store.specs.Store.{store};
 ghost use Rattle.refusals.specs.Passed.{Passed};
 ghost use Rattle.delete_plan.specs.Plan.{LeafMet, DeletePlanned};
-ghost use Rattle.delete_plan.specs.Met.{LeafCount, Sought, LeafFound, SiblingMet, JoinAsked, JoinMade};
+ghost use Rattle.delete_plan.specs.Met.{LeafCount, sought, LeafFound, SiblingMet, JoinAsked, JoinMade};
 
 use delete_siblings::{climb, find_sibling, sibling_word_holds, step_bit};
 use directory_word::{Leaf, unpack};
@@ -21,6 +21,7 @@ use page_ends::{fair_count, fixed_bits};
 use page_matches::find_key;
 use record::pack_key;
 use refusals::limits_hold;
+use shape::refusal::Refusal;
 use shape::{Key, widths_of};
 use store::State;
 use tally::tally_holds;
@@ -46,33 +47,30 @@ pub struct Join {
     pub top: u32,
 }
 
-// What a delete is to do: refuse, with the leaf's depth where the key is absent; or take the record
-// out of a leaf that stays, or of one that is joined.
+// What a delete is to do: take the record out of a leaf that stays, or of one that is joined.
 #[derive(Clone, Copy)]
 pub enum Plan {
-    Refused(u32),
-    Absent(u32),
     Keep(Stored),
     Join(Stored, Join),
 }
 
 // Plans a delete of a key, given by its encodings, after 1, 14, 15, 2 and 3: 9 for limits or a word
 // that no sound store has, 5 for a leaf without a page.
-pub fn plan_delete(state: State, dir: &[u32], pages: &[u8], encoded: Key) -> Plan
+pub fn plan_delete(state: State, dir: &[u32], pages: &[u8], encoded: Key) -> Result<Plan, Refusal>
     requires { Passed (store state dir.now pages.now) encoded.values }
     ensures { DeletePlanned (store state dir.now pages.now) encoded.values result }
 {
     if !limits_hold(state) {
-        return Plan::Refused(9);
+        return Err(Refusal::Unsound);
     }
     let widths = widths_of(state.shape);
     let at = key_word(widths, state.deepest as u64, dir, pack_key(encoded));
     if !word_holds(state, at.word) {
-        return Plan::Refused(9);
+        return Err(Refusal::Unsound);
     }
     let found = unpack(at.word);
     let Leaf::Page(page, depth) = found else {
-        return Plan::Absent(at.depth);
+        return Err(Refusal::Absent(at.depth));
     };
     plan_leaf(state, dir, pages, encoded, page, depth)
 }
@@ -80,7 +78,14 @@ pub fn plan_delete(state: State, dir: &[u32], pages: &[u8], encoded: Key) -> Pla
 // The plan for a leaf with a page: 9 for a count of 0 or above b, and where the first or the last
 // record is out of bounds or does not begin with the leaf's string; 5 where no record has the key. A
 // leaf of depth 0 has no sibling.
-fn plan_leaf(state: State, dir: &[u32], pages: &[u8], encoded: Key, page: u32, depth: u32) -> Plan
+fn plan_leaf(
+    state: State,
+    dir: &[u32],
+    pages: &[u8],
+    encoded: Key,
+    page: u32,
+    depth: u32,
+) -> Result<Plan, Refusal>
     requires { LeafMet (store state dir.now pages.now) encoded.values page depth }
     ensures { DeletePlanned (store state dir.now pages.now) encoded.values result }
 {
@@ -96,21 +101,15 @@ fn plan_leaf(state: State, dir: &[u32], pages: &[u8], encoded: Key, page: u32, d
         mask,
         page,
         depth,
-    );
-    if found.count == 0 {
-        return Plan::Refused(9);
-    }
-    if found.place == found.count {
-        return Plan::Absent(depth);
-    }
+    )?;
     if depth == 0 {
-        return Plan::Keep(found);
+        return Ok(Plan::Keep(found));
     }
     plan_sibling(state, dir, pages, encoded, found, mask)
 }
 
-// Where a packed key is on the page of a leaf that fixes the bits of a mask: at place n where none of
-// its n records has it, with n = 0 for a page that cannot be the leaf's.
+// Where a packed key is on the page of a leaf that fixes the bits of a mask: 9 for a page that cannot
+// be the leaf's, 5 where no record has the key.
 fn seek(
     pages: &[u8],
     capacity: usize,
@@ -119,24 +118,35 @@ fn seek(
     mask: u64,
     page: u32,
     depth: u32,
-) -> Stored
+) -> Result<Stored, Refusal>
     requires { PageLent capacity page pages.now }
-    ensures { Sought capacity bias key mask (page_at capacity pages.now page) page depth result }
+    ensures { result ≡ sought capacity bias key mask (page_at capacity pages.now page) page depth }
 {
-    let count = count_on(pages, capacity, page as usize, bias, key, mask);
+    let Some(count) = count_on(pages, capacity, page as usize, bias, key, mask) else {
+        return Err(Refusal::Unsound);
+    };
     let fields = to_fields(bias, key);
-    let place = place_on(pages, capacity, page as usize, count, fields);
-    Stored {
+    let Some(place) = place_on(pages, capacity, page as usize, count, fields) else {
+        return Err(Refusal::Absent(depth));
+    };
+    Ok(Stored {
         page,
         depth,
         place,
         count,
-    }
+    })
 }
 
 // How many records page g has, where it can be that of a leaf that fixes the bits of a mask and in
-// which a packed key falls; 0 for another page.
-fn count_on(pages: &[u8], capacity: usize, g: usize, bias: u64, key: u64, mask: u64) -> usize
+// which a packed key falls; None for another page.
+fn count_on(
+    pages: &[u8],
+    capacity: usize,
+    g: usize,
+    bias: u64,
+    key: u64,
+    mask: u64,
+) -> Option<usize>
     requires { PageLent capacity g pages.now }
     ensures { LeafCount capacity bias mask key (page_at capacity pages.now g) result }
 {
@@ -145,11 +155,11 @@ fn count_on(pages: &[u8], capacity: usize, g: usize, bias: u64, key: u64, mask: 
     fair_count(&pages[start..end], capacity, bias, key, mask)
 }
 
-// The place of the first of the n records of page g that has the packed fields of a key; n where none
-// has.
-fn place_on(pages: &[u8], capacity: usize, g: usize, n: usize, fields: u64) -> usize
+// The place of the first of the n records of page g that has the packed fields of a key; None where
+// none has.
+fn place_on(pages: &[u8], capacity: usize, g: usize, n: usize, fields: u64) -> Option<usize>
     requires { PageLent capacity g pages.now × (n ≤ capacity) }
-    ensures { result ≡ key_place fields (page_at capacity pages.now g) n 0 }
+    ensures { result ≡ place_below n (key_place fields (page_at capacity pages.now g) n 0) }
 {
     let start = page_start(capacity, g);
     let end = start + page_size(capacity);
@@ -165,7 +175,7 @@ fn plan_sibling(
     encoded: Key,
     found: Stored,
     mask: u64,
-) -> Plan
+) -> Result<Plan, Refusal>
     requires { LeafFound (store state dir.now pages.now) encoded.values found mask }
     ensures { DeletePlanned (store state dir.now pages.now) encoded.values result }
 {
@@ -173,14 +183,14 @@ fn plan_sibling(
     let beside = find_sibling(state, dir, packed, found.depth - 1);
     let word = beside.word;
     if !sibling_word_holds(state, word, found.depth) {
-        return Plan::Refused(9);
+        return Err(Refusal::Unsound);
     }
     let sibling = unpack(word);
     let Leaf::Page(other, depth) = sibling else {
-        return Plan::Keep(found);
+        return Ok(Plan::Keep(found));
     };
     if depth != found.depth {
-        return Plan::Keep(found);
+        return Ok(Plan::Keep(found));
     }
     plan_pair(state, dir, pages, encoded, found, mask, other, beside.key)
 }
@@ -197,25 +207,24 @@ fn plan_pair(
     mask: u64,
     other: u32,
     beside: u64,
-) -> Plan
+) -> Result<Plan, Refusal>
     requires { SiblingMet (store state dir.now pages.now) encoded.values found mask other beside }
     ensures { DeletePlanned (store state dir.now pages.now) encoded.values result }
 {
     let shape = state.shape;
     let capacity = shape.capacity as usize;
     let bias = bias_key(shape);
-    let count = count_on(pages, capacity, other as usize, bias, beside, mask);
-    if count == 0 {
-        return Plan::Refused(9);
-    }
+    let Some(count) = count_on(pages, capacity, other as usize, bias, beside, mask) else {
+        return Err(Refusal::Unsound);
+    };
     if capacity + 1 < found.count + count {
-        return Plan::Keep(found);
+        return Ok(Plan::Keep(found));
     }
     if !tally_holds(state.tally) {
-        return Plan::Refused(9);
+        return Err(Refusal::Unsound);
     }
     let join = plan_join(state, dir, pack_key(encoded), found.depth, other, count);
-    Plan::Join(found, join)
+    Ok(Plan::Join(found, join))
 }
 
 // The join of the leaf of depth x in which a packed key falls with its sibling, which has page `other`

@@ -1,23 +1,28 @@
 -- Laws of the key's record as the plan of a delete finds it: its page, its bounds, the words that are never changed;
 -- the early refusals. Assumes nothing.
-use Prim.Native.Nat.{ℕ, zero, suc, ◌^◌, ◌≤◌, ◌<◌}
-use mathlib.Core.Path.{◌≡◌, refl, sym}
+use Prim.Native.Nat.{ℕ, ◌^◌, ◌≤◌, ◌<◌}
+use mathlib.Core.Path.{◌≡◌, sym, subst, ◌∙◌}
 use mathlib.Core.Bool.{true}
 use mathlib.Core.List.{List}
 use native.Mathlib.Nat.{le_trans}
 use lib.ListN.{drop}
 use Rattle.lists.specs.Filter.{non_empty}
-use Rattle.shape.specs.Amiss.{refused_for}
+use Rattle.shape.specs.Refusal.{answered_by, told}
 use Rattle.shape.specs.Shape.{widths_of, index_fits}
 use Rattle.shape.specs.declared.Shape.{Shape}
+use Rattle.shape.specs.declared.refusal.Refusal.{Refusal}
+use Rattle.shape.proofs.RefusalLaws.{answered_by-named}
+use Rattle.shape.proofs.TestLaws.{told-answered_by, told-suc}
 use Rattle.directory.specs.Directory.{Filled}
 use Rattle.record.specs.Record.{Record}
 use Rattle.page.specs.Page.{count_of, page_at}
 use Rattle.pages.specs.Pages.{PageLent}
+use Rattle.model.specs.Model.{changed}
 use Rattle.model.specs.Sets.{stored}
 use Rattle.store.specs.Store.{Store, memory}
 use Rattle.store.specs.Sound.{Sound}
-use Rattle.store.specs.Promises.{key_number, DeletePromise}
+use Rattle.store.specs.Promises.{key_refusals, DeletePromise}
+use Rattle.store.proofs.NumberLaws.{named-key}
 use Rattle.store.proofs.ShownLaws.{page_records}
 use Rattle.change.specs.Delete.{key_string}
 use Rattle.change.proofs.PromiseLaws.{drop-of-past}
@@ -30,10 +35,16 @@ use Rattle.delete_pages.specs.PageBytes.{RecordLent}
 use Rattle.delete_promise.proofs.SoundPageLaws.{stored_here}
 
 -- 1, 14, 15, 2 or 3
-pub promise-early : (before : Store) (values : List ℕ) (n : ℕ) → n ≡ key_number before values → (n ≡ 0 → ⊥)
-    → DeletePromise before values (refused_for before.state.shape n) before
-promise-early before values zero e some = absurd (some refl)
-promise-early before values (suc n) e some = delete-early before values n (sym e)
+pub promise-early : (before : Store) (values : List ℕ) (r : Refusal)
+    → told r ≡ answered_by (key_refusals before values) (tt {0}) → DeletePromise before values (told r) before
+promise-early before values r e =
+    let cs = key_refusals before values in
+    let k = told-suc (tt {0}) r cs e in
+    subst (λ a. DeletePromise before values a before)
+    (sym
+    (told-answered_by (tt {0}) r cs (changed 0) e
+    ∙ answered_by-named before.state.shape (changed 0) cs (named-key before values) k.0 k.1))
+    (delete-early before values k.0 k.1)
 
 module _ (before : Store) (encoded : List ℕ) (r : Stored) where
   abbrev s : Shape

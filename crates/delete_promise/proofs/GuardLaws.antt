@@ -3,9 +3,10 @@ use Prim.Native.Nat.{ℕ, ◌%◌, ◌^◌}
 use mathlib.Core.Path.{◌≡◌, ap, ◌∙◌}
 use mathlib.Core.Bool.{Bool, false}
 use mathlib.Core.List.{List}
+use Rattle.std.specs.Prelude.{Ok}
 use native.Mathlib.Omega.{arith}
 use Rattle.lists.specs.Filter.{non_empty}
-use Rattle.shape.specs.Refusal.{refused}
+use Rattle.shape.specs.declared.refusal.Refusal.TheVariants as why
 use Rattle.record.specs.Record.{Record}
 use Rattle.directory_word.proofs.WordLaws.{word_of-page}
 use Rattle.model.specs.Sets.{stored}
@@ -43,7 +44,7 @@ module _ (before : Store) (encoded : List ℕ) where
       record { content = k.0; held = ap (λ v. stored v S) k.2 ∙ k.1; key = k.2 }
 
   -- 9: a leaf whose words the plan sets is not whole, or a word is lost at the new T
-  pub promise-not-whole : (plan : Plan) → DeletePlanned before encoded plan → (held : Bool)
-      → DeleteTold st words encoded plan held → held ≡ false → RefusalMet before encoded (refused 9)
+  pub promise-not-whole : (plan : Plan) → DeletePlanned before encoded (Ok plan) → (held : Bool)
+      → DeleteTold st words encoded plan held → held ≡ false → RefusalMet before encoded why.Unsound
   promise-not-whole plan planned held told e =
       refused-unsound before encoded (λ S sound. told.no e bytes planned S sound (key-stored S sound))

@@ -80,15 +80,13 @@ pub fn climb(state: State, dir: &[u32], key: u64, m: u32) -> u32
     requires { DirectoryLent state (length dir.now) × (m < state.deepest) }
     ensures { Climbed state dir.now (unpacked_key key) m result }
 {
-    let mut y = m;
-    while 0 < y {
-        let word = word_beside(state, dir, key, y - 1);
-        if word != pack_empty(y) {
-            return y;
+    for z in (0..m).rev() {
+        let word = word_beside(state, dir, key, z);
+        if word != pack_empty(z + 1) {
+            return z + 1;
         }
-        y -= 1;
     }
-    y
+    0
 }
 
 // The word of a cell of the sibling of a packed key's region of z + 1 bits.

@@ -1,15 +1,17 @@
 -- Laws of the cell of a key: an index from the first bits of an encoding, taken from the last; the four indices.
 -- Assumes nothing.
 use Prim.Native.Nat.{ℕ, zero, suc, ◌+◌, ◌*◌, ◌-◌, ◌/◌, ◌%◌, ◌^◌, ◌≤◌, ◌<◌}
-use mathlib.Core.Path.{◌≡◌, refl, sym, ap, ◌∙◌, subst}
+use mathlib.Core.Path.{◌≡◌, refl, sym, ap, ◌∙◌}
 use mathlib.Core.Bool.{Bool}
 use mathlib.Core.List.{List, [], ◌∷◌}
 use native.Mathlib.Omega.{arith}
-use native.Mathlib.Nat.{le_trans, mod-eq_of_lt}
-use lib.Bits.{bit_and, bit_or, and_mask, or_shifted}
+use native.Mathlib.Nat.{le_trans}
+use lib.Bits.{bit_and}
 use lib.ListN.{get_or, length}
-use lib.Pow.{pow_mono, shr-shr}
+use lib.Pow.{shr-shr}
 use Rattle.lists.proofs.Numbers.{pow-double}
+use Rattle.std.proofs.lemmas.Nat.{mod-pow-add}
+use Rattle.std.specs.Int.{reverse_bits_onto}
 use Rattle.shape.specs.Shape.{Fit}
 use Rattle.split.specs.Steps.{bit_value, steps_below, attribute_depth}
 use Rattle.split.specs.Bits.{bit_of, split_bit}
@@ -17,12 +19,35 @@ use Rattle.split.proofs.StepLaws.{depth_before}
 use Rattle.split.proofs.DepthLaws.{attribute_depth-width}
 use Rattle.split.proofs.BitLaws.{split_bit-step_number}
 use Rattle.cell.specs.Cell.{sum_bits, attribute_bit, cell}
-use Rattle.cell.proofs.Strings.{sum_bits-lt, sum_bits-agree, bit_value-digit}
+use Rattle.cell.proofs.Strings.{sum_bits-agree, bit_value-digit}
 use Rattle.directory_cell.specs.Private.{reversed_bits}
 use Rattle.pairs.proofs.PlaceLaws.{attribute_depth-place}
-use Rattle.directory_cell.proofs.ReverseLaws.{reversed_bits-four, four-more}
+use Rattle.directory_cell.proofs.ReverseLaws.{reversed_bits-four}
 
 -- ---- an index from an encoding's bits
+
+-- bits that come behind a number's are shifted out
+reverse_bits_onto-shifted : (j n a : ℕ) → reverse_bits_onto j n a / 2 ^ j ≡ a
+unfolding reverse_bits_onto
+reverse_bits_onto-shifted zero n a = omega arith
+reverse_bits_onto-shifted (suc j) n a =
+    let e : suc j ≡ j + 1 = omega arith in
+    let all = reverse_bits_onto j (n / 2) (a * 2 + n % 2) in
+    ap (λ m. all / 2 ^ m) e
+    ∙ sym (shr-shr all j 1)
+    ∙ ap (λ x. x / 2) (reverse_bits_onto-shifted j (n / 2) (a * 2 + n % 2))
+    ∙ omega arith
+
+-- n bits are reversed, whatever is above them
+pub reverse_bits_onto-low : (j n a : ℕ) → reverse_bits_onto j (n % 2 ^ j) a ≡ reverse_bits_onto j n a
+unfolding reverse_bits_onto
+reverse_bits_onto-low zero n a = refl
+reverse_bits_onto-low (suc j) n a =
+    let e : suc j ≡ j + 1 = omega arith in
+    let low : n % 2 ^ suc j ≡ n / 2 % 2 ^ j * 2 + n % 2 = ap (λ k. n % 2 ^ k) e ∙ mod-pow-add n j 1 in
+    let half : n % 2 ^ suc j / 2 ≡ n / 2 % 2 ^ j = omega arith in
+    let bit : n % 2 ^ suc j % 2 ≡ n % 2 = omega arith in
+    (λ i. reverse_bits_onto j (half i) (a * 2 + bit i)) ∙ reverse_bits_onto-low j (n / 2) (a * 2 + n % 2)
 
 -- the first bit apart
 pub sum_bits-first : (β : ℕ → Bool) (h : ℕ) → sum_bits β (suc h) ≡ bit_value (β 0) + 2 * sum_bits (λ k. β (suc k)) h
@@ -31,40 +56,23 @@ sum_bits-first β zero = omega arith
 sum_bits-first β (suc h) =
     omega (arith, sum_bits-first β h, ap (λ x. bit_value (β (suc h)) * x) (pow-double h))
 
--- the loop's invariant: the last k of the first h bits are taken, the others are the low bits of the rest
-pub record Taken (w encoding h rest index k : ℕ) : Type 0 where
-  pub within : k ≤ h
-  pub taken : index ≡ sum_bits (λ m. bit_of w encoding (h - k + m)) k
-  pub left : rest ≡ encoding / 2 ^ (w - h + k)
+-- of the first h bits the last k are taken, the others are the low bits of the rest
+record Taken (w encoding h rest index k : ℕ) : Type 0 where
+  within : k ≤ h
+  taken : index ≡ sum_bits (λ m. bit_of w encoding (h - k + m)) k
+  left : rest ≡ encoding / 2 ^ (w - h + k)
 
 module _ (w encoding h : ℕ) where
-  pub taken-zero : Taken w encoding h (encoding / 2 ^ (w - h)) 0 0
+  taken-zero : Taken w encoding h (encoding / 2 ^ (w - h)) 0 0
   unfolding sum_bits
   taken-zero =
       let e : w - h ≡ w - h + 0 = omega arith in
       record { within = omega arith; taken = refl; left = ap (λ n. encoding / 2 ^ n) e }
 
   module _ (rest index k : ℕ) (inv : Taken w encoding h rest index k) where
-    pub taken-lt : h ≤ 16 → index < 2 ^ 16
-    taken-lt l =
-        let m : 2 ^ k ≤ 2 ^ 16 = pow_mono (le_trans inv.within l) in
-        omega (arith, inv.taken, sum_bits-lt (λ m. bit_of w encoding (h - k + m)) k)
-
-    pub taken-suc : h ≤ w → w ≤ 16 → k < h
-        → Taken w encoding h (rest / 2) (bit_or (index * 2 % 2 ^ 64) (bit_and rest 1)) (k + 1)
-    taken-suc hw hs l = record { within = omega arith; taken = step ∙ sym next; left = half }
+    taken-suc : h ≤ w → k < h → Taken w encoding h (rest / 2) (index * 2 + rest % 2) (k + 1)
+    taken-suc hw l = record { within = omega arith; taken = sym next; left = half }
       where
-        bit : bit_and rest 1 ≡ rest % 2
-        bit = and_mask rest 1
-
-        step : bit_or (index * 2 % 2 ^ 64) (bit_and rest 1) ≡ index * 2 + rest % 2
-        step =
-            let low : bit_and rest 1 < 2 = omega (arith, bit) in
-            let small : index * 2 < 2 ^ 64 = omega (arith, taken-lt (omega arith)) in
-            ap (λ x. bit_or x (bit_and rest 1)) (mod-eq_of_lt small)
-            ∙ or_shifted index 1 (bit_and rest 1) low
-            ∙ omega (arith, bit)
-
         half : rest / 2 ≡ encoding / 2 ^ (w - h + (k + 1))
         half =
             let e : w - h + k + 1 ≡ w - h + (k + 1) = omega arith in
@@ -90,87 +98,41 @@ module _ (w encoding h : ℕ) where
             ∙ sum_bits-first (λ m. bit_of w encoding (h - suc k + m)) k
             ∙ omega (arith, first, later)
 
-    -- the same in numbers
-    taken_next : h ≤ w → w ≤ 16 → k < h → Taken w encoding h (rest / 2) (index * 2 + rest % 2) (k + 1)
-    taken_next hw hs l =
-        let low : bit_and rest 1 < 2 = omega (arith, and_mask rest 1) in
-        let small : index * 2 < 2 ^ 64 = omega (arith, taken-lt (omega arith)) in
-        subst (λ i. Taken w encoding h (rest / 2) i (k + 1))
-        (ap (λ x. bit_or x (bit_and rest 1)) (mod-eq_of_lt small)
-        ∙ or_shifted index 1 (bit_and rest 1) low
-        ∙ omega (arith, and_mask rest 1))
-        (taken-suc hw hs l)
-
-    pub taken-end : h ≤ k → index ≡ sum_bits (bit_of w encoding) h
+    taken-end : h ≤ k → index ≡ sum_bits (bit_of w encoding) h
     taken-end l =
         let e : k ≡ h = omega (arith, inv.within) in
         inv.taken
         ∙ ap (λ n. sum_bits (λ m. bit_of w encoding (h - n + m)) n) e
         ∙ sum_bits-agree h _ _ (λ m lm. let z : h - h + m ≡ m = omega arith in ap (bit_of w encoding) z)
 
--- what is taken, by equal numbers
-taken-same : (w encoding h : ℕ) {rest rest' index index' k k' : ℕ} → rest ≡ rest' → index ≡ index' → k ≡ k'
-    → Taken w encoding h rest index k → Taken w encoding h rest' index' k'
-taken-same w encoding h r i k t =
-    record {
-      within = omega (arith, t.within, k);
-      taken = sym i ∙ t.taken ∙ ap (λ n. sum_bits (λ m. bit_of w encoding (h - n + m)) n) k;
-      left = sym r ∙ t.left ∙ ap (λ n. encoding / 2 ^ (w - h + n)) k;
-    }
+-- the rest reversed behind what is taken, and what is past the first h bits shifted out
+reversed-taken : (w encoding h : ℕ) → h ≤ w → (left rest index k n j : ℕ) → Taken w encoding h rest index k → k + left ≡ h
+    → n ≡ left + j → reverse_bits_onto n rest index / 2 ^ j ≡ sum_bits (bit_of w encoding) h
+unfolding reverse_bits_onto
+reversed-taken w encoding h hw zero rest index k n j t e f =
+    let g : n ≡ j = omega arith in
+    ap (λ m. reverse_bits_onto m rest index / 2 ^ j) g
+    ∙ reverse_bits_onto-shifted j rest index
+    ∙ taken-end w encoding h rest index k t (omega arith)
+reversed-taken w encoding h hw (suc left) rest index k zero j t e f = absurd (omega arith)
+reversed-taken w encoding h hw (suc left) rest index k (suc n) j t e f =
+    reversed-taken w encoding h hw left (rest / 2) (index * 2 + rest % 2) (k + 1) n j
+    (taken-suc w encoding h rest index k t hw (omega arith)) (omega arith) (omega arith)
 
--- four bits more
-pub taken-four : (w encoding h rest index k : ℕ) → Taken w encoding h rest index k → h ≤ w → w ≤ 16 → k + 4 ≤ h
-    → (r : ℕ) → r ≡ reversed_bits (bit_and rest 15) → r < 16
-    → Taken w encoding h (rest / 16) (bit_or (index * 16 % 2 ^ 64) r) (k + 4)
-taken-four w encoding h rest index k inv hw hs l r e m =
-    let t1 = taken_next w encoding h rest index k inv hw hs (omega arith) in
-    let t2 = taken_next w encoding h _ _ _ t1 hw hs (omega arith) in
-    let t3 = taken_next w encoding h _ _ _ t2 hw hs (omega arith) in
-    let t4 = taken_next w encoding h _ _ _ t3 hw hs (omega arith) in
-    let i = four-more index rest r (taken-lt w encoding h rest index k inv (omega arith)) e m in
-    let q : rest / 2 / 2 / 2 / 2 ≡ rest / 16 = omega arith in
-    let n : k + 1 + 1 + 1 + 1 ≡ k + 4 = omega arith in
-    taken-same w encoding h q (sym i) n t4
+-- n bits reversed, the first h of them kept
+pub sum_bits-reversed : (w encoding h n : ℕ) → h ≤ w → h ≤ n
+    → reverse_bits_onto n (encoding / 2 ^ (w - h)) 0 / 2 ^ (n - h) ≡ sum_bits (bit_of w encoding) h
+sum_bits-reversed w encoding h n hw l =
+    reversed-taken w encoding h hw h _ 0 0 n (n - h) (taken-zero w encoding h) (omega arith) (omega arith)
 
--- at most four bits in all: what is past them is shifted out
-pub sum_bits-few : (w encoding h : ℕ) → h ≤ w → w ≤ 16 → h ≤ 4
+-- the same of four
+pub sum_bits-few : (w encoding h : ℕ) → h ≤ w → h ≤ 4
     → (r : ℕ) → r ≡ reversed_bits (bit_and (encoding / 2 ^ (w - h)) 15) → r / 2 ^ (4 - h) ≡ sum_bits (bit_of w encoding) h
-sum_bits-few w encoding zero hw hs l r e =
-    let low = reversed_bits-four (encoding / 2 ^ (w - 0)) in
-    let n : r / 16 ≡ 0 = omega (arith, e, low) in
-    n ∙ taken-end w encoding 0 _ _ _ (taken-zero w encoding 0) (omega arith)
-sum_bits-few w encoding (suc zero) hw hs l r e =
-    let rest = encoding / 2 ^ (w - 1) in
-    let low = reversed_bits-four rest in
-    let t1 = taken_next w encoding 1 _ _ _ (taken-zero w encoding 1) hw hs (omega arith) in
-    let n : r / 8 ≡ 0 * 2 + rest % 2 = omega (arith, e, low) in
-    n ∙ taken-end w encoding 1 _ _ _ t1 (omega arith)
-sum_bits-few w encoding (suc (suc zero)) hw hs l r e =
-    let rest = encoding / 2 ^ (w - 2) in
-    let low = reversed_bits-four rest in
-    let t1 = taken_next w encoding 2 _ _ _ (taken-zero w encoding 2) hw hs (omega arith) in
-    let t2 = taken_next w encoding 2 _ _ _ t1 hw hs (omega arith) in
-    let n : r / 4 ≡ (0 * 2 + rest % 2) * 2 + rest / 2 % 2 = omega (arith, e, low) in
-    n ∙ taken-end w encoding 2 _ _ _ t2 (omega arith)
-sum_bits-few w encoding (suc (suc (suc zero))) hw hs l r e =
-    let rest = encoding / 2 ^ (w - 3) in
-    let low = reversed_bits-four rest in
-    let t1 = taken_next w encoding 3 _ _ _ (taken-zero w encoding 3) hw hs (omega arith) in
-    let t2 = taken_next w encoding 3 _ _ _ t1 hw hs (omega arith) in
-    let t3 = taken_next w encoding 3 _ _ _ t2 hw hs (omega arith) in
-    let n : r / 2 ≡ ((0 * 2 + rest % 2) * 2 + rest / 2 % 2) * 2 + rest / 2 / 2 % 2 = omega (arith, e, low) in
-    n ∙ taken-end w encoding 3 _ _ _ t3 (omega arith)
-sum_bits-few w encoding (suc (suc (suc (suc zero)))) hw hs l r e =
-    let rest = encoding / 2 ^ (w - 4) in
-    let low = reversed_bits-four rest in
-    let t1 = taken_next w encoding 4 _ _ _ (taken-zero w encoding 4) hw hs (omega arith) in
-    let t2 = taken_next w encoding 4 _ _ _ t1 hw hs (omega arith) in
-    let t3 = taken_next w encoding 4 _ _ _ t2 hw hs (omega arith) in
-    let t4 = taken_next w encoding 4 _ _ _ t3 hw hs (omega arith) in
-    let n : r / 1 ≡ (((0 * 2 + rest % 2) * 2 + rest / 2 % 2) * 2 + rest / 2 / 2 % 2) * 2 + rest / 2 / 2 / 2 % 2 =
-    omega (arith, e, low) in
-    n ∙ taken-end w encoding 4 _ _ _ t4 (omega arith)
-sum_bits-few w encoding (suc (suc (suc (suc (suc h))))) hw hs l r e = absurd (omega arith)
+unfolding reverse_bits_onto
+sum_bits-few w encoding h hw l r e =
+    let rest = encoding / 2 ^ (w - h) in
+    let four : r ≡ reverse_bits_onto 4 rest 0 = omega (arith, e, reversed_bits-four rest) in
+    ap (λ x. x / 2 ^ (4 - h)) four ∙ sum_bits-reversed w encoding h 4 hw l
 
 -- ---- the four indices
 

@@ -3,8 +3,7 @@ use Prim.Native.Nat.{ℕ, ◌+◌, ◌*◌, ◌/◌, ◌%◌, ◌^◌, ◌<◌}
 use mathlib.Core.Path.{◌≡◌, refl, ap, ◌∙◌}
 use mathlib.Core.Bool.{true}
 use native.Mathlib.Omega.{arith}
-use native.Mathlib.Nat.{mod-eq_of_lt}
-use lib.Bits.{bit_and, bit_or, and_mask, or_shifted}
+use lib.Bits.{bit_and, and_mask}
 use lib.Dec.{eqb}
 use borrow.Author.Tests.{eqb-true}
 use Rattle.shape.specs.Shape.{all_below}
@@ -44,17 +43,3 @@ reversed_bits-four rest =
 
     fourth : rest % 16 / 8 % 2 ≡ rest / 2 / 2 / 2 % 2
     fourth = omega arith
-
--- an index with four bits more
-pub four-more : (index rest r : ℕ) → index < 2 ^ 16 → r ≡ reversed_bits (bit_and rest 15) → r < 16
-    → bit_or (index * 16 % 2 ^ 64) r
-    ≡ (((index * 2 + rest % 2) * 2 + rest / 2 % 2) * 2 + rest / 2 / 2 % 2) * 2 + rest / 2 / 2 / 2 % 2
-four-more index rest r l e m =
-    let small : index * 16 < 2 ^ 64 = omega arith in
-    ap (λ x. bit_or x r) (mod-eq_of_lt small)
-    ∙ or_shifted index 4 r m
-    ∙ ap (λ x. index * 16 + x) (e ∙ reversed_bits-four rest)
-    ∙ sum index (rest % 2) (rest / 2 % 2) (rest / 2 / 2 % 2) (rest / 2 / 2 / 2 % 2)
-  where
-    sum : (n a b c d : ℕ) → n * 16 + (a * 8 + b * 4 + c * 2 + d) ≡ (((n * 2 + a) * 2 + b) * 2 + c) * 2 + d
-    sum n a b c d = omega arith

@@ -100,7 +100,8 @@ pub fn cell_before(widths: Widths, key: [u32; 4], g: u64) -> Index
     Index { i0, i1, i2, i3 }
 }
 
-// The first h of an encoding's w bits as an index: the first of them with weight 1.
+// The first h of an encoding's w bits as an index: the first of them with weight 1. A `reverse_bits`
+// of 64 bits is compiled as a loop here, that of 16 is not.
 fn index_of_bits(w: u64, encoding: u64, h: u64) -> u64
     requires { (h ≤ w) × (w ≤ 16) }
     ensures { result ≡ sum_bits (bit_of w encoding) h }
@@ -108,34 +109,13 @@ fn index_of_bits(w: u64, encoding: u64, h: u64) -> u64
     if h <= 4 {
         return index_of_few(w, encoding, h);
     }
-    index_of_many(w, encoding, h)
+    let rest = encoding >> (w - h);
+    let sixteen = (rest & 0xffff) as u16;
+    (sixteen.reverse_bits() as u64) >> (16 - h)
 }
 
-// The same for any number of bits. They are taken from the last on, four at once while there are so
-// many.
-fn index_of_many(w: u64, encoding: u64, h: u64) -> u64
-    requires { (h ≤ w) × (w ≤ 16) }
-    ensures { result ≡ sum_bits (bit_of w encoding) h }
-{
-    let mut rest = encoding >> (w - h);
-    let mut index: u64 = 0;
-    let mut k: u64 = 0;
-    while k < h {
-        if k + 4 <= h {
-            index = (index << 4) | reversed(rest & 0xf);
-            rest = rest >> 4;
-            k += 4;
-        } else {
-            index = (index << 1) | (rest & 1);
-            rest = rest >> 1;
-            k += 1;
-        }
-    }
-    index
-}
-
-// The first h of an encoding's w bits as an index, of at most four: reversed at once, and what is
-// past them shifted out.
+// The same of at most four: reversed at once by a table, in fewer instructions than `reverse_bits`
+// takes, and what is past them shifted out.
 fn index_of_few(w: u64, encoding: u64, h: u64) -> u64
     requires { (h ≤ w) × (w ≤ 16) × (h ≤ 4) }
     ensures { result ≡ sum_bits (bit_of w encoding) h }

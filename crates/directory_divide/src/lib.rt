@@ -2,7 +2,7 @@
 // of the leaf's region set to its new leaves.
 #![tactic(auto)]
 
-ghost use Rattle.std.specs.Prelude.{◌≡◌, cond, ◌<◌, ◌≤◌, length};
+ghost use Rattle.std.specs.Prelude.{◌≡◌, ◌<◌, ◌≤◌, length};
 ghost use Rattle.shape.specs.Shape.{width_list};
 ghost use Rattle.split.specs.Bits.{split_bit};
 ghost use Rattle.directory.specs.Directory.{DirectoryFits};
@@ -18,10 +18,8 @@ pub fn deepen(widths: Widths, t: u64, u: u64, dir: &mut [u32])
     requires { DirectoryFits (width_list widths) u (length dir.old) × (t ≤ u) }
     ensures { Deepened (width_list widths) t u dir.old dir.new }
 {
-    let mut depth = t;
-    while depth < u {
+    for depth in t..u {
         double(widths, depth, dir);
-        depth += 1;
     }
 }
 
@@ -47,10 +45,9 @@ pub fn set_leaves(
 {
     set_siblings(widths, key, x, m, t, dir);
     let depth = (m + 1) as u32;
-    let other = pack_page(page_of_bit(bit, zero, one), depth);
-    fill(widths, key, m, t, other, dir);
-    let own = pack_page(page_of_bit(bit, one, zero), depth);
-    fill(widths, key, m + 1, t, own, dir);
+    let (other, own) = if bit { (zero, one) } else { (one, zero) };
+    fill(widths, key, m, t, pack_page(other, depth), dir);
+    fill(widths, key, m + 1, t, pack_page(own, depth), dir);
 }
 
 // Sets the siblings of a key's regions of depths x + 1 to m to empty leaves. For each depth the
@@ -60,17 +57,8 @@ fn set_siblings(widths: Widths, key: [u32; 4], x: u64, m: u64, t: u64, dir: &mut
     ensures { SiblingsSet (width_list widths) t x m (split_bit (width_list widths) key)
         dir.old dir.new }
 {
-    let mut y = x;
-    while y < m {
+    for y in x..m {
         let word = pack_empty((y + 1) as u32);
         fill(widths, key, y, t, word, dir);
-        y += 1;
     }
-}
-
-// Page a for bit 1, page b for bit 0.
-fn page_of_bit(bit: bool, a: u32, b: u32) -> u32
-    ensures { result ≡ cond bit a b }
-{
-    if bit { a } else { b }
 }

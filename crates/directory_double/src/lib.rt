@@ -20,13 +20,10 @@ pub fn double(widths: Widths, t: u64, dir: &mut [u32])
 {
     let g = step_place(widths, t);
     let size = 1u64 << t;
-    let mut r: u64 = 0;
-    while r < size {
-        let a = size + r;
+    for a in size..2 * size {
         let whole = whole_of(widths, t, g, a);
         let word = dir[whole as usize];
         dir[a as usize] = word;
-        r += 1;
     }
 }
 

@@ -39,14 +39,12 @@ fn fill_blocks(widths: Widths, index: Index, start: u64, x: u64, t: u64, word: u
 {
     let mut g = start;
     let mut last = index;
-    let mut y = x;
-    while y < t {
+    for y in x..t {
         let step = step_from(widths, y, g);
         let first = with_bit(index, step);
         last = with_bit(last, step);
         fill_block(widths, first, last, step, word, dir);
         g = step + 1;
-        y += 1;
     }
 }
 

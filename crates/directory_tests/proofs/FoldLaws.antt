@@ -1,7 +1,7 @@
 -- Laws of the test before the directory is halved: one step, by the addresses that it appended; the steps in a row.
 -- Assumes nothing.
 use Prim.Native.Nat.{ℕ, suc, ◌+◌, ◌^◌, ◌≤◌, ◌<◌}
-use mathlib.Core.Path.{◌≡◌, refl, sym, ap, ◌∙◌}
+use mathlib.Core.Path.{◌≡◌, sym, ap, ◌∙◌}
 use mathlib.Core.Bool.{Bool, true, false, false≢true}
 use mathlib.Core.List.{List}
 use mathlib.Core.Logic.{◌⊎◌, inl, inr}
@@ -80,52 +80,30 @@ module _ (ws : List ℕ) (fit : Fit ws) (s own : ℕ) (h : s < length (steps ws)
 
 -- ---- the steps in a row
 
-pub record FoldedFrom (ws : List ℕ) (u t : ℕ) (p : ℕ → Bool) (words : List ℕ) (s : ℕ) : Type 0 where
-  pub from : u ≤ s
-  pub within : s ≤ t
-  pub same : Folds ws u s p words
+module _ (ws : List ℕ) (fit : Fit ws) (u t : ℕ) (p : ℕ → Bool) (words : List ℕ) (s : ℕ) (inv : Folds ws u s p words)
+    (from : u ≤ s) (l : s < t) (h : t ≤ length (steps ws)) (own : ℕ) (at : own ≡ cell_address ws s p) (held : Bool)
+    (told : StepTold ws s own words held) where
+  -- the cell left out is that of p's first s bits
+  agrees : (q : ℕ → Bool) → cell_address ws s q ≡ own → Agree s p q
+  agrees q e = (cell_address-same ws fit s (omega arith) p q).0 (sym (e ∙ at))
 
-module _ (ws : List ℕ) (u t : ℕ) (p : ℕ → Bool) (words : List ℕ) where
-  pub folded_from-start : u ≤ t → FoldedFrom ws u t p words u
-  folded_from-start l = record { from = omega arith; within = l; same = λ q n. refl }
+  pub folds-suc : held ≡ true → Folds ws u (s + 1) p words
+  folds-suc e =
+      rw add-one (λ q n. told.yes e q (λ o. n (agree-le u s p q from (agrees q o))) ∙ inv q n)
 
-  module _ (s : ℕ) (inv : FoldedFrom ws u t p words s) where
-    pub fold_told-yes : t ≤ s → FoldTold ws u t p words true
-    fold_told-yes l =
-        let e : s ≡ t = omega (arith, inv.within) in
-        record {
-          yes = λ d. rw e at inv.same;
-          no = λ d. absurd (false≢true (sym d));
-        }
-
-    module _ (fit : Fit ws) (l : s < t) (h : t ≤ length (steps ws)) (own : ℕ) (at : own ≡ cell_address ws s p)
-        (held : Bool) (told : StepTold ws s own words held) where
-      -- the cell left out is that of p's first s bits
-      agrees : (q : ℕ → Bool) → cell_address ws s q ≡ own → Agree s p q
-      agrees q e = (cell_address-same ws fit s (omega arith) p q).0 (sym (e ∙ at))
-
-      pub folded_from-suc : held ≡ true → FoldedFrom ws u t p words (s + 1)
-      folded_from-suc e = rw (add-one s) (record {
-        from = omega (arith, inv.from);
-        within = l;
-        same = λ q n.
-            told.yes e q (λ o. n (agree-le u s p q inv.from (agrees q o))) ∙ inv.same q n;
-      })
-
-      pub fold_told-no : held ≡ false → FoldTold ws u t p words false
-      fold_told-no e =
-          let d = told.no e in
-          record {
-            yes = λ f. absurd (false≢true f);
-            no = λ f. (
-              s,
-              inv.from,
-              l,
-              (
-                d.0,
-                (λ a. d.1 ((cell_address-same ws fit s (omega arith) d.0 p).1
-                    (λ k m. sym (a k m)) ∙ sym at)),
-                d.2,
-              ),
-            );
-          }
+  pub fold_told-no : held ≡ false → FoldTold ws u t p words false
+  fold_told-no e =
+      let d = told.no e in
+      record {
+        yes = λ f. absurd (false≢true f);
+        no = λ f. (
+          s,
+          from,
+          l,
+          (
+            d.0,
+            (λ a. d.1 ((cell_address-same ws fit s (omega arith) d.0 p).1 (λ k m. sym (a k m)) ∙ sym at)),
+            d.2,
+          ),
+        );
+      }

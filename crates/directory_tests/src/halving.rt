@@ -18,13 +18,11 @@ pub fn folds(widths: Widths, key: [u32; 4], u: u64, t: u64, dir: &[u32]) -> bool
     requires { DirectoryFits (width_list widths) t (length dir.now) × (u ≤ t) }
     ensures { FoldTold (width_list widths) u t (split_bit (width_list widths) key) dir.now result }
 {
-    let mut s = u;
-    while s < t {
+    for s in u..t {
         let own = locate_cell(widths, key, s);
         if !step_folds(widths, s, own, dir) {
             return false;
         }
-        s += 1;
     }
     true
 }
@@ -37,14 +35,11 @@ fn step_folds(widths: Widths, s: u64, own: u64, dir: &[u32]) -> bool
 {
     let g = step_place(widths, s);
     let size = 1u64 << s;
-    let mut r: u64 = 0;
-    while r < size {
-        let a = size + r;
+    for a in size..2 * size {
         let whole = whole_of(widths, s, g, a);
         if !pair_folds(a, whole, own, dir) {
             return false;
         }
-        r += 1;
     }
     true
 }

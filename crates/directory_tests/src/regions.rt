@@ -80,8 +80,7 @@ fn blocks_hold(
 {
     let mut g = start;
     let mut last = index;
-    let mut y = x;
-    while y < t {
+    for y in x..t {
         let step = step_from(widths, y, g);
         let first = with_bit(index, step);
         last = with_bit(last, step);
@@ -89,7 +88,6 @@ fn blocks_hold(
             return false;
         }
         g = step + 1;
-        y += 1;
     }
     true
 }

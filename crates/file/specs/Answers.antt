@@ -1,12 +1,9 @@
--- What save answers: each case with document 01's number, or the file's bytes; 14 with the attribute that it names
--- (document 02, request 7). Assumes nothing.
-use Rattle.std.specs.Prelude.{ℕ}
-use Rattle.shape.specs.Refusal.{Answer, accepted, refused, refused_with}
-use Rattle.file.specs.declared.Saved.{Saved}
-use Rattle.file.specs.declared.Saved.TheVariants.{Bytes, Refused, Width}
+-- What save answers: document 01's number, or the file's bytes; 14 with the attribute that it names (document 02, request
+-- 7). Assumes nothing.
+use Rattle.std.specs.Prelude.{ℕ, Result}
+use Rattle.shape.specs.Refusal.{Answer, answer_of}
+use Rattle.shape.specs.declared.refusal.Refusal.{Refusal}
 
 -- "returns their number"
-unfoldable pub saved_answer : Saved → Answer ℕ
-saved_answer (Bytes n) = accepted n
-saved_answer (Refused n) = refused n
-saved_answer (Width attribute) = refused_with 14 attribute
+abbrev pub saved_answer : Result ℕ Refusal → Answer ℕ
+saved_answer r = answer_of (λ n. n) r

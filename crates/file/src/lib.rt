@@ -1,5 +1,4 @@
-// The file of a saved store (document 02, request 5): what save answers, and the encodings of a
-// file's records. Crate `file_parts` has its shape and its trailer.
+// The file of a saved store (document 02, request 5): the encodings of its records. Crate `file_parts` has its shape and its trailer.
 #![tactic(auto)]
 
 ghost use Rattle.std.specs.Prelude.{◌≡◌, ◌+◌, ◌*◌, ◌≤◌, length};
@@ -11,15 +10,6 @@ use record::{RECORD_SIZE, read_key};
 
 // The bytes of the shape and of the trailer, with which a file ends.
 pub const END_SIZE: usize = 24;
-
-// What save answers: how many bytes the file has; a refusal; 14 with the attribute whose width is
-// outside its bounds.
-#[derive(Clone, Copy)]
-pub enum Saved {
-    Bytes(u64),
-    Refused(u32),
-    Width(u32),
-}
 
 // The packed encodings of a file's record i, where a shape adds a bias to its values.
 pub fn encodings_at(file: &[u8], i: usize, bias: u64) -> u64

@@ -106,15 +106,8 @@ pub fn is_plain(file: &[u8]) -> bool
         return false;
     }
     let shape = shape_in(file);
-    let widths = shape.widths;
-    let mut j = shape.attributes as usize;
-    while j < 4 {
-        if widths[j] != 0 {
-            return false;
-        }
-        j += 1;
-    }
-    shape.signs >> shape.attributes == 0
+    let unused = &shape.widths[shape.attributes as usize..];
+    unused.iter().all(|width| *width == 0) && shape.signs >> shape.attributes == 0
 }
 
 // Writes what stands behind n records: the shape and the trailer.
@@ -134,16 +127,7 @@ fn has_letters(file: &[u8]) -> bool
     ensures { result
         ≡ all_below 4 (λ i. eqb (byte_before (16 - i) file.now) (get_or letters i 0)) }
 {
-    let size = file.len();
-    let wanted = LETTERS;
-    let mut i: usize = 0;
-    while i < 4 {
-        if file[size - (TRAILER - i)] != wanted[i] {
-            return false;
-        }
-        i += 1;
-    }
-    true
+    file[file.len() - TRAILER..].starts_with(&LETTERS)
 }
 
 // The bytes of a file with so many records. The sum is made in 64 bits, so that no count wraps.

@@ -12,6 +12,7 @@ use lib.Dec.{ltb, eqb}
 use lib.ListN.{length, get_or}
 use lib.Pow.{pow_pos}
 use borrow.Author.Tests.{lt-ltb, eq-eqb, ne_eqb}
+use Rattle.std.specs.Ordering.{is_lt}
 use Rattle.lists.specs.Filter.{all}
 use Rattle.lists.proofs.Bools.{and_split, and_both, eq-of-iff}
 use Rattle.lists.proofs.FilterLaws.{all-imp}
@@ -28,7 +29,6 @@ use Rattle.record.specs.Lanes.{bias_key}
 use Rattle.record.proofs.ByteLaws.{AreBytes, AreBytes-field}
 use Rattle.record.proofs.FieldLaws.{unpacked_key-key_in}
 use Rattle.key_order.specs.Order.{compared}
-use Rattle.key_order.specs.declared.Order.{Order}
 use Rattle.page.specs.Page.{records_from}
 use Rattle.page.specs.Fields.{fields_from}
 use Rattle.page.proofs.PlaceLaws.{map-append}
@@ -37,7 +37,7 @@ use Rattle.model.specs.Sets.{in_shape, is_set}
 use Rattle.model.proofs.SetLaws.{sorted-of-is_set}
 use Rattle.check_test.proofs.CodeLaws.{before-code}
 use Rattle.check_page.specs.PageTest.{key_code}
-use Rattle.check_page.proofs.CodeLaws.{is_before, is_before-compared}
+use Rattle.check_page.proofs.CodeLaws.{is_lt-compared}
 use Rattle.check_page.proofs.KeyLaws.{index_fits-or}
 use Rattle.file.specs.File.{record_at, encodings_at}
 
@@ -89,12 +89,10 @@ module _ (ws a b : List ℕ) (i : ℕ) where
   may_follow-other : (i ≡ 0 → ⊥) → may_follow ≡ before (split_bit ws) (total ws) 0 a b
   may_follow-other n = ap (λ β. β || before (split_bit ws) (total ws) 0 a b) (ne_eqb i 0 n)
 
-  pub may_follow-compared : (i ≡ 0 → ⊥) → (o : Order) → compared ws a b ≡ o → is_before o ≡ may_follow
+  pub may_follow-compared : (i ≡ 0 → ⊥) → is_lt (compared ws a b) ≡ may_follow
   unfolding key_code
-  may_follow-compared n o e =
-      is_before-compared ws a b o e
-      ∙ sym (before-code (split_bit ws) (total ws) 0 a b)
-      ∙ sym (may_follow-other n)
+  may_follow-compared n =
+      is_lt-compared ws a b ∙ sym (before-code (split_bit ws) (total ws) 0 a b) ∙ sym (may_follow-other n)
 
 -- ---- the records of a file
 
@@ -109,10 +107,12 @@ module _ (s : Shape) (file : List ℕ) where
   abbrev pub record_in : ℕ → Record
   record_in i = record_of s (record_at file i)
 
-  pub unpacked_key-encodings_at : shape_number s ≡ 0 → AreBytes file → (i : ℕ)
-      → unpacked_key (encodings_at (bias_key s) file i) ≡ (record_in i).key
-  unpacked_key-encodings_at good bytes i =
-      unpacked_key-key_in s good (record_at file i) (AreBytes-field file (record_size * i) record_size bytes)
+  -- its key, as it is read
+  pub unpacked_key-read : shape_number s ≡ 0 → AreBytes file → (i key bias : ℕ) → key ≡ encodings_at bias file i
+      → bias ≡ bias_key s → unpacked_key key ≡ (record_in i).key
+  unpacked_key-read good bytes i key bias read e =
+      ap unpacked_key (read ∙ ap (λ b. encodings_at b file i) e)
+      ∙ unpacked_key-key_in s good (record_at file i) (AreBytes-field file (record_size * i) record_size bytes)
 
   pub get_d-file : (n i : ℕ) (r : Record) → i < n → get_or (records_from s n 0 file) i r ≡ record_in i
   get_d-file n i r h =
@@ -188,17 +188,18 @@ module _ (s : Shape) (file : List ℕ) where
         ∙ ap (λ m. is_set s (records_from s m 0 file)) e
 
     -- at record i, by the widths at hand
-    module _ (key : ℕ) (at : unpacked_key key ≡ (record_in i).key) (own : List ℕ) (same : own ≡ ws) (follows : Bool)
-        (told : follows ≡ may_follow own (unpacked_key last) (unpacked_key key) i) where
+    module _ (key : ℕ) (at : unpacked_key key ≡ (record_in i).key) (own : List ℕ) (same : own ≡ ws) where
+      abbrev follows : Bool
+      follows = may_follow own (unpacked_key last) (unpacked_key key) i
+
       neighbour : (k : ℕ) → suc k ≡ i → follows ≡ before (record_bit s) W 0 (record_in k) (record_in (suc k))
       neighbour k d =
-          told
-          ∙ ap (λ w. may_follow w (unpacked_key last) (unpacked_key key) i) same
+          ap (λ w. may_follow w (unpacked_key last) (unpacked_key key) i) same
           ∙ may_follow-other ws (unpacked_key last) (unpacked_key key) i (λ z. omega arith)
           ∙ before-keys k i last key (risen.last-key k d) at
           ∙ ap (λ m. before (record_bit s) W 0 (record_in k) (record_in m)) (sym d)
 
-      pub risen-next : follows ≡ true → Risen key (bit_or bits key) (i + 1)
+      pub risen-next : true ≡ follows → Risen key (bit_or bits key) (i + 1)
       unfolding widths_of
       risen-next e = record {
         rising = λ k l. go k l (lt-or-le (suc k) i);
@@ -213,15 +214,15 @@ module _ (s : Shape) (file : List ℕ) where
           go : (k : ℕ) → suc k < i + 1 → (suc k < i) ⊎ (i ≤ suc k)
               → before (record_bit s) W 0 (record_in k) (record_in (suc k)) ≡ true
           go k l (inl h) = risen.rising k h
-          go k l (inr h) = sym (neighbour k (omega arith)) ∙ e
+          go k l (inr h) = sym (e ∙ neighbour k (omega arith))
 
-      pub risen-stop : (n : ℕ) → i < n → follows ≡ false → false ≡ is_set s (records_from s n 0 file)
+      pub risen-stop : (n : ℕ) → i < n → false ≡ follows → false ≡ is_set s (records_from s n 0 file)
       risen-stop n h e = go i refl
         where
           go : (m : ℕ) → m ≡ i → false ≡ is_set s (records_from s n 0 file)
           go zero d =
               absurd
-              (true≢false (may_follow-first own (unpacked_key last) (unpacked_key key) i (sym d) ∙ sym told ∙ e))
+              (true≢false (may_follow-first own (unpacked_key last) (unpacked_key key) i (sym d) ∙ sym e))
           go (suc k) d =
               eq-of-iff false (is_set s (records_from s n 0 file)) (λ f. absurd (false≢true f))
               (λ f.
@@ -231,5 +232,4 @@ module _ (s : Shape) (file : List ℕ) where
               (neighbours-of-sorted (record_bit s) W 0 (record_in 0) (records_from s n 0 file)
               (sorted-of-is_set s (records_from s n 0 file) f) k (omega (arith, length-records_from s n 0 file)))
               ∙ before-file n k (omega arith)
-              ∙ sym (neighbour k d)
-              ∙ e)))
+              ∙ sym (e ∙ neighbour k d))))

@@ -13,7 +13,7 @@ ghost use Rattle.model.specs.Sets.{is_set};
 
 use file::encodings_at;
 use key_encoding::bias_key;
-use key_order::{Order, compare};
+use key_order::compare;
 use record::unpack_key;
 use refusals::encodings_fit;
 use shape::{Key, Shape, Widths, widths_of};
@@ -26,17 +26,15 @@ pub fn is_set(shape: Shape, file: &[u8], n: usize) -> bool
 {
     let widths = widths_of(shape);
     let bias = bias_key(shape);
-    let mut last = 0u64;
-    let mut bits = 0u64;
-    let mut i = 0;
-    while i < n {
+    let mut last = 0;
+    let mut bits = 0;
+    for i in 0..n {
         let key = encodings_at(file, i, bias);
         if !may_follow(widths, i, last, key) {
             return false;
         }
         bits = bits | key;
         last = key;
-        i += 1;
     }
     encodings_fit(
         shape,
@@ -54,13 +52,5 @@ fn may_follow(widths: Widths, i: usize, last: u64, key: u64) -> bool
         ≡ (eqb i 0
         || before (split_bit (width_list widths)) (total (width_list widths)) 0 (unpacked_key last) (unpacked_key key)) }
 {
-    if i == 0 {
-        return true;
-    }
-    let order = compare(widths, last, key);
-    match order {
-        Order::Same => false,
-        Order::Before => true,
-        Order::After => false,
-    }
+    i == 0 || compare(widths, last, key).is_lt()
 }

@@ -7,7 +7,7 @@ use mathlib.Core.List.{List, []}
 use native.Mathlib.Nat.{zero-add}
 use native.Mathlib.Omega.{arith}
 use lib.ListN.{length, get_or}
-use Rattle.shape.specs.Refusal.{first_number}
+use Rattle.shape.specs.Refusal.{Answer, answered_by}
 use Rattle.shape.specs.Shape.{Fit, widths_of, total, shape_number}
 use Rattle.shape.specs.declared.Shape.{Shape}
 use Rattle.shape.proofs.ShapeLaws.{total-le}
@@ -67,15 +67,15 @@ module _ (s : Shape) (good : shape_number s ≡ 0) (n : ℕ) (file : List ℕ) (
 
 -- the scan of the file finds a load's 6 and 7
 pub joined-of-scanned : (s : Shape) (l : Limits) (n : ℕ) (file : List ℕ) → Scannable s l n file → AreBytes file
-    → (number : ℕ) (ws : List ℕ) (bias : ℕ) → ws ≡ widths_of s → bias ≡ bias_key s
-    → number ≡ first_number (scan_conditions (file_step ws bias file) s.capacity l.depth l.pages n 0 0)
-    → number ≡ first_number (join_conditions (fixed_with s l) [] (records_from s n 0 file))
-joined-of-scanned s l n file asked bytes number ws bias ws≡ bias≡ e =
+    → (answer : Answer (Unit {0})) (ws : List ℕ) (bias : ℕ) → ws ≡ widths_of s → bias ≡ bias_key s
+    → answer ≡ answered_by (scan_conditions (file_step ws bias file) s.capacity l.depth l.pages n 0 0) tt
+    → answer ≡ answered_by (join_conditions (fixed_with s l) [] (records_from s n 0 file)) tt
+joined-of-scanned s l n file asked bytes answer ws bias ws≡ bias≡ e =
     e
     ∙ (λ t. scanned (file_step (ws≡ t) (bias≡ t) file) (sym (length-records_from s n 0 file) t))
-    ∙ ap first_number
+    ∙ ap (λ cs. answered_by cs tt)
     (sym (join_conditions-scan (fixed_with s l) asked.shape asked.depth-bits past (records_from s n 0 file)
     asked.set (file_step (widths_of s) (bias_key s) file) (steps-file s asked.shape n file bytes past)))
   where
-    scanned : (ℕ → ℕ → ℕ) → ℕ → ℕ
-    scanned step k = first_number (scan_conditions step s.capacity l.depth l.pages k 0 0)
+    scanned : (ℕ → ℕ → ℕ) → ℕ → Answer (Unit {0})
+    scanned step k = answered_by (scan_conditions step s.capacity l.depth l.pages k 0 0) tt

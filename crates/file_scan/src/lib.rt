@@ -4,13 +4,12 @@
 #![tactic(auto)]
 
 ghost use Rattle.std.specs.Prelude.{◌≡◌, cond, [], suc, ◌+◌, ◌-◌, ◌*◌, ◌≤◌, ltb, length};
-ghost use Rattle.shape.specs.Refusal.{first_number};
+ghost use Rattle.shape.specs.Refusal.{answered_by, tested};
 ghost use Rattle.shape.specs.Shape.{Fit, width_list};
 ghost use Rattle.record.specs.Bytes.{record_size};
 ghost use Rattle.record.specs.Packed.{unpacked_key};
 ghost use Rattle.key_order.specs.Order.{first_step};
 ghost use Rattle.page.specs.Page.{records_from};
-ghost use Rattle.file.specs.File.{encodings_at};
 ghost use Rattle.file.specs.Loading.{join_conditions};
 ghost use Rattle.file_scan.specs.Asked.{Scannable, fixed_with};
 ghost use Rattle.file_scan.specs.Scan.{file_step, starts_by, scan_conditions};
@@ -18,15 +17,15 @@ ghost use Rattle.file_scan.specs.Scan.{file_step, starts_by, scan_conditions};
 use file::encodings_at;
 use key_encoding::bias_key;
 use key_order::first_step;
+use shape::refusal::Refusal;
 use shape::{Shape, Widths, widths_of};
 use store::Limits;
 
-// The number of the first of a file's n records that does not join those before it: 6, 7, or 0 for
-// none.
-pub fn room_number(shape: Shape, limits: Limits, file: &[u8], n: usize) -> u32
+// Whether a file's n records join one after the other. Refused with 6 or 7 at the first that does not.
+pub fn validate_room(shape: Shape, limits: Limits, file: &[u8], n: usize) -> Result<(), Refusal>
     requires { Scannable shape limits n file.now }
-    ensures { result ≡ first_number (join_conditions (fixed_with shape limits) []
-        (records_from shape n 0 file.now)) }
+    ensures { tested result ≡ answered_by (join_conditions (fixed_with shape limits) []
+        (records_from shape n 0 file.now)) tt }
 {
     scan(
         widths_of(shape),
@@ -40,45 +39,39 @@ pub fn room_number(shape: Shape, limits: Limits, file: &[u8], n: usize) -> u32
 
 // The same by neighbours: 6 where a record's leaf would lie deeper than L, 7 where the records up to
 // it have more than P non-empty leaves.
-fn scan(widths: Widths, bias: u64, capacity: usize, limits: Limits, file: &[u8], n: usize) -> u32
+fn scan(
+    widths: Widths,
+    bias: u64,
+    capacity: usize,
+    limits: Limits,
+    file: &[u8],
+    n: usize,
+) -> Result<(), Refusal>
     requires { Fit (width_list widths) × (1 ≤ capacity) × (record_size * n ≤ length file.now) }
-    ensures { result ≡ first_number (scan_conditions (file_step (width_list widths) bias file.now)
-        capacity limits.depth limits.pages n 0 0) }
+    ensures { tested result ≡ answered_by (scan_conditions (file_step (width_list widths) bias file.now)
+        capacity limits.depth limits.pages n 0 0) tt }
 {
     let deepest = limits.depth as u64;
     let pages = limits.pages as u64;
-    let mut leaves: u64 = 0;
-    let mut depth: u64 = 0;
-    let mut last: u64 = 0;
-    let mut i = 0;
-    while i < n {
+    let mut leaves = 0;
+    let mut depth = 0;
+    let mut last = 0;
+    for i in 0..n {
         let key = encodings_at(file, i, bias);
-        let back = encodings_back(file, i, capacity, bias);
+        // Of the record b places before it, or of the first one where there are fewer.
+        let back = encodings_at(file, i.saturating_sub(capacity), bias);
         let next = depth_at(widths, capacity, i, back, key);
         if deepest < next {
-            return 6;
+            return Err(Refusal::Depth);
         }
-        leaves = leaves + new_leaves(widths, capacity, i, depth, back, last, key);
+        leaves += new_leaves(widths, capacity, i, depth, back, last, key);
         if pages < leaves {
-            return 7;
+            return Err(Refusal::Pages);
         }
         depth = next;
         last = key;
-        i += 1;
     }
-    0
-}
-
-// The packed encodings of the record b places before record i, or of the first one where there are
-// fewer before it.
-fn encodings_back(file: &[u8], i: usize, capacity: usize, bias: u64) -> u64
-    requires { record_size * i + record_size ≤ length file.now }
-    ensures { result ≡ encodings_at bias file.now (i - capacity) }
-{
-    if i < capacity {
-        return encodings_at(file, 0, bias);
-    }
-    encodings_at(file, i - capacity, bias)
+    Ok(())
 }
 
 // The depth of record i's leaf among the first i + 1: b + 1 records do not share a leaf, so that it

@@ -1,20 +1,22 @@
--- Laws of Fresh's promise: its number; what is promised of a refused and of an accepted call. Assumes nothing.
+-- Laws of Fresh's promise: its refusals; what is promised of a refused and of an accepted call. Assumes nothing.
 use Prim.Native.Nat.{ℕ, zero, suc, ◌<◌}
 use mathlib.Core.Path.{◌≡◌, refl, sym, ap, ◌∙◌}
 use mathlib.Core.Bool.{true, false, cond, false≢true}
 use mathlib.Core.List.{List, [], ◌∷◌}
 use native.Mathlib.Omega.{arith}
 use lib.ListN.{length, set, replicate}
-use Rattle.shape.specs.Refusal.{Answer, accepted, refusal, first_number}
-use Rattle.shape.specs.Shape.{shape_number}
-use Rattle.shape.specs.Amiss.{refused_for}
+use Rattle.shape.specs.Refusal.{accepted, refusal, told, first_number, answered_by}
+use Rattle.shape.specs.Shape.{shape_number, shape_conditions}
 use Rattle.shape.specs.declared.Shape.{Shape}
-use Rattle.shape.proofs.RefusalLaws.{first_number-shape, first_number-shape-out, answered_by-named}
+use Rattle.shape.specs.declared.refusal.Refusal.{Refusal}
+use Rattle.shape.specs.declared.refusal.Refusal.TheVariants as why
+use Rattle.shape.proofs.RefusalLaws.{first_number-shape, answered_by-first}
+use Rattle.shape.proofs.TestLaws.{told-append, told-suc}
 use Rattle.model.specs.Limits.{page_limit_of, depth_limit_of, fresh_shape}
 use Rattle.store.specs.Fresh.{FreshPromise, fresh_refusals, fresh_number, fresh_state, fresh_memory, cleared_counts, no_state}
 use Rattle.store.specs.Store.{memory, store}
 use Rattle.store.specs.declared.State.{State}
-use Rattle.store.proofs.NumberLaws.{named-fresh, answered_by-fresh}
+use Rattle.store.proofs.NumberLaws.{answered_by-fresh}
 use Rattle.store.specs.declared.Tally.{Tally}
 use Rattle.fresh.specs.Memory.{lacks_word_or_page}
 
@@ -24,11 +26,18 @@ word-of-lent s zero bytes e = absurd (false≢true (sym e))
 word-of-lent s (suc words) bytes e = omega arith
 
 module _ (s : Shape) (words bytes : List ℕ) where
-  -- ---- the number
+  -- ---- the refusals
 
-  pub fresh_number-shape-out : (shape_number s ≡ 0 → ⊥) → fresh_number s (memory words bytes) ≡ shape_number s
+  pub told-shape : (r : Refusal) → told r ≡ answered_by (shape_conditions s) (tt {0})
+      → told r ≡ answered_by (fresh_refusals s (memory words bytes)) (tt {0})
   unfolding fresh_refusals
-  fresh_number-shape-out n = first_number-shape-out s (refusal 2 (lacks_word_or_page s (length words) (length bytes)) ∷ []) n
+  told-shape r e =
+      told-append tt r (shape_conditions s) (refusal 2 (lacks_word_or_page s (length words) (length bytes)) ∷ []) tt e
+
+  pub told-lacks : shape_number s ≡ 0 → lacks_word_or_page s (length words) (length bytes) ≡ true
+      → told why.Memory ≡ answered_by (fresh_refusals s (memory words bytes)) (tt {0})
+  unfolding fresh_refusals
+  told-lacks n e = answered_by-first s tt 1 (lacks_word_or_page s (length words) (length bytes)) [] n e
 
   -- a shape within its bounds leaves the number to the lent memory
   fresh_number-shape : shape_number s ≡ 0
@@ -36,27 +45,17 @@ module _ (s : Shape) (words bytes : List ℕ) where
   unfolding fresh_refusals first_number
   fresh_number-shape n = first_number-shape s (refusal 2 (lacks_word_or_page s (length words) (length bytes)) ∷ []) n
 
-  pub fresh_number-lacks : shape_number s ≡ 0 → lacks_word_or_page s (length words) (length bytes) ≡ true
-      → fresh_number s (memory words bytes) ≡ 2
-  fresh_number-lacks n e = fresh_number-shape n ∙ ap (λ β. cond β 2 0) e
-
   pub fresh_number-none : shape_number s ≡ 0 → lacks_word_or_page s (length words) (length bytes) ≡ false
       → fresh_number s (memory words bytes) ≡ 0
   fresh_number-none n e = fresh_number-shape n ∙ ap (λ β. cond β 2 0) e
 
   -- ---- the promise
 
-  pub promise-refused : (answer : Answer (Unit {0})) (state : State) (n : ℕ) → fresh_number s (memory words bytes) ≡ n
-      → (n ≡ 0 → ⊥) → answer ≡ refused_for s n → state ≡ no_state
-      → FreshPromise s (memory words bytes) answer (store state words bytes)
-  promise-refused answer state zero e ne a t = absurd (ne refl)
-  promise-refused answer state (suc n) e ne a t =
-      let m = memory words bytes in
-      record {
-        answered-as = a ∙ sym (answered_by-named s tt (fresh_refusals s m) (named-fresh s m) n e);
-        state-as = rw e t;
-        memory-as = rw e refl;
-      }
+  pub promise-refused : (r : Refusal) → told r ≡ answered_by (fresh_refusals s (memory words bytes)) (tt {0})
+      → FreshPromise s (memory words bytes) (told r) (store no_state words bytes)
+  promise-refused r e =
+      let some = told-suc tt r (fresh_refusals s (memory words bytes)) e in
+      record { answered-as = e; state-as = rw some.1 refl; memory-as = rw some.1 refl }
 
   -- the state from its parts
   pub fresh_state-of : (shape : Shape) (tally : Tally) (pages depth : ℕ) → shape ≡ fresh_shape s

@@ -6,32 +6,29 @@ ghost use Rattle.std.specs.Prelude.{◌≡◌, ◌∷◌, ◌*◌, ◌%◌, ◌^
 ghost use Rattle.shape.specs.Shape.{shape_number};
 ghost use Rattle.page.specs.Page.{page_size};
 ghost use Rattle.model.specs.Limits.{logarithm, page_limit_of, depth_limit_of, fresh_shape};
-ghost use Rattle.store.specs.Answers.{made_answer};
-ghost use Rattle.store.specs.Fresh.{FreshPromise, cleared_counts, no_state};
+ghost use Rattle.store.specs.Answers.{made_answer, made_state};
+ghost use Rattle.store.specs.Fresh.{FreshPromise, cleared_counts};
 ghost use Rattle.store.specs.Store.{memory, store};
 ghost use Rattle.fresh.specs.Memory.{lacks_word_or_page};
 
-use numbers::{smaller, smaller_length};
 use page::page_size;
-use shape::{Shape, shape_number, total_of, widths_of};
-use store::{Limits, Made, Making, State, Tally, refuse_made};
+use shape::refusal::Refusal;
+use shape::{Shape, total_of, validate, widths_of};
+use store::{Limits, State, Tally};
 
 // Makes a store without records in lent memory: the state, word 0 and the counts of the P pages.
 // Refused with 1 for d, 14 for a width, which names its attribute, 15 for the capacity outside its
 // bounds, then with 2 for no directory word or no whole page; a refused call changes nothing.
-pub fn fresh(shape: Shape, dir: &mut [u32], pages: &mut [u8]) -> Making
+pub fn fresh(shape: Shape, dir: &mut [u32], pages: &mut [u8]) -> Result<State, Refusal>
     ensures { FreshPromise shape (memory dir.old pages.old)
-        (made_answer result.answer)
-        (store result.state dir.new pages.new) }
+        (made_answer result)
+        (store (made_state result) dir.new pages.new) }
 {
-    let number = shape_number(shape);
-    if number != 0 {
-        return refuse(refuse_made(shape, number));
-    }
+    validate(shape)?;
     let words = dir.len();
     let bytes = pages.len();
     if lacks_word_or_page(shape, words, bytes) {
-        return refuse(Made::Refused(2));
+        return Err(Refusal::Memory);
     }
     let page_count = page_limit(shape, bytes);
     let limit = depth_limit(shape, words);
@@ -41,39 +38,12 @@ pub fn fresh(shape: Shape, dir: &mut [u32], pages: &mut [u8]) -> Making
         pages: page_count,
         depth: limit,
     };
-    let state = State {
+    Ok(State {
         shape: fresh_shape(shape),
         limits,
         deepest: 0,
         tally: one_leaf(),
-    };
-    Making {
-        answer: Made::Done,
-        state,
-    }
-}
-
-// The answer of a refused call, and no state to go on with.
-pub fn refuse(answer: Made) -> Making
-    ensures { (made_answer result.answer ≡ made_answer answer) × (result.state ≡ no_state) }
-{
-    let widths = [0u32; 4];
-    let shape = Shape {
-        attributes: 0,
-        widths,
-        capacity: 0,
-        signs: 0,
-    };
-    let limits = Limits { pages: 0, depth: 0 };
-    let leaves = [0u32; 13];
-    let tally = Tally { leaves };
-    let state = State {
-        shape,
-        limits,
-        deepest: 0,
-        tally,
-    };
-    Making { answer, state }
+    })
 }
 
 // Whether there is no directory word or no whole page.
@@ -91,7 +61,7 @@ pub fn page_limit(shape: Shape, bytes: usize) -> u32
     ensures { result ≡ page_limit_of shape bytes }
 {
     let whole = bytes / page_size(shape.capacity as usize);
-    smaller_length(4096, whole) as u32
+    whole.min(4096) as u32
 }
 
 // L: the smallest of 12, W and the rounded-down base-2 logarithm of the directory's length.
@@ -100,7 +70,7 @@ pub fn depth_limit(shape: Shape, words: usize) -> u32
     ensures { result ≡ depth_limit_of shape words }
 {
     let bits = total_of(widths_of(shape));
-    smaller(12, smaller(bits, log2(words as u64))) as u32
+    bits.min(log2(words as u64)).min(12) as u32
 }
 
 // The rounded-down base-2 logarithm, from the leading zeros.
@@ -117,13 +87,10 @@ fn clear_counts(pages: &mut [u8], b: u32, n: u32)
     ensures { pages.new ≡ cleared_counts b n pages.old }
 {
     let size = page_size(b as usize);
-    let mut page: u32 = 0;
-    let mut start: usize = 0;
-    while page < n {
+    for page in 0..n {
+        let start = (page as usize) * size;
         let end = start + size;
         clear_count(&mut pages[start..end]);
-        start = end;
-        page += 1;
     }
 }
 

@@ -6,6 +6,7 @@ use mathlib.Core.Bool.{Bool, true, false, false≢true}
 use mathlib.Core.List.{List}
 use native.Mathlib.Decide.{dec_lt}
 use native.Mathlib.Omega.{arith}
+use borrow.Author.Tests.{ne_eqb}
 use lib.ListN.{length, drop}
 use Rattle.lists.specs.Members.{All}
 use Rattle.lists.proofs.MemberLaws.{All-member}
@@ -27,10 +28,17 @@ use Rattle.host_state.specs.Image.{state_size, state_in}
 use Rattle.host_state.proofs.ImageLaws.{state_in-short}
 use Rattle.host_results.specs.Result.{key_answer}
 use Rattle.host_results.specs.Settled.{depth_told, Settled}
-use Rattle.host_results.proofs.ResultLaws.{key_answer-refused}
+use Rattle.host_results.proofs.ResultLaws.{numbered_answer-refused}
 use Rattle.host_results.proofs.SettledLaws.{is_refused-number_told}
 use Rattle.host_results.proofs.ToldLaws.{carried_beside-other}
 use Rattle.host_changes.specs.Changes.{LentChangePromise}
+
+-- a refusal's number other than 5 and 14 tells it
+key_answer-refused : {A : Type 0} (n attribute depth : ℕ) (x : A) → (n ≡ 0 → ⊥) → (n ≡ 5 → ⊥) → (n ≡ 14 → ⊥)
+    → key_answer n attribute depth x ≡ refused n
+key_answer-refused zero attribute depth x not-zero other width = absurd (not-zero refl)
+key_answer-refused (suc n) attribute depth x not-zero other width =
+    rw (ne_eqb n 4 (λ e. other (omega arith))) (numbered_answer-refused (suc n) attribute x not-zero width)
 
 -- 5 alone of the refusals has a depth
 depth_told-other : (answer : Answer Reply) (n : ℕ) → number_told answer ≡ suc n → (number_told answer ≡ 5 → ⊥)

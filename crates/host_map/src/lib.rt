@@ -8,7 +8,7 @@ ghost use Rattle.address_formula.specs.Index.{index_list};
 ghost use Rattle.address_calls.specs.Answers.{address_answer, index_answer};
 ghost use Rattle.host_results.specs.Result.{Reports};
 
-use address_calls::{AddressAnswer, IndexAnswer, address_of, index_at};
+use address_calls::{address_of, index_at};
 use address_formula::Index;
 use shape::Shape;
 
@@ -35,21 +35,15 @@ pub struct IndexResult {
 pub fn address_result(shape: Shape, index: Index) -> AddressResult
     ensures { Reports result.number result.attribute result.address 0 (address_answer shape (index_list index)) }
 {
-    let answer = address_of(shape, index);
-    match answer {
-        AddressAnswer::Address(address) => AddressResult {
+    match address_of(shape, index) {
+        Ok(address) => AddressResult {
             number: 0,
             attribute: 0,
             address,
         },
-        AddressAnswer::Refused(number) => AddressResult {
-            number,
-            attribute: 0,
-            address: 0,
-        },
-        AddressAnswer::Width(attribute) => AddressResult {
-            number: 14,
-            attribute,
+        Err(refusal) => AddressResult {
+            number: refusal.number(),
+            attribute: refusal.attribute(),
             address: 0,
         },
     }
@@ -61,21 +55,15 @@ pub fn index_result(shape: Shape, address: u64) -> IndexResult
     ensures { Reports result.number result.attribute (index_list result.index) (0 ∷ 0 ∷ 0 ∷ 0 ∷ [])
         (index_answer shape address) }
 {
-    let answer = index_at(shape, address);
-    match answer {
-        IndexAnswer::Index(index) => IndexResult {
+    match index_at(shape, address) {
+        Ok(index) => IndexResult {
             number: 0,
             attribute: 0,
             index,
         },
-        IndexAnswer::Refused(number) => IndexResult {
-            number,
-            attribute: 0,
-            index: no_index(),
-        },
-        IndexAnswer::Width(attribute) => IndexResult {
-            number: 14,
-            attribute,
+        Err(refusal) => IndexResult {
+            number: refusal.number(),
+            attribute: refusal.attribute(),
             index: no_index(),
         },
     }

@@ -5,11 +5,11 @@ use mathlib.Core.Path.{◌≡◌, refl, sym, ap, ◌∙◌}
 use mathlib.Core.Bool.{true, false, false≢true}
 use mathlib.Core.List.{List}
 use native.Mathlib.Omega.{arith}
-use lib.ListN.{length, drop}
+use lib.ListN.{drop}
 use Rattle.shape.specs.Refusal.{Answer, accepted, refused, refused_with, is_refused, number_told}
 use Rattle.store.specs.declared.State.{State}
 use Rattle.host_state.specs.Image.{state_size, state_in, state_put}
-use Rattle.host_state.proofs.ImageLaws.{drop-state_put, state_in-state_put}
+use Rattle.host_state.proofs.ImageLaws.{drop-state_put}
 use Rattle.host_results.specs.Settled.{Settled}
 
 -- a number other than 0 is a refusal's
@@ -20,21 +20,12 @@ is_refused-number_told (refused m) n e = refl
 is_refused-number_told (refused_with m x) n e = refl
 
 module _ {A : Type 0} (answer : Answer A) (state : State) (words : List ℕ) where
-  pub settled-done : is_refused answer ≡ false → length state.shape.widths ≡ 4 → length state.tally.leaves ≡ 13
-      → (words' : List ℕ) → words' ≡ state_put state words → Settled answer state words words'
-  settled-done done four thirteen words' e =
+  pub settled-done : is_refused answer ≡ false → (words' : List ℕ) → words' ≡ state_put state words
+      → state_in words' ≡ state → Settled answer state words words'
+  settled-done done words' e shown =
       record {
         words-done = λ _. e;
-        state-done = λ _. ap state_in e ∙ state_in-state_put state words four thirteen;
+        state-done = λ _. shown;
         past-done = λ _. ap (drop state_size) e ∙ drop-state_put state words;
         words-refused = λ f. absurd (false≢true (sym done ∙ f));
-      }
-
-  pub settled-refused : is_refused answer ≡ true → Settled answer state words words
-  settled-refused not_done =
-      record {
-        words-done = λ f. absurd (false≢true (sym f ∙ not_done));
-        state-done = λ f. absurd (false≢true (sym f ∙ not_done));
-        past-done = λ f. absurd (false≢true (sym f ∙ not_done));
-        words-refused = λ _. refl;
       }

@@ -1,6 +1,6 @@
 -- Results that cross the C interface: a number and values side by side. Assumes nothing.
 use Rattle.std.specs.Prelude.{ℕ, zero, suc, ◌≡◌, Bool, true, false, cond, eqb}
-use Rattle.shape.specs.Refusal.{Answer, accepted, refused, refused_with}
+use Rattle.shape.specs.Refusal.{Answer, accepted, refused, refused_with, number_told}
 
 -- an answer by its number and the attribute beside it: 14 alone names one
 abbrev pub numbered_answer : {A : Type 0} → ℕ → ℕ → A → Answer A
@@ -39,3 +39,7 @@ pub record KeepsDepth {A : Type 0} (number attribute depth : ℕ) (values zeros 
 abbrev pub is_yes : ℕ → Bool
 is_yes zero = false
 is_yes (suc n) = true
+
+-- an answer that carries no depth: 5 is none of its numbers
+abbrev pub NoDepth : {A : Type 0} → Answer A → Type 0
+NoDepth answer = number_told answer ≡ 5 → ⊥

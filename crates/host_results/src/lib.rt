@@ -7,19 +7,21 @@
 ghost use Rattle.std.specs.Prelude.{◌≡◌, false, ◌<◌, ◌≤◌, get_or, length};
 ghost use Rattle.shape.specs.Key.{wanted_value, wanted_values};
 ghost use Rattle.shape.specs.Range.{span_interval, range_intervals, interval_if, intervals_of};
-ghost use Rattle.shape.specs.Refusal.{refused, is_refused, number_told, carried_beside};
+ghost use Rattle.shape.specs.Refusal.{is_refused, number_told, carried_beside};
 ghost use Rattle.model.specs.Model.{found, listed};
-ghost use Rattle.store.specs.Answers.{made_answer, changed_answer, found_answer, listed_answer, checked_answer};
+ghost use Rattle.store.specs.Answers.{made_answer, made_state, changed_answer, changed_state};
+ghost use Rattle.store.specs.Answers.{found_answer, listed_answer, checked_answer};
+ghost use Rattle.store.specs.declared.State.{State};
 ghost use Rattle.file.specs.Answers.{saved_answer};
 ghost use Rattle.host_state.specs.Image.{state_size};
-ghost use Rattle.host_results.specs.Result.{Reports, KeepsDepth, is_yes};
+ghost use Rattle.host_results.specs.Result.{NoDepth, Reports, KeepsDepth, is_yes};
 ghost use Rattle.host_results.specs.Settled.{depth_told, Settled};
 ghost use Rattle.host_results.specs.Wanted.{wanted_if, wanted_of};
 
-use file::Saved;
 use host_state::put_state;
+use shape::refusal::Refusal;
 use shape::{Attribute, Query, Range, RangeAttribute, Span, Wanted};
-use store::{Change, Changed, Checked, Found, Listed, Made, Making};
+use store::{Changed, Counts, Found, State};
 
 // A partial-match query: attribute j is given `values[j]` where `given[j]` is not 0, otherwise free.
 #[repr(C)]
@@ -98,69 +100,45 @@ pub struct SaveResult {
 }
 
 // A lookup's answer as numbers.
-pub fn found_result(answer: Found) -> LookupResult
-    requires { (found_answer answer ≡ refused 0 → ⊥) × (found_answer answer ≡ refused 5 → ⊥)
-        × (found_answer answer ≡ refused 14 → ⊥) }
+pub fn found_result(answer: Result<Found, Refusal>) -> LookupResult
     ensures { KeepsDepth result.number result.attribute result.depth
         (found (record { payload = result.payload }) result.reads)
         (found (record { payload = 0 }) 0) (λ told. told ≡ found_answer answer) }
 {
     match answer {
-        Found::Content(content, reads, depth) => LookupResult {
+        Ok(found) => LookupResult {
             number: 0,
             attribute: 0,
-            payload: content.payload,
-            reads,
-            depth,
+            payload: found.content.payload,
+            reads: found.reads,
+            depth: found.depth,
         },
-        Found::Absent(depth) => LookupResult {
-            number: 5,
-            attribute: 0,
+        Err(refusal) => LookupResult {
+            number: refusal.number(),
+            attribute: refusal.attribute(),
             payload: 0,
             reads: 0,
-            depth,
-        },
-        Found::Refused(number) => LookupResult {
-            number,
-            attribute: 0,
-            payload: 0,
-            reads: 0,
-            depth: 0,
-        },
-        Found::Width(attribute) => LookupResult {
-            number: 14,
-            attribute,
-            payload: 0,
-            reads: 0,
-            depth: 0,
+            depth: refusal.depth(),
         },
     }
 }
 
-// A query's or a range's answer as numbers.
-pub fn listed_result(answer: Listed) -> QueryResult
-    requires { (listed_answer answer ≡ refused 0 → ⊥) × (listed_answer answer ≡ refused 14 → ⊥) }
-    ensures { Reports result.number result.attribute (listed result.written result.total result.reads) (listed 0 0 0)
+// A query's or a range's answer as numbers: none that carries a depth.
+pub fn listed_result(answer: Result<Counts, Refusal>) -> QueryResult
+    ensures { NoDepth (listed_answer answer) → Reports result.number result.attribute (listed result.written result.total result.reads) (listed 0 0 0)
         (listed_answer answer) }
 {
     match answer {
-        Listed::Records(counts) => QueryResult {
+        Ok(counts) => QueryResult {
             number: 0,
             attribute: 0,
             written: counts.written,
             total: counts.total,
             reads: counts.reads,
         },
-        Listed::Refused(number) => QueryResult {
-            number,
-            attribute: 0,
-            written: 0,
-            total: 0,
-            reads: 0,
-        },
-        Listed::Width(attribute) => QueryResult {
-            number: 14,
-            attribute,
+        Err(refusal) => QueryResult {
+            number: refusal.number(),
+            attribute: refusal.attribute(),
             written: 0,
             total: 0,
             reads: 0,
@@ -168,121 +146,88 @@ pub fn listed_result(answer: Listed) -> QueryResult
     }
 }
 
-// A check's answer as numbers.
-pub fn checked_result(answer: Checked) -> CheckResult
-    requires { (checked_answer answer ≡ refused 0 → ⊥) × (checked_answer answer ≡ refused 14 → ⊥) }
-    ensures reports { Reports result.number result.attribute (is_yes result.sound) (is_yes 0) (checked_answer answer) }
+// A check's answer as numbers: none that carries a depth.
+pub fn checked_result(answer: Result<bool, Refusal>) -> CheckResult
+    ensures reports { NoDepth (checked_answer answer) → Reports result.number result.attribute (is_yes result.sound) (is_yes 0) (checked_answer answer) }
     ensures sound_bound { result.sound ≤ 1 }
 {
     match answer {
-        Checked::Yes => CheckResult {
+        Ok(sound) => CheckResult {
             number: 0,
             attribute: 0,
-            sound: 1,
+            sound: sound as u32,
         },
-        Checked::No => CheckResult {
-            number: 0,
-            attribute: 0,
-            sound: 0,
-        },
-        Checked::Refused(number) => CheckResult {
-            number,
-            attribute: 0,
-            sound: 0,
-        },
-        Checked::Width(attribute) => CheckResult {
-            number: 14,
-            attribute,
+        Err(refusal) => CheckResult {
+            number: refusal.number(),
+            attribute: refusal.attribute(),
             sound: 0,
         },
     }
 }
 
-// A save's answer as numbers.
-pub fn saved_result(answer: Saved) -> SaveResult
-    requires { (saved_answer answer ≡ refused 0 → ⊥) × (saved_answer answer ≡ refused 14 → ⊥) }
-    ensures { Reports result.number result.attribute result.size 0 (saved_answer answer) }
+// A save's answer as numbers: none that carries a depth.
+pub fn saved_result(answer: Result<u64, Refusal>) -> SaveResult
+    ensures { NoDepth (saved_answer answer) → Reports result.number result.attribute result.size 0 (saved_answer answer) }
 {
     match answer {
-        Saved::Bytes(size) => SaveResult {
+        Ok(size) => SaveResult {
             number: 0,
             attribute: 0,
             size,
         },
-        Saved::Refused(number) => SaveResult {
-            number,
-            attribute: 0,
-            size: 0,
-        },
-        Saved::Width(attribute) => SaveResult {
-            number: 14,
-            attribute,
+        Err(refusal) => SaveResult {
+            number: refusal.number(),
+            attribute: refusal.attribute(),
             size: 0,
         },
     }
 }
 
 // Writes the state of a store that is made into its words, and returns number and attribute.
-pub fn settle(words: &mut [u32], making: Making) -> MakeResult
-    requires { is_refused (made_answer making.answer) ≡ false → state_size ≤ length words.old }
-    ensures number_value { (result.number ≡ number_told (made_answer making.answer))
-        × (result.attribute ≡ carried_beside 14 (made_answer making.answer)) }
-    ensures settled { Settled (made_answer making.answer) making.state words.old
+pub fn settle(words: &mut [u32], making: Result<State, Refusal>) -> MakeResult
+    requires { is_refused (made_answer making) ≡ false → state_size ≤ length words.old }
+    ensures number_value { (result.number ≡ number_told (made_answer making))
+        × (result.attribute ≡ carried_beside 14 (made_answer making)) }
+    ensures settled { Settled (made_answer making) (made_state making) words.old
         words.new }
 {
-    let answer = making.answer;
-    match answer {
-        Made::Done => {
-            put_state(words, making.state);
+    match making {
+        Ok(state) => {
+            put_state(words, state);
             MakeResult {
                 number: 0,
                 attribute: 0,
             }
         }
-        Made::Refused(number) => MakeResult {
-            number,
-            attribute: 0,
-        },
-        Made::Width(attribute) => MakeResult {
-            number: 14,
-            attribute,
+        Err(refusal) => MakeResult {
+            number: refusal.number(),
+            attribute: refusal.attribute(),
         },
     }
 }
 
 // Writes the state of an accepted change into its words, and returns its number, attribute and depth.
-pub fn settle_change(words: &mut [u32], change: Change) -> ChangeResult
-    requires { is_refused (changed_answer change.answer) ≡ false → state_size ≤ length words.old }
-    ensures number_value { (result.number ≡ number_told (changed_answer change.answer))
-        × (result.attribute ≡ carried_beside 14 (changed_answer change.answer))
-        × (result.depth ≡ depth_told (changed_answer change.answer)) }
-    ensures settled { Settled (changed_answer change.answer) change.state words.old
+pub fn settle_change(words: &mut [u32], change: Result<Changed, Refusal>) -> ChangeResult
+    requires { is_refused (changed_answer change) ≡ false → state_size ≤ length words.old }
+    ensures number_value { (result.number ≡ number_told (changed_answer change))
+        × (result.attribute ≡ carried_beside 14 (changed_answer change))
+        × (result.depth ≡ depth_told (changed_answer change)) }
+    ensures settled { (before : State) → Settled (changed_answer change) (changed_state before change) words.old
         words.new }
 {
-    let answer = change.answer;
-    match answer {
-        Changed::Refused(number) => ChangeResult {
-            number,
-            attribute: 0,
-            depth: 0,
-        },
-        Changed::Absent(depth) => ChangeResult {
-            number: 5,
-            attribute: 0,
-            depth,
-        },
-        Changed::Done(depth) => {
-            put_state(words, change.state);
+    match change {
+        Ok(changed) => {
+            put_state(words, changed.state);
             ChangeResult {
                 number: 0,
                 attribute: 0,
-                depth,
+                depth: changed.depth,
             }
         }
-        Changed::Width(attribute) => ChangeResult {
-            number: 14,
-            attribute,
-            depth: 0,
+        Err(refusal) => ChangeResult {
+            number: refusal.number(),
+            attribute: refusal.attribute(),
+            depth: refusal.depth(),
         },
     }
 }

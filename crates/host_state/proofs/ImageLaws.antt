@@ -1,31 +1,18 @@
--- Laws of states in words: words written over the first of a slice; the state that a slice shows; the state written,
--- read back. Assumes nothing.
+-- Laws of states in words: the state that a slice shows; the state written, read back. Assumes nothing.
 use Prim.Native.Nat.{ℕ, zero, suc, ◌+◌, ◌≤◌, ◌<◌}
 use mathlib.Core.Path.{◌≡◌, refl, sym, ap, ◌∙◌}
 use mathlib.Core.Bool.{true, false}
-use mathlib.Core.List.{List, ◌∷◌, ◌++◌}
-use native.Mathlib.Nat.{add-zero, zero-add}
+use mathlib.Core.List.{List, ◌∷◌}
+use native.Mathlib.Nat.{add-zero}
 use native.Mathlib.Numerals.{add-one}
 use native.Mathlib.Omega.{arith}
 use borrow.Author.Tests.{lt-ltb, le-ltb}
 use lib.Dec.{ltb}
-use lib.ListN.{length, get_or, drop, set}
-use lib.Seq.{paste, paste-suc, drop-cons, drop-length, take-length}
+use lib.ListN.{length, get_or, drop}
+use lib.Seq.{drop-cons, drop-length}
 use Rattle.store.specs.Fresh.{no_state}
 use Rattle.store.specs.declared.State.{State}
 use Rattle.host_state.specs.Image.{state_size, words_from, shown_state, state_in, state_words, state_put}
-
--- ---- words written over the first of a slice
-
-pub paste-next : (words image : List ℕ) (i : ℕ) → i < length image → length image ≤ length words
-    → set (paste words 0 image i) i (get_or image i 0) ≡ paste words 0 image (i + 1)
-paste-next words image i h l =
-    ap (λ k. set (paste words 0 image i) k (get_or image i 0)) (sym (zero-add i))
-    ∙ paste-suc words 0 image i 0 (omega arith) h
-    ∙ ap (paste words 0 image) (sym (add-one i))
-
-pub paste-whole : (words image : List ℕ) → paste words 0 image (length image) ≡ image ++ drop (length image) words
-paste-whole words image = rw (take-length image, zero-add (length image)) refl
 
 -- ---- the state that a slice shows
 

@@ -8,8 +8,7 @@
 //     word 22       the marks of signed attributes
 #![tactic(auto)]
 
-ghost use Rattle.std.specs.Prelude.{◌≡◌, ◌≤◌, ◌++◌, length, drop};
-ghost use Rattle.store.specs.Fresh.{no_state};
+ghost use Rattle.std.specs.Prelude.{◌≡◌, ◌≤◌, length};
 ghost use Rattle.host_state.specs.Image.{state_size, shown_state, state_in, state_put};
 
 use shape::Shape;
@@ -24,15 +23,16 @@ pub fn state_in(words: &[u32]) -> State
     ensures { result ≡ state_in words.now }
 {
     if words.len() < STATE_SIZE {
-        return no_state();
+        return State::default();
     }
     shown_state(words)
 }
 
-// Writes a state into the first words. The others stay.
+// Writes a state into the first words, which then show it. The others stay.
 pub fn put_state(words: &mut [u32], state: State)
     requires { state_size ≤ length words.old }
-    ensures { words.new ≡ state_put state words.old }
+    ensures put { words.new ≡ state_put state words.old }
+    ensures shown { state_in words.new ≡ state }
 {
     let shape = state.shape;
     let widths = shape.widths;
@@ -63,29 +63,7 @@ pub fn put_state(words: &mut [u32], state: State)
         leaves[12],
         shape.signs,
     ];
-    put_words(words, &image);
-}
-
-// The state without attributes.
-fn no_state() -> State
-    ensures { result ≡ no_state }
-{
-    let widths = [0u32; 4];
-    let shape = Shape {
-        attributes: 0,
-        widths,
-        capacity: 0,
-        signs: 0,
-    };
-    let limits = Limits { pages: 0, depth: 0 };
-    let leaves = [0u32; 13];
-    let tally = Tally { leaves };
-    State {
-        shape,
-        limits,
-        deepest: 0,
-        tally,
-    }
+    words[..STATE_SIZE].copy_from_slice(&image);
 }
 
 // The state of the first words.
@@ -114,19 +92,5 @@ fn shown_state(words: &[u32]) -> State
         limits,
         deepest: words[8],
         tally,
-    }
-}
-
-// Writes words over the first of a slice. The others stay.
-fn put_words(words: &mut [u32], image: &[u32])
-    requires { length image.now ≤ length words.old }
-    ensures { words.new
-        ≡ image.now ++ drop (length image.now) words.old }
-{
-    let n = image.len();
-    let mut i = 0;
-    while i < n {
-        words[i] = image[i];
-        i += 1;
     }
 }

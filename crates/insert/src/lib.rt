@@ -4,7 +4,7 @@
 #![tactic(auto)]
 
 ghost use Rattle.std.specs.Prelude.{◌≡◌};
-ghost use Rattle.store.specs.Answers.{changed_answer};
+ghost use Rattle.store.specs.Answers.{changed_answer, changed_state};
 ghost use Rattle.store.specs.Promises.{key_number, AddPromise, InsertPromise};
 ghost use Rattle.store.specs.Store.{store};
 
@@ -14,67 +14,68 @@ use insert_pages::{divide_pages, insert_record};
 use insert_words::{count_leaves, double, set_word, set_words};
 use key_encoding::{bias_key, encode_key, to_fields};
 use record::{Content, pack_key};
-use refusals::{encodings_fit, lent_number};
+use refusals::{encodings_fit, validate_lent};
 use shape::Key;
-use store::{Change, Changed, State, refuse_change};
+use shape::refusal::Refusal;
+use store::{Changed, State};
 
 // Adds a record, and returns the depth of its leaf afterwards; a full leaf is divided until no leaf
 // has more than b. Refused with 1, 14, 15, 2, 3, 11 (a payload of 0), 4, 6, 7 or 9, the first that
 // holds in this order; a refused call changes nothing. On any store no word and no page of another
 // leaf is lost.
-pub fn insert(state: State, dir: &mut [u32], pages: &mut [u8], key: Key, content: Content) -> Change
+pub fn insert(
+    state: State,
+    dir: &mut [u32],
+    pages: &mut [u8],
+    key: Key,
+    content: Content,
+) -> Result<Changed, Refusal>
     ensures { InsertPromise (store state dir.old pages.old) key.values content
-        (changed_answer result.answer) (store result.state dir.new pages.new) }
+        (changed_answer result) (store (changed_state state result) dir.new pages.new) }
 {
-    let number = lent_number(state, dir.len(), pages.len());
-    if number != 0 {
-        let answer = refuse_change(state.shape, number);
-        return Change { answer, state };
-    }
+    validate_lent(state, dir.len(), pages.len())?;
     if !encodings_fit(state.shape, encode_key(state.shape, key)) {
-        let answer = Changed::Refused(3);
-        return Change { answer, state };
+        return Err(Refusal::Value);
     }
     if content.payload == 0 {
-        let answer = Changed::Refused(11);
-        return Change { answer, state };
+        return Err(Refusal::Payload);
     }
     add(state, dir, pages, key, content)
 }
 
 // A record joins the store, whatever its payload, after 1, 14, 15, 2 and 3. Find and allocate hold
 // every refusal, 4, 6, 7 and 9, and write nothing; the steps after them cannot fail.
-pub fn add(state: State, dir: &mut [u32], pages: &mut [u8], key: Key, content: Content) -> Change
+pub fn add(
+    state: State,
+    dir: &mut [u32],
+    pages: &mut [u8],
+    key: Key,
+    content: Content,
+) -> Result<Changed, Refusal>
     requires { key_number (store state dir.old pages.old) key.values ≡ 0 }
     ensures { AddPromise (store state dir.old pages.old) key.values content
-        (changed_answer result.answer) (store result.state dir.new pages.new) }
+        (changed_answer result) (store (changed_state state result) dir.new pages.new) }
 {
     let encoded = encode_key(state.shape, key);
     let encodings = encoded.values;
     // find: F1 to F4, I1
-    let found = find(state, dir, pages, encoded);
+    let found = find(state, dir, pages, encoded)?;
     // allocate: I2
-    let plan = allocate(state, dir, pages, encodings, found);
+    let plan = allocate(state, dir, pages, encodings, found)?;
     let packed = pack_key(encoded);
     let fields = to_fields(bias_key(state.shape), packed);
     let b = state.shape.capacity as usize;
     match plan {
-        Plan::Refused(n) => {
-            let answer = Changed::Refused(n);
-            return Change { answer, state };
-        }
         // I2, page p is not full: the record
         Plan::Take(page, depth, place, count) => {
             insert_record(pages, b, page as usize, place, count, fields, content);
-            let answer = Changed::Done(depth);
-            return Change { answer, state };
+            Ok(Changed { state, depth })
         }
         // I2, page p was null: the record; set the words: I4, I5
         Plan::Get(page, depth) => {
             insert_record(pages, b, page as usize, 0, 0, fields, content);
             set_word(state, dir, encodings, page, depth);
-            let answer = Changed::Done(depth);
-            return Change { answer, state };
+            Ok(Changed { state, depth })
         }
         Plan::Divide(split, cut, free) => {
             // double: I2
@@ -95,8 +96,7 @@ pub fn add(state: State, dir: &mut [u32], pages: &mut [u8], key: Key, content: C
             );
             // the key's leaf is a half of the region that the step divides
             let depth = split.step as u32 + 1;
-            let answer = Changed::Done(depth);
-            return Change { answer, state };
+            Ok(Changed { state, depth })
         }
     }
 }

@@ -6,6 +6,7 @@ use mathlib.Core.List.{List}
 use native.Mathlib.Omega.{arith}
 use Rattle.shape.specs.Shape.{widths_of}
 use Rattle.shape.specs.declared.Shape.{Shape}
+use Rattle.shape.specs.declared.refusal.Refusal.TheVariants as why
 use Rattle.split.specs.Bits.{split_bit}
 use Rattle.record.specs.Record.{record_bit}
 use Rattle.page.specs.Page.{count_of, page_at}
@@ -26,7 +27,7 @@ use Rattle.insert_planned.specs.Planned.{NullFound, FullFound, RefusalMet}
 use Rattle.insert_planned.specs.declared.Split.{Split}
 use Rattle.insert_planned.proofs.RefusalLaws.{refused-by, nine-unsound}
 use Rattle.insert_planned.proofs.SplitLaws.{meets-full}
-use Rattle.insert_allocate.specs.Planned.{LeafWhole, InsertPlanned}
+use Rattle.insert_allocate.specs.Planned.{LeafWhole, PageAllocated}
 use Rattle.insert_allocate.specs.declared.Plan.TheVariants.{Get, Divide}
 
 module _ (before : Store) (encoded : List ℕ) where
@@ -49,7 +50,7 @@ module _ (before : Store) (encoded : List ℕ) where
 
   -- 9: the key's leaf, of depth x, is not whole
   nine-leaf : (x word : ℕ) → word_on before (split_bit (widths_of s) encoded) ≡ word → depth_field word ≡ x
-      → (held : Bool) → Told x word held → held ≡ false → RefusalMet before encoded 9
+      → (held : Bool) → Told x word held → held ≡ false → RefusalMet before encoded why.Unsound
   nine-leaf x word own depth held told e =
       nine-unsound before encoded
       (λ S sound. leaf-told before.state before.memory.words encoded x word held told e before.memory.bytes
@@ -79,19 +80,19 @@ module _ (before : Store) (encoded : List ℕ) where
     -- ---- a leaf without a page
 
     module _ (x : ℕ) (m : NullFound before encoded x) where
-      pub seven-empty : free ≡ P → RefusalMet before encoded 7
+      pub seven-empty : free ≡ P → RefusalMet before encoded why.Pages
       seven-empty f =
-          refused-by before encoded 7 (λ r. word_on before (record_bit s r) ≡ word_of (Empty x))
+          refused-by before encoded why.Pages (λ r. word_on before (record_bit s r) ≡ word_of (Empty x))
           (λ values content early e.
           add-empty-none before values content early x (λ S sound. e) (λ S sound. no-free-page f))
           (λ content. m.own)
 
       module _ (word : ℕ) (ew : word ≡ word_of (Empty x)) (held : Bool) (told : Told x word held) where
-        pub nine-empty : held ≡ false → RefusalMet before encoded 9
+        pub nine-empty : held ≡ false → RefusalMet before encoded why.Unsound
         nine-empty =
             nine-leaf x word (m.own ∙ sym ew) (ap depth_field ew ∙ word_of-depth-empty x) held told
 
-        pub get-planned : (free ≡ P → ⊥) → held ≡ true → InsertPlanned before encoded (Get free x)
+        pub get-planned : (free ≡ P → ⊥) → held ≡ true → PageAllocated before encoded (Get free x)
         get-planned n h =
             let f = free-page n in (
               record { found = m; within = f.0; free = f.1 },
@@ -104,9 +105,9 @@ module _ (before : Store) (encoded : List ℕ) where
       abbrev own : ℕ
       own = word_of (Page split.page split.depth)
 
-      pub seven-full : free ≡ P → RefusalMet before encoded 7
+      pub seven-full : free ≡ P → RefusalMet before encoded why.Pages
       seven-full f =
-          refused-by before encoded 7
+          refused-by before encoded why.Pages
           (λ r. OnSound before (MeetsFull before r split.page split.depth split.step))
           (λ values content early met.
           add-full-none before values content early _ _ _ met (λ S sound. no-free-page f))
@@ -114,14 +115,14 @@ module _ (before : Store) (encoded : List ℕ) where
           m.met.deep)
 
       module _ (word : ℕ) (ew : word ≡ own) (held : Bool) (told : Told split.depth word held) where
-        pub nine-full : held ≡ false → RefusalMet before encoded 9
+        pub nine-full : held ≡ false → RefusalMet before encoded why.Unsound
         nine-full =
             let met = m.met.ends-met.met in
             let few : split.page < 2 ^ 16 - 1 = omega (arith, met.within, m.asked.pages-lent.few) in
             nine-leaf split.depth word (met.own ∙ sym ew)
             (ap depth_field ew ∙ word_of-depth split.page split.depth few) held told
 
-        pub divide-planned : (free ≡ P → ⊥) → held ≡ true → InsertPlanned before encoded (Divide split cut free)
+        pub divide-planned : (free ≡ P → ⊥) → held ≡ true → PageAllocated before encoded (Divide split cut free)
         divide-planned n h =
             let f = free-page n in (
               record { found = m; free-within = f.0; free-none = f.1 },

@@ -3,7 +3,7 @@
 #![tactic(auto)]
 
 ghost use Rattle.store.specs.Store.{store};
-ghost use Rattle.insert_planned.specs.Planned.{InsertFound, NullFound, FullFound};
+ghost use Rattle.insert_planned.specs.Planned.{LeafFound, NullFound, FullFound};
 ghost use Rattle.insert_allocate.specs.Planned.{InsertPlanned};
 
 use change_guard::leaf_whole;
@@ -11,14 +11,14 @@ use directory_word::{pack_empty, pack_page};
 use insert_cut::Cut;
 use insert_planned::{Found, Split};
 use insert_spare::spare_page;
+use shape::refusal::Refusal;
 use store::State;
 
-// What is to be done: nothing, with the number of a refusal; a page, of a leaf of a depth, takes the
-// record at a place among the records that it has; an empty leaf, of a depth, gets a free page; a
-// full leaf is divided, and a free page takes the records from a cut on.
+// What is to be done: a page, of a leaf of a depth, takes the record at a place among the records that
+// it has; an empty leaf, of a depth, gets a free page; a full leaf is divided, and a free page takes
+// the records from a cut on.
 #[derive(Clone, Copy)]
 pub enum Plan {
-    Refused(u32),
     Take(u32, u32, usize, usize),
     Get(u32, u32),
     Divide(Split, Cut, u32),
@@ -26,32 +26,43 @@ pub enum Plan {
 
 // I2, a page for what was found: 7 where a leaf needs one and none is free, 9 where not every cell
 // of the leaf holds its word. A page with room needs no other.
-pub fn allocate(state: State, dir: &[u32], pages: &[u8], encoded: [u32; 4], found: Found) -> Plan
-    requires { InsertFound (store state dir.now pages.now) encoded found }
+pub fn allocate(
+    state: State,
+    dir: &[u32],
+    pages: &[u8],
+    encoded: [u32; 4],
+    found: Found,
+) -> Result<Plan, Refusal>
+    requires { LeafFound (store state dir.now pages.now) encoded found }
     ensures { InsertPlanned (store state dir.now pages.now) encoded result }
 {
     match found {
-        Found::Refused(n) => Plan::Refused(n),
-        Found::Room(page, depth, place, count) => Plan::Take(page, depth, place, count),
+        Found::Room(page, depth, place, count) => Ok(Plan::Take(page, depth, place, count)),
         Found::Null(depth) => allocate_first(state, dir, pages, encoded, depth),
         Found::Full(split, cut) => allocate_half(state, dir, pages, encoded, split, cut),
     }
 }
 
 // I2, "If p is null allocate a new page": the first page of an empty leaf.
-fn allocate_first(state: State, dir: &[u32], pages: &[u8], encoded: [u32; 4], depth: u32) -> Plan
+fn allocate_first(
+    state: State,
+    dir: &[u32],
+    pages: &[u8],
+    encoded: [u32; 4],
+    depth: u32,
+) -> Result<Plan, Refusal>
     requires { NullFound (store state dir.now pages.now) encoded depth }
     ensures { InsertPlanned (store state dir.now pages.now) encoded result }
 {
     let limits = state.limits;
     let free = spare_page(state, pages);
     if free == limits.pages {
-        return Plan::Refused(7);
+        return Err(Refusal::Pages);
     }
     if !leaf_whole(state, dir, encoded, depth, pack_empty(depth)) {
-        return Plan::Refused(9);
+        return Err(Refusal::Unsound);
     }
-    Plan::Get(free, depth)
+    Ok(Plan::Get(free, depth))
 }
 
 // I2, "Allocate a new page": one for the records of a full leaf with bit 1.
@@ -62,18 +73,18 @@ fn allocate_half(
     encoded: [u32; 4],
     split: Split,
     cut: Cut,
-) -> Plan
+) -> Result<Plan, Refusal>
     requires { FullFound (store state dir.now pages.now) encoded split cut }
     ensures { InsertPlanned (store state dir.now pages.now) encoded result }
 {
     let limits = state.limits;
     let free = spare_page(state, pages);
     if free == limits.pages {
-        return Plan::Refused(7);
+        return Err(Refusal::Pages);
     }
     let word = pack_page(split.page, split.depth);
     if !leaf_whole(state, dir, encoded, split.depth, word) {
-        return Plan::Refused(9);
+        return Err(Refusal::Unsound);
     }
-    Plan::Divide(split, cut, free)
+    Ok(Plan::Divide(split, cut, free))
 }

@@ -9,7 +9,7 @@ use Rattle.record.specs.Packed.{unpacked_key}
 use Rattle.pairs.specs.Pairs.{pair_bit}
 use Rattle.page_place.specs.Find.{first_one}
 use Rattle.insert_cut.specs.Halves.{HalfMet, Halved}
-use Rattle.insert_cut.specs.declared.Half.TheVariants.{Damaged}
+use Rattle.std.specs.Prelude.{None}
 
 module _ (ws : List ℕ) (bias : ℕ) (page : List ℕ) (n key i pair start : ℕ)
     (es : start ≡ first_one ws bias pair page n 0) where
@@ -23,10 +23,10 @@ module _ (ws : List ℕ) (bias : ℕ) (page : List ℕ) (n key i pair start : �
   -- ---- the key's bit is 1
 
   module _ (one : there ≡ true) where
-    pub damaged-high : i < start → Halved ws bias page n key i pair Damaged
+    pub damaged-high : i < start → Halved ws bias page n key i pair None
     damaged-high l low high room = let h = high one in omega arith
 
-    pub damaged-none : start ≡ 0 → Halved ws bias page n key i pair Damaged
+    pub damaged-none : start ≡ 0 → Halved ws bias page n key i pair None
     damaged-none z low high room = let h = subst Room one room in omega arith
 
     pub own-high : start ≤ i → (start ≡ 0 → ⊥) → 1 ≤ n
@@ -43,10 +43,10 @@ module _ (ws : List ℕ) (bias : ℕ) (page : List ℕ) (n key i pair start : �
   -- ---- it is 0
 
   module _ (none : there ≡ false) where
-    pub damaged-low : start < i → Halved ws bias page n key i pair Damaged
+    pub damaged-low : start < i → Halved ws bias page n key i pair None
     damaged-low l low high room = let h = low none in omega arith
 
-    pub damaged-all : start ≡ n → Halved ws bias page n key i pair Damaged
+    pub damaged-all : start ≡ n → Halved ws bias page n key i pair None
     damaged-all e low high room = let h = subst Room none room in omega arith
 
     pub own-low : i ≤ start → start < n

@@ -1,12 +1,10 @@
 -- The halves of a full page and one key more. Assumes nothing.
-use Rattle.std.specs.Prelude.{ℕ, ◌-◌, ◌≤◌, ◌<◌, ◌≡◌, true, false, cond, List, eqb}
+use Rattle.std.specs.Prelude.{Option, Some, None, ℕ, ◌-◌, ◌≤◌, ◌<◌, ◌≡◌, true, false, cond, List, eqb}
 use Rattle.record.specs.Packed.{unpacked_key}
 use Rattle.page.specs.Fields.{code_at}
 use Rattle.pairs.specs.Pairs.{pair_bit}
 use Rattle.page_place.specs.Find.{first_one}
 use Rattle.insert_cut.specs.declared.Cut.{Cut}
-use Rattle.insert_cut.specs.declared.Half.{Half}
-use Rattle.insert_cut.specs.declared.Half.TheVariants.{Damaged, Own}
 
 -- the first and the last packed key, of encodings, of a page of n records and one more, which falls before record i
 abbrev pub first_key : ℕ → List ℕ → ℕ → ℕ → ℕ
@@ -25,9 +23,9 @@ pub record HalfMet (ws : List ℕ) (bias : ℕ) (page : List ℕ) (n key i pair 
   pub room : cond cut.bit (n - cut.start) cut.start < n
 
 -- so the page was cut, or it cannot be
-abbrev pub Halved : List ℕ → ℕ → List ℕ → ℕ → ℕ → ℕ → ℕ → Half → Type 0
-Halved ws bias page n key i pair (Own cut) = HalfMet ws bias page n key i pair cut
-Halved ws bias page n key i pair Damaged =
+abbrev pub Halved : List ℕ → ℕ → List ℕ → ℕ → ℕ → ℕ → ℕ → Option Cut → Type 0
+Halved ws bias page n key i pair (Some cut) = HalfMet ws bias page n key i pair cut
+Halved ws bias page n key i pair None =
     let start = first_one ws bias pair page n 0 in
     let bit = pair_bit ws (unpacked_key key) pair in
     (bit ≡ false → i ≤ start) → (bit ≡ true → start ≤ i) → cond bit (n - start) start < n → ⊥

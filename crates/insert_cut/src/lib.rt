@@ -21,13 +21,6 @@ pub struct Cut {
     pub place: usize,
 }
 
-// A cut, or none: a new key falls outside its half, or its half is the whole page.
-#[derive(Clone, Copy)]
-pub enum Half {
-    Damaged,
-    Own(Cut),
-}
-
 // The place of the first pair in which the first and the last differ of the n keys of a page and one
 // more, which falls before record i; 64 where they do not.
 pub fn ends_pair(page: &[u8], n: usize, widths: Widths, bias: u64, key: u64, i: usize) -> u64
@@ -61,7 +54,7 @@ fn last_key(page: &[u8], n: usize, bias: u64, key: u64, i: usize) -> u64
 }
 
 // Cuts a page of n records at its first record with bit 1 at the place of a split step, where a key
-// falls before record i.
+// falls before record i. None where the key falls outside its half, or its half is the whole page.
 pub fn half_of(
     page: &[u8],
     n: usize,
@@ -70,7 +63,7 @@ pub fn half_of(
     key: u64,
     i: usize,
     pair: u64,
-) -> Half
+) -> Option<Cut>
     requires le_n { (1 ≤ n) × (n ≤ 16) × (record_offset n ≤ length page.now) × Fit (width_list widths) }
     requires pair_bound { (pair < 64) × (pair / 4 < get_or (width_list widths) (pair % 4) 0) }
     ensures { Halved (width_list widths) bias page.now n key i pair result }
@@ -78,24 +71,24 @@ pub fn half_of(
     let start = first_one(page, n, widths, bias, pair);
     if pair_bit(widths, key, pair) {
         if i < start {
-            return Half::Damaged;
+            return None;
         }
         if start == 0 {
-            return Half::Damaged;
+            return None;
         }
-        return Half::Own(Cut {
+        return Some(Cut {
             start,
             bit: true,
             place: i - start,
         });
     }
     if start < i {
-        return Half::Damaged;
+        return None;
     }
     if start == n {
-        return Half::Damaged;
+        return None;
     }
-    Half::Own(Cut {
+    Some(Cut {
         start,
         bit: false,
         place: i,

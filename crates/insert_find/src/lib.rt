@@ -16,40 +16,40 @@ use insert_planned::Found;
 use key_encoding::bias_key;
 use leaf_word::{key_word, page_holds, word_holds};
 use page::{page_size, page_start};
-use page_place::Place;
 use pages::count_at;
 use record::pack_key;
 use refusals::limits_hold;
+use shape::refusal::Refusal;
 use shape::{Key, widths_of};
 use store::State;
 
 // What an insert of a key, given by its encodings, meets after 1, 14, 15, 2 and 3: F1 and F2, the
 // key's cell; F3, its word.
-pub fn find(state: State, dir: &[u32], pages: &[u8], encoded: Key) -> Found
+pub fn find(state: State, dir: &[u32], pages: &[u8], encoded: Key) -> Result<Found, Refusal>
     requires { Passed (store state dir.now pages.now) encoded.values }
     ensures { InsertFound (store state dir.now pages.now) encoded.values result }
 {
     if !limits_hold(state) {
-        return Found::Refused(9);
+        return Err(Refusal::Unsound);
     }
     let packed = pack_key(encoded);
     let widths = widths_of(state.shape);
     let at = key_word(widths, state.deepest as u64, dir, packed);
     if !word_holds(state, at.word) {
-        return Found::Refused(9);
+        return Err(Refusal::Unsound);
     }
     find_page(state, pages, packed, at.word)
 }
 
 // F3, F4: the page of the leaf that the word of a packed key's cell names, where it has one.
-fn find_page(state: State, pages: &[u8], key: u64, word: u32) -> Found
+fn find_page(state: State, pages: &[u8], key: u64, word: u32) -> Result<Found, Refusal>
     requires { PagesLent state pages.now × (word_holds state word ≡ true) × KeyAsked state key }
     ensures { InsertFoundFrom state pages.now
         (λ before encoded. WordMet before encoded key word) result }
 {
     let leaf = unpack(word);
     match leaf {
-        Leaf::Empty(depth) => Found::Null(depth),
+        Leaf::Empty(depth) => Ok(Found::Null(depth)),
         Leaf::Page(page, depth) => find_place(state, pages, key, page, depth),
     }
 }
@@ -57,7 +57,7 @@ fn find_page(state: State, pages: &[u8], key: u64, word: u32) -> Found
 // F4, I1: the key's place on the page of its leaf. 9 for a count of 0 or above b, and where the
 // first or the last record is out of bounds or does not begin with the leaf's string; 4 where the
 // key is there.
-fn find_place(state: State, pages: &[u8], key: u64, page: u32, depth: u32) -> Found
+fn find_place(state: State, pages: &[u8], key: u64, page: u32, depth: u32) -> Result<Found, Refusal>
     requires { PagesLent state pages.now × PageLent state.shape.capacity page pages.now
         × KeyAsked state key × (depth ≤ state.deepest) }
     ensures { InsertFoundFrom state pages.now
@@ -67,28 +67,22 @@ fn find_place(state: State, pages: &[u8], key: u64, page: u32, depth: u32) -> Fo
     let capacity = shape.capacity as usize;
     let n = count_at(pages, capacity, page as usize);
     if n == 0 {
-        return Found::Refused(9);
+        return Err(Refusal::Unsound);
     }
     if capacity < n {
-        return Found::Refused(9);
+        return Err(Refusal::Unsound);
     }
     if !page_holds(shape, pages, page as usize, n, depth, key) {
-        return Found::Refused(9);
+        return Err(Refusal::Unsound);
     }
     let start = page_start(capacity, page as usize);
     let end = start + page_size(capacity);
-    let place = page_place::find(
-        &pages[start..end],
-        n,
-        widths_of(shape),
-        bias_key(shape),
-        key,
-    );
-    let Place::Before(i) = place else {
-        return Found::Refused(4);
+    let part = &pages[start..end];
+    let Err(i) = page_place::find(part, n, widths_of(shape), bias_key(shape), key) else {
+        return Err(Refusal::Stored);
     };
     if n < capacity {
-        return Found::Room(page, depth, i, n);
+        return Ok(Found::Room(page, depth, i, n));
     }
     find_split(state, pages, key, page, depth, i)
 }

@@ -9,11 +9,12 @@ ghost use Rattle.pages.specs.Pages.{PageLent};
 ghost use Rattle.insert_spare.specs.Spare.{PagesLent};
 ghost use Rattle.insert_planned.specs.Planned.{InsertFoundFrom, FullMet, DividingMet};
 
-use insert_cut::{Half, ends_pair, half_of};
+use insert_cut::{ends_pair, half_of};
 use insert_planned::{Found, Split};
 use key_encoding::bias_key;
 use page::{page_size, page_start};
 use pairs::steps_before;
+use shape::refusal::Refusal;
 use shape::widths_of;
 use store::State;
 use tally::tally_holds;
@@ -21,7 +22,14 @@ use tally::tally_holds;
 // In a full leaf, where the key falls before record i: 6 where its keys and the new one share their
 // first L split bits, 9 where two have one key, where they differ above the leaf or the tally is
 // none of a sound store.
-pub fn find_split(state: State, pages: &[u8], key: u64, page: u32, depth: u32, i: usize) -> Found
+pub fn find_split(
+    state: State,
+    pages: &[u8],
+    key: u64,
+    page: u32,
+    depth: u32,
+    i: usize,
+) -> Result<Found, Refusal>
     requires { PagesLent state pages.now × PageLent state.shape.capacity page pages.now }
     ensures { InsertFoundFrom state pages.now
         (λ before encoded. FullMet before encoded key page depth i) result }
@@ -35,17 +43,17 @@ pub fn find_split(state: State, pages: &[u8], key: u64, page: u32, depth: u32, i
     let end = start + page_size(capacity);
     let pair = ends_pair(&pages[start..end], capacity, widths, bias, key, i);
     if pair == 64 {
-        return Found::Refused(9);
+        return Err(Refusal::Unsound);
     }
     let step = steps_before(widths, pair);
     if (limits.depth as u64) <= step {
-        return Found::Refused(6);
+        return Err(Refusal::Depth);
     }
     if step < (depth as u64) {
-        return Found::Refused(9);
+        return Err(Refusal::Unsound);
     }
     if !tally_holds(state.tally) {
-        return Found::Refused(9);
+        return Err(Refusal::Unsound);
     }
     let behind = i;
     find_cut(
@@ -63,7 +71,7 @@ pub fn find_split(state: State, pages: &[u8], key: u64, page: u32, depth: u32, i
 }
 
 // Where a full leaf's page is cut: 9 where the key does not fall into its half.
-fn find_cut(state: State, pages: &[u8], key: u64, split: Split) -> Found
+fn find_cut(state: State, pages: &[u8], key: u64, split: Split) -> Result<Found, Refusal>
     requires pages_lent { PagesLent state pages.now × PageLent state.shape.capacity split.page pages.now }
     requires pair_bound { (split.pair < 64)
         × (split.pair / 4 < get_or (widths_of state.shape) (split.pair % 4) 0) }
@@ -83,8 +91,8 @@ fn find_cut(state: State, pages: &[u8], key: u64, split: Split) -> Found
         split.behind,
         split.pair,
     );
-    let Half::Own(cut) = half else {
-        return Found::Refused(9);
+    let Some(cut) = half else {
+        return Err(Refusal::Unsound);
     };
-    Found::Full(split, cut)
+    Ok(Found::Full(split, cut))
 }

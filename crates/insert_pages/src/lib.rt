@@ -2,7 +2,7 @@
 // divided. None of the steps can fail.
 #![tactic(auto)]
 
-ghost use Rattle.std.specs.Prelude.{◌≡◌, cond, ◌<◌, ◌≤◌};
+ghost use Rattle.std.specs.Prelude.{◌≡◌, ◌<◌, ◌≤◌};
 ghost use Rattle.record.specs.Packed.{packed_bytes};
 ghost use Rattle.pages.specs.Pages.{PageLent};
 ghost use Rattle.insert_pages.specs.Inserted.{inserted_pages, CutFits, divided_pages};
@@ -47,14 +47,10 @@ pub fn divide_pages(
         ≡ divided_pages capacity page free cut (packed_bytes key content) pages.old }
 {
     carry(pages, capacity, page, cut.start, capacity, free, 0);
-    let own = either(cut.bit, free, page);
-    let count = either(cut.bit, capacity - cut.start, cut.start);
+    let (own, count) = if cut.bit {
+        (free, capacity - cut.start)
+    } else {
+        (page, cut.start)
+    };
     insert_record(pages, capacity, own, cut.place, count, key, content);
-}
-
-// One number for bit 1, another for bit 0.
-fn either(bit: bool, a: usize, b: usize) -> usize
-    ensures { result ≡ cond bit a b }
-{
-    if bit { a } else { b }
 }

@@ -16,7 +16,7 @@ use Rattle.shape.specs.declared.Shape.{Shape}
 use Rattle.shape.proofs.ShapeLaws.{widths_of-fit, capacity-bounds}
 use Rattle.split.specs.Steps.{steps, steps_below}
 use Rattle.region.specs.Strings.{same_bits}
-use Rattle.region.specs.Sets.{before, sorted}
+use Rattle.region.specs.Sets.{sorted}
 use Rattle.region.proofs.StringLaws.{bit-of-same_bits}
 use Rattle.region.proofs.OrderLaws.{same_bits-before}
 use Rattle.record.specs.declared.Content.{Content}

@@ -8,6 +8,7 @@ use native.Mathlib.Nat.{le_trans}
 use lib.ListN.{length}
 use lib.Pow.{pow_mono}
 use borrow.Author.Tests.{not-true}
+use Rattle.std.specs.Prelude.{Ok}
 use Rattle.lists.specs.Filter.{non_empty}
 use Rattle.lists.proofs.FilterLaws.{all_filter}
 use Rattle.shape.specs.Shape.{widths_of, total}
@@ -23,7 +24,6 @@ use Rattle.record.proofs.FieldLaws.{record_of-fields_key}
 use Rattle.record.proofs.ByteLaws.{AreBytes, AreBytes-field}
 use Rattle.page.specs.Page.{records_from, page_size, page_at}
 use Rattle.page_place.specs.Find.{Placed}
-use Rattle.page_place.specs.declared.Place.TheVariants.{At}
 use Rattle.page_place.proofs.FoundLaws.{absent-placed, with_prefix-placed}
 use Rattle.model.specs.Sets.{in_shape, is_set, stored}
 use Rattle.model.proofs.SetLaws.{fits-of-in_shape, in_shape-of-is_set, is_set-of-parts}
@@ -115,7 +115,7 @@ module _ (before : Store) (encoded : List ℕ) (content : Content) (a : InsertAs
         (sym (absent-stored s a.passed.shape (records_on before g) set-met r inside) ∙ rw records-met none)
 
     -- at a record: it is
-    pub stored-met : (i : ℕ) → Placed (widths_of s) (bias_key s) (unpacked_key (packed_key encoded)) page n (At i)
+    pub stored-met : (i : ℕ) → Placed (widths_of s) (bias_key s) (unpacked_key (packed_key encoded)) page n (Ok i)
         → non_empty (stored r.key (records_on before g)) ≡ true
     stored-met i p =
         let one = with_prefix-placed s a.passed.shape r (packed_key encoded) key-is page page-bytes n sorted-met i p in

@@ -7,10 +7,13 @@ use mathlib.Core.List.{List}
 use mathlib.Core.Logic.{◌⊎◌, ⊎_elim}
 use native.Mathlib.Omega.{arith}
 use lib.ListN.{get_or}
+use Rattle.std.specs.Prelude.{Ok, Err}
 use Rattle.lists.specs.Filter.{non_empty}
-use Rattle.shape.specs.Refusal.{refused}
+use Rattle.shape.specs.Refusal.{told}
 use Rattle.shape.specs.Shape.{widths_of}
 use Rattle.shape.specs.declared.Shape.{Shape}
+use Rattle.shape.specs.declared.refusal.Refusal.{Refusal}
+use Rattle.shape.specs.declared.refusal.Refusal.TheVariants as why
 use Rattle.split.specs.Bits.{split_bit}
 use Rattle.record.specs.declared.Content.{Content}
 use Rattle.record.specs.Record.{Record}
@@ -18,7 +21,6 @@ use Rattle.record.specs.Lanes.{bias_key}
 use Rattle.record.specs.Packed.{packed_key, unpacked_key}
 use Rattle.page.specs.Page.{count_of, page_at}
 use Rattle.page_place.specs.Find.{Placed}
-use Rattle.page_place.specs.declared.Place.TheVariants.{Before, At}
 use Rattle.model.specs.Sets.{stored}
 use Rattle.model.specs.Model.{record_for}
 use Rattle.store.specs.Store.{Store}
@@ -36,7 +38,7 @@ use Rattle.change.proofs.BoundLaws.{count-bounds}
 use Rattle.change.proofs.AddPromiseLaws.{OnSound, add-unsound, add-stored}
 use Rattle.change.proofs.MeetLaws.{records_on, MeetsPage}
 use Rattle.insert_planned.specs.Found.{InsertAsked, PageMet}
-use Rattle.insert_planned.specs.Planned.{RefusalMet, InsertFound, LeafMet, FullMet}
+use Rattle.insert_planned.specs.Planned.{RefusalMet, LeafFound, LeafMet, FullMet}
 use Rattle.insert_planned.specs.declared.Found.TheVariants.{Room}
 use Rattle.insert_planned.proofs.MetLaws.{record_with, meets, stored-met}
 
@@ -53,21 +55,21 @@ module _ (before : Store) (encoded : List ℕ) where
   -- ---- limits and word
 
   -- from a law of the record of the call's values
-  pub refused-by : (n : ℕ) (X : Record → Type 0)
+  pub refused-by : (r : Refusal) (X : Record → Type 0)
       → ((values : List ℕ) (content : Content) → key_number before values ≡ 0 → X (record_for s values content)
-      → AddPromise before values content (refused n) before)
-      → ((content : Content) → X (record_with encoded content)) → RefusalMet before encoded n
-  refused-by n X law met values early same content =
+      → AddPromise before values content (told r) before)
+      → ((content : Content) → X (record_with encoded content)) → RefusalMet before encoded r
+  refused-by r X law met values early same content =
       law values content early (subst (λ k. X (record_with k content)) (sym same) (met content))
 
-  pub nine-unsound : OnSound before ⊥ → RefusalMet before encoded 9
+  pub nine-unsound : OnSound before ⊥ → RefusalMet before encoded why.Unsound
   nine-unsound none values early same content = add-unsound before values content early none
 
-  pub nine-limits : limits_hold before.state ≡ false → RefusalMet before encoded 9
+  pub nine-limits : limits_hold before.state ≡ false → RefusalMet before encoded why.Unsound
   nine-limits l = nine-unsound (λ S sound. false≢true (sym l ∙ limits-of-sound before S sound))
 
   pub nine-word : (word : ℕ) → word ≡ word_on before (split_bit (widths_of s) encoded)
-      → word_holds before.state word ≡ false → RefusalMet before encoded 9
+      → word_holds before.state word ≡ false → RefusalMet before encoded why.Unsound
   nine-word word w h =
       nine-unsound
       (λ S sound.
@@ -90,7 +92,7 @@ module _ (before : Store) (encoded : List ℕ) where
   -- ---- a leaf with a page
 
   module _ (key g x : ℕ) (m : LeafMet before encoded key g x) (n : ℕ) (e : n ≡ count_of (page g)) where
-    pub nine-count : (n ≡ 0) ⊎ (b < n) → RefusalMet before encoded 9
+    pub nine-count : (n ≡ 0) ⊎ (b < n) → RefusalMet before encoded why.Unsound
     nine-count h =
         nine-unsound
         (λ S sound.
@@ -99,7 +101,7 @@ module _ (before : Store) (encoded : List ℕ) where
         ⊎_elim (λ z. omega (arith, e, c.0)) (λ l. omega (arith, e, c.1)) h)
 
     -- a page whose first or last record is not the leaf's
-    pub nine-ends : own_page s x key (page g) n ≡ false → RefusalMet before encoded 9
+    pub nine-ends : own_page s x key (page g) n ≡ false → RefusalMet before encoded why.Unsound
     nine-ends h =
         nine-unsound
         (λ S sound.
@@ -130,11 +132,11 @@ module _ (before : Store) (encoded : List ℕ) where
             bytes = bytes;
           }
 
-      pub four-stored : (i : ℕ) → Placed (widths_of s) (bias_key s) (unpacked_key key) (page g) n (At i) → RefusalMet before encoded 4
+      pub four-stored : (i : ℕ) → Placed (widths_of s) (bias_key s) (unpacked_key key) (page g) n (Ok i) → RefusalMet before encoded why.Stored
       four-stored i p =
           let a = m.asked in
-          let there = subst (λ k. Placed (widths_of s) (bias_key s) (unpacked_key k) (page g) n (At i)) m.key-is p in
-          refused-by 4
+          let there = subst (λ k. Placed (widths_of s) (bias_key s) (unpacked_key k) (page g) n (Ok i)) m.key-is p in
+          refused-by why.Stored
           (λ r. OnSound before (MeetsPage before r g x)
           × OnSound before (non_empty (stored r.key (records_on before g)) ≡ true))
           (λ values content early f. add-stored before values content early g x f.0 f.1)
@@ -143,11 +145,11 @@ module _ (before : Store) (encoded : List ℕ) where
             (λ S sound. stored-met before encoded content a g x n page-met S sound i there),
           ))
 
-      module _ (i : ℕ) (p : Placed (widths_of s) (bias_key s) (unpacked_key key) (page g) n (Before i)) where
-        falls : Placed (widths_of s) (bias_key s) (unpacked_key (packed_key encoded)) (page g) n (Before i)
-        falls = subst (λ k. Placed (widths_of s) (bias_key s) (unpacked_key k) (page g) n (Before i)) m.key-is p
+      module _ (i : ℕ) (p : Placed (widths_of s) (bias_key s) (unpacked_key key) (page g) n (Err i)) where
+        falls : Placed (widths_of s) (bias_key s) (unpacked_key (packed_key encoded)) (page g) n (Err i)
+        falls = subst (λ k. Placed (widths_of s) (bias_key s) (unpacked_key k) (page g) n (Err i)) m.key-is p
 
-        pub room-found : n < b → InsertFound before encoded (Room g x i n)
+        pub room-found : n < b → LeafFound before encoded (Room g x i n)
         room-found l = record { asked = m.asked; met = page-met; room = l; place = falls }
 
         pub full-met : b ≤ n → FullMet before encoded key g x i
@@ -158,5 +160,5 @@ module _ (before : Store) (encoded : List ℕ) where
               key-is = m.key-is;
               met = subst (PageMet before encoded g x) full page-met;
               place =
-                  subst (λ k. Placed (widths_of s) (bias_key s) (unpacked_key (packed_key encoded)) (page g) k (Before i)) full falls;
+                  subst (λ k. Placed (widths_of s) (bias_key s) (unpacked_key (packed_key encoded)) (page g) k (Err i)) full falls;
             }

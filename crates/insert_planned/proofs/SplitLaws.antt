@@ -9,6 +9,7 @@ use lib.ListN.{length}
 use Rattle.lists.specs.Filter.{non_empty}
 use Rattle.shape.specs.Shape.{widths_of}
 use Rattle.shape.specs.declared.Shape.{Shape}
+use Rattle.shape.specs.declared.refusal.Refusal.TheVariants as why
 use Rattle.split.specs.Steps.{steps_below}
 use Rattle.record.specs.declared.Content.{Content}
 use Rattle.record.specs.Record.{record_bit}
@@ -28,11 +29,10 @@ use Rattle.change.proofs.InsertLaws.{MeetsFull}
 use Rattle.change.proofs.AddPromiseLaws.{OnSound, add-alike}
 use Rattle.insert_cut.specs.Halves.{first_key, last_key, HalfMet, Halved}
 use Rattle.insert_planned.specs.Found.{InsertAsked, EndsMet}
-use Rattle.insert_planned.specs.Planned.{FullMet, SplitMet, DividingMet, RefusalMet, InsertFound}
+use Rattle.insert_planned.specs.Planned.{FullMet, SplitMet, DividingMet, RefusalMet, LeafFound}
 use Rattle.insert_planned.specs.declared.Split.{Split}
 use Rattle.insert_cut.specs.declared.Cut.{Cut}
-use Rattle.insert_cut.specs.declared.Half.{Half}
-use Rattle.insert_cut.specs.declared.Half.TheVariants.{Damaged, Own}
+use Rattle.std.specs.Prelude.{Option, Some, None}
 use Rattle.insert_planned.specs.declared.Found.TheVariants.{Full}
 use Rattle.insert_planned.proofs.MetLaws.{record_with, meets, records-met, absent-met}
 use Rattle.insert_planned.proofs.FullLaws.{ends-differ, alike, differ, below_step}
@@ -74,7 +74,7 @@ module _ (before : Store) (encoded : List ℕ) where
       }
 
   module _ (a : InsertAsked before encoded) (g x i pair m : ℕ) (e : EndsMet before encoded g x i pair m) where
-    pub nine-ends : pair ≡ 64 → RefusalMet before encoded 9
+    pub nine-ends : pair ≡ 64 → RefusalMet before encoded why.Unsound
     nine-ends l =
         nine-unsound before encoded
         (λ S sound. ends-differ before encoded unread a g x i pair m e S sound (omega arith))
@@ -93,9 +93,9 @@ module _ (before : Store) (encoded : List ℕ) where
           (sym (records-met before encoded content a g x b e.met))
           (alike before encoded content a g x i pair m e S sound split t l)
 
-      pub six-alike : before.state.limits.depth ≤ m → RefusalMet before encoded 6
+      pub six-alike : before.state.limits.depth ≤ m → RefusalMet before encoded why.Depth
       six-alike l =
-          refused-by before encoded 6
+          refused-by before encoded why.Depth
           (λ r. OnSound before (MeetsPage before r g x)
           × OnSound before (non_empty (stored r.key (records_on before g)) ≡ false)
           × OnSound before ((t : ℕ) → x ≤ t → t < before.state.limits.depth
@@ -108,7 +108,7 @@ module _ (before : Store) (encoded : List ℕ) where
             (λ S sound t h k. alike-on content S sound t (omega arith)),
           ))
 
-      pub nine-below : m < x → RefusalMet before encoded 9
+      pub nine-below : m < x → RefusalMet before encoded why.Unsound
       nine-below l =
           nine-unsound before encoded
           (λ S sound. below_step before encoded unread a g x i pair m e S sound split l)
@@ -129,7 +129,7 @@ module _ (before : Store) (encoded : List ℕ) where
             deep = l;
           }
 
-  pub nine-tally : tally_holds before.state.tally.leaves ≡ false → RefusalMet before encoded 9
+  pub nine-tally : tally_holds before.state.tally.leaves ≡ false → RefusalMet before encoded why.Unsound
   nine-tally h =
       nine-unsound before encoded (λ S sound. false≢true (sym h ∙ tally_holds-of-sound before S sound))
 
@@ -140,8 +140,8 @@ module _ (before : Store) (encoded : List ℕ) where
     abbrev met : SplitMet before encoded split
     met = d.split-met
 
-    pub nine-half : (half : Half) → Halved ws' bias' page' b key split.behind split.pair half → half ≡ Damaged
-        → RefusalMet before encoded 9
+    pub nine-half : (half : Option Cut) → Halved ws' bias' page' b key split.behind split.pair half → half ≡ None
+        → RefusalMet before encoded why.Unsound
     nine-half half h q =
         nine-unsound before encoded
         (λ S sound.
@@ -154,18 +154,18 @@ module _ (before : Store) (encoded : List ℕ) where
         (half_room before encoded unread d.asked _ _ _ _ _ e met.differ start refl S sound bit refl))
       where
         damaged : ℕ → List ℕ → List ℕ → Type 0
-        damaged k pg ws = Halved ws (bias_key s) pg b k split.behind split.pair Damaged
+        damaged k pg ws = Halved ws (bias_key s) pg b k split.behind split.pair None
 
         there : damaged (packed_key encoded) (page split.page) (widths_of s)
         there =
             subst (λ k. damaged k (page split.page) (widths_of s)) d.key-is
             (subst (λ pg. damaged key pg (widths_of s)) ep
             (subst (λ ws. damaged key page' ws) ew
-            (subst (λ c. Halved ws' c page' b key split.behind split.pair Damaged) eb
+            (subst (λ c. Halved ws' c page' b key split.behind split.pair None) eb
             (subst (Halved ws' bias' page' b key split.behind split.pair) q h))))
 
-    pub full-found : (half : Half) → Halved ws' bias' page' b key split.behind split.pair half → (cut : Cut)
-        → half ≡ Own cut → InsertFound before encoded (Full split cut)
+    pub full-found : (half : Option Cut) → Halved ws' bias' page' b key split.behind split.pair half → (cut : Cut)
+        → half ≡ Some cut → LeafFound before encoded (Full split cut)
     full-found half h cut q =
         let halves : ℕ → List ℕ → List ℕ → Type 0 =
         λ k pg ws. HalfMet ws (bias_key s) pg b k split.behind split.pair cut in
@@ -176,6 +176,6 @@ module _ (before : Store) (encoded : List ℕ) where
               subst (λ k. halves k (page split.page) (widths_of s)) d.key-is
               (subst (λ pg. halves key pg (widths_of s)) ep
               (subst (λ ws. halves key page' ws) ew
-              (subst (λ c. Halved ws' c page' b key split.behind split.pair (Own cut)) eb
+              (subst (λ c. Halved ws' c page' b key split.behind split.pair (Some cut)) eb
               (subst (Halved ws' bias' page' b key split.behind split.pair) q h))));
         }

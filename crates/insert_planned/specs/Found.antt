@@ -1,6 +1,6 @@
 -- What an insert finds of the store before it plans, on any store: the word at the key's cell, its page, and where the
 -- keys of a full page differ. `encoded` are the encodings of the key. Assumes nothing.
-use Rattle.std.specs.Prelude.{ℕ, ◌≤◌, ◌<◌, ◌≡◌, true, List, get_or, length}
+use Rattle.std.specs.Prelude.{ℕ, ◌≤◌, ◌<◌, ◌≡◌, true, List, Err, get_or, length}
 use Rattle.shape.specs.Shape.{widths_of, total}
 use Rattle.split.specs.Steps.{steps_below}
 use Rattle.split.specs.Bits.{split_bit}
@@ -9,7 +9,6 @@ use Rattle.record.specs.Packed.{packed_key, unpacked_key}
 use Rattle.page.specs.Page.{count_of, page_at}
 use Rattle.key_order.specs.Order.{FirstPair}
 use Rattle.page_place.specs.Find.{Placed}
-use Rattle.page_place.specs.declared.Place.TheVariants.{Before}
 use Rattle.directory_word.specs.Word.{word_of}
 use Rattle.directory_word.specs.declared.Leaf.TheVariants.{Page}
 use Rattle.store.specs.Store.{Store, word_at}
@@ -56,7 +55,7 @@ module _ (before : Store) (encoded : List ℕ) where
 
   -- the key stands between records i - 1 and i of page g, which has n
   abbrev pub FallsBefore : ℕ → ℕ → ℕ → Type 0
-  FallsBefore g n i = Placed ws bias (unpacked_key (packed_key encoded)) (page g) n (Before i)
+  FallsBefore g n i = Placed ws bias (unpacked_key (packed_key encoded)) (page g) n (Err i)
 
   -- of the keys on a full page g and the new one, which falls before record i, the first and the last differ first at
   -- the place `pair` of a split step, whose number is m

@@ -1,7 +1,8 @@
 -- What an insert finds, on any store: the word, the page and the places; and what it is to do once a page is free for a
 -- leaf that newly gets one. `encoded` are the encodings of the key. Assumes nothing.
-use Rattle.std.specs.Prelude.{ℕ, ◌≤◌, ◌<◌, ◌≡◌, true, List}
-use Rattle.shape.specs.Refusal.{refused}
+use Rattle.std.specs.Prelude.{Result, Ok, Err, ℕ, ◌≤◌, ◌<◌, ◌≡◌, true, List}
+use Rattle.shape.specs.Refusal.{told}
+use Rattle.shape.specs.declared.refusal.Refusal.{Refusal}
 use Rattle.shape.specs.Shape.{widths_of, total, index_fits}
 use Rattle.split.specs.Bits.{split_bit}
 use Rattle.record.specs.declared.Content.{Content}
@@ -21,7 +22,7 @@ use Rattle.insert_cut.specs.Halves.{HalfMet}
 use Rattle.insert_planned.specs.Found.{InsertAsked, PageMet, FallsBefore, EndsMet}
 use Rattle.insert_planned.specs.declared.Split.{Split}
 use Rattle.insert_planned.specs.declared.Found.{Found}
-use Rattle.insert_planned.specs.declared.Found.TheVariants.{Refused, Room, Null, Full}
+use Rattle.insert_planned.specs.declared.Found.TheVariants.{Room, Null, Full}
 
 -- ---- what is asked
 
@@ -76,15 +77,18 @@ module _ (before : Store) (encoded : List ℕ) where
         (packed_key encoded) split.behind split.pair cut
 
   -- a refusal is what `add` promises of the call's values, whatever the record holds
-  abbrev pub RefusalMet : ℕ → Type 0
-  RefusalMet n =
-      OfValues before encoded (λ values. (content : Content) → AddPromise before values content (refused n) before)
+  abbrev pub RefusalMet : Refusal → Type 0
+  RefusalMet r =
+      OfValues before encoded (λ values. (content : Content) → AddPromise before values content (told r) before)
 
-  abbrev pub InsertFound : Found → Type 0
-  InsertFound (Refused n) = RefusalMet n
-  InsertFound (Room g x i n) = RoomFound g x i n
-  InsertFound (Null x) = NullFound x
-  InsertFound (Full split cut) = FullFound split cut
+  abbrev pub LeafFound : Found → Type 0
+  LeafFound (Room g x i n) = RoomFound g x i n
+  LeafFound (Null x) = NullFound x
+  LeafFound (Full split cut) = FullFound split cut
+
+  abbrev pub InsertFound : Result Found Refusal → Type 0
+  InsertFound (Ok found) = LeafFound found
+  InsertFound (Err r) = RefusalMet r
 
   -- ---- with a page for the leaf
 
@@ -131,6 +135,6 @@ module _ (before : Store) (encoded : List ℕ) where
     pub split-met : SplitMet split
 
 -- whatever the words and the key, a step that was told X of them tells what is found
-abbrev pub InsertFoundFrom : State → List ℕ → (Store → List ℕ → Type 0) → Found → Type 0
+abbrev pub InsertFoundFrom : State → List ℕ → (Store → List ℕ → Type 0) → Result Found Refusal → Type 0
 InsertFoundFrom st bytes X found =
     (words encoded : List ℕ) → X (store st words bytes) encoded → InsertFound (store st words bytes) encoded found

@@ -3,12 +3,11 @@
 
 use insert_cut::Cut;
 
-// What is found of a key's leaf: nothing to be done, with the number of a refusal; a page with room,
-// the leaf's depth, the place of the key and the number of records that the page has; no page, the
-// leaf's depth; a full page, how the leaf is divided and where the page is cut.
+// What is found of a key's leaf, where an insert is not refused: a page with room, the leaf's depth,
+// the place of the key and the number of records that the page has; no page, the leaf's depth; a
+// full page, how the leaf is divided and where the page is cut.
 #[derive(Clone, Copy)]
 pub enum Found {
-    Refused(u32),
     Room(u32, u32, usize, usize),
     Null(u32),
     Full(Split, Cut),

@@ -17,34 +17,17 @@ pub fn spare_page(state: State, pages: &[u8]) -> u32
 {
     let shape = state.shape;
     let limits = state.limits;
-    let start = one_less(leaf_count(state.tally));
+    let start = leaf_count(state.tally).saturating_sub(1);
     free_page(pages, shape.capacity as usize, limits.pages as usize, start) as u32
-}
-
-// A number less one, and 0 for 0.
-fn one_less(n: usize) -> usize
-    ensures { result ≡ n - 1 }
-{
-    if 1 < n { n - 1 } else { 0 }
 }
 
 // How many leaves a tally has.
 fn leaf_count(tally: Tally) -> usize
     ensures { result ≡ leaves_above tally.leaves 13 }
 {
-    let leaves = tally.leaves;
     let mut n: usize = 0;
-    let mut x: usize = 0;
-    while x < 13 {
-        n += widened(leaves[x]);
-        x += 1;
+    for count in tally.leaves.iter() {
+        n += *count as usize;
     }
     n
-}
-
-// A count as a number of 64 bits.
-fn widened(count: u32) -> usize
-    ensures { (result ≡ count) × (result < 2 ^ 32) }
-{
-    count as usize
 }

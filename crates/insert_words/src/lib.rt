@@ -2,7 +2,7 @@
 // can fail.
 #![tactic(auto)]
 
-ghost use Rattle.std.specs.Prelude.{◌≡◌, max, ◌≤◌, ◌<◌, length};
+ghost use Rattle.std.specs.Prelude.{◌≡◌, ◌≤◌, ◌<◌, length};
 ghost use Rattle.shape.specs.Shape.{widths_of};
 ghost use Rattle.split.specs.Bits.{split_bit};
 ghost use Rattle.directory.specs.Directory.{Filled};
@@ -30,7 +30,7 @@ pub fn double(state: State, dir: &mut [u32], split: Split) -> State
     let limits = state.limits;
     let tally = state.tally;
     let old = state.deepest as u64;
-    let depth = greater(old, split.step + 1);
+    let depth = old.max(split.step + 1);
     deepen(widths_of(shape), old, depth, dir);
     let deepest = depth as u32;
     State {
@@ -39,13 +39,6 @@ pub fn double(state: State, dir: &mut [u32], split: Split) -> State
         deepest,
         tally,
     }
-}
-
-// The greater of two numbers.
-fn greater(a: u64, b: u64) -> u64
-    ensures { result ≡ max a b }
-{
-    if a < b { b } else { a }
 }
 
 // Set the words, I4, I5 and I7: the cells of a full leaf get the words of its new leaves, the empty

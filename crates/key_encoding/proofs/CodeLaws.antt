@@ -1,14 +1,10 @@
 -- Laws of the code: a shape without marks, a bias of 0, a mark by shift and mask, a bias by shift, sums that fit their
 -- words, four results of calls. Assumes nothing.
 use Rattle.std.proofs.Common.{◌≡◌, ℕ, ◌+◌, ◌-◌, ◌*◌, ◌/◌, ◌%◌, ◌^◌, ◌<◌, ◌≤◌, Bool, true, false, eqb, List, [], ◌∷◌, get_or, sym, refl, ap, ◌∙◌, subst, arith, lt-ltb}
-use mathlib.Core.Option.{none}
 use lib.Bits.{bit_and, bit_or, and_mask, and_le_l, and_le_r, or_add_and}
 use Rattle.shape.specs.Shape.{width_of, shape_number}
-use Rattle.shape.specs.Key.{per_attribute, marked, bias, encode, encodings, wanted_value, wanted_values}
+use Rattle.shape.specs.Key.{per_attribute, marked, bias, encode, encodings}
 use Rattle.shape.specs.declared.Shape.{Shape}
-use Rattle.shape.specs.declared.Query.{Query}
-use Rattle.shape.specs.declared.Wanted.TheVariants.{Free}
-use Rattle.shape.proofs.AttributeLaws.{get_d-per_attribute}
 use Rattle.shape.proofs.EncodingLaws.{marked-lt, bias-marked, bias-plain, encode-marked, encode-plain, width-marked}
 use Rattle.shape.proofs.EncodingLaws.{bias-lt}
 use Rattle.shape.proofs.ShapeLaws.{width_of-used}
@@ -81,14 +77,6 @@ module _ (s : Shape) (j : ℕ) where
       go : (b : Bool) → marked s j ≡ b → (v + bias s j) % 2 ^ 32 ≡ encode s j v
       go true m = sym (encode-marked s j v l m)
       go false m = rw (bias-plain s j m, encode-plain s j v m) (omega arith)
-
--- ---- queries
-
-pub get_d-wanted_values : (q : Query) (j : ℕ) → j < 4
-    → get_or (wanted_values q) j none ≡ wanted_value (get_or q.attributes j (record { wanted = Free })).wanted
-unfolding wanted_values
-get_d-wanted_values q j h =
-    get_d-per_attribute (λ i. wanted_value (get_or q.attributes i (record { wanted = Free })).wanted) none j h
 
 -- ---- four results of calls
 

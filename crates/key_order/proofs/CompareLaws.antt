@@ -18,7 +18,7 @@ use Rattle.split.specs.Bits.{bit_of}
 use Rattle.split.proofs.StepLaws.{length-steps}
 use Rattle.record.specs.Packed.{packed_value, unpacked_key}
 use Rattle.pairs.specs.Pairs.{IsStep}
-use Rattle.key_order.specs.declared.Order.TheVariants.{Same, Before, After}
+use Rattle.std.specs.declared.cmp.Ordering.TheVariants.{Less, Equal, Greater}
 use Rattle.key_order.specs.Order.{compared, FirstPair}
 use Rattle.key_order.specs.Private.{has_bit, top_bits, LeadingOne, key_bit, of_first, BitOfFirst}
 use Rattle.key_order.proofs.BitLaws.{lt-of-has_bit}
@@ -113,21 +113,21 @@ module _ (ws : List ℕ) (fit : Fit ws) (x y : ℕ) where
         (λ l. bit-there z ∙ one)
 
     compared-attribute : length (steps ws) ≡ total ws
-        → compared ws (unpacked_key x) (unpacked_key y) ≡ cond (key_bit ws x s j) After Before
+        → compared ws (unpacked_key x) (unpacked_key y) ≡ cond (key_bit ws x s j) Greater Less
     compared-attribute all =
         compared-differ ws fit (unpacked_key x) (unpacked_key y) g first_pair-leading all low
-        ∙ ap (λ β. cond β After Before) (pair_bit-unpacked_key ws x g ∙ bit-there x)
+        ∙ ap (λ β. cond β Greater Less) (pair_bit-unpacked_key ws x g ∙ bit-there x)
 
   -- ---- how the keys stand to each other
 
   module _ (all : length (steps ws) ≡ total ws) where
-    compared-none : or_to differing 3 ≡ 0 → compared ws (unpacked_key x) (unpacked_key y) ≡ Same
+    compared-none : or_to differing 3 ≡ 0 → compared ws (unpacked_key x) (unpacked_key y) ≡ Equal
     compared-none e =
         compared_same ws fit (unpacked_key x) (unpacked_key y) 64 (first_pair-none e) all (omega arith)
 
     compared-first : (bit : ℕ) (h : LeadingOne (or_to differing 3) bit)
         → compared ws (unpacked_key x) (unpacked_key y)
-        ≡ cond (of_first (key_bit ws z h.place) (key_bit ws x h.place)) After Before
+        ≡ cond (of_first (key_bit ws z h.place) (key_bit ws x h.place)) Greater Less
     compared-first bit h = go (has 0) (has 1) (has 2) (has 3) refl refl refl refl
       where
         s : ℕ
@@ -142,7 +142,7 @@ module _ (ws : List ℕ) (fit : Fit ws) (x y : ℕ) where
             (or_to-lt differing 64 3 (λ r l. top_bits-lt (get_or ws r 0) (packed_value z r) (fit r)))
 
         at : (j : ℕ) → j < 4 → ((r : ℕ) → r < j → has r ≡ false) → has j ≡ true
-            → compared ws (unpacked_key x) (unpacked_key y) ≡ cond (key_bit ws x s j) After Before
+            → compared ws (unpacked_key x) (unpacked_key y) ≡ cond (key_bit ws x s j) Greater Less
         at j l before one = compared-attribute j (63 - s) s l (omega (arith, low-place)) h.high before one all
 
         Zero : ℕ → Type 0
@@ -167,7 +167,7 @@ module _ (ws : List ℕ) (fit : Fit ws) (x y : ℕ) where
         go : (β0 β1 β2 β3 : Bool) → has 0 ≡ β0 → has 1 ≡ β1 → has 2 ≡ β2 → has 3 ≡ β3
             → compared ws (unpacked_key x) (unpacked_key y)
             ≡ cond (cond β0 (key_bit ws x s 0) (cond β1 (key_bit ws x s 1) (cond β2 (key_bit ws x s 2) (key_bit ws x s 3))))
-            After Before
+            Greater Less
         go true β1 β2 β3 e0 e1 e2 e3 = at 0 (omega arith) none e0
         go false true β2 β3 e0 e1 e2 e3 = at 1 (omega arith) (also 0 none e0) e1
         go false false true β3 e0 e1 e2 e3 = at 2 (omega arith) (also 1 (also 0 none e0) e1) e2
@@ -186,21 +186,21 @@ module _ (w0 w1 w2 w3 : ℕ) (fit : Fit (w0 ∷ w1 ∷ w2 ∷ w3 ∷ [])) (x y d
   together : bit_or (bit_or (bit_or d0 d1) d2) d3 ≡ or_to (differing ws fit x y) 3
   together i = bit_or (bit_or (bit_or (e0 i) (e1 i)) (e2 i)) (e3 i)
 
-  pub compared-zero : bit_or (bit_or (bit_or d0 d1) d2) d3 ≡ 0 → compared ws (unpacked_key x) (unpacked_key y) ≡ Same
+  pub compared-zero : bit_or (bit_or (bit_or d0 d1) d2) d3 ≡ 0 → compared ws (unpacked_key x) (unpacked_key y) ≡ Equal
   compared-zero e = compared-none ws fit x y (length-steps w0 w1 w2 w3 fit) (sym together ∙ e)
 
   pub compared-bit : (bit r : ℕ) → LeadingOne (bit_or (bit_or (bit_or d0 d1) d2) d3) bit
-      → BitOfFirst ws x bit d0 d1 d2 r → compared ws (unpacked_key x) (unpacked_key y) ≡ cond (eqb r 0) Before After
+      → BitOfFirst ws x bit d0 d1 d2 r → compared ws (unpacked_key x) (unpacked_key y) ≡ cond (eqb r 0) Less Greater
   compared-bit bit r one first =
       let h = subst (λ n. LeadingOne n bit) together one in
       let s = h.place in
       compared-first ws fit x y (length-steps w0 w1 w2 w3 fit) bit h
       ∙ tested (of_first (key_bit ws (bit_xor x y) s) (key_bit ws x s)) s
-      ∙ ap (λ n. cond (eqb n 0) Before After) (sym
+      ∙ ap (λ n. cond (eqb n 0) Less Greater) (sym
       (first s h.is-power
       ∙ (λ i. cond (cond (has_bit s (e0 i)) (key_bit ws x s 0) (cond (has_bit s (e1 i)) (key_bit ws x s 1)
       (cond (has_bit s (e2 i)) (key_bit ws x s 2) (key_bit ws x s 3)))) (h.is-power i) 0)))
     where
-      tested : (β : Bool) (s : ℕ) → cond β After Before ≡ cond (eqb (cond β (2 ^ s) 0) 0) Before After
-      tested true s = ap (λ α. cond α Before After) (sym (ne_eqb (2 ^ s) 0 (λ e. omega (arith, pow_pos s))))
+      tested : (β : Bool) (s : ℕ) → cond β Greater Less ≡ cond (eqb (cond β (2 ^ s) 0) 0) Less Greater
+      tested true s = ap (λ α. cond α Less Greater) (sym (ne_eqb (2 ^ s) 0 (λ e. omega (arith, pow_pos s))))
       tested false s = refl

@@ -16,12 +16,12 @@ use Rattle.split.proofs.StepLaws.{step_number-onto}
 use Rattle.key_order.specs.Order.{common_bits, first_step, compared, FirstPair}
 use Rattle.pairs.specs.Pairs.{IsStep, pair_bit}
 use Rattle.pairs.proofs.PlaceLaws.{split_bit-place, steps_below-lt}
-use Rattle.key_order.specs.declared.Order.TheVariants.{Same, Before, After}
+use Rattle.std.specs.declared.cmp.Ordering.TheVariants.{Less, Equal, Greater}
 use Rattle.key_order.proofs.CommonLaws.{AgreeFrom, DifferAt, common_bits-all, common_bits-differ}
 use Rattle.key_order.proofs.CommonLaws.{same_bits-all, same_bits-differ, before-differ}
 
 -- of two bits that differ either tells the order
-cond-ne : (α β : Bool) → (α ≡ β → ⊥) → cond β Before After ≡ cond α After Before
+cond-ne : (α β : Bool) → (α ≡ β → ⊥) → cond β Less Greater ≡ cond α Greater Less
 cond-ne true true n = absurd (n refl)
 cond-ne true false n = refl
 cond-ne false true n = refl
@@ -78,17 +78,17 @@ module _ (ws : List ℕ) (fit : Fit ws) where
 
       -- ---- how the keys stand to each other
 
-      pub compared_same : 64 ≤ g → compared ws x y ≡ Same
+      pub compared_same : 64 ≤ g → compared ws x y ≡ Equal
       unfolding compared
       compared_same l = rw (same_bits-all (split_bit ws x) (split_bit ws y) (total ws) 0 (agree-all l))
 
-      pub compared-differ : g < 64 → compared ws x y ≡ cond (pair_bit ws x g) After Before
+      pub compared-differ : g < 64 → compared ws x y ≡ cond (pair_bit ws x g) Greater Less
       unfolding compared
       compared-differ l =
           rw (
             same_bits-differ (split_bit ws x) (split_bit ws y) (total ws) 0 t (t-lt l) (differ-here l),
             before-differ (split_bit ws) x y (total ws) 0 t (t-lt l) agree-before (differ-here l),
           )
-          (ap (λ β. cond β Before After)
+          (ap (λ β. cond β Less Greater)
           (ap (split_bit ws y) (zero-add t) ∙ split_bit-place ws fit y g (d.step-there l))
           ∙ cond-ne (pair_bit ws x g) (pair_bit ws y g) (d.differ-there l))

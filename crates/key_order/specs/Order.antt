@@ -6,8 +6,8 @@ use Rattle.split.specs.Bits.{split_bit}
 use Rattle.pairs.specs.Pairs.{IsStep, pair_bit}
 use Rattle.region.specs.Strings.{same_bits}
 use Rattle.region.specs.Sets.{before}
-use Rattle.key_order.specs.declared.Order.{Order}
-use Rattle.key_order.specs.declared.Order.TheVariants.{Same, Before, After}
+use Rattle.std.specs.declared.cmp.Ordering.{Ordering}
+use Rattle.std.specs.declared.cmp.Ordering.TheVariants.{Less, Equal, Greater}
 
 -- how many of the n bits from step t on two strings have in common before they differ
 abbrev pub common_bits : (ℕ → Bool) → (ℕ → Bool) → ℕ → ℕ → ℕ
@@ -19,10 +19,10 @@ unfoldable pub first_step : List ℕ → List ℕ → List ℕ → ℕ
 first_step ws x y = common_bits (split_bit ws x) (split_bit ws y) (total ws) 0
 
 -- "Split order compares two keys at their first differing split bit, 0 before 1": how x stands to y
-unfoldable pub compared : List ℕ → List ℕ → List ℕ → Order
+unfoldable pub compared : List ℕ → List ℕ → List ℕ → Ordering
 compared ws x y =
-    cond (same_bits (split_bit ws x) (split_bit ws y) (total ws) 0) Same
-    (cond (before (split_bit ws) (total ws) 0 x y) Before After)
+    cond (same_bits (split_bit ws x) (split_bit ws y) (total ws) 0) Equal
+    (cond (before (split_bit ws) (total ws) 0 x y) Less Greater)
 
 -- g is the place of the first split step in which two keys differ; 64 where they do not
 pub record FirstPair (ws x y : List ℕ) (g : ℕ) : Type 0 where

@@ -13,17 +13,9 @@ ghost use Rattle.record.specs.Packed.{packed_value, unpacked_key};
 ghost use Rattle.key_order.specs.Order.{first_step, compared, FirstPair};
 ghost use Rattle.key_order.specs.Private.{top_bits, LeadingOne, BitOfFirst, Chosen, FirstBit};
 
-use numbers::smaller;
 use pairs::{steps_before, width_at};
 use shape::Widths;
-
-// How a key stands to another one in split order.
-#[derive(Clone, Copy)]
-pub enum Order {
-    Same,
-    Before,
-    After,
-}
+use std::cmp::Ordering;
 
 // The number of the first split step in which two keys differ; W where they do not.
 pub fn first_step(widths: Widths, x: u64, y: u64) -> u64
@@ -33,9 +25,9 @@ pub fn first_step(widths: Widths, x: u64, y: u64) -> u64
     steps_before(widths, first_pair(widths, x, y))
 }
 
-// How x stands to y. With each attribute's differing bits at the top of a word, the leading one of
-// all four is the first bit in which any attribute differs.
-pub fn compare(widths: Widths, x: u64, y: u64) -> Order
+// How x stands to y in split order. With each attribute's differing bits at the top of a word, the
+// leading one of all four is the first bit in which any attribute differs.
+pub fn compare(widths: Widths, x: u64, y: u64) -> Ordering
     requires { Fit (width_list widths) }
     ensures { result ≡ compared (width_list widths) (unpacked_key x) (unpacked_key y) }
 {
@@ -46,15 +38,16 @@ pub fn compare(widths: Widths, x: u64, y: u64) -> Order
     let d3 = top_bits(z, widths.w3, 3);
     let all = d0 | d1 | d2 | d3;
     if all == 0 {
-        return Order::Same;
+        return Ordering::Equal;
     }
     if bit_of_first(widths, x, leading_one(all), d0, d1, d2) == 0 {
-        return Order::Before;
+        return Ordering::Less;
     }
-    Order::After
+    Ordering::Greater
 }
 
-// The place of the first pair in which two keys differ; 64 where they do not.
+// The place of the first pair in which two keys differ; 64 where they do not: a number, as the least
+// of four is taken without a jump.
 pub fn first_pair(widths: Widths, x: u64, y: u64) -> u64
     requires { Fit (width_list widths) }
     ensures { FirstPair (width_list widths) (unpacked_key x) (unpacked_key y) result }
@@ -64,7 +57,7 @@ pub fn first_pair(widths: Widths, x: u64, y: u64) -> u64
     let p1 = first_bit(z, widths.w1, 1);
     let p2 = first_bit(z, widths.w2, 2);
     let p3 = first_bit(z, widths.w3, 3);
-    smaller(smaller(smaller(p0, p1), smaller(p2, p3)), 64)
+    p0.min(p1).min(p2.min(p3)).min(64)
 }
 
 // The bit of a key at the place of a split step.

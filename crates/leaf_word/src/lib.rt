@@ -9,6 +9,7 @@ ghost use Rattle.cell.specs.Cell.{cell_address};
 ghost use Rattle.directory_word.specs.Word.{depth_field};
 ghost use Rattle.record.specs.Packed.{unpacked_key};
 ghost use Rattle.page.specs.Page.{page_at};
+ghost use Rattle.page_ends.specs.Fair.{positive};
 ghost use Rattle.leaf_word.specs.Hold.{CellAsked, word_holds, own_page, own_count, LeafAsked, OwnAsked};
 
 use directory_cell::find_cell;
@@ -76,10 +77,10 @@ pub fn page_holds(shape: Shape, pages: &[u8], g: usize, n: usize, depth: u32, ke
 
 // How many records page g has, where it can be that of the leaf of a depth in which a packed key
 // falls: 1 to b, the first and the last of them with values in bounds and the leaf's string at their
-// beginning. 0 for another page.
-pub fn own_count(shape: Shape, pages: &[u8], g: usize, depth: u32, key: u64) -> usize
+// beginning. None for another page.
+pub fn own_count(shape: Shape, pages: &[u8], g: usize, depth: u32, key: u64) -> Option<usize>
     requires { LeafAsked shape pages.now g depth key }
-    ensures { result ≡ own_count shape depth key (page_at shape.capacity pages.now g) }
+    ensures { result ≡ positive (own_count shape depth key (page_at shape.capacity pages.now g)) }
 {
     let mask = fixed_bits(widths_of(shape), depth as u64);
     let bias = bias_key(shape);

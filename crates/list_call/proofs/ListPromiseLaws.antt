@@ -1,6 +1,6 @@
 -- Laws of the promise of a call that lists records, one for each way that the call ends, whatever it lists and reads.
 -- Assumes nothing.
-use Prim.Native.Nat.{ℕ, zero, suc, ◌*◌, ◌/◌, min}
+use Prim.Native.Nat.{ℕ, suc, ◌*◌, ◌/◌, min}
 use mathlib.Core.Path.{◌≡◌, refl, sym, ap, ◌∙◌, subst, fun_ext}
 use mathlib.Core.Bool.{false≢true}
 use mathlib.Core.List.{List, map}
@@ -9,10 +9,11 @@ use native.Mathlib.Omega.{arith}
 use lib.ListN.{length, take, drop, length-map}
 use lib.Seq.{drop_at, length-take-le}
 use Rattle.lists.specs.Members.{All}
-use Rattle.shape.specs.Amiss.{refused_for}
-use Rattle.shape.specs.Refusal.{Condition, Answer, accepted, refused, answered, first_number}
+use Rattle.shape.specs.Refusal.{Condition, Answer, accepted, refused, answered, answered_by, told, first_number}
 use Rattle.shape.specs.declared.Shape.{Shape}
-use Rattle.shape.proofs.RefusalLaws.{Named, refused_for-other, refused_first-none, refused_first-for}
+use Rattle.shape.specs.declared.refusal.Refusal.{Refusal}
+use Rattle.shape.proofs.RefusalLaws.{Named, refused_for-other, refused_first-none, for-refused_first}
+use Rattle.shape.proofs.TestLaws.{told-first, told-suc}
 use Rattle.region.specs.Query.{LeafTest}
 use Rattle.record.specs.Record.{Record}
 use Rattle.record.specs.Bytes.{record_size, record_of, records_bytes}
@@ -51,20 +52,24 @@ module _ (here : Store) (early : List Condition) (reads : LeafTest Record) (numb
   module _ (model-number : (S : List Record) → SoundWhere here reads S → first_number early ≡ number S) where
     -- ---- refused early
 
-    module _ (named : Named shape early) (other : (S : List Record) → number S ≡ 14 → ⊥) where
-      -- on a sound store the number alone is answered, for the model has no 14
-      pub early-alone : (n : ℕ) → n ≡ first_number early → (S : List Record) → SoundWhere here reads S
-          → refused_for {A = Reply} shape n ≡ refused n
-      early-alone n e S h = refused_for-other shape n (λ d. other S (sym (e ∙ model-number S h) ∙ d))
+    module _ (named : Named shape early) (other : (S : List Record) → number S ≡ 14 → ⊥) (r : Refusal)
+        (e : told r ≡ answered_by early (tt {0})) where
+      some : (n : ℕ) × (first_number early ≡ suc n)
+      some = told-suc tt r early e
 
-      pub list-early : (n : ℕ) → n ≡ first_number early → (n ≡ 0 → ⊥) → Lists (refused_for shape n) out
-      list-early zero e z = absurd (z refl)
-      list-early (suc n) e z = record {
-        early-refused = refused_first-for shape early named n (sym e);
+      -- on a sound store the number alone is answered, for the model has no 14
+      alone : (S : List Record) → SoundWhere here reads S → told {A = Reply} r ≡ refused (suc some.0)
+      alone S h =
+          for-refused_first shape early named some.0 some.1 (told r) (listed 0 0 0) (told-first tt r early e)
+          ∙ refused_for-other shape (suc some.0) (λ d. other S (sym (model-number S h) ∙ some.1 ∙ d))
+
+      pub list-early : Lists (told r) out
+      list-early = record {
+        early-refused = told-first tt r early e;
         unchanged = λ d. refl;
-        ordinary = λ d. absurd (z (e ∙ d));
+        ordinary = λ d. absurd (omega (arith, some.1, d));
         output-length = refl;
-        answered-as = λ S h. rw (sym (e ∙ model-number S h)) (early-alone (suc n) e S h, refl);
+        answered-as = λ S h. rw (sym (model-number S h) ∙ some.1) (alone S h, refl);
       }
 
     module _ (none : first_number early ≡ 0) where

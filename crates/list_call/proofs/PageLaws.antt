@@ -27,9 +27,8 @@ use Rattle.store.specs.Store.{store}
 use Rattle.store.specs.Promises.{SoundWhere}
 use Rattle.query_seen.specs.Seen.{walk_seen_by}
 use Rattle.query_seen.proofs.BoundLaws.{Readable}
-use Rattle.query_walk.specs.declared.Noted.{Noted}
-use Rattle.query_walk.specs.declared.Noted.TheVariants.{Pages, Damaged}
-use Rattle.query_walk.specs.Noting.{Put}
+use Rattle.std.specs.Prelude.{Some, None}
+use Rattle.query_walk.specs.Noting.{Noted, Put}
 use Rattle.query_walk.proofs.NotedLaws.{noted-le, noted-readable, noted-reads-by, noted-records-by}
 use Rattle.query_records.specs.Records.{PageWithin, ListOf, list_hits}
 use Rattle.query_records.proofs.ListHitLaws.{All-take-of, IsField-list_hits, map-list_hits}
@@ -39,12 +38,12 @@ use Rattle.list_call.proofs.LentLaws.{deepest-few}
 -- ---- answers of a walk
 
 abbrev pub is_pages : Noted → Bool
-is_pages (Pages n) = true
-is_pages Damaged = false
+is_pages (Some n) = true
+is_pages None = false
 
 abbrev pub pages_in : Noted → ℕ
-pages_in (Pages n) = n
-pages_in Damaged = 0
+pages_in (Some n) = n
+pages_in None = 0
 
 -- ---- pages
 
@@ -60,7 +59,7 @@ PageWithin-readable b P bytes g most l h = record {
 module _ (st : State) (words bytes : List ℕ) (lent : LimitsLent st (length words) (length bytes))
     (enter : ℕ → (ℕ → Bool) → Bool) (list : List ℕ) (r : Noted) (later : List ℕ)
     (o : Put list (walk_seen_by st words bytes enter) r later) (long : length later ≡ length list)
-    (n : ℕ) (e : r ≡ Pages n) (room : n ≤ length list) where
+    (n : ℕ) (e : r ≡ Some n) (room : n ≤ length list) where
   abbrev b : ℕ
   b = st.shape.capacity
 

@@ -1,4 +1,4 @@
--- Laws of the number of a load, one for each way that the tests end; the same number in the words of the promise.
+-- Laws of the tests of a load, one for each way that they end; the same conditions in the words of the promise.
 -- Assumes nothing.
 use Prim.Native.Nat.{ℕ}
 use mathlib.Core.Path.{◌≡◌, refl, sym, ap, ◌∙◌}
@@ -7,10 +7,12 @@ use mathlib.Core.List.{List, [], ◌∷◌, ◌++◌}
 use native.Mathlib.Omega.{arith}
 use lib.ListN.{length}
 use Rattle.lists.proofs.Bools.{and_split}
-use Rattle.shape.specs.Refusal.{Condition, refusal, first_number}
+use Rattle.shape.specs.Refusal.{Condition, Answer, accepted, refused, refusal, told, answered_by}
+use Rattle.shape.specs.declared.refusal.Refusal.{Refusal}
 use Rattle.shape.specs.Shape.{shape_conditions, shape_number}
 use Rattle.shape.specs.declared.Shape.{Shape}
-use Rattle.shape.proofs.RefusalLaws.{first_number-shape, first_number-shape-out}
+use Rattle.shape.proofs.RefusalLaws.{accepted-answered_by}
+use Rattle.shape.proofs.TestLaws.{told-append, passed-append}
 use Rattle.page.specs.Page.{records_from}
 use Rattle.model.specs.Sets.{is_set}
 use Rattle.model.specs.Limits.{page_limit_of, depth_limit_of, fixed_by}
@@ -19,10 +21,10 @@ use Rattle.store.specs.Store.{Memory}
 use Rattle.store.specs.declared.Limits.{Limits}
 use Rattle.fresh.specs.Memory.{lacks_word_or_page}
 use Rattle.file.specs.File.{file_size, file_count, file_shape, file_records, is_whole, is_plain}
-use Rattle.file.specs.Loading.{join_conditions, content_conditions, load_refusals, load_number}
+use Rattle.file.specs.Loading.{join_conditions, content_conditions, load_refusals}
 use Rattle.file.proofs.PlainLaws.{fresh_shape-file_shape}
 use Rattle.file_scan.specs.Asked.{Scannable, fixed_with}
-use Rattle.load.specs.Lengths.{load_number_by}
+use Rattle.load.specs.Lengths.{load_conditions_by}
 
 -- a file's shape and its records, as they are read
 module _ (file : List ℕ) (s : Shape) (shape-read : s ≡ file_shape file) (n : ℕ) (counted : n ≡ file_count file) where
@@ -33,7 +35,16 @@ module _ (file : List ℕ) (s : Shape) (shape-read : s ≡ file_shape file) (n :
   pub set-read : is_set s (records_from s n 0 file) ≡ is_set (file_shape file) (file_records file)
   set-read = λ i. is_set (shape-read i) (records-read i)
 
+-- a shape that passes its test
+pub shape-good : (s : Shape) → accepted (tt {0}) ≡ answered_by (shape_conditions s) tt → shape_number s ≡ 0
+unfolding shape_number
+shape-good s good = accepted-answered_by tt tt (shape_conditions s) good
+
 -- ---- each way that the tests end
+
+-- what a test of some conditions gives
+abbrev test : List Condition → Answer (Unit {0})
+test cs = answered_by cs tt
 
 module _ (file : List ℕ) (words bytes : ℕ) where
   -- the conditions from 6, from 2 and from 13 on
@@ -46,49 +57,44 @@ module _ (file : List ℕ) (words bytes : ℕ) where
   abbrev contents : List Condition
   contents = content_conditions file ++ lends
 
-  pub load_number_by-not-whole : is_whole file ≡ false → 12 ≡ load_number_by file words bytes
-  unfolding load_number_by first_number
-  load_number_by-not-whole e = rw e
+  abbrev pub load_test : Answer (Unit {0})
+  load_test = answered_by (load_conditions_by file words bytes) tt
 
-  -- any other number is told of a whole file
-  pub whole-of-load_number_by : (load_number_by file words bytes ≡ 12 → ⊥) → is_whole file ≡ true
-  whole-of-load_number_by other = go (is_whole file) refl
-    where
-      go : (b : Bool) → is_whole file ≡ b → is_whole file ≡ true
-      go true e = e
-      go false e = absurd (other (sym (load_number_by-not-whole e)))
+  pub test-not-whole : is_whole file ≡ false → refused 12 ≡ load_test
+  unfolding load_conditions_by answered_by
+  test-not-whole e = rw e
 
   -- a whole file, whose shape is read
   module _ (whole : is_whole file ≡ true) (s : Shape) (shape-read : s ≡ file_shape file) where
-    number-whole : load_number_by file words bytes ≡ first_number (shape_conditions s ++ contents)
-    unfolding load_number_by first_number
-    number-whole = rw (whole, shape-read) refl
+    test-whole : load_test ≡ test (shape_conditions s ++ contents)
+    unfolding load_conditions_by answered_by
+    test-whole = rw (whole, shape-read) refl
 
-    pub load_number_by-shape-out : (shape_number s ≡ 0 → ⊥) → shape_number s ≡ load_number_by file words bytes
-    load_number_by-shape-out out = sym (number-whole ∙ first_number-shape-out s contents out)
+    pub test-shape-out : (r : Refusal) → told r ≡ test (shape_conditions s) → told r ≡ load_test
+    test-shape-out r e = told-append tt r (shape_conditions s) contents tt e ∙ sym test-whole
 
-    module _ (good : shape_number s ≡ 0) (content : Bool)
+    module _ (good : accepted (tt {0}) ≡ test (shape_conditions s)) (content : Bool)
         (tested : content ≡ (is_plain file && is_set (file_shape file) (file_records file))) where
-      number-shape : load_number_by file words bytes ≡ cond (not content) 13 (first_number lends)
-      unfolding first_number
-      number-shape =
-          number-whole
-          ∙ first_number-shape s contents good
-          ∙ ap (λ b. cond (not b) 13 (first_number lends)) (sym tested)
+      test-shape : load_test ≡ cond (not content) (refused 13) (test lends)
+      unfolding answered_by
+      test-shape =
+          test-whole
+          ∙ passed-append tt (shape_conditions s) contents tt good
+          ∙ ap (λ b. cond (not b) (refused 13) (test lends)) (sym tested)
 
-      pub load_number_by-content-not : content ≡ false → 13 ≡ load_number_by file words bytes
-      load_number_by-content-not e = sym (number-shape ∙ ap (λ b. cond (not b) 13 (first_number lends)) e)
+      pub test-content-not : content ≡ false → refused 13 ≡ load_test
+      test-content-not e = sym (test-shape ∙ ap (λ b. cond (not b) (refused 13) (test lends)) e)
 
       module _ (holds : content ≡ true) where
-        number-content : load_number_by file words bytes ≡ cond (lacks_word_or_page s words bytes) 2 (first_number joins)
-        unfolding first_number
-        number-content =
-            number-shape
-            ∙ ap (λ b. cond (not b) 13 (first_number lends)) holds
-            ∙ ap (λ (t : Shape). cond (lacks_word_or_page t words bytes) 2 (first_number joins)) (sym shape-read)
+        test-content : load_test ≡ cond (lacks_word_or_page s words bytes) (refused 2) (test joins)
+        unfolding answered_by
+        test-content =
+            test-shape
+            ∙ ap (λ b. cond (not b) (refused 13) (test lends)) holds
+            ∙ ap (λ (t : Shape). cond (lacks_word_or_page t words bytes) (refused 2) (test joins)) (sym shape-read)
 
-        pub load_number_by-lacks : lacks_word_or_page s words bytes ≡ true → 2 ≡ load_number_by file words bytes
-        load_number_by-lacks e = sym (number-content ∙ ap (λ b. cond b 2 (first_number joins)) e)
+        pub test-lacks : lacks_word_or_page s words bytes ≡ true → refused 2 ≡ load_test
+        test-lacks e = sym (test-content ∙ ap (λ b. cond b (refused 2) (test joins)) e)
 
         -- what the content test tells
         held : (is_plain file ≡ true) × (is_set (file_shape file) (file_records file) ≡ true)
@@ -109,23 +115,23 @@ module _ (file : List ℕ) (words bytes : ℕ) where
           pub scannable : file_size n ≡ length file → Scannable s l n file
           scannable size =
               record {
-                shape = good;
+                shape = shape-good s good;
                 lent = omega (arith, size);
                 set = set-read file s shape-read n counted ∙ held.1;
                 depth-bits = omega (arith, d, (depth_limit_of-le s words).1);
               }
 
-          pub load_number_by-room : lacks_word_or_page s words bytes ≡ false → l.pages ≡ page_limit_of s bytes
-              → (k : ℕ) → k ≡ first_number (join_conditions (fixed_with s l) [] (records_from s n 0 file))
-              → k ≡ load_number_by file words bytes
-          load_number_by-room e p k found =
+          pub test-room : lacks_word_or_page s words bytes ≡ false → l.pages ≡ page_limit_of s bytes
+              → (answer : Answer (Unit {0}))
+              → answer ≡ test (join_conditions (fixed_with s l) [] (records_from s n 0 file)) → answer ≡ load_test
+          test-room e p answer found =
               found
-              ∙ (λ i. first_number (join_conditions (fixed-read l p d i) [] (records-read file s shape-read n counted i)))
-              ∙ sym (number-content ∙ ap (λ b. cond b 2 (first_number joins)) e)
+              ∙ (λ i. test (join_conditions (fixed-read l p d i) [] (records-read file s shape-read n counted i)))
+              ∙ sym (test-content ∙ ap (λ b. cond b (refused 2) (test joins)) e)
 
 -- ---- in the words of the promise
 
-pub load_number-by : (file : List ℕ) (m : Memory)
-    → load_number file m ≡ load_number_by file (length m.words) (length m.bytes)
-unfolding load_refusals load_number_by
-load_number-by file m = refl
+pub load_refusals-by : (file : List ℕ) (m : Memory)
+    → load_refusals file m ≡ load_conditions_by file (length m.words) (length m.bytes)
+unfolding load_refusals load_conditions_by
+load_refusals-by file m = refl

@@ -1,14 +1,14 @@
 -- Laws of the promise of a load: a refused one, and the file's records joined to a fresh store. Assumes nothing.
 use Prim.Native.Nat.{ℕ, zero, suc, ◌*◌}
 use mathlib.Core.Path.{◌≡◌, refl, sym, ap, subst, ◌∙◌}
-use mathlib.Core.Bool.{false≢true}
+use mathlib.Core.Bool.{true, false≢true}
 use mathlib.Core.List.{List}
 use native.Mathlib.Omega.{arith}
 use lib.ListN.{length, length-set}
-use Rattle.shape.specs.Refusal.{Answer, accepted, answered_by}
-use Rattle.shape.specs.Amiss.{refused_for}
+use Rattle.shape.specs.Refusal.{Answer, accepted, answered_by, told, refusal_number, refusal_value}
+use Rattle.shape.specs.declared.refusal.Refusal.{Refusal}
 use Rattle.shape.specs.declared.Shape.{Shape}
-use Rattle.shape.proofs.RefusalLaws.{first_number-shape, accepted-answered_by, answered_by-named}
+use Rattle.shape.proofs.RefusalLaws.{first_number-shape, answered_by-shape, refused_by-refuses}
 use Rattle.shape.proofs.ShapeLaws.{shape_number-true}
 use Rattle.record.specs.Record.{Record}
 use Rattle.page.specs.Page.{page_size, records_from}
@@ -18,46 +18,37 @@ use Rattle.store.specs.Fresh.{no_state}
 use Rattle.store.specs.Sound.{Sound}
 use Rattle.store.specs.Store.{Store, Memory}
 use Rattle.store.proofs.ClearedLaws.{length-cleared_counts}
+use Rattle.store.proofs.NumberLaws.{answered_by-fresh}
 use Rattle.store.proofs.FreshLaws.{fixed_of-fresh_state, sound-of-fresh}
-use Rattle.file.specs.File.{file_size, file_count, file_shape, file_records}
+use Rattle.file.specs.File.{is_whole, file_size, file_count, file_shape, file_records}
 use Rattle.file.specs.Loading.{load_refusals, load_number}
 use Rattle.file.specs.Promises.{LoadPromise}
 use Rattle.file.proofs.AcceptedLaws.{Passed, passed-of-load_number}
-use Rattle.file.proofs.LoadingLaws.{named-load, answered_by-load}
+use Rattle.file.proofs.LoadingLaws.{answered_by-load}
 use Rattle.file.proofs.PlainLaws.{fresh_shape-file_shape}
 use Rattle.load.specs.Private.{Joining, Joined}
 use Rattle.load.proofs.ClearedLaws.{drop-set-first, drop-cleared_counts}
 use Rattle.load.proofs.NumberLaws.{records-read, set-read}
 
 module _ (file : List ℕ) (m : Memory) where
-  module _ (n : ℕ) (answer : Answer (Unit {0})) (e : load_number file m ≡ suc n)
-      (told : answer ≡ refused_for (file_shape file) (suc n)) where
-    answered-refused : answer ≡ answered_by (load_refusals file m) tt
-    answered-refused =
-        told ∙ sym (answered_by-named (file_shape file) tt (load_refusals file m) (named-load file m) n e)
+  module _ (r : Refusal) (e : told r ≡ answered_by (load_refusals file m) (tt {0})) where
+    not-accepted : {A : Type 0} → ◌≡◌ {A = Answer (Unit {0})} (told r) (accepted tt) → A
+    not-accepted d = refused_by-refuses tt (refusal_number r) (refusal_value r) (sym d)
 
-    not-accepted : {A : Type 0} → answer ≡ accepted tt → A
-    not-accepted d =
-        let z : suc n ≡ 0 = sym e ∙ accepted-answered_by tt tt (load_refusals file m) (sym d ∙ answered-refused) in
-        absurd (omega arith)
-
-  pub promise-refused : (n : ℕ) (answer : Answer (Unit {0})) (after : Store) → n ≡ load_number file m → (n ≡ 0 → ⊥)
-      → answer ≡ refused_for (file_shape file) n → after.state ≡ no_state → after.memory ≡ m
-      → LoadPromise file m answer after
-  promise-refused zero answer after e some told st kept = absurd (some refl)
-  promise-refused (suc n) answer after e some told st kept =
-      record {
-        answered-as = answered-refused n answer (sym e) told;
-        no-state = λ r. st;
-        memory_kept = λ r. kept;
-        shape-as = not-accepted n answer (sym e) told;
-        limits-as = not-accepted n answer (sym e) told;
-        shown = not-accepted n answer (sym e) told;
-        words-length = ap (λ (x : Memory). length x.words) kept;
-        bytes-length = ap (λ (x : Memory). length x.bytes) kept;
-        words-past = rw kept refl;
-        bytes_past = rw kept refl;
-      }
+    pub promise-refused : (after : Store) → after.state ≡ no_state → after.memory ≡ m → LoadPromise file m (told r) after
+    promise-refused after st kept =
+        record {
+          answered-as = e;
+          no-state = λ d. st;
+          memory_kept = λ d. kept;
+          shape-as = not-accepted;
+          limits-as = not-accepted;
+          shown = not-accepted;
+          words-length = ap (λ (x : Memory). length x.words) kept;
+          bytes-length = ap (λ (x : Memory). length x.bytes) kept;
+          words-past = rw kept refl;
+          bytes_past = rw kept refl;
+        }
 
   module _ (z : load_number file m ≡ 0) where
     abbrev s : Shape
@@ -74,6 +65,19 @@ module _ (file : List ℕ) (m : Memory) where
     -- what Fresh leaves
     abbrev fresh : Store
     fresh = record { state = fresh_state s m; memory = fresh_memory s m }
+
+    -- the file is whole
+    pub whole-passed : is_whole file ≡ true
+    whole-passed = known.whole
+
+    -- Fresh refuses nothing here
+    pub fresh-accepts : {A : Type 0} (shape : Shape) → shape ≡ file_shape file → (r : Refusal) (made : Store)
+        → FreshPromise shape m (told r) made → A
+    fresh-accepts shape e r made p =
+        let q : ◌≡◌ {A = Answer (Unit {0})} (told r) (answered_by (fresh_refusals s m) tt) =
+        subst (λ (t : Shape). ◌≡◌ {A = Answer (Unit {0})} (told r) (answered_by (fresh_refusals t m) tt)) e p.answered-as in
+        refused_by-refuses tt (refusal_number r) (refusal_value r)
+        (sym (q ∙ answered_by-fresh s m none-fresh))
 
     made-fresh : (answer : Answer (Unit {0})) (made : Store) → FreshPromise s m answer made → made ≡ fresh
     made-fresh answer made p =

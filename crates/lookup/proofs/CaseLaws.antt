@@ -1,21 +1,19 @@
 -- Laws of lookup's answer by case, one for each way that a step of it ends. Assumes nothing.
-use Prim.Native.Nat.{ℕ, ◌<◌}
+use Prim.Native.Nat.{ℕ}
 use mathlib.Core.Path.{◌≡◌, ap}
 use mathlib.Core.Bool.{true, false}
 use mathlib.Core.List.{List}
 use native.Mathlib.Omega.{arith}
-use borrow.Author.Tests.{lt-ltb, le-ltb}
-use Rattle.shape.specs.Refusal.{accepted, refused, refused_with}
+use borrow.Author.Tests.{lt-ltb}
+use Rattle.shape.specs.Refusal.{refused, refused_with}
 use Rattle.shape.specs.Shape.{widths_of}
 use Rattle.split.specs.Bits.{split_bit}
 use Rattle.record.specs.Packed.{packed_key}
 use Rattle.page.specs.Page.{page_at}
-use Rattle.page.specs.Fields.{content_at}
 use Rattle.page_matches.specs.KeyPlace.{key_place}
 use Rattle.directory_word.specs.Word.{depth_field, leaf_of}
 use Rattle.directory_word.specs.declared.Leaf.TheVariants.{Empty, Page}
 use Rattle.directory_word.proofs.LeafLaws.{word_of-of-leaf_of}
-use Rattle.model.specs.Model.{found}
 use Rattle.store.specs.Store.{Store}
 use Rattle.store.specs.declared.State.{State}
 use Rattle.store.proofs.ShownLaws.{word_on}
@@ -26,14 +24,6 @@ use Rattle.lookup.specs.Private.{place_answer, count_answer, page_answer, leaf_a
 -- ---- a page with n records, of a leaf of depth x
 
 module _ (x : ℕ) (page : List ℕ) (n : ℕ) where
-  pub place_answer-absent : (i : ℕ) → i ≡ n → refused_with 5 x ≡ place_answer x page n i
-  unfolding place_answer
-  place_answer-absent i h = rw (le-ltb i n (omega arith))
-
-  pub place_answer-found : (i : ℕ) → i < n → accepted (found (content_at page i) 1 x) ≡ place_answer x page n i
-  unfolding place_answer
-  place_answer-found i h = rw (lt-ltb i n h)
-
   module _ (fields : ℕ) where
     pub count_answer-none : n ≡ 0 → refused 9 ≡ count_answer x n page fields
     unfolding count_answer

@@ -1,16 +1,18 @@
--- Lookup's promise: kept by the number of an early refusal, and by the answer of the store otherwise. Assumes nothing.
+-- Lookup's promise: kept by an early refusal, and by the answer of the store otherwise. Assumes nothing.
 use Prim.Native.Nat.{ℕ, zero, suc}
 use mathlib.Core.Path.{◌≡◌, refl, sym, ap, subst, ◌∙◌}
 use mathlib.Core.Bool.{Bool, true, false, not, cond}
 use mathlib.Core.List.{List}
 use mathlib.Core.Logic.{◌⊎◌, inl, inr}
+use native.Mathlib.Omega.{arith}
 use lib.Dec.{ltb}
-use Rattle.shape.specs.Amiss.{refused_for}
-use Rattle.shape.specs.Refusal.{Answer, accepted, refused, refused_with}
+use Rattle.shape.specs.Refusal.{Answer, accepted, refused, refused_with, told, answered_by, RefusedFirst}
 use Rattle.shape.specs.Shape.{widths_of}
 use Rattle.shape.specs.Key.{key_fits, encodings}
 use Rattle.shape.specs.declared.Shape.{Shape}
-use Rattle.shape.proofs.RefusalLaws.{refused_first-none, refused_first-for}
+use Rattle.shape.specs.declared.refusal.Refusal.{Refusal}
+use Rattle.shape.proofs.RefusalLaws.{refused_first-none, for-refused_first}
+use Rattle.shape.proofs.TestLaws.{told-first, told-suc}
 use Rattle.split.specs.Bits.{split_bit}
 use Rattle.record.specs.declared.Content.{Content}
 use Rattle.record.specs.Record.{Record}
@@ -20,7 +22,7 @@ use Rattle.page.specs.Page.{page_at}
 use Rattle.page.specs.Fields.{content_at}
 use Rattle.page_matches.specs.KeyPlace.{key_place}
 use Rattle.directory_word.specs.Word.{depth_field, page_field, field_leaf, leaf_of}
-use Rattle.model.specs.Model.{lookup_call, Reply, found, outcome}
+use Rattle.model.specs.Model.{lookup_call, Reply, changed, found, outcome}
 use Rattle.model.proofs.SetLaws.{index_fits-encodings}
 use Rattle.store.specs.Store.{Store, fixed_of}
 use Rattle.store.specs.Promises.{key_refusals, key_number, depth_at, LookupPromise}
@@ -93,21 +95,28 @@ module _ (store : Store) (values : List ℕ) where
   s = store.state.shape
 
   -- 1, 14, 15, 2 or 3; on a sound store 3, which the model gives too
-  pub promise-early : (n : ℕ) → n ≡ key_number store values → (n ≡ 0 → ⊥)
-      → LookupPromise store values (refused_for s n)
-  promise-early zero e some = absurd (some refl)
-  promise-early (suc n) e some =
+  pub promise-early : (r : Refusal) → told r ≡ answered_by (key_refusals store values) (tt {0})
+      → LookupPromise store values (told r)
+  promise-early r e =
       record {
-        early-refused = refused_first-for s (key_refusals store values) (named-key store values) n (sym e);
-        ordinary = λ h. absurd (some (e ∙ h));
-        answered-as = λ S w. by-fit (key_fits s values) refl (e ∙ key_number-read store values S w) S;
+        early-refused = first;
+        ordinary = λ h. absurd (omega (arith, some.1, h));
+        answered-as = λ S w. by-fit (key_fits s values) refl (key_number-read store values S w) S;
       }
     where
-      by-fit : (β : Bool) → key_fits s values ≡ β → suc n ≡ cond (not (key_fits s values)) 3 0 → (S : List Record)
-          → refused_for s (suc n) ≡ (outcome (fixed_of store.state) S (lookup_call values)).answer
-      by-fit true f h S = absurd (some (h ∙ ap (λ b. cond (not b) 3 0) f))
+      some : (n : ℕ) × (key_number store values ≡ suc n)
+      some = told-suc tt r (key_refusals store values) e
+
+      first : RefusedFirst {A = Reply} (key_refusals store values) (told r)
+      first = told-first tt r (key_refusals store values) e
+
+      by-fit : (β : Bool) → key_fits s values ≡ β → key_number store values ≡ cond (not (key_fits s values)) 3 0
+          → (S : List Record) → told r ≡ (outcome (fixed_of store.state) S (lookup_call values)).answer
+      by-fit true f h S = absurd (omega (arith, some.1, h ∙ ap (λ b. cond (not b) 3 0) f))
       by-fit false f h S =
-          ap (refused_for s) (h ∙ ap (λ b. cond (not b) 3 0) f) ∙ sym (lookup-unfit (fixed_of store.state) S values f)
+          for-refused_first s (key_refusals store values) (named-key store values) 2
+          (h ∙ ap (λ b. cond (not b) 3 0) f) (told r) (changed 0) first
+          ∙ sym (lookup-unfit (fixed_of store.state) S values f)
 
   -- none of them: the answer of the store
   pub promise-sought : (answer : Answer Reply) → key_number store values ≡ 0

@@ -20,37 +20,35 @@ use leaf_word::{KeyWord, key_word, own_count, word_holds};
 use page::{content_at, page_size, page_start};
 use page_matches::find_key;
 use record::pack_key;
-use refusals::{encodings_fit, lent_number, limits_hold};
+use refusals::{encodings_fit, limits_hold, validate_lent};
+use shape::refusal::Refusal;
 use shape::{Key, Shape, widths_of};
-use store::{Found, State, refuse_lookup};
+use store::{Found, State};
 
 // The content of a key's record, the pages read, 1, and the depth of the key's leaf. Refused with 1,
 // 14, 15, 2, 3, 5 or 9, the first that holds in this order; 5 carries the depth of the leaf in which
 // the absent key falls. Writes nothing.
-pub fn lookup(state: State, dir: &[u32], pages: &[u8], key: Key) -> Found
+pub fn lookup(state: State, dir: &[u32], pages: &[u8], key: Key) -> Result<Found, Refusal>
     ensures { LookupPromise (store state dir.now pages.now) key.values
         (found_answer result) }
 {
-    let number = lent_number(state, dir.len(), pages.len());
-    if number != 0 {
-        return refuse_lookup(state.shape, number);
-    }
+    validate_lent(state, dir.len(), pages.len())?;
     let encoded = encode_key(state.shape, key);
     if !encodings_fit(state.shape, encoded) {
-        return Found::Refused(3);
+        return Err(Refusal::Value);
     }
     seek_key(state, dir, pages, encoded)
 }
 
 // The record of a key, given by its encodings, after 1, 14, 15, 2 and 3: 9 for limits that no sound
 // store has.
-fn seek_key(state: State, dir: &[u32], pages: &[u8], encoded: Key) -> Found
+fn seek_key(state: State, dir: &[u32], pages: &[u8], encoded: Key) -> Result<Found, Refusal>
     requires { Passed (store state dir.now pages.now) encoded.values }
     ensures { found_answer result
         ≡ sought_answer (store state dir.now pages.now) encoded.values }
 {
     if !limits_hold(state) {
-        return Found::Refused(9);
+        return Err(Refusal::Unsound);
     }
     let packed = pack_key(encoded);
     let widths = widths_of(state.shape);
@@ -60,31 +58,30 @@ fn seek_key(state: State, dir: &[u32], pages: &[u8], encoded: Key) -> Found
 
 // The record of a packed key in the leaf that the word at its cell names: 9 for a word that no sound
 // store has, 5 for a leaf without a page, which is not read.
-fn seek_by_word(state: State, pages: &[u8], at: KeyWord, key: u64) -> Found
+fn seek_by_word(state: State, pages: &[u8], at: KeyWord, key: u64) -> Result<Found, Refusal>
     requires { KeyPassed state pages.now key × (at.depth ≡ depth_field at.word) }
     ensures { found_answer result ≡ word_answer state pages.now key at.word }
 {
     let word = at.word;
     if !word_holds(state, word) {
-        return Found::Refused(9);
+        return Err(Refusal::Unsound);
     }
     let found = unpack(word);
     let Leaf::Page(page, depth) = found else {
-        return Found::Absent(at.depth);
+        return Err(Refusal::Absent(at.depth));
     };
     seek_at(state.shape, pages, page as usize, depth, key)
 }
 
 // The record of a packed key on page g, which is read, of the key's leaf: 9 for a page that a leaf of
 // this depth cannot have.
-fn seek_at(shape: Shape, pages: &[u8], g: usize, depth: u32, key: u64) -> Found
+fn seek_at(shape: Shape, pages: &[u8], g: usize, depth: u32, key: u64) -> Result<Found, Refusal>
     requires { LeafAsked shape pages.now g depth key }
     ensures { found_answer result ≡ page_answer shape depth key (page_at shape.capacity pages.now g) }
 {
-    let n = own_count(shape, pages, g, depth, key);
-    if n == 0 {
-        return Found::Refused(9);
-    }
+    let Some(n) = own_count(shape, pages, g, depth, key) else {
+        return Err(Refusal::Unsound);
+    };
     let capacity = shape.capacity as usize;
     let start = page_start(capacity, g);
     let end = start + page_size(capacity);
@@ -94,14 +91,18 @@ fn seek_at(shape: Shape, pages: &[u8], g: usize, depth: u32, key: u64) -> Found
 
 // The record with the packed fields of a key among the n of the page of a leaf of this depth: 5 where
 // it is not there.
-fn seek_in_page(page: &[u8], n: usize, depth: u32, fields: u64) -> Found
+#[tactic(auto, unfolding(crate::specs::Private::place_answer))]
+fn seek_in_page(page: &[u8], n: usize, depth: u32, fields: u64) -> Result<Found, Refusal>
     requires { (n ≤ 16) × (record_offset n ≤ length page.now) }
     ensures { found_answer result
         ≡ place_answer depth page.now n (key_place fields page.now n 0) }
 {
-    let i = find_key(page, n, fields);
-    if i == n {
-        return Found::Absent(depth);
-    }
-    Found::Content(content_at(page, i), 1, depth)
+    let Some(i) = find_key(page, n, fields) else {
+        return Err(Refusal::Absent(depth));
+    };
+    Ok(Found {
+        content: content_at(page, i),
+        reads: 1,
+        depth,
+    })
 }

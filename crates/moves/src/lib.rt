@@ -1,4 +1,5 @@
-// Runs of bytes copied from slice to slice, and moved within one.
+// Runs of bytes copied from slice to slice, and moved within one. The moves are loops, which become
+// one `memmove`; the library's `copy_within`, which asks for the direction, does not.
 #![tactic(auto)]
 
 ghost use Rattle.std.specs.Prelude.{◌≡◌, ◌⊎◌, ◌+◌, ◌≤◌, length, drop};
@@ -9,11 +10,7 @@ pub fn copy(source: &[u8], from: usize, target: &mut [u8], to: usize, n: usize)
     requires { (from + n ≤ length source.now) × (to + n ≤ length target.old) }
     ensures { target.new ≡ paste target.old to (drop from source.now) n }
 {
-    let mut k = 0;
-    while k < n {
-        target[to + k] = source[from + k];
-        k += 1;
-    }
+    target[to..to + n].copy_from_slice(&source[from..from + n]);
 }
 
 // Moves n bytes within one slice, the first one first: to a lower offset, or past their end.
@@ -21,10 +18,8 @@ pub fn move_down(bytes: &mut [u8], from: usize, to: usize, n: usize)
     requires { (from + n ≤ length bytes.old) × (to + n ≤ length bytes.old) × ((to ≤ from) ⊎ (from + n ≤ to)) }
     ensures { bytes.new ≡ paste bytes.old to (drop from bytes.old) n }
 {
-    let mut k = 0;
-    while k < n {
+    for k in 0..n {
         bytes[to + k] = bytes[from + k];
-        k += 1;
     }
 }
 
@@ -33,9 +28,7 @@ pub fn move_up(bytes: &mut [u8], from: usize, to: usize, n: usize)
     requires { (from ≤ to) × (to + n ≤ length bytes.old) }
     ensures { bytes.new ≡ paste bytes.old to (drop from bytes.old) n }
 {
-    let mut left = n;
-    while 0 < left {
-        left -= 1;
+    for left in (0..n).rev() {
         bytes[to + left] = bytes[from + left];
     }
 }

@@ -1,14 +1,7 @@
-// Numbers: the smaller of two, one of four, below a power of two.
+// Numbers: the smaller of two lengths, one of four, below a power of two.
 #![tactic(auto)]
 
 ghost use Rattle.std.specs.Prelude.{◌≡◌, [], ◌∷◌, ◌^◌, ◌<◌, ◌≤◌, min, ltb, get_or};
-
-// The smaller of two numbers.
-pub fn smaller(a: u64, b: u64) -> u64
-    ensures { result ≡ min a b }
-{
-    if a < b { a } else { b }
-}
 
 // The smaller of two lengths.
 pub fn smaller_length(a: usize, b: usize) -> usize

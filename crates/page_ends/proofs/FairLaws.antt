@@ -1,16 +1,18 @@
 -- Laws of the count of a page that a leaf can have: one for each way that the test ends; what a count other than 0
 -- tells. Assumes nothing.
-use Prim.Native.Nat.{ℕ, ◌≤◌, ◌<◌}
-use mathlib.Core.Path.{◌≡◌, refl}
+use Prim.Native.Nat.{ℕ, zero, suc, ◌≤◌, ◌<◌}
+use mathlib.Core.Path.{◌≡◌, refl, sym}
 use mathlib.Core.Bool.{Bool, true, false, ◌&&◌, cond}
 use mathlib.Core.List.{List}
 use native.Mathlib.Omega.{arith}
 use lib.Dec.{leb}
 use borrow.Author.Tests.{le-leb, lt-leb, leb-true}
+use Rattle.std.specs.Prelude.{Some, None}
+use Rattle.std.proofs.lemmas.Option.{none-some, same_Some}
 use Rattle.lists.proofs.Bools.{and_split}
 use Rattle.shape.specs.Shape.{within}
 use Rattle.page.specs.Page.{count_of}
-use Rattle.page_ends.specs.Fair.{fair_count}
+use Rattle.page_ends.specs.Fair.{fair_count, positive}
 
 -- ---- by case
 
@@ -58,3 +60,19 @@ fair-of-count b own page n e not-zero = go (within 1 b (count_of page) && own) r
           few = omega (arith, count, leb-true (count_of page) b bounds.1);
           owned = parts.1;
         }
+
+-- ---- as an option
+
+pub positive-some : (n : ℕ) → (n ≡ 0 → ⊥) → Some n ≡ positive n
+positive-some zero some = absurd (some refl)
+positive-some (suc n) some = refl
+
+pub some-positive : (n m : ℕ) → Some n ≡ positive m → (n ≡ m) × (n ≡ 0 → ⊥)
+some-positive n zero e = absurd (none-some n (sym e))
+some-positive n (suc m) e =
+    let same : n ≡ suc m = same_Some n (suc m) e in
+    (same, λ z. absurd (omega (arith, same, z)))
+
+pub none-positive : (m : ℕ) → None ≡ positive m → 0 ≡ m
+none-positive zero e = refl
+none-positive (suc m) e = absurd (none-some (suc m) e)

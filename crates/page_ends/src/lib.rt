@@ -8,7 +8,7 @@ ghost use Rattle.split.specs.Steps.{steps_below};
 ghost use Rattle.page.specs.Fields.{record_offset};
 ghost use Rattle.page.specs.Page.{page_size, count_of};
 ghost use Rattle.page_ends.specs.Ends.{fixed_bits, ends_agree};
-ghost use Rattle.page_ends.specs.Fair.{fair_count};
+ghost use Rattle.page_ends.specs.Fair.{fair_count, positive};
 
 use page::{code_at, count};
 use pairs::{depth_before, early_place, place_of};
@@ -40,24 +40,24 @@ pub fn fixed_bits_before(widths: Widths, g: u64) -> u64
 }
 
 // How many records a page has, where it can be the page of a leaf that fixes the bits of a mask: 1 to
-// b, the first and the last of them in agreement with a packed key of the leaf in these bits. 0 for
-// another page.
-pub fn fair_count(page: &[u8], capacity: usize, bias: u64, key: u64, mask: u64) -> usize
+// b, the first and the last of them in agreement with a packed key of the leaf in these bits. None
+// for another page.
+pub fn fair_count(page: &[u8], capacity: usize, bias: u64, key: u64, mask: u64) -> Option<usize>
     requires { (capacity ≤ 16) × (page_size capacity ≤ length page.now) }
-    ensures { result ≡ fair_count capacity (ends_agree bias mask key page.now (count_of page.now))
-        page.now }
+    ensures { result
+        ≡ positive (fair_count capacity (ends_agree bias mask key page.now (count_of page.now)) page.now) }
 {
     let n = count(page);
     if n == 0 {
-        return 0;
+        return None;
     }
     if capacity < n {
-        return 0;
+        return None;
     }
     if ends_agree(page, n, bias, key, mask) {
-        n
+        Some(n)
     } else {
-        0
+        None
     }
 }
 

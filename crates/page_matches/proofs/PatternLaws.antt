@@ -1,4 +1,4 @@
--- Laws of patterns: a query's attributes; nothing given; four values under a mask; the test of a record's bytes is the
+-- Laws of patterns: nothing given; four values under a mask; the test of a record's bytes is the
 -- query's. Assumes nothing.
 use Prim.Native.Nat.{ℕ, zero, suc, ◌+◌, ◌*◌, ◌%◌, ◌^◌, ◌<◌}
 use mathlib.Core.Path.{◌≡◌, refl, sym, ap, ◌∙◌}
@@ -13,10 +13,8 @@ use lib.ListN.{get_or}
 use borrow.Author.Tests.{eq-eqb, ne_eqb, eqb-true, eqb-false}
 use Rattle.lists.proofs.Bools.{and_split, and_both, eq-of-iff}
 use Rattle.shape.specs.Shape.{shape_number}
-use Rattle.shape.specs.Key.{value_fits, encode, encode_field, wanted_value, wanted_values, if_given, query_fits}
+use Rattle.shape.specs.Key.{value_fits, encode, encode_field, if_given, query_fits}
 use Rattle.shape.specs.declared.Shape.{Shape}
-use Rattle.shape.specs.declared.Query.{Query}
-use Rattle.shape.specs.declared.Wanted.TheVariants.{Free}
 use Rattle.shape.proofs.BoundsLaws.{test-of-all_below}
 use Rattle.shape.proofs.EncodingLaws.{eqb-field}
 use Rattle.record.specs.Record.{matches}
@@ -28,16 +26,7 @@ use Rattle.page_matches.specs.declared.Pattern.{Pattern}
 use Rattle.page_matches.specs.Pattern.{wanted_mask, wanted_field, masks_of, fields_wanted}
 use Rattle.page_matches.specs.Pattern.{pattern_of, gives_nothing, passes}
 
--- ---- attributes of a query
-
-pub get_d-wanted_values : (q : Query) (j : ℕ) → j < 4
-    → get_or (wanted_values q) j none ≡ wanted_value (get_or q.attributes j (record { wanted = Free })).wanted
-unfolding wanted_values
-get_d-wanted_values q zero h = refl
-get_d-wanted_values q (suc zero) h = refl
-get_d-wanted_values q (suc (suc zero)) h = refl
-get_d-wanted_values q (suc (suc (suc zero))) h = refl
-get_d-wanted_values q (suc (suc (suc (suc j)))) h = absurd (omega arith)
+-- ---- four fields
 
 wanted_mask-lt : (w : Option ℕ) → wanted_mask w < 2 ^ 16
 wanted_mask-lt none = omega arith

@@ -1,14 +1,15 @@
--- Laws of the place of a key in a page: its bounds; one record more, below; the place among fewer records. Assumes
--- nothing.
+-- Laws of the place of a key in a page: its bounds; one record more, below; the place among fewer records; a place
+-- below n. Assumes nothing.
 use Prim.Native.Nat.{ℕ, zero, suc, ◌+◌, ◌-◌, ◌≤◌, ◌<◌, min}
-use mathlib.Core.Path.{◌≡◌, sym, ap, ◌∙◌}
+use mathlib.Core.Path.{◌≡◌, refl, sym, ap, ◌∙◌}
 use mathlib.Core.Bool.{Bool, true, false, cond}
 use mathlib.Core.List.{List}
 use native.Mathlib.Omega.{arith}
-use lib.Dec.{eqb}
-use borrow.Author.Tests.{eq-eqb, ne_eqb}
+use lib.Dec.{eqb, ltb}
+use borrow.Author.Tests.{eq-eqb, ne_eqb, le-ltb, ltb-true, ltb-false}
 use Rattle.page.specs.Fields.{key_at}
-use Rattle.page_matches.specs.KeyPlace.{key_place}
+use Rattle.std.specs.Bool.{then_some}
+use Rattle.page_matches.specs.KeyPlace.{key_place, place_below}
 
 -- ---- its bounds
 
@@ -83,3 +84,14 @@ module _ (key : ℕ) (page : List ℕ) where
       key_place-add n (k - n) 0
       ∙ (λ j. min (key_place key page (whole j) 0) (all j))
       ∙ ap (λ p. min p n) (sym e)
+
+-- ---- a place below n
+
+pub place_below-cut : (n i place : ℕ) → i ≡ min place n → then_some (ltb place n) place ≡ place_below n i
+place_below-cut n i place e = go (ltb place n) refl
+  where
+    go : (β : Bool) → ltb place n ≡ β → then_some β place ≡ place_below n i
+    go true t =
+        let same : i ≡ place = omega (arith, e, ltb-true place n t) in
+        rw (same, t)
+    go false f = rw (le-ltb i n (omega (arith, e, ltb-false place n f)))

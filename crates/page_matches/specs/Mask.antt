@@ -1,7 +1,12 @@
 -- The records of a page that pass a test of their bytes, as bits of one number. Assumes nothing.
-use Rattle.std.specs.Prelude.{ℕ, zero, suc, ◌+◌, ◌-◌, ◌*◌, ◌/◌, ◌%◌, Bool, cond, List, [], ◌∷◌, ◌++◌, eqb, length}
+use Rattle.std.specs.Prelude.{◌≡◌, ℕ, zero, suc, ◌+◌, ◌-◌, ◌*◌, ◌/◌, ◌%◌, ◌^◌, ◌<◌, Bool, cond, List, [], ◌∷◌, ◌++◌, eqb, length}
 use Rattle.record.specs.Bytes.{record_size}
+use Rattle.record.specs.Packed.{key_in}
 use Rattle.page.specs.Fields.{record_field}
+
+-- a test of packed keys that answers as one of a record's bytes does
+abbrev pub AnswersAs : (ℕ → Bool → Type 0) → (List ℕ → Bool) → Type 0
+AnswersAs post passed = (bytes : List ℕ) (r : Bool) → key_in bytes < 2 ^ 64 → post (key_in bytes) r → r ≡ passed bytes
 
 -- of the k records from record i on: bit j is set if record i + j passes
 unfoldable pub match_mask : (List ℕ → Bool) → List ℕ → ℕ → ℕ → ℕ

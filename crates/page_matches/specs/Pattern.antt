@@ -1,24 +1,21 @@
 -- Queries as patterns of packed keys: a mask and the value under it. Assumes nothing.
-use Rattle.std.specs.Prelude.{ℕ, ◌%◌, ◌^◌, Bool, ◌&&◌, List, eqb, get_or}
-use Rattle.std.proofs.Math.Option.{Option, none, some}
+use Rattle.std.specs.Prelude.{ℕ, ◌%◌, ◌^◌, Bool, cond, ◌&&◌, List, eqb, get_or}
+use Rattle.std.proofs.Math.Option.{Option, none}
 use Rattle.std.specs.Int.Bits.{bit_and}
-use Rattle.shape.specs.Key.{per_attribute}
+use Rattle.shape.specs.Key.{per_attribute, value_or, is_given}
 use Rattle.record.specs.Packed.{packed_key, SixteenBits, key_in}
 use Rattle.page_matches.specs.declared.Pattern.{Pattern}
 
 -- "each attribute is either given a value or free": the bits of a value that are compared, and what they are
 abbrev pub wanted_mask : Option ℕ → ℕ
-wanted_mask none = 0
-wanted_mask (some v) = 65535
+wanted_mask w = cond (is_given w) 65535 0
 
 abbrev pub wanted_bits : Option ℕ → ℕ
-wanted_bits none = 0
-wanted_bits (some v) = v
+wanted_bits w = value_or 0 w
 
 -- as a field of 16 bits has them
 abbrev pub wanted_field : Option ℕ → ℕ
-wanted_field none = 0
-wanted_field (some v) = v % 2 ^ 16
+wanted_field w = value_or 0 w % 2 ^ 16
 
 -- the bits of all four values
 abbrev pub masks_of : List (Option ℕ) → List ℕ

@@ -3,7 +3,7 @@
 // compared at once, as its packed key.
 #![tactic(auto)]
 
-ghost use Rattle.std.specs.Prelude.{◌≡◌, ◌+◌, ◌*◌, ◌%◌, ◌^◌, ◌<◌, ◌≤◌, get_or, length};
+ghost use Rattle.std.specs.Prelude.{◌≡◌, ℕ, Bool, List, ◌+◌, ◌*◌, ◌%◌, ◌^◌, ◌<◌, ◌≤◌, get_or, length};
 ghost use Rattle.std.proofs.Math.Option.{none};
 ghost use Rattle.shape.specs.Key.{wanted_values};
 ghost use Rattle.record.specs.Bytes.{record_size};
@@ -11,15 +11,16 @@ ghost use Rattle.page.specs.Fields.{record_offset, record_field, fields_from};
 ghost use Rattle.page_matches.specs.Pattern.{wanted_mask, wanted_field};
 ghost use Rattle.page_matches.specs.Pattern.{pattern_of, gives_nothing, passes};
 ghost use Rattle.page_matches.specs.Within.{lies_in};
-ghost use Rattle.page_matches.specs.Mask.{match_mask, slots_of, picked_by};
+ghost use Rattle.page_matches.specs.Mask.{AnswersAs, match_mask, slots_of, picked_by};
 ghost use Rattle.page_matches.specs.Output.{hits, emit_one, emit};
-ghost use Rattle.page_matches.specs.KeyPlace.{key_place};
+ghost use Rattle.page_matches.specs.KeyPlace.{key_place, place_below};
 
 use key_between::lies_between;
-use page::{code_at, content_at, key_at};
+use key_encoding::to_encodings;
+use page::{content_at, key_at};
 use record::{RECORD_SIZE, pack_key, write_record};
 use record_copy::copy_records;
-use shape::{Key, Query, Wanted};
+use shape::{Key, Query};
 
 // The bytes of a page that has room for 16 records, the most that a store's pages have.
 const SIXTEEN_RECORDS: usize = 2 + RECORD_SIZE * 16;
@@ -76,47 +77,39 @@ pub fn put_matches(page: &[u8], n: usize, pattern: Pattern, out: &mut [u8], tota
     put_picked(page, match_mask(page, n, pattern), out, total)
 }
 
-// The place of the first of the n records of a page that has a packed key; n where none has. All
-// the records that the page has room for are compared, as by match_mask.
-pub fn find_key(page: &[u8], n: usize, key: u64) -> usize
+// The place of the first of the n records of a page that has a packed key; None where none has. All
+// the records that the page has room for are compared, as by mask_of.
+pub fn find_key(page: &[u8], n: usize, key: u64) -> Option<usize>
     requires { (n < 64) × (record_offset n ≤ length page.now) }
-    ensures { result ≡ key_place key page.now n 0 }
+    ensures { result ≡ place_below n (key_place key page.now n 0) }
 {
     let place = if page.len() == SIXTEEN_RECORDS {
         find_among(page, 16, key)
     } else {
         find_among(page, (page.len() - 2) / RECORD_SIZE, key)
     };
-    if place < n { place } else { n }
+    (place < n).then_some(place)
 }
 
-// The n records of a page that match, bit i for record i. All the records that the page has room
-// for are compared, so that no jump depends on its bytes or on n. Where these are 16, their number
-// is a constant, and the compiler unrolls the loop over them.
+// The n records of a page that match, bit i for record i.
 pub fn match_mask(page: &[u8], n: usize, pattern: Pattern) -> u64
     requires { (n < 64) × (record_offset n ≤ length page.now) }
     ensures { result ≡ match_mask (passes pattern) page.now n 0 }
 {
-    let mask = if page.len() == SIXTEEN_RECORDS {
-        match_among(page, 16, pattern)
-    } else {
-        match_among(page, (page.len() - 2) / RECORD_SIZE, pattern)
-    };
-    mask & ((1u64 << n) - 1)
+    mask_of(page, n, |key| key & pattern.mask == pattern.value)
 }
 
 // The n records of a page whose packed key lies between two others, value by value: bit i for
-// record i. As many are compared as by match_mask.
+// record i.
 pub fn within_mask(page: &[u8], n: usize, bias: u64, low: u64, high: u64) -> u64
     requires { (n < 64) × (record_offset n ≤ length page.now) }
     ensures { result ≡ match_mask (lies_in bias low high) page.now n 0 }
 {
-    let between = if page.len() == SIXTEEN_RECORDS {
-        lie_among(page, 16, bias, low, high)
-    } else {
-        lie_among(page, (page.len() - 2) / RECORD_SIZE, bias, low, high)
-    };
-    between & ((1u64 << n) - 1)
+    mask_of(
+        page,
+        n,
+        |key| lies_between(low, high, to_encodings(bias, key)),
+    )
 }
 
 // Writes the n records of a page into the output from its record `total` on, while whole ones fit.
@@ -130,10 +123,7 @@ pub fn put_all(page: &[u8], n: usize, out: &mut [u8], total: usize) -> usize
     if room <= total {
         return total + n;
     }
-    let mut fit = room - total;
-    if n < fit {
-        fit = n;
-    }
+    let fit = n.min(room - total);
     copy_records(page, 2, out, RECORD_SIZE * total, fit);
     total + n
 }
@@ -162,41 +152,40 @@ fn find_among(page: &[u8], k: usize, key: u64) -> usize
     ensures { result ≡ key_place key page.now k 0 }
 {
     let mut place = k;
-    let mut i = k;
-    while 0 < i {
-        i -= 1;
+    for i in (0..k).rev() {
         place = if key_at(page, i) == key { i } else { place };
     }
     place
 }
 
-// The k records of a page that match, bit i for record i; of more than 64, the low 64 bits.
-fn match_among(page: &[u8], k: usize, pattern: Pattern) -> u64
-    requires { record_offset k ≤ length page.now }
-    ensures { result ≡ match_mask (passes pattern) page.now k 0 % 2 ^ 64 }
+// The n records of a page whose packed key passes a test, bit i for record i. All the records that
+// the page has room for are tested, so that no jump depends on its bytes or on n. Where these are
+// 16, their number is a constant, and the compiler unrolls the loop over them.
+fn mask_of<F: Fn(u64) -> bool>(page: &[u8], n: usize, test: F) -> u64
+    requires lent { (n < 64) × (record_offset n ≤ length page.now) }
+    requires tests { F.IsAlwaysCallable test }
+    ensures { (passed : List ℕ → Bool) → AnswersAs (F.post test) passed
+        → result ≡ match_mask passed page.now n 0 }
 {
-    let mut mask: u64 = 0;
-    let mut i = k;
-    while 0 < i {
-        i -= 1;
-        let matched = key_at(page, i) & pattern.mask == pattern.value;
-        mask = (mask << 1) | (matched as u64);
-    }
-    mask
+    let mask = if page.len() == SIXTEEN_RECORDS {
+        mask_among(page, 16, test)
+    } else {
+        mask_among(page, (page.len() - 2) / RECORD_SIZE, test)
+    };
+    mask & ((1u64 << n) - 1)
 }
 
-// The k records of a page whose packed key lies between two others, bit i for record i; of more
-// than 64, the low 64 bits.
-fn lie_among(page: &[u8], k: usize, bias: u64, low: u64, high: u64) -> u64
-    requires { record_offset k ≤ length page.now }
-    ensures { result ≡ match_mask (lies_in bias low high) page.now k 0 % 2 ^ 64 }
+// The k records of a page whose packed key passes a test, bit i for record i; of more than 64, the
+// low 64 bits.
+fn mask_among<F: Fn(u64) -> bool>(page: &[u8], k: usize, test: F) -> u64
+    requires lent { record_offset k ≤ length page.now }
+    requires tests { F.IsAlwaysCallable test }
+    ensures { (passed : List ℕ → Bool) → AnswersAs (F.post test) passed
+        → result ≡ match_mask passed page.now k 0 % 2 ^ 64 }
 {
     let mut mask: u64 = 0;
-    let mut i = k;
-    while 0 < i {
-        i -= 1;
-        let between = lies_between(low, high, code_at(page, i, bias));
-        mask = (mask << 1) | (between as u64);
+    for i in (0..k).rev() {
+        mask = (mask << 1) | (test(key_at(page, i)) as u64);
     }
     mask
 }
@@ -221,11 +210,10 @@ fn mask_at(query: Query, j: usize) -> u32
     requires { j < 4 }
     ensures { result ≡ wanted_mask (get_or (wanted_values query) j none) }
 {
-    let attribute = query.attributes[j];
-    let wanted = attribute.wanted;
-    match wanted {
-        Wanted::Free => 0,
-        Wanted::Given(_) => 0xffff,
+    if query.attributes[j].wanted.is_given() {
+        0xffff
+    } else {
+        0
     }
 }
 
@@ -234,10 +222,5 @@ fn bits_at(query: Query, j: usize) -> u32
     requires { j < 4 }
     ensures { result ≡ wanted_field (get_or (wanted_values query) j none) }
 {
-    let attribute = query.attributes[j];
-    let wanted = attribute.wanted;
-    match wanted {
-        Wanted::Free => 0,
-        Wanted::Given(value) => value & 0xffff,
-    }
+    query.attributes[j].wanted.value_or(0) & 0xffff
 }

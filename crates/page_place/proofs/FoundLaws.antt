@@ -6,6 +6,7 @@ use mathlib.Core.Bool.{Bool, true, false, not, cond, beq}
 use mathlib.Core.List.{List, [], ◌∷◌}
 use native.Mathlib.Omega.{arith}
 use lib.ListN.{get_or}
+use Rattle.std.specs.Prelude.{Ok, Err}
 use Rattle.shape.specs.Shape.{shape_number, widths_of, total}
 use Rattle.shape.specs.declared.Shape.{Shape}
 use Rattle.split.specs.Bits.{split_bit}
@@ -24,9 +25,8 @@ use Rattle.page.specs.Fields.{record_offset, record_field, code_at}
 use Rattle.page.specs.Changes.{insert_at}
 use Rattle.page.proofs.FieldLaws.{length-records_from, get_d-records_from}
 use Rattle.key_order.specs.Order.{compared}
-use Rattle.key_order.specs.declared.Order.TheVariants as order
+use Rattle.std.specs.declared.cmp.Ordering.TheVariants.{Less, Equal, Greater}
 use Rattle.page_place.specs.Find.{order_to, Placed}
-use Rattle.page_place.specs.declared.Place.TheVariants.{Before, At}
 use Rattle.page_place.proofs.SortedLaws.{Between, insert_at-between, absent-between}
 use Rattle.page_place.proofs.SortedLaws.{with_prefix-same}
 
@@ -42,33 +42,33 @@ module _ (ws x y : List ℕ) where
   abbrev first : Bool
   first = before (split_bit ws) W 0 x y
 
-  pub same-of-compared : compared ws x y ≡ order.Same → same ≡ true
+  pub same-of-compared : compared ws x y ≡ Equal → same ≡ true
   unfolding compared
   same-of-compared e = go same first e
     where
-      go : (α β : Bool) → cond α order.Same (cond β order.Before order.After) ≡ order.Same → α ≡ true
+      go : (α β : Bool) → cond α Equal (cond β Less Greater) ≡ Equal → α ≡ true
       go true β e = refl
-      go false true e = let z : ◌≡◌ {A = ℕ} 0 1 = cc in absurd (omega arith)
-      go false false e = let z : ◌≡◌ {A = ℕ} 0 1 = cc in absurd (omega arith)
+      go false true e = cc
+      go false false e = cc
 
-  pub before-of-compared : compared ws x y ≡ order.Before → first ≡ true
+  pub before-of-compared : compared ws x y ≡ Less → first ≡ true
   unfolding compared
   before-of-compared e = go same first e
     where
-      go : (α β : Bool) → cond α order.Same (cond β order.Before order.After) ≡ order.Before → β ≡ true
-      go true β e = let z : ◌≡◌ {A = ℕ} 0 1 = cc in absurd (omega arith)
+      go : (α β : Bool) → cond α Equal (cond β Less Greater) ≡ Less → β ≡ true
+      go true β e = cc
       go false true e = refl
-      go false false e = let z : ◌≡◌ {A = ℕ} 0 1 = cc in absurd (omega arith)
+      go false false e = cc
 
-  pub after-of-compared : compared ws x y ≡ order.After → before (split_bit ws) W 0 y x ≡ true
+  pub after-of-compared : compared ws x y ≡ Greater → before (split_bit ws) W 0 y x ≡ true
   unfolding compared
   after-of-compared e =
       let k = go same first e in
       before_swap (split_bit ws) W 0 x y (same_bits-comm (split_bit ws y) (split_bit ws x) W 0 ∙ k.0) ∙ ap not k.1
     where
-      go : (α β : Bool) → cond α order.Same (cond β order.Before order.After) ≡ order.After → (α ≡ false) × (β ≡ false)
-      go true β e = let z : ◌≡◌ {A = ℕ} 0 1 = cc in absurd (omega arith)
-      go false true e = let z : ◌≡◌ {A = ℕ} 0 1 = cc in absurd (omega arith)
+      go : (α β : Bool) → cond α Equal (cond β Less Greater) ≡ Greater → (α ≡ false) × (β ≡ false)
+      go true β e = cc
+      go false true e = cc
       go false false e = (refl, refl)
 
 -- ---- records by their keys
@@ -98,7 +98,7 @@ module _ (s : Shape) (good : shape_number s ≡ 0) (r : Record) (key : ℕ) (e :
       ∙ sym (unpacked_key-key_in s good (record_field page k) (AreBytes-field page (record_offset k) record_size b)) in
       λ i. compared ws (sym e i) (sym there i)
 
-  pub placed-between : (i : ℕ) → Placed ws (bias_key s) (unpacked_key key) page n (Before i)
+  pub placed-between : (i : ℕ) → Placed ws (bias_key s) (unpacked_key key) page n (Err i)
       → Between (record_bit s) (total ws) 0 r r rs i
   placed-between i p =
       let W = total ws in (
@@ -115,21 +115,21 @@ module _ (s : Shape) (good : shape_number s ≡ 0) (r : Record) (key : ℕ) (e :
 
   -- ---- the key is not there
 
-  pub insert_at-placed : (i : ℕ) → Placed ws (bias_key s) (unpacked_key key) page n (Before i)
+  pub insert_at-placed : (i : ℕ) → Placed ws (bias_key s) (unpacked_key key) page n (Err i)
       → insert_at i r (records_from s n 2 page) ≡ insert (record_bit s) (total ws) 0 r (records_from s n 2 page)
   insert_at-placed i p = insert_at-between (record_bit s) (total ws) 0 r r rs i o (placed-between i p)
 
-  pub absent-placed : (i : ℕ) → Placed ws (bias_key s) (unpacked_key key) page n (Before i)
+  pub absent-placed : (i : ℕ) → Placed ws (bias_key s) (unpacked_key key) page n (Err i)
       → absent (record_bit s) (total ws) 0 r (records_from s n 2 page) ≡ true
   absent-placed i p = absent-between (record_bit s) (total ws) 0 r r rs i o (placed-between i p)
 
   -- ---- it is
 
-  same-there : (i : ℕ) → Placed ws (bias_key s) (unpacked_key key) page n (At i)
+  same-there : (i : ℕ) → Placed ws (bias_key s) (unpacked_key key) page n (Ok i)
       → same_bits (record_bit s r) (record_bit s (get_or rs i r)) (total ws) 0 ≡ true
   same-there i p = same-of-compared ws r.key (get_or rs i r).key (sym (order-at i p.0) ∙ p.1)
 
-  pub with_prefix-placed : (i : ℕ) → Placed ws (bias_key s) (unpacked_key key) page n (At i)
+  pub with_prefix-placed : (i : ℕ) → Placed ws (bias_key s) (unpacked_key key) page n (Ok i)
       → with_prefix (record_bit s) (record_bit s r) (total ws) 0 (records_from s n 2 page)
       ≡ record_of s (record_field page i) ∷ []
   with_prefix-placed i p =

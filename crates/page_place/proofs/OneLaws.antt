@@ -39,21 +39,23 @@ module _ (ws : List ℕ) (bias g : ℕ) (page : List ℕ) (n i : ℕ) where
   unfolding first_one
   first_one-end h = let e : n - i ≡ 0 = omega arith in rw e
 
-  module _ (l : i < n) (key : ℕ) (e : key ≡ code_at bias page i) (bit : Bool)
-      (f : bit ≡ bit_of (get_or ws (g % 4) 0) (packed_value key (g % 4)) (g / 4)) where
+  module _ (l : i < n) (key : ℕ) (e : key ≡ code_at bias page i) where
+    abbrev bit : Bool
+    bit = bit_of (get_or ws (g % 4) 0) (packed_value key (g % 4)) (g / 4)
+
     bit-there : pair_bit ws (unpacked_key (code_at bias page i)) g ≡ bit
-    bit-there = ap (λ k. pair_bit ws (unpacked_key k) g) (sym e) ∙ pair_bit-unpacked_key ws key g ∙ sym f
+    bit-there = ap (λ k. pair_bit ws (unpacked_key k) g) (sym e) ∙ pair_bit-unpacked_key ws key g
 
     more : n - i ≡ suc (n - suc i)
     more = omega arith
 
-    pub first_one-here : bit ≡ true → first_one ws bias g page (n - i) i ≡ i
+    pub first_one-here : true ≡ bit → first_one ws bias g page (n - i) i ≡ i
     unfolding first_one
-    first_one-here q = rw (more, bit-there ∙ q)
+    first_one-here q = rw (more, bit-there ∙ sym q)
 
-    pub first_one-next : bit ≡ false → first_one ws bias g page (n - i) i ≡ first_one ws bias g page (n - (i + 1)) (i + 1)
+    pub first_one-next : false ≡ bit → first_one ws bias g page (n - i) i ≡ first_one ws bias g page (n - (i + 1)) (i + 1)
     unfolding first_one
-    first_one-next q = rw (add-one i, more, bit-there ∙ q)
+    first_one-next q = rw (add-one i, more, bit-there ∙ sym q)
 
 -- it is one of the k from i on, or the end
 pub first_one-le : (ws : List ℕ) (bias g : ℕ) (page : List ℕ) (k i : ℕ) → first_one ws bias g page k i ≤ i + k

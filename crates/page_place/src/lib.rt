@@ -8,20 +8,15 @@ ghost use Rattle.record.specs.Packed.{unpacked_key};
 ghost use Rattle.page.specs.Fields.{record_offset};
 ghost use Rattle.page_place.specs.Find.{Placed, first_one};
 
-use key_order::{Order, compare, pair_bit};
+use key_order::{compare, pair_bit};
 use page::code_at;
 use shape::Widths;
-
-// Where a key stands: between two records, before record i of n (n for behind all), or at one.
-#[derive(Clone, Copy)]
-pub enum Place {
-    Before(usize),
-    At(usize),
-}
+use std::cmp::Ordering;
 
 // Looks a packed key of encodings up among the n records of a page, where a shape adds a bias to
-// its values. Of a page in another order it tells what the records beside the place say.
-pub fn find(page: &[u8], n: usize, widths: Widths, bias: u64, key: u64) -> Place
+// its values: Ok(i) where record i has the key, Err(i) where the key would go in before record i, n
+// for behind all. Of a page in another order it tells what the records beside the place say.
+pub fn find(page: &[u8], n: usize, widths: Widths, bias: u64, key: u64) -> Result<usize, usize>
     requires { (record_offset n ≤ length page.now) × Fit (width_list widths) }
     ensures { Placed (width_list widths) bias (unpacked_key key) page.now n result }
 {
@@ -29,29 +24,26 @@ pub fn find(page: &[u8], n: usize, widths: Widths, bias: u64, key: u64) -> Place
     let mut high = n;
     while low < high {
         let mid = low + (high - low) / 2;
-        let order = compare(widths, key, code_at(page, mid, bias));
-        match order {
-            Order::Same => return Place::At(mid),
-            Order::Before => high = mid,
-            Order::After => low = mid + 1,
+        match compare(widths, key, code_at(page, mid, bias)) {
+            Ordering::Less => high = mid,
+            Ordering::Equal => return Ok(mid),
+            Ordering::Greater => low = mid + 1,
         }
     }
-    Place::Before(low)
+    Err(low)
 }
 
 // The place of the first of the n records of a page whose bit at the place g of a split step is 1;
-// n where none has it.
+// n where none has it, as a page is cut there too.
 pub fn first_one(page: &[u8], n: usize, widths: Widths, bias: u64, g: u64) -> usize
     requires n_in_bounds { (record_offset n ≤ length page.now) × Fit (width_list widths) }
     requires g_bound { (g < 64) × (g / 4 < get_or (width_list widths) (g % 4) 0) }
     ensures { result ≡ first_one (width_list widths) bias g page.now n 0 }
 {
-    let mut i = 0;
-    while i < n {
+    for i in 0..n {
         if pair_bit(widths, code_at(page, i, bias), g) {
             return i;
         }
-        i += 1;
     }
-    i
+    n
 }

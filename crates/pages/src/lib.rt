@@ -49,6 +49,7 @@ pub fn count_at(pages: &[u8], capacity: usize, p: usize) -> usize
 // A free one of the first n pages: the first from page `start` on, else the first of all; n where
 // none is. Where pages are taken from the first on, one is near if `start` is about how many are
 // taken.
+#[tactic(auto, unfolding(crate::specs::Pages::free_page))]
 pub fn free_page(pages: &[u8], capacity: usize, n: usize, start: usize) -> usize
     requires { (capacity ≤ 16) × (n ≤ 4096) × (n * page_size capacity ≤ length pages.now) }
     ensures { result ≡ free_page capacity pages.now n start }
@@ -74,12 +75,10 @@ fn free_from(pages: &[u8], capacity: usize, n: usize, start: usize) -> usize
     requires { (capacity ≤ 16) × (n ≤ 4096) × (n * page_size capacity ≤ length pages.now) }
     ensures { result ≡ first_free capacity pages.now (n - start) start }
 {
-    let mut p = start;
-    while p < n {
+    for p in start..n {
         if count_at(pages, capacity, p) == 0 {
             return p;
         }
-        p += 1;
     }
-    p
+    n.max(start)
 }

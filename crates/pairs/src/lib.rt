@@ -24,12 +24,10 @@ pub fn step_from(widths: Widths, t: u64, start: u64) -> u64
         × StepsBefore (width_list widths) t start }
     ensures { StepPair (width_list widths) t result }
 {
-    let mut g = start;
-    while g < 64 {
+    for g in start..64 {
         if g / 4 < width_at(widths, g % 4) {
             return g;
         }
-        g += 1;
     }
     0
 }
@@ -79,8 +77,7 @@ pub fn depth_before(w: u64, g: u64, j: u64) -> u64
     requires { (g < 256) × (j < 4) }
     ensures { result ≡ min w (bits_before g j) }
 {
-    let bits = (g + 3 - j) / 4;
-    if bits < w { bits } else { w }
+    w.min((g + 3 - j) / 4)
 }
 
 // The width of attribute j.
@@ -97,13 +94,14 @@ fn place_from(widths: Widths, t: u64, start: u64, n: u64) -> u64
         × (n ≤ t) × StepsBefore (width_list widths) n start }
     ensures { StepsBefore (width_list widths) t result }
 {
-    let mut g = start;
     let mut before = n;
-    while before < t {
+    for g in start..64 {
+        if before == t {
+            return g;
+        }
         if g / 4 < width_at(widths, g % 4) {
             before += 1;
         }
-        g += 1;
     }
-    g
+    64
 }

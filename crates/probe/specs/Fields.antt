@@ -1,11 +1,9 @@
 -- Enums, and a full leaf's split, as the numbers that cross the C interface. Assumes nothing.
-use Rattle.std.specs.Prelude.{ℕ, zero, suc}
+use Rattle.std.specs.Prelude.{ℕ, zero, suc, Result, Ok, Err}
+use Rattle.std.specs.declared.cmp.Ordering.{Ordering}
+use Rattle.std.specs.declared.cmp.Ordering.TheVariants.{Less, Equal, Greater}
 use Rattle.directory_word.specs.declared.Leaf.{Leaf}
 use Rattle.directory_word.specs.declared.Leaf.TheVariants.{Empty, Page}
-use Rattle.key_order.specs.declared.Order.{Order}
-use Rattle.key_order.specs.declared.Order.TheVariants as order
-use Rattle.page_place.specs.declared.Place.{Place}
-use Rattle.page_place.specs.declared.Place.TheVariants.{Before, At}
 use Rattle.insert_planned.specs.declared.Split.{Split}
 use Rattle.probe.specs.declared.SplitFields.{SplitFields}
 use Rattle.probe.specs.declared.words.LeafFields.{LeafFields}
@@ -17,17 +15,17 @@ leaf_fields (Empty depth) = record { paged = 0; page = 0; depth = depth }
 leaf_fields (Page page depth) = record { paged = 1; page = page; depth = depth }
 
 -- how a key stands to another one
-abbrev pub order_number : Order → ℕ
-order_number order.Same = 0
-order_number order.Before = 1
-order_number order.After = 2
+abbrev pub order_number : Ordering → ℕ
+order_number Equal = 0
+order_number Less = 1
+order_number Greater = 2
 
 -- a place: 0 for the one before record i, any other number for that of record i
-abbrev pub numbered_place : ℕ → ℕ → Place
-numbered_place zero i = Before i
-numbered_place (suc found) i = At i
+abbrev pub numbered_place : ℕ → ℕ → Result ℕ ℕ
+numbered_place zero i = Err i
+numbered_place (suc found) i = Ok i
 
-abbrev pub place_of : PlaceFields → Place
+abbrev pub place_of : PlaceFields → Result ℕ ℕ
 place_of f = numbered_place f.found f.place
 
 -- a full leaf and the step that divides it, field by field

@@ -1,14 +1,15 @@
 // Lists of calls, encoded in words, replayed on a fresh store or on a loaded one.
 ghost use Rattle.std.specs.Prelude.{◌≡◌};
 ghost use Rattle.shape.specs.Refusal.{number_told, carried_beside};
-ghost use Rattle.store.specs.Answers.{made_answer};
+ghost use Rattle.store.specs.Answers.{made_answer, made_state};
 ghost use Rattle.store.specs.Store.{memory, store};
 ghost use Rattle.replay.specs.Replayed.{Replayed, ReplayedFile};
 ghost use Rattle.host_results.specs.Result.{Keeps};
 
 use replay::{replay, replay_file};
 use shape::Shape;
-use store::{Made, Making, State};
+use shape::refusal::Refusal;
+use store::State;
 
 // The number of Fresh's or the load's refusal, 0 where it is accepted; beside 14 the attribute,
 // otherwise 0; and the state after the calls.
@@ -59,27 +60,20 @@ pub extern "C" fn probe_replay_file(
 }
 
 // The number, the attribute and the state of a store that is made.
-fn fields_of(making: Making) -> ReplayFields
-    ensures { (result.number ≡ number_told (made_answer making.answer))
-        × (result.attribute ≡ carried_beside 14 (made_answer making.answer)) × (result.state ≡ making.state) }
+fn fields_of(making: Result<State, Refusal>) -> ReplayFields
+    ensures { (result.number ≡ number_told (made_answer making))
+        × (result.attribute ≡ carried_beside 14 (made_answer making)) × (result.state ≡ made_state making) }
 {
-    let answer = making.answer;
-    let state = making.state;
-    match answer {
-        Made::Done => ReplayFields {
+    match making {
+        Ok(state) => ReplayFields {
             number: 0,
             attribute: 0,
             state,
         },
-        Made::Refused(number) => ReplayFields {
-            number,
-            attribute: 0,
-            state,
-        },
-        Made::Width(attribute) => ReplayFields {
-            number: 14,
-            attribute,
-            state,
+        Err(refusal) => ReplayFields {
+            number: refusal.number(),
+            attribute: refusal.attribute(),
+            state: State::default(),
         },
     }
 }

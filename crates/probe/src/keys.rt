@@ -7,9 +7,10 @@ ghost use Rattle.key_order.specs.Order.{first_step, compared};
 ghost use Rattle.page_place.specs.Find.{Placed, first_one};
 ghost use Rattle.probe.specs.Fields.{order_number, place_of};
 
-use key_order::{Order, compare, first_step};
-use page_place::{Place, find, first_one};
+use key_order::{compare, first_step};
+use page_place::{find, first_one};
 use shape::Widths;
+use std::cmp::Ordering;
 
 // A place as numbers: 1 for the record i that has the key, 0 for the place before record i.
 #[repr(C)]
@@ -28,17 +29,16 @@ pub extern "C" fn probe_first_step(widths: Widths, x: u64, y: u64) -> u64
     first_step(widths, x, y)
 }
 
-// How x stands to y: 0 for the same, 1 for before, 2 for after.
+// How x stands to y: 0 for equal, 1 for less, 2 for greater.
 #[unsafe(no_mangle)]
 pub extern "C" fn probe_compare(widths: Widths, x: u64, y: u64) -> u32
     requires { Fit (width_list widths) }
     ensures { result ≡ order_number (compared (width_list widths) (unpacked_key x) (unpacked_key y)) }
 {
-    let order = compare(widths, x, y);
-    match order {
-        Order::Same => 0,
-        Order::Before => 1,
-        Order::After => 2,
+    match compare(widths, x, y) {
+        Ordering::Equal => 0,
+        Ordering::Less => 1,
+        Ordering::Greater => 2,
     }
 }
 
@@ -48,10 +48,9 @@ pub extern "C" fn probe_find(page: &[u8], n: usize, widths: Widths, key: u64) ->
     requires { (record_offset n ≤ length page.now) × Fit (width_list widths) }
     ensures { Placed (width_list widths) 0 (unpacked_key key) page.now n (place_of result) }
 {
-    let found = find(page, n, widths, 0, key);
-    match found {
-        Place::Before(place) => PlaceFields { found: 0, place },
-        Place::At(place) => PlaceFields { found: 1, place },
+    match find(page, n, widths, 0, key) {
+        Ok(place) => PlaceFields { found: 1, place },
+        Err(place) => PlaceFields { found: 0, place },
     }
 }
 

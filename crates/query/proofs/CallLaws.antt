@@ -3,15 +3,16 @@ use Prim.Native.Nat.{ℕ, ◌/◌, ◌≤◌, min}
 use mathlib.Core.Path.{◌≡◌, sym, ap, ◌∙◌, subst}
 use mathlib.Core.Bool.{true, false, true≢false}
 use mathlib.Core.List.{List, map, flat_map}
-use mathlib.Core.Option.{Option, none}
+use mathlib.Core.Option.{Option}
 use native.Mathlib.Omega.{arith}
 use native.Mathlib.Nat.{le_trans}
 use lib.ListN.{length, take}
 use Rattle.lists.specs.Filter.{filter}
 use Rattle.lists.specs.Members.{All}
 use Rattle.shape.specs.Shape.{shape_number}
-use Rattle.shape.specs.Refusal.{accepted, refused}
+use Rattle.shape.specs.Refusal.{accepted, refused, answered_by}
 use Rattle.shape.specs.Key.{query_fits}
+use Rattle.shape.proofs.RefusalLaws.{accepted-answered_by}
 use Rattle.region.specs.Query.{query_enters}
 use Rattle.record.specs.Record.{Record, matches}
 use Rattle.record.specs.Bytes.{record_size, record_of}
@@ -29,12 +30,11 @@ use Rattle.store.specs.Promises.{QueryPromise, SoundWhereRead, with_bytes}
 use Rattle.refusals.specs.Limits.{limits_hold}
 use Rattle.refusals.specs.Lengths.{MemoryLent}
 use Rattle.refusals.proofs.LimitsLaws.{limits-of-sound}
-use Rattle.query_walk.specs.declared.Noted.{Noted}
-use Rattle.query_walk.specs.declared.Noted.TheVariants.{Pages, Damaged}
+use Rattle.std.specs.Prelude.{Some, None}
 use Rattle.query_rows.specs.Rows.{Table, most_pages}
 use Rattle.query_rows.proofs.MostLaws.{most_pages-le}
 use Rattle.query_seen.specs.Seen.{walk_seen}
-use Rattle.query_walk.specs.Noting.{Put, Walkable}
+use Rattle.query_walk.specs.Noting.{Noted, Put, Walkable}
 use Rattle.query_walk.proofs.NotedLaws.{length-noted, noted-reads, noted-records}
 use Rattle.query_walk.proofs.StartLaws.{length-walk_seen-le}
 use Rattle.query_records.specs.Records.{PageWithin, ListOf, list_hits}
@@ -42,9 +42,15 @@ use Rattle.query_records.proofs.ListHitLaws.{IsField-list_hits, map-list_hits}
 use Rattle.list_call.specs.Lent.{LimitsLent}
 use Rattle.list_call.proofs.LentLaws.{limits_lent, deepest-few, walkable}
 use Rattle.list_call.proofs.PageLaws.{is_pages, pages_in, pages-listed, all-within, of-counts}
-use Rattle.query_number.specs.Number.{query_number_by}
+use Rattle.query_number.specs.Number.{query_by, query_number_by}
 use Rattle.query_number.proofs.EarlyLaws.{parts-of-query_number_by}
 use Rattle.query.proofs.PromiseLaws.{promise-nine, promise-listed}
+
+-- what a test that is passed tells
+pub number-none : (st : State) (words bytes : ℕ) (q : List (Option ℕ))
+    → accepted (tt {0}) ≡ answered_by (query_by st words bytes q) (tt {0}) → query_number_by st words bytes q ≡ 0
+unfolding query_number_by
+number-none st words bytes q e = accepted-answered_by tt tt (query_by st words bytes q) e
 
 module _ (st : State) (words bytes : List ℕ) (q : List (Option ℕ))
     (none : query_number_by st (length words) (length bytes) q ≡ 0) where
@@ -87,13 +93,13 @@ module _ (st : State) (words bytes : List ℕ) (q : List (Option ℕ))
         (o : Put list (walk_seen st words bytes (query_bits st.shape q)) r later)
         (long : length later ≡ length list)
         (room : length (walk_seen st words bytes (query_bits st.shape q)).pages ≤ length list) where
-      pub nine-damaged : (out : List ℕ) → r ≡ Damaged → QueryPromise (store st words bytes) q out (refused 9) out
+      pub nine-damaged : (out : List ℕ) → r ≡ None → QueryPromise (store st words bytes) q out (refused 9) out
       nine-damaged out e =
           promise-nine st words bytes q out (sym none)
           (λ S h. true≢false (sym (ap is_pages (noted-reads (store st words bytes) q S h list r later o))
           ∙ ap is_pages e))
 
-      module _ (n : ℕ) (e : r ≡ Pages n) where
+      module _ (n : ℕ) (e : r ≡ Some n) where
         within : n ≤ length list
         within =
             omega (arith, room, length-noted st words bytes (query_enters (query_bits st.shape q)) list r later o n e)

@@ -5,10 +5,10 @@ use mathlib.Core.List.{List, map}
 use mathlib.Core.Option.{Option}
 use lib.ListN.{length}
 use Rattle.lists.specs.Members.{All}
-use Rattle.shape.specs.Amiss.{refused_for}
-use Rattle.shape.specs.Refusal.{Answer, accepted, refused, refused_with}
+use Rattle.shape.specs.Refusal.{Answer, accepted, refused, refused_with, refusal_number, refusal_value, told, answered_by}
 use Rattle.shape.specs.Shape.{shape_number}
-use Rattle.shape.proofs.RefusalLaws.{accepted-refused}
+use Rattle.shape.specs.declared.refusal.Refusal.{Refusal}
+use Rattle.shape.proofs.RefusalLaws.{refused_by-refuses}
 use Rattle.shape.proofs.ShapeLaws.{shape_number-true}
 use Rattle.record.specs.Record.{Record}
 use Rattle.record.specs.Bytes.{record_size, record_of}
@@ -20,12 +20,13 @@ use Rattle.model.proofs.ReadsLaws.{reads_of-le}
 use Rattle.page_matches.specs.Output.{emit}
 use Rattle.page_matches.proofs.EmitLaws.{IsField}
 use Rattle.store.specs.declared.State.{State}
-use Rattle.store.specs.Store.{Store, store, fixed_of}
+use Rattle.store.specs.Store.{Store, store, fixed_of, lent_conditions}
 use Rattle.store.specs.Promises.{QueryPromise, agreeing, SoundWhereRead, query_refusals, query_number}
 use Rattle.store.proofs.NumberLaws.{first_number-other, named-query}
+use Rattle.refusals.specs.Lengths.{lent_by}
 use Rattle.list_call.proofs.LentLaws.{lent_number_by-sound}
-use Rattle.list_call.proofs.ListPromiseLaws.{Lists, list-by, early-alone, list-early, list-nine, list-listed}
-use Rattle.query_number.specs.Number.{query_number_by}
+use Rattle.list_call.proofs.ListPromiseLaws.{Lists, list-by, list-early, list-nine, list-listed}
+use Rattle.query_number.specs.Number.{query_by, query_number_by}
 use Rattle.query_number.proofs.EarlyLaws.{query_number_by-query, query_number-by}
 
 -- ---- answers
@@ -82,25 +83,13 @@ module _ (st : State) (words bytes : List ℕ) (q : List (Option ℕ)) (out : Li
   unfolding number_for
   not-fourteen S = first_number-other 13 _ refl
 
-  module _ (n : ℕ) (e : n ≡ number) where
-    first : n ≡ query_number here q
-    first = e ∙ sym (query_number-by st words bytes q)
-
-    -- on a sound store the number stands alone, so there are no counts
-    early-no-counts : (S : List Record) → SoundWhereRead here (query_bits st.shape q) S → (reply : Reply)
-        → refused_for st.shape n ≡ accepted reply → ⊥
-    early-no-counts S h reply d =
-        accepted-refused reply n
-        (sym d
-        ∙ early-alone here _ (agreeing (query_bits st.shape q)) _ (reads_of st.shape q) matched out model-number
-        (named-query here q) not-fourteen n first S h)
-
-    pub promise-early : (n ≡ 0 → ⊥) → QueryPromise here q out (refused_for st.shape n) out
-    promise-early z =
-        of-list (refused_for st.shape n) out
-        (list-early here _ _ _ (reads_of st.shape q) matched out model-number (named-query here q) not-fourteen n
-        first z)
-        (λ S h w t r d. absurd (early-no-counts S h (listed w t r) d))
+  pub promise-early : (r : Refusal) → told r ≡ answered_by (query_by st (length words) (length bytes) q) (tt {0})
+      → QueryPromise here q out (told r) out
+  unfolding query_refusals lent_conditions lent_by
+  promise-early r e =
+      of-list (told r) out
+      (list-early here _ _ _ (reads_of st.shape q) matched out model-number (named-query here q) not-fourteen r e)
+      (λ S h w t n d. refused_by-refuses (listed w t n) (refusal_number r) (refusal_value r) (sym d))
 
   module _ (none : 0 ≡ number) where
     none-early : query_number here q ≡ 0

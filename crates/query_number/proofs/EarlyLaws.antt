@@ -1,20 +1,21 @@
--- Laws of the query's early refusals, one for each way that the tests end. Assumes nothing.
+-- Laws of the query's early refusals. Assumes nothing.
 use Prim.Native.Nat.{ℕ, ◌^◌}
 use mathlib.Core.Path.{◌≡◌, refl, sym, ◌∙◌}
-use mathlib.Core.Bool.{Bool, true, false, not, cond}
+use mathlib.Core.Bool.{true, not}
 use mathlib.Core.List.{List, [], ◌∷◌}
 use mathlib.Core.Option.{Option, none, some}
 use lib.Dec.{ltb}
 use lib.ListN.{length, get_or}
 use lib.Pow.{pow_pos}
 use borrow.Author.Tests.{lt-ltb, not-false}
-use Rattle.shape.specs.Refusal.{refusal, first_number}
+use Rattle.shape.specs.Refusal.{accepted, answered_by, refusal, first_number}
 use Rattle.shape.specs.Shape.{shape_number, width_of, widths_of, index_fits}
 use Rattle.shape.specs.Key.{value_fits, encode_wanted, encoded_wanted, if_given, names_unused, query_fits}
 use Rattle.shape.specs.declared.Shape.{Shape}
 use Rattle.shape.proofs.AttributeLaws.{index_fits-four}
 use Rattle.shape.proofs.BoundsLaws.{all_below-ext}
 use Rattle.shape.proofs.EncodingLaws.{value_fits-encode}
+use Rattle.shape.proofs.TestLaws.{passed-append}
 use Rattle.model.specs.Model.{query_conditions}
 use Rattle.model.proofs.ConditionLaws.{first_number-zero}
 use Rattle.record.proofs.KeyLaws.{key-below-bytes}
@@ -23,8 +24,8 @@ use Rattle.store.specs.Store.{store, lent_conditions}
 use Rattle.store.specs.Promises.{query_refusals, query_number}
 use Rattle.store.specs.declared.State.{State}
 use Rattle.refusals.specs.Lengths.{lent_by, MemoryLent, lent_number_by}
-use Rattle.refusals.proofs.LentLaws.{first_number-lent, first_number-others, memory_lent-before}
-use Rattle.query_number.specs.Number.{query_number_by}
+use Rattle.refusals.proofs.LentLaws.{first_number-others, memory_lent-before}
+use Rattle.query_number.specs.Number.{query_by, query_number_by}
 
 -- ---- 8 and 3
 
@@ -47,36 +48,16 @@ pub sixteen-of-fits : (s : Shape) → shape_number s ≡ 0 → (q : List (Option
 sixteen-of-fits s n q f = key-below-bytes s n (bits_of (encoded_wanted s q)) refl (index_fits-query s q ∙ f)
 
 module _ (st : State) (words bytes : ℕ) (q : List (Option ℕ)) where
-  pub query_number_by-lent : (lent_number_by st words bytes ≡ 0 → ⊥)
-      → lent_number_by st words bytes ≡ query_number_by st words bytes q
-  unfolding query_number_by
-  query_number_by-lent n = sym (first_number-lent st words bytes (query_conditions st.shape q) n)
-
   -- what the lent memory allows is for the query to decide
   pub query_number_by-query : lent_number_by st words bytes ≡ 0
       → query_number_by st words bytes q ≡ first_number (query_conditions st.shape q)
   unfolding query_number_by
   query_number_by-query n = first_number-others st words bytes (query_conditions st.shape q) n
 
-  abbrev tests : Bool → Bool → ℕ
-  tests a b = cond a 8 (cond (not b) 3 0)
-
-  query_number_by-tests : lent_number_by st words bytes ≡ 0 → (a b : Bool) → names_unused st.shape q ≡ a
-      → query_fits st.shape q ≡ b → tests a b ≡ query_number_by st words bytes q
-  unfolding first_number
-  query_number_by-tests n a b ea eb = sym (query_number_by-query n ∙ (λ i. tests (ea i) (eb i)))
-
-  pub query_number_by-unused : lent_number_by st words bytes ≡ 0 → names_unused st.shape q ≡ true
-      → 8 ≡ query_number_by st words bytes q
-  query_number_by-unused n e = query_number_by-tests n true (query_fits st.shape q) e refl
-
-  pub query_number_by-out : lent_number_by st words bytes ≡ 0 → names_unused st.shape q ≡ false
-      → query_fits st.shape q ≡ false → 3 ≡ query_number_by st words bytes q
-  query_number_by-out n e f = query_number_by-tests n false false e f
-
-  pub query_number_by-fits : lent_number_by st words bytes ≡ 0 → names_unused st.shape q ≡ false
-      → query_fits st.shape q ≡ true → 0 ≡ query_number_by st words bytes q
-  query_number_by-fits n e f = query_number_by-tests n false true e f
+  -- the same of the tests
+  pub query_by-query : accepted (tt {0}) ≡ answered_by (lent_by st words bytes) (tt {0})
+      → answered_by (query_by st words bytes q) (tt {0}) ≡ answered_by (query_conditions st.shape q) (tt {0})
+  query_by-query passed = passed-append tt (lent_by st words bytes) (query_conditions st.shape q) tt passed
 
   -- ---- no early refusal
 

@@ -6,10 +6,11 @@ use native.Mathlib.Omega.{arith}
 use native.Mathlib.Numerals.{add-one}
 use lib.ListN.{length, get_or, take, length-append}
 use lib.Seq.{take-suc}
+use Rattle.std.proofs.lemmas.List.{length-take-le, get_or-take}
 use Rattle.lists.proofs.Sequences.{flat_map-append}
 use Rattle.page_matches.specs.Output.{emit}
 use Rattle.page_matches.proofs.EmitLaws.{emit-append}
-use Rattle.query_records.specs.Records.{Emitted}
+use Rattle.query_records.specs.Records.{ListOf}
 
 module _ (f : ℕ → List (List ℕ)) (list : List ℕ) where
   -- the records of the first i words
@@ -46,12 +47,6 @@ module _ (f : ℕ → List (List ℕ)) (list : List ℕ) where
             ∙ ap length (sym (flat_map-take-next i h)),
       )
 
-  pub counted_to-all : (n i total : ℕ) → i ≤ n → n ≤ i → n ≤ 4096 → CountedTo i total
-      → (total ≡ length (first n)) × (total ≤ 65536)
-  counted_to-all n i total l h few w =
-      let all : i ≡ n = omega arith in
-      (w.1 ∙ ap (λ k. length (first k)) all, omega (arith, w.0))
-
   -- ---- written one after the other
 
   module _ (out₀ : List ℕ) where
@@ -82,21 +77,15 @@ module _ (f : ℕ → List (List ℕ)) (list : List ℕ) where
               ∙ ap (emit out₀ 0) (sym (flat_map-take-next i h)),
         )
 
-    pub emitted_to-all : (n i total : ℕ) (out : List ℕ) → i ≤ n → n ≤ i → n ≤ 4096 → EmittedTo i out total
-        → Emitted f (take n list) out₀ out total
-    emitted_to-all n i total out l h few w =
-        let all : i ≡ n = omega arith in
-        let counted = counted_to-all n i total l h few (w.0, w.2) in
-        record {
-          all = counted.0;
-          most = counted.1;
-          bytes = w.3 ∙ ap (λ k. emit out₀ 0 (first k)) all;
-        }
+-- ---- a part of a list
 
--- ---- the records as others
-
-pub emitted-as : (f : ℕ → List (List ℕ)) (words before after : List ℕ) (total : ℕ) (fs : List (List ℕ))
-    → Emitted f words before after total → flat_map f words ≡ fs
-    → ((total ≡ length fs) × (total ≤ 65536)) × (after ≡ emit before 0 fs)
-emitted-as f words before after total fs w e =
-    ((w.all ∙ ap length e, w.most), w.bytes ∙ ap (emit before 0) e)
+pub ListOf-take : (P : ℕ → Type 0) (b n : ℕ) (list : List ℕ) → ListOf P b n list → (k : ℕ) → k ≤ n
+    → ListOf P b (length (take k list)) (take k list)
+ListOf-take P b n list h k l =
+    let part : length (take k list) ≡ k = length-take-le k list (omega (arith, h.within)) in
+    record {
+      capacity = h.capacity;
+      few = omega (arith, h.few);
+      within = omega arith;
+      each = λ i a. rw (get_or-take k list i 0 (omega arith)) (h.each i (omega arith));
+    }

@@ -24,7 +24,7 @@ use Rattle.page_matches.specs.Pattern.{gives_nothing, passes}
 use Rattle.page_matches.proofs.BitLaws.{picked_none, length-picked-le}
 use Rattle.page_matches.proofs.HitLaws.{length-hits-le, hits-all}
 use Rattle.page_matches.proofs.MaskLaws.{match_mask-lt-slots, picked_by-match_mask}
-use Rattle.query_records.specs.Records.{PageWithin, MatchedWithin, ListOf, matched_page, matched_mask}
+use Rattle.query_records.specs.Records.{PageWithin, MatchedWithin, matched_page, matched_mask}
 use Rattle.query_records.specs.Records.{page_hits, list_hits, page_mask, page_fields, matched_fields}
 use Rattle.query_records.proofs.ListLaws.{flat_map-take-next}
 
@@ -179,18 +179,3 @@ module _ (b : ℕ) (bytes : List ℕ) where
             ∙ (λ j. w.4 j ++ page_hits test (page_at b bytes (same j)))
             ∙ sym (flat_map-take-next (λ g. page_hits test (page_at b bytes g)) list₀ i l),
       )
-
-    pub matched_to-all : (n i m : ℕ) (list : List ℕ) → i ≤ n → n ≤ i → ListOf (PageWithin b bytes) b n list₀
-        → MatchedTo i list m
-        → ListOf (MatchedWithin b bytes) b m list
-        × (flat_map (matched_fields b bytes) (take m list) ≡ list_hits test b bytes (take n list₀))
-    matched_to-all n i m list l g h w =
-        let all : i ≡ n = omega arith in (
-          record {
-            capacity = h.capacity;
-            few = omega (arith, w.0, h.few);
-            within = omega (arith, w.0, w.1, h.within);
-            each = w.3;
-          },
-          w.4 ∙ ap (λ k. list_hits test b bytes (take k list₀)) all,
-        )

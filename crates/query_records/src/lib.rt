@@ -16,57 +16,53 @@ use page_matches::{Pattern, gives_nothing, match_mask, put_all, put_picked};
 // No store has more pages, so that a page number is below this.
 const MOST_PAGES: u32 = 4096;
 
-// Writes the records that match, of the first n pages of the list, one page after the other, into
-// the output while whole ones fit. Returns how many match. Where something is given, all the pages
-// are matched before the first record is written; the list's numbers are then lost.
+// Writes the records that match, of the pages of the list, one page after the other, into the output
+// while whole ones fit. Returns how many match. Where something is given, all the pages are matched
+// before the first record is written; the list's numbers are then lost.
 pub fn put_pages(
     pages: &[u8],
     capacity: usize,
     pattern: Pattern,
     list: &mut [u32],
-    n: usize,
     out: &mut [u8],
 ) -> usize
-    requires { ListOf (PageWithin capacity pages.now) capacity n list.old }
-    ensures value { (result ≡ length (list_hits (passes pattern) capacity pages.now
-        (take n list.old))) × (result ≤ 65536) }
+    requires { ListOf (PageWithin capacity pages.now) capacity (length list.old) list.old }
+    ensures value { (result ≡ length (list_hits (passes pattern) capacity pages.now list.old))
+        × (result ≤ 65536) }
     ensures out_after { out.new
         ≡ emit out.old 0
-        (list_hits (passes pattern) capacity pages.now (take n list.old)) }
+        (list_hits (passes pattern) capacity pages.now list.old) }
 {
     if gives_nothing(pattern) {
-        return put_whole(pages, capacity, list, n, out);
+        return put_whole(pages, capacity, list, out);
     }
-    let m = match_pages(pages, capacity, pattern, list, n);
-    put_matched(pages, capacity, list, m, out)
+    let m = match_pages(pages, capacity, pattern, list);
+    put_matched(pages, capacity, &list[..m], out)
 }
 
-// How many records the first n pages of the list have.
-pub fn count_records(pages: &[u8], capacity: usize, list: &[u32], n: usize) -> usize
-    requires { ListOf (PageWithin capacity pages.now) capacity n list.now }
-    ensures { (result ≡ length (flat_map (page_fields capacity pages.now) (take n list.now)))
+// How many records the pages of the list have.
+pub fn count_records(pages: &[u8], capacity: usize, list: &[u32]) -> usize
+    requires { ListOf (PageWithin capacity pages.now) capacity (length list.now) list.now }
+    ensures { (result ≡ length (flat_map (page_fields capacity pages.now) list.now))
         × (result ≤ 65536) }
 {
     let mut total = 0;
-    let mut i = 0;
-    while i < n {
-        total += count_at(pages, capacity, list[i] as usize);
-        i += 1;
+    for &g in list {
+        total += count_at(pages, capacity, g as usize);
     }
     total
 }
 
-// Writes all records of the first n pages of the list. Returns how many these are.
-pub fn put_whole(pages: &[u8], capacity: usize, list: &[u32], n: usize, out: &mut [u8]) -> usize
-    requires { ListOf (PageWithin capacity pages.now) capacity n list.now }
-    ensures { Emitted (page_fields capacity pages.now) (take n list.now)
-        out.old out.new result }
+// Writes all records of the pages of the list. Returns how many these are.
+// `put_matched` and `put_within` differ in what they put of a word: one function over a closure would
+// need more lines for what each of its calls leaves of the output than the three loops have.
+pub fn put_whole(pages: &[u8], capacity: usize, list: &[u32], out: &mut [u8]) -> usize
+    requires { ListOf (PageWithin capacity pages.now) capacity (length list.now) list.now }
+    ensures { Emitted (page_fields capacity pages.now) list.now out.old out.new result }
 {
     let mut total = 0;
-    let mut i = 0;
-    while i < n {
-        total = put_at(pages, capacity, list[i] as usize, out, total);
-        i += 1;
+    for &g in list {
+        total = put_at(pages, capacity, g as usize, out, total);
     }
     total
 }
@@ -94,23 +90,21 @@ fn put_at(pages: &[u8], capacity: usize, g: usize, out: &mut [u8], total: usize)
     put_all(&pages[start..end], n, out, total)
 }
 
-// Matches the first n pages of the list. The list then begins with the pages that have a match, in
-// the same order: each as its number, and 4,096 times the mask of its records that match.
-// Returns how many these are. No jump depends on the bytes of a page.
-fn match_pages(pages: &[u8], capacity: usize, pattern: Pattern, list: &mut [u32], n: usize) -> usize
-    requires { ListOf (PageWithin capacity pages.now) capacity n list.old }
+// Matches the pages of the list. The list then begins with the pages that have a match, in the same
+// order: each as its number, and 4,096 times the mask of its records that match. Returns how many
+// these are. No jump depends on the bytes of a page.
+fn match_pages(pages: &[u8], capacity: usize, pattern: Pattern, list: &mut [u32]) -> usize
+    requires { ListOf (PageWithin capacity pages.now) capacity (length list.old) list.old }
     ensures list_of { ListOf (MatchedWithin capacity pages.now) capacity result list.new }
     ensures list_after { flat_map (matched_fields capacity pages.now) (take result list.new)
-        ≡ list_hits (passes pattern) capacity pages.now (take n list.old) }
+        ≡ list_hits (passes pattern) capacity pages.now list.old }
 {
     let mut m = 0;
-    let mut i = 0;
-    while i < n {
+    for i in 0..list.len() {
         let g = list[i];
         let mask = match_at(pages, capacity, g as usize, pattern);
         list[m] = g + mask * MOST_PAGES;
         m += (mask != 0) as usize;
-        i += 1;
     }
     m
 }
@@ -126,18 +120,14 @@ fn match_at(pages: &[u8], capacity: usize, g: usize, pattern: Pattern) -> u32
     match_mask(&pages[start..end], n, pattern) as u32
 }
 
-// Writes the records that match, of the first n matched pages of the list. Returns how many these
-// are.
-fn put_matched(pages: &[u8], capacity: usize, list: &[u32], n: usize, out: &mut [u8]) -> usize
-    requires { ListOf (MatchedWithin capacity pages.now) capacity n list.now }
-    ensures { Emitted (matched_fields capacity pages.now) (take n list.now)
-        out.old out.new result }
+// Writes the records that match, of the matched pages of the list. Returns how many these are.
+fn put_matched(pages: &[u8], capacity: usize, list: &[u32], out: &mut [u8]) -> usize
+    requires { ListOf (MatchedWithin capacity pages.now) capacity (length list.now) list.now }
+    ensures { Emitted (matched_fields capacity pages.now) list.now out.old out.new result }
 {
     let mut total = 0;
-    let mut i = 0;
-    while i < n {
-        total = put_matched_page(pages, capacity, list[i], out, total);
-        i += 1;
+    for &matched in list {
+        total = put_matched_page(pages, capacity, matched, out, total);
     }
     total
 }

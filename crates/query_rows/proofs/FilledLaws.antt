@@ -47,18 +47,18 @@ module _ (ws : List ℕ) (q : ℕ → QueryBit) (t g x : ℕ) (rows : List ℕ) 
         fixed = inv.fixed;
       })
 
-  module _ (next : x < t) where
-    -- a step below t stands among the first 64 pairs
-    pub filled_live : t ≤ length (steps ws) → g < 64
-    unfolding steps
-    filled_live h = go (lt-or-le g 64)
-      where
-        go : (g < 64) ⊎ (64 ≤ g) → g < 64
-        go (inl l) = l
-        go (inr l) =
-            let e : g ≡ 64 = omega (arith, inv.low) in
-            absurd (omega (arith, inv.counted next ∙ ap (λ n. length (steps_below ws n)) e))
+  -- after 64 pairs
+  pub filled_all : t ≤ length (steps ws) → 64 ≤ g → t ≤ x
+  unfolding steps
+  filled_all h l = go (lt-or-le x t)
+    where
+      go : (x < t) ⊎ (t ≤ x) → t ≤ x
+      go (inl k) =
+          let e : g ≡ 64 = omega (arith, inv.low) in
+          absurd (omega (arith, inv.counted k ∙ ap (λ n. length (steps_below ws n)) e))
+      go (inr k) = k
 
+  module _ (next : x < t) where
     pub filled-skip : g < 64 → get_or ws (g % 4) 0 ≤ g / 4 → (later : List ℕ) (y : ℕ) → later ≡ rows → y ≡ x
         → RowsFilled ws q t (g + 1) y later
     filled-skip l h later y el ey =

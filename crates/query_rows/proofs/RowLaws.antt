@@ -3,65 +3,50 @@ use Prim.Native.Nat.{ℕ, zero, suc, ◌+◌, ◌*◌, ◌-◌, ◌/◌, ◌%◌
 use mathlib.Core.Path.{◌≡◌, refl, sym, ap, ◌∙◌}
 use mathlib.Core.Bool.{cond}
 use mathlib.Core.List.{List, [], ◌∷◌}
-use mathlib.Core.Option.{Option, none, some}
+use mathlib.Core.Option.{Option, none}
 use native.Mathlib.Omega.{arith}
-use native.Mathlib.Nat.{zero-div}
 use lib.Bits.{bit_and, and_mask}
 use lib.Dec.{eqb}
 use lib.ListN.{get_or, length}
 use Rattle.lists.proofs.Bools.{cond_cases}
 use Rattle.lists.proofs.Shifts.{one_shifted}
 use Rattle.shape.specs.Shape.{Fit}
-use Rattle.shape.specs.Key.{wanted_value, wanted_values}
+use Rattle.shape.specs.Key.{wanted_values}
 use Rattle.shape.specs.declared.Wanted.{Wanted}
 use Rattle.shape.specs.declared.Wanted.TheVariants.{Free, Given}
 use Rattle.shape.specs.declared.Query.{Query}
+use Rattle.shape.proofs.AttributeLaws.{get_d-wanted_values}
 use Rattle.split.specs.Steps.{step_number, steps_below, attribute_depth}
 use Rattle.split.proofs.StepLaws.{depth_before, length-steps_below}
 use Rattle.split.proofs.DepthLaws.{step-here, attribute_depth-here}
 use Rattle.region.specs.Query.{given}
 use Rattle.model.specs.Sets.{query_bit_of}
-use Rattle.query_rows.specs.Private.{value_or_zero, free_mark}
 use Rattle.query_rows.specs.Rows.{shift_of, other_depth, wanted_number, wanted_at, multiplier, step_row}
 use Rattle.query_rows.proofs.LaneLaws.{four_numbers}
 
 -- ---- what the query wants of a bit
 
-module _ (query : Query) where
+module _ (query : Query) (j : ℕ) (h : j < 4) (w k : ℕ) where
   -- what it says of attribute j
-  abbrev wanted_of : ℕ → Wanted
-  wanted_of j = (get_or query.attributes j (record { wanted = Free })).wanted
+  abbrev wanted_of : Wanted
+  wanted_of = (get_or query.attributes j (record { wanted = Free })).wanted
 
-  get_d-wanted_values : (j : ℕ) → j < 4 → get_or (wanted_values query) j none ≡ wanted_value (wanted_of j)
-  unfolding wanted_values
-  get_d-wanted_values zero h = refl
-  get_d-wanted_values (suc zero) h = refl
-  get_d-wanted_values (suc (suc zero)) h = refl
-  get_d-wanted_values (suc (suc (suc zero))) h = refl
-  get_d-wanted_values (suc (suc (suc (suc j)))) h = absurd (omega arith)
+  abbrev bit_number : ℕ
+  bit_number = wanted_number (query_bit_of w k (get_or (wanted_values query) j none))
 
-  module _ (j : ℕ) (h : j < 4) where
-    pub wanted-free : wanted_of j ≡ Free
-        → (0 ≡ value_or_zero (get_or (wanted_values query) j none)) × (2 ≡ free_mark (get_or (wanted_values query) j none))
-    wanted-free e = rw (get_d-wanted_values j h, e) (refl, refl)
+  pub wanted_number-free : wanted_of ≡ Free → 2 ≡ bit_number
+  wanted_number-free e = rw (get_d-wanted_values query j h, e) refl
 
-    pub wanted-given : (v : ℕ) → wanted_of j ≡ Given v
-        → (v ≡ value_or_zero (get_or (wanted_values query) j none)) × (0 ≡ free_mark (get_or (wanted_values query) j none))
-    wanted-given v e = rw (get_d-wanted_values j h, e) (refl, refl)
-
--- the bit of the value, and 2 more where the query is free
-pub wanted_number-sum : (w k : ℕ) (o : Option ℕ)
-    → bit_and (value_or_zero o / 2 ^ (w - 1 - k)) 1 + free_mark o ≡ wanted_number (query_bit_of w k o)
-wanted_number-sum w k none =
-    ap (λ n. n + 2) (and_mask (0 / 2 ^ (w - 1 - k)) 1 ∙ ap (λ n. n % 2) (zero-div (2 ^ (w - 1 - k))))
-wanted_number-sum w k (some v) =
-    let shift : w - 1 - k ≡ w - suc k = omega arith in
-    rw (shift, and_mask (v / 2 ^ (w - suc k)) 1) (bit (v / 2 ^ (w - suc k) % 2) (omega arith))
-  where
-    bit : (x : ℕ) → x < 2 → x + 0 ≡ wanted_number (given (eqb x 1))
-    bit zero l = refl
-    bit (suc zero) l = refl
-    bit (suc (suc x)) l = absurd (omega arith)
+  pub wanted_number-given : (v : ℕ) → wanted_of ≡ Given v → bit_and (v / 2 ^ (w - 1 - k)) 1 ≡ bit_number
+  wanted_number-given v e =
+      let shift : w - 1 - k ≡ w - suc k = omega arith in
+      rw (get_d-wanted_values query j h, e, shift, and_mask (v / 2 ^ (w - suc k)) 1)
+      (bit (v / 2 ^ (w - suc k) % 2) (omega arith))
+    where
+      bit : (x : ℕ) → x < 2 → x ≡ wanted_number (given (eqb x 1))
+      bit zero l = refl
+      bit (suc zero) l = refl
+      bit (suc (suc x)) l = absurd (omega arith)
 
 -- ---- the row of a step
 

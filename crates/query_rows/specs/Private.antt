@@ -1,7 +1,6 @@
 -- What the functions that fill the rows go by: the rows filled so far, and what a query gives for an attribute. Assumes
 -- nothing.
 use Rattle.std.specs.Prelude.{ℕ, ◌+◌, ◌*◌, ◌/◌, ◌%◌, ◌≤◌, ◌<◌, ◌≡◌, List, get_or, length}
-use Rattle.std.proofs.Math.Option.{Option, none, some}
 use Rattle.shape.specs.Shape.{Fit}
 use Rattle.split.specs.Steps.{steps_below}
 use Rattle.region.specs.Query.{QueryBit}
@@ -42,12 +41,3 @@ pub record BitOf (w k j : ℕ) : Type 0 where
   pub attribute : j < 4
   pub bit : k < w
   pub width : w ≤ 16
-
--- what a query gives for an attribute, 0 where it is free; and 2 there, else 0
-abbrev pub value_or_zero : Option ℕ → ℕ
-value_or_zero none = 0
-value_or_zero (some v) = v
-
-abbrev pub free_mark : Option ℕ → ℕ
-free_mark none = 2
-free_mark (some v) = 0

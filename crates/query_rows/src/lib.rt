@@ -28,7 +28,6 @@ ghost use Rattle.query_rows.specs.Rows.{Rows, RowsAsked, step_row, row_list, wan
 ghost use Rattle.query_rows.specs.Rows.{other_depth, multiplier, tallied_depths, limited, most_pages};
 ghost use Rattle.query_rows.specs.Vectors.{Addressable, row_address};
 ghost use Rattle.query_rows.specs.Private.{RowsFilled, BitAsked, StepAt, PlaceAsked, BitOf};
-ghost use Rattle.query_rows.specs.Private.{value_or_zero, free_mark};
 
 use key_encoding::bias_key;
 use page_ends::fixed_bits_before;
@@ -85,11 +84,12 @@ pub fn fill_rows(shape: Shape, query: Query, t: usize, rows: &mut [u64; TABLE])
 {
     let widths = widths_of(shape);
     rows[FIXED] = fixed_bits_before(widths, 0);
-    let mut x: usize = 0;
-    let mut bit: u64 = 0;
-    while x < t {
+    let mut x = 0;
+    for bit in 0..16 {
+        if x == t {
+            break;
+        }
         x = fill_bit(widths, query, t, bit, rows, x);
-        bit += 1;
     }
 }
 
@@ -110,15 +110,11 @@ fn fill_bit(
         rows.new }
 {
     let mut x = before;
-    let mut z: u64 = 0;
-    while z < 4 {
-        if x < t {
-            if bit < width_at(widths, z) {
-                put_row(rows, x * ROW, row_at(widths, query, 4 * bit + z));
-                x += 1;
-            }
+    for z in 0..4 {
+        if x < t && bit < width_at(widths, z) {
+            put_row(rows, x * ROW, row_at(widths, query, 4 * bit + z));
+            x += 1;
         }
-        z += 1;
     }
     x
 }
@@ -156,9 +152,7 @@ pub fn most_pages(rows: &[u64; TABLE], t: usize) -> usize
     ensures { result ≡ most_pages rows.now t 0 }
 {
     let mut most = 1;
-    let mut x = t;
-    while 0 < x {
-        x -= 1;
+    for x in (0..t).rev() {
         if 1 < rows[x * ROW + WANTED] {
             most *= 2;
         }
@@ -182,9 +176,7 @@ fn tallied_depths(tally: Tally) -> u64
     ensures { result ≡ tallied_depths tally.leaves }
 {
     let mut depths: u64 = 0;
-    let mut x: usize = 13;
-    while 0 < x {
-        x -= 1;
+    for x in (0..13).rev() {
         depths = (depths << 1) | ((tally.leaves[x] != 0) as u64);
     }
     depths
@@ -245,38 +237,14 @@ fn multiplier_of(s: u64, r: u64) -> u64
     (65536u64 << s) + (1u64 << r)
 }
 
-// What the query says of a bit of attribute j: the encoding's bit, and 2 more where it is free.
+// What the query says of a bit of attribute j: the encoding's bit, or 2 where it is free.
 fn wanted_bit(query: Query, j: usize, width: u64, bit: u64) -> u64
     requires { BitOf width bit j }
     ensures { result ≡ wanted_number (query_bit_of width bit (get_or (wanted_values query) j none)) }
 {
-    let value = given_value(query, j);
-    ((value >> (width - 1 - bit)) & 1) + free_mark(query, j)
-}
-
-// The encoding that the query gives for attribute j; 0 where it is free.
-fn given_value(query: Query, j: usize) -> u64
-    requires { j < 4 }
-    ensures { result ≡ value_or_zero (get_or (wanted_values query) j none) }
-{
-    let attribute = query.attributes[j];
-    let wanted = attribute.wanted;
-    match wanted {
-        Wanted::Free => 0,
-        Wanted::Given(value) => value as u64,
-    }
-}
-
-// 2 where the query is free in attribute j, else 0.
-fn free_mark(query: Query, j: usize) -> u64
-    requires { j < 4 }
-    ensures { (result ≡ free_mark (get_or (wanted_values query) j none)) × (result ≤ 2) }
-{
-    let attribute = query.attributes[j];
-    let wanted = attribute.wanted;
-    match wanted {
+    match query.attributes[j].wanted {
         Wanted::Free => 2,
-        Wanted::Given(_) => 0,
+        Wanted::Given(value) => ((value as u64) >> (width - 1 - bit)) & 1,
     }
 }
 

@@ -23,15 +23,14 @@ use Rattle.model.specs.Sets.{in_shape, division_of, query_bits, reads_of}
 use Rattle.store.specs.declared.State.{State}
 use Rattle.store.specs.Store.{Store, word_at}
 use Rattle.store.specs.Promises.{SoundWhere, agreeing, SoundWhereRead}
-use Rattle.query_walk.specs.declared.Noted.{Noted}
-use Rattle.query_walk.specs.declared.Noted.TheVariants.{Pages, Damaged}
+use Rattle.std.specs.Prelude.{Some, None}
 use lib.Seq.{sets}
 use Rattle.query_rows.proofs.StoreRunLaws.{get_d_sets, take-sets}
 use Rattle.query_seen.specs.Pages.{read_pages_by}
 use Rattle.query_seen.specs.Seen.{Seen, fair_page, leaf_seen, walk_seen_by, walk_seen}
 use Rattle.query_seen.proofs.BoundLaws.{length-noted-le, length-seen-le, Readable, All-noted, All-seen}
 use Rattle.query_seen.proofs.StoreLaws.{walk_seen_by-sound, length-read_pages_by, records-read_pages_by}
-use Rattle.query_walk.specs.Noting.{answer_of, Put}
+use Rattle.query_walk.specs.Noting.{Noted, noted_by, Put}
 
 All-get_d : (P : ℕ → Type 0) (xs : List ℕ) → All P xs → (i : ℕ) → i < length xs → P (get_or xs i 0)
 All-get_d P [] h i l = absurd (omega arith)
@@ -41,7 +40,7 @@ All-get_d P (x ∷ xs) h (suc i) l = All-get_d P xs h.1 i (omega arith)
 -- ---- any store
 
 module _ (st : State) (words bytes : List ℕ) (enter : ℕ → (ℕ → Bool) → Bool) (list : List ℕ) (r : Noted)
-    (later : List ℕ) (o : Put list (walk_seen_by st words bytes enter) r later) (n : ℕ) (e : r ≡ Pages n) where
+    (later : List ℕ) (o : Put list (walk_seen_by st words bytes enter) r later) (n : ℕ) (e : r ≡ Some n) where
   abbrev s : Seen
   s = walk_seen_by st words bytes enter
 
@@ -49,7 +48,7 @@ module _ (st : State) (words bytes : List ℕ) (enter : ℕ → (ℕ → Bool) �
   pub length-noted : n ≡ length s.pages
   length-noted = go s.sound (sym e ∙ o.answer)
     where
-      go : (β : Bool) → Pages n ≡ cond β (Pages (length s.pages)) Damaged → n ≡ length s.pages
+      go : (β : Bool) → Some n ≡ cond β (Some (length s.pages)) None → n ≡ length s.pages
       go true d = cc
       go false d = let z : ◌≡◌ {A = ℕ} 0 1 = cc in absurd (omega arith)
 
@@ -105,11 +104,11 @@ module _ (store : Store) (enter : ℕ → (ℕ → Bool) → Bool) (reads : Leaf
   module _ (list : List ℕ) (r : Noted) (later : List ℕ)
       (o : Put list (walk_seen_by store.state store.memory.words store.memory.bytes enter) r later) where
     -- the answer is the number of leaves that are entered and not empty, and no damage
-    pub noted-reads-by : r ≡ Pages leaf_reads
+    pub noted-reads-by : r ≡ Some leaf_reads
     noted-reads-by =
         o.answer
-        ∙ ap answer_of (walk_seen_by-sound store enter reads S covers h begins)
-        ∙ ap Pages
+        ∙ ap noted_by (walk_seen_by-sound store enter reads S covers h begins)
+        ∙ ap Some
         (length-read_pages_by store.state store.memory.words enter (division_of store.state.shape S))
 
     -- the pages noted are theirs, in order
@@ -154,7 +153,7 @@ module _ (store : Store) (wanted : List (Option ℕ)) (S : List Record)
   module _ (list : List ℕ) (r : Noted) (later : List ℕ)
       (o : Put list (walk_seen store.state store.memory.words bytes_now bits) r later) where
     -- the answer is the model's reads, and no damage
-    pub noted-reads : r ≡ Pages (reads_of shape wanted S)
+    pub noted-reads : r ≡ Some (reads_of shape wanted S)
     unfolding reads_of
     noted-reads =
         noted-reads-by store (query_enters bits) (agreeing bits) S (λ p x rs e n. e) h refl list r later o

@@ -1,6 +1,6 @@
 -- What `note_pages` asks and leaves: the pages that a walk over the regions sees, noted in a list (document 01,
 -- "Calls"). Assumes nothing.
-use Rattle.std.specs.Prelude.{ℕ, ◌^◌, ◌≤◌, ◌≡◌, true, cond, List, length}
+use Rattle.std.specs.Prelude.{Option, Some, None, ℕ, ◌^◌, ◌≤◌, ◌≡◌, true, cond, List, length}
 use Rattle.shape.specs.Shape.{in_bounds, widths_of, total}
 use Rattle.region.specs.Query.{QueryBit}
 use Rattle.store.specs.declared.State.{State}
@@ -8,16 +8,18 @@ use Rattle.store.specs.Store.{pages_size}
 use Rattle.std.proofs.lemmas.List.Edits.{sets}
 use Rattle.query_rows.specs.Rows.{Table, most_pages}
 use Rattle.query_seen.specs.Seen.{Seen, walk_seen}
-use Rattle.query_walk.specs.declared.Noted.{Noted}
-use Rattle.query_walk.specs.declared.Noted.TheVariants.{Pages, Damaged}
+
+-- what a walk returns: how many pages it noted, none where it met what no sound store has
+abbrev pub Noted : Type 0
+Noted = Option ℕ
 
 -- what a walk answers
-abbrev pub answer_of : Seen → Noted
-answer_of s = cond s.sound (Pages (length s.pages)) Damaged
+abbrev pub noted_by : Seen → Noted
+noted_by s = cond s.sound (Some (length s.pages)) None
 
 -- it noted what it saw from the front of the list on; also where damage ended it
 pub record Put (list : List ℕ) (s : Seen) (r : Noted) (later : List ℕ) : Type 0 where
-  pub answer : r ≡ answer_of s
+  pub answer : r ≡ noted_by s
   pub lines : later ≡ sets list 0 s.pages
 
 -- of each query whose table this is

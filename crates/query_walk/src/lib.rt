@@ -23,25 +23,18 @@ pub const MOST_PAGES: usize = 4096;
 // What a part of the walk returns in place of a number of pages.
 pub const DAMAGED: usize = 65535;
 
-// What a walk answers: how many pages it noted, or that it met what no sound store has.
-#[derive(Clone, Copy)]
-pub enum Noted {
-    Pages(usize),
-    Damaged,
-}
-
 // Notes the pages of the leaves that agree with the query of this table and are not empty, bit 0
-// before bit 1, from the front of the list on. Damaged where it meets a word with a bit of 20-31
-// set, with a depth below its region's or above T, of a leaf whose depth has none in the tally, or
-// with a page number of P or more; or a page whose count is 0 or above b, or whose first or last
-// record is not one of the leaf's.
+// before bit 1, from the front of the list on, and returns their number. None where it meets a word
+// with a bit of 20-31 set, with a depth below its region's or above T, of a leaf whose depth has none
+// in the tally, or with a page number of P or more; or a page whose count is 0 or above b, or whose
+// first or last record is not one of the leaf's.
 pub fn note_pages(
     state: State,
     rows: &[u64; TABLE],
     dir: &[u32],
     pages: &[u8],
     list: &mut [u32],
-) -> Noted
+) -> Option<usize>
     requires { Walkable state rows.now (length dir.now) (length pages.now) (length list.old) }
     ensures { Noting state rows.now dir.now pages.now list.old result
         list.new }
@@ -53,9 +46,9 @@ pub fn note_pages(
         walk(rows, dir, pages, list, 0, 0, word, 0, 0)
     };
     if MOST_PAGES < count {
-        return Noted::Damaged;
+        return None;
     }
-    Noted::Pages(count)
+    Some(count)
 }
 
 // Notes the pages below the region of depth x with this index vector and low corner, whose own cell
@@ -173,10 +166,7 @@ fn page_fair(rows: &[u64; TABLE], pages: &[u8], page: usize, corner: u64, x: usi
     let bias = rows[BIAS];
     let start = page_start(b, page);
     let end = start + page_size(b);
-    if fair_count(&pages[start..end], b, bias, corner, fixed) == 0 {
-        return false;
-    }
-    true
+    fair_count(&pages[start..end], b, bias, corner, fixed).is_some()
 }
 
 // The lower of two numbers of a region's sides where the query wants bit 0, else the upper.

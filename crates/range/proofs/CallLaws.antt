@@ -7,10 +7,11 @@ use mathlib.Core.Option.{Option}
 use native.Mathlib.Nat.{le_trans}
 use lib.ListN.{length, take}
 use Rattle.shape.specs.Shape.{shape_number}
-use Rattle.shape.specs.Refusal.{accepted, refused}
+use Rattle.shape.specs.Refusal.{accepted, refused, answered_by}
 use Rattle.shape.specs.Key.{encoded_wanted}
 use Rattle.shape.specs.Range.{Interval, range_fits}
 use Rattle.shape.specs.declared.Shape.{Shape}
+use Rattle.shape.proofs.RefusalLaws.{accepted-answered_by}
 use Rattle.region.specs.Strings.{empty_string}
 use Rattle.region.specs.Query.{QueryBit}
 use Rattle.record.specs.Lanes.{bias_key}
@@ -34,9 +35,8 @@ use Rattle.refusals.specs.Lengths.{MemoryLent}
 use Rattle.refusals.proofs.LimitsLaws.{limits-of-sound}
 use Rattle.query_rows.specs.Rows.{Table}
 use Rattle.query_rows.proofs.MostLaws.{most_pages-le}
-use Rattle.query_walk.specs.declared.Noted.{Noted}
-use Rattle.query_walk.specs.declared.Noted.TheVariants.{Pages, Damaged}
-use Rattle.query_walk.specs.Noting.{Put, Walkable}
+use Rattle.std.specs.Prelude.{Some, None}
+use Rattle.query_walk.specs.Noting.{Noted, Put, Walkable}
 use Rattle.query_walk.proofs.NotedLaws.{noted-le, noted-reads-by}
 use Rattle.query_seen.specs.Seen.{walk_seen_by}
 use Rattle.query_records.specs.Records.{PageWithin, ListOf, list_hits}
@@ -45,12 +45,18 @@ use Rattle.list_call.proofs.LentLaws.{limits_lent, walkable}
 use Rattle.list_call.proofs.PageLaws.{is_pages, pages-listed, IsField-fields, reads-as-model, records-as-model}
 use Rattle.list_call.proofs.PageLaws.{of-counts}
 use Rattle.range_number.specs.Ends.{low_ends, high_ends, low_key, high_key}
-use Rattle.range_number.specs.Number.{range_number_by}
+use Rattle.range_number.specs.Number.{range_by, range_number_by}
 use Rattle.range_number.proofs.EndLaws.{low-sixteen, high-sixteen}
 use Rattle.range_number.proofs.EarlyLaws.{parts-of-range_number_by}
 use Rattle.range_walk.specs.Meeting.{Meeting}
 use Rattle.range.proofs.BoxLaws.{TellsMeeting-keys, lies_in-in_box}
 use Rattle.range.proofs.PromiseLaws.{promise-nine, promise-listed}
+
+-- what a test that is passed tells
+pub number-none : (st : State) (words bytes : ℕ) (r : List (Option Interval))
+    → accepted (tt {0}) ≡ answered_by (range_by st words bytes r) (tt {0}) → range_number_by st words bytes r ≡ 0
+unfolding range_number_by
+number-none st words bytes r e = accepted-answered_by tt tt (range_by st words bytes r) e
 
 module _ (st : State) (words bytes : List ℕ) (r : List (Option Interval))
     (none : range_number_by st (length words) (length bytes) r ≡ 0) where
@@ -101,7 +107,7 @@ module _ (st : State) (words bytes : List ℕ) (r : List (Option Interval))
       put : Put list (walk_seen_by st words bytes (box_enters s box)) noted later
       put = o (box_enters s box) (TellsMeeting-keys s shape-of-none r fits st.deepest)
 
-      pub nine-damaged : (out : List ℕ) → noted ≡ Damaged → RangePromise (store st words bytes) r out (refused 9) out
+      pub nine-damaged : (out : List ℕ) → noted ≡ None → RangePromise (store st words bytes) r out (refused 9) out
       nine-damaged out e =
           promise-nine st words bytes r out none
           (λ S h. true≢false
@@ -110,7 +116,7 @@ module _ (st : State) (words bytes : List ℕ) (r : List (Option Interval))
           ∙ ap is_pages e))
 
       module _ (long : length later ≡ length list) (room : 2 ^ st.deepest ≤ length list)
-          (n : ℕ) (e : noted ≡ Pages n) where
+          (n : ℕ) (e : noted ≡ Some n) where
         within : n ≤ length list
         within = le_trans (noted-le st words bytes (box_enters s box) list noted later put n e) room
 

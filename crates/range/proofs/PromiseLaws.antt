@@ -1,13 +1,13 @@
 -- Laws of the range's promise, one for each way that the call ends. Assumes nothing.
 use Prim.Native.Nat.{ℕ, ◌/◌, min}
-use mathlib.Core.Path.{◌≡◌, refl, sym, ◌∙◌}
+use mathlib.Core.Path.{◌≡◌, refl, ◌∙◌}
 use mathlib.Core.List.{List, map}
 use mathlib.Core.Option.{Option}
 use lib.ListN.{length}
 use Rattle.lists.specs.Members.{All}
-use Rattle.shape.specs.Amiss.{refused_for}
-use Rattle.shape.specs.Refusal.{Answer, accepted, refused}
+use Rattle.shape.specs.Refusal.{Answer, accepted, refused, told, answered_by}
 use Rattle.shape.specs.Range.{Interval}
+use Rattle.shape.specs.declared.refusal.Refusal.{Refusal}
 use Rattle.region.specs.Query.{LeafTest}
 use Rattle.record.specs.Record.{Record}
 use Rattle.record.specs.Bytes.{record_size, record_of}
@@ -19,13 +19,14 @@ use Rattle.model.proofs.AnswerLaws.{answer-range}
 use Rattle.page_matches.specs.Output.{emit}
 use Rattle.page_matches.proofs.EmitLaws.{IsField}
 use Rattle.store.specs.declared.State.{State}
-use Rattle.store.specs.Store.{Store, store, fixed_of}
+use Rattle.store.specs.Store.{Store, store, fixed_of, lent_conditions}
 use Rattle.store.specs.Promises.{RangePromise, SoundWhere, meeting, range_refusals, range_number}
 use Rattle.store.proofs.NumberLaws.{first_number-other, named-range}
+use Rattle.refusals.specs.Lengths.{lent_by}
 use Rattle.refusals.proofs.LentLaws.{first_number-others}
 use Rattle.list_call.proofs.LentLaws.{lent_number_by-sound}
 use Rattle.list_call.proofs.ListPromiseLaws.{Lists, list-by, list-early, list-nine, list-listed}
-use Rattle.range_number.specs.Number.{range_number_by}
+use Rattle.range_number.specs.Number.{range_by, range_number_by}
 use Rattle.range_number.proofs.EarlyLaws.{range_number-by}
 
 module _ (st : State) (words bytes : List ℕ) (r : List (Option Interval)) (out : List ℕ) where
@@ -65,11 +66,12 @@ module _ (st : State) (words bytes : List ℕ) (r : List (Option Interval)) (out
   unfolding number_for
   not-fourteen S = first_number-other 13 _ refl
 
-  pub promise-early : (n : ℕ) → n ≡ number → (n ≡ 0 → ⊥) → RangePromise here r out (refused_for st.shape n) out
-  promise-early n e z =
-      of-list (refused_for st.shape n) out
-      (list-early here _ _ _ (range_reads_of st.shape r) found out model-number (named-range here r) not-fourteen n
-      (e ∙ sym (range_number-by st words bytes r)) z)
+  pub promise-early : (why : Refusal) → told why ≡ answered_by (range_by st (length words) (length bytes) r) (tt {0})
+      → RangePromise here r out (told why) out
+  unfolding range_refusals lent_conditions lent_by
+  promise-early why e =
+      of-list (told why) out
+      (list-early here _ _ _ (range_reads_of st.shape r) found out model-number (named-range here r) not-fourteen why e)
 
   module _ (none : number ≡ 0) where
     none-early : range_number here r ≡ 0

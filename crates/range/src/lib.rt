@@ -9,30 +9,32 @@ ghost use Rattle.store.specs.Answers.{listed_answer};
 ghost use Rattle.range.specs.Private.{Tested};
 
 use key_encoding::bias_key;
-use numbers::smaller_length;
 use query_rows::{TABLE, fill_limits, fill_rows, free_query};
-use query_walk::Noted;
-use range_number::{high_key, low_key, range_number};
+use range_number::{high_key, low_key, validate_range};
 use range_records::put_within;
 use range_walk::note_met;
 use record::RECORD_SIZE;
 use refusals::limits_hold;
 use shape::Range;
-use store::{Counts, Listed, State, refuse_list};
+use shape::refusal::Refusal;
+use store::{Counts, State};
 
 // The records inside a box of values, written into the output in split order while whole ones fit;
 // how many were written, how many lie inside, how many pages were read. Refused with 1, 14, 15, 2,
 // 8, 3, 10 or 9, the first that holds in this order; a refused call leaves the output as it came.
-pub fn range(state: State, dir: &[u32], pages: &[u8], range: Range, out: &mut [u8]) -> Listed
+pub fn range(
+    state: State,
+    dir: &[u32],
+    pages: &[u8],
+    range: Range,
+    out: &mut [u8],
+) -> Result<Counts, Refusal>
     ensures { RangePromise (store state dir.now pages.now) (range_intervals range)
         out.old (listed_answer result) out.new }
 {
-    let number = range_number(state, dir.len(), pages.len(), range);
-    if number != 0 {
-        return refuse_list(state.shape, number);
-    }
+    validate_range(state, dir.len(), pages.len(), range)?;
     if !limits_hold(state) {
-        return Listed::Refused(9);
+        return Err(Refusal::Unsound);
     }
     let depth = state.deepest as usize;
     let mut rows = [0u64; TABLE];
@@ -63,7 +65,7 @@ fn read_pages(
     pages: &[u8],
     list: &mut [u32],
     out: &mut [u8],
-) -> Listed
+) -> Result<Counts, Refusal>
     requires { Tested state (range_intervals range) rows.old (length dir.now) (length pages.now)
         (length list.old) }
     ensures { RangePromise (store state dir.now pages.now) (range_intervals range)
@@ -73,8 +75,8 @@ fn read_pages(
     let high = high_key(state.shape, range);
     fill_limits(state, rows);
     let noted = note_met(state, rows, low, high, dir, pages, list);
-    let Noted::Pages(n) = noted else {
-        return Listed::Refused(9);
+    let Some(n) = noted else {
+        return Err(Refusal::Unsound);
     };
     let shape = state.shape;
     let total = put_within(
@@ -83,12 +85,11 @@ fn read_pages(
         bias_key(shape),
         low,
         high,
-        list,
-        n,
+        &list[..n],
         out,
     );
-    Listed::Records(Counts {
-        written: smaller_length(total, out.len() / RECORD_SIZE) as u64,
+    Ok(Counts {
+        written: total.min(out.len() / RECORD_SIZE) as u64,
         total: total as u64,
         reads: n as u64,
     })

@@ -10,7 +10,7 @@ use lib.ListN.{get_or}
 use borrow.Author.Tests.{le-leb}
 use Rattle.lists.proofs.Bools.{and_split}
 use Rattle.shape.specs.Shape.{shape_number, within}
-use Rattle.shape.specs.Key.{value_fits, encode, encode_wanted, encoded_wanted, is_given, if_given, names_unused, query_fits}
+use Rattle.shape.specs.Key.{value_fits, encode, encode_wanted, encoded_wanted, value_or, is_given, if_given, names_unused, query_fits}
 use Rattle.shape.specs.Range.{Interval, span_interval, range_intervals, ends_fit, ends_rise, range_fits, range_rises}
 use Rattle.shape.specs.declared.Shape.{Shape}
 use Rattle.shape.specs.declared.Range.{Range}
@@ -22,7 +22,7 @@ use Rattle.page_ends.proofs.MaskLaws.{packed_value-packed_key}
 use Rattle.key_between.specs.Between.{lies_between}
 use Rattle.page_matches.specs.Pattern.{wanted_bits, GivenSixteenBits}
 use Rattle.query_number.proofs.EarlyLaws.{sixteen-of-fits}
-use Rattle.range_number.specs.Ends.{low_end, high_end, low_ends, high_ends, value_or, values_or, low_key, high_key}
+use Rattle.range_number.specs.Ends.{low_end, high_end, low_ends, high_ends, values_or, low_key, high_key}
 
 -- ---- intervals
 

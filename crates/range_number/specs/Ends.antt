@@ -1,7 +1,8 @@
 -- The ends of a range: as queries, and as packed keys. Assumes nothing.
-use Rattle.std.specs.Prelude.{ℕ, List, get_or}
+use Rattle.std.specs.Prelude.{◌≡◌, ℕ, List, get_or}
 use Rattle.std.proofs.Math.Option.{Option, none, some}
 use Rattle.shape.specs.Key.{per_attribute, encoded_wanted}
+pub use Rattle.shape.specs.Key.{value_or}
 use Rattle.shape.specs.Range.{Interval}
 use Rattle.shape.specs.declared.Shape.{Shape}
 use Rattle.record.specs.Packed.{packed_key}
@@ -16,6 +17,10 @@ abbrev pub high_end : Option Interval → Option ℕ
 high_end none = none
 high_end (some i) = some i.high
 
+-- a choice between an interval's two ends that gives what a query then wants
+abbrev pub EndsAs : (ℕ → ℕ → ℕ → Type 0) → (Option Interval → Option ℕ) → Type 0
+EndsAs post wanted = (wanted none ≡ none) × ((i : Interval) (r : ℕ) → post i.low i.high r → some r ≡ wanted (some i))
+
 -- the query that gives the low end of each interval, and that of the high ends
 unfoldable pub low_ends : List (Option Interval) → List (Option ℕ)
 low_ends r = per_attribute (λ j. low_end (get_or r j none))
@@ -25,11 +30,7 @@ high_ends r = per_attribute (λ j. high_end (get_or r j none))
 
 -- ---- as packed keys
 
--- a given value, or the one that stands for a free attribute
-abbrev pub value_or : ℕ → Option ℕ → ℕ
-value_or free none = free
-value_or free (some v) = v
-
+-- given values, or the one that stands for a free attribute
 abbrev pub values_or : ℕ → List (Option ℕ) → List ℕ
 values_or free q = per_attribute (λ j. value_or free (get_or q j none))
 

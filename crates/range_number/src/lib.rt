@@ -2,45 +2,43 @@
 // request 1). A range is two queries, of its low and of its high ends.
 #![tactic(auto)]
 
-ghost use Rattle.std.specs.Prelude.{◌≡◌, ◌<◌, get_or};
-ghost use Rattle.std.proofs.Math.Option.{none};
+ghost use Rattle.std.specs.Prelude.{◌≡◌, ℕ, ◌<◌, get_or};
+ghost use Rattle.std.proofs.Math.Option.{Option, none};
+ghost use Rattle.shape.specs.Refusal.{answered_by, tested};
 ghost use Rattle.shape.specs.Shape.{shape_number};
-ghost use Rattle.shape.specs.Key.{wanted_value, wanted_values, encoded_wanted};
-ghost use Rattle.shape.specs.Range.{range_intervals};
+ghost use Rattle.shape.specs.Key.{per_attribute, wanted_value, wanted_values, encoded_wanted};
+ghost use Rattle.shape.specs.Range.{Interval, range_intervals};
 ghost use Rattle.record.specs.Packed.{packed_key};
 ghost use Rattle.page_matches.specs.Pattern.{GivenSixteenBits};
-ghost use Rattle.range_number.specs.Ends.{low_end, high_end, low_ends, high_ends, value_or, values_or};
+ghost use Rattle.range_number.specs.Ends.{EndsAs, low_ends, high_ends, values_or};
 ghost use Rattle.range_number.specs.Ends.{low_key, high_key};
-ghost use Rattle.range_number.specs.Number.{range_number_by};
+ghost use Rattle.range_number.specs.Number.{range_by};
 
 use key_between::lies_between;
 use key_encoding::encode_query;
-use query_number::{query_fits, query_number};
+use query_number::{query_fits, validate_query};
 use record::pack_key;
+use shape::refusal::Refusal;
 use shape::{Attribute, Key, Query, Range, Shape, Span, Wanted};
 use store::State;
 
-// The number of the first refusal that needs no look into words and pages: 1, 14, 15, 2, 8 for a
-// range that names attribute d or above, 3 for an end of 2^w_j or more, 10 for a low end above its
-// high end; 0 for none.
-pub fn range_number(state: State, words: usize, bytes: usize, range: Range) -> u32
-    ensures { result ≡ range_number_by state words bytes (range_intervals range) }
+// Whether a range may walk the regions. Refused with 1, 14, 15, 2, 8 for a range that names attribute
+// d or above, 3 for an end of 2^w_j or more, 10 for a low end above its high end, the first that holds
+// in this order.
+pub fn validate_range(state: State, words: usize, bytes: usize, range: Range) -> Result<(), Refusal>
+    ensures { tested result ≡ answered_by (range_by state words bytes (range_intervals range)) tt }
 {
     let lows = low_ends(range);
-    let number = query_number(state, words, bytes, lows);
-    if number != 0 {
-        return number;
-    }
+    validate_query(state, words, bytes, lows)?;
     let highs = high_ends(range);
     if !query_fits(state.shape, highs) {
-        return 3;
+        return Err(Refusal::Value);
     }
     let low = low_key(state.shape, range);
-    if lies_between(low, high_key(state.shape, range), low) {
-        0
-    } else {
-        10
+    if !lies_between(low, high_key(state.shape, range), low) {
+        return Err(Refusal::Interval);
     }
+    Ok(())
 }
 
 // The encodings of the low ends as a packed key; 0 where an attribute is free.
@@ -65,47 +63,36 @@ pub fn high_key(shape: Shape, range: Range) -> u64
 fn low_ends(range: Range) -> Query
     ensures { wanted_values result ≡ low_ends (range_intervals range) }
 {
-    let a0 = low_at(range, 0);
-    let a1 = low_at(range, 1);
-    let a2 = low_at(range, 2);
-    let a3 = low_at(range, 3);
-    let attributes = [a0, a1, a2, a3];
-    Query { attributes }
-}
-
-// The low end of attribute j's interval, or free.
-fn low_at(range: Range, j: usize) -> Attribute
-    requires { j < 4 }
-    ensures { wanted_value result.wanted ≡ low_end (get_or (range_intervals range) j none) }
-{
-    let attribute = range.attributes[j];
-    let span = attribute.span;
-    match span {
-        Span::Free => Attribute {
-            wanted: Wanted::Free,
-        },
-        Span::Within(low, _) => Attribute {
-            wanted: Wanted::Given(low),
-        },
-    }
+    ends(range, |low, _| low)
 }
 
 // The query that gives the high end of each interval.
 fn high_ends(range: Range) -> Query
     ensures { wanted_values result ≡ high_ends (range_intervals range) }
 {
-    let a0 = high_at(range, 0);
-    let a1 = high_at(range, 1);
-    let a2 = high_at(range, 2);
-    let a3 = high_at(range, 3);
+    ends(range, |_, high| high)
+}
+
+// The query that gives one end of each interval.
+fn ends<F: Fn(u32, u32) -> u32 + Copy>(range: Range, end: F) -> Query
+    requires { F.IsAlwaysCallable end }
+    ensures { (wanted : Option Interval → Option ℕ) → EndsAs (F.post end) wanted
+        → wanted_values result ≡ per_attribute (λ j. wanted (get_or (range_intervals range) j none)) }
+{
+    let a0 = end_at(range, 0, end);
+    let a1 = end_at(range, 1, end);
+    let a2 = end_at(range, 2, end);
+    let a3 = end_at(range, 3, end);
     let attributes = [a0, a1, a2, a3];
     Query { attributes }
 }
 
-// The high end of attribute j's interval, or free.
-fn high_at(range: Range, j: usize) -> Attribute
-    requires { j < 4 }
-    ensures { wanted_value result.wanted ≡ high_end (get_or (range_intervals range) j none) }
+// One end of attribute j's interval, or free.
+fn end_at<F: Fn(u32, u32) -> u32 + Copy>(range: Range, j: usize, end: F) -> Attribute
+    requires place { j < 4 }
+    requires ends { F.IsAlwaysCallable end }
+    ensures { (wanted : Option Interval → Option ℕ) → EndsAs (F.post end) wanted
+        → wanted_value result.wanted ≡ wanted (get_or (range_intervals range) j none) }
 {
     let attribute = range.attributes[j];
     let span = attribute.span;
@@ -113,8 +100,8 @@ fn high_at(range: Range, j: usize) -> Attribute
         Span::Free => Attribute {
             wanted: Wanted::Free,
         },
-        Span::Within(_, high) => Attribute {
-            wanted: Wanted::Given(high),
+        Span::Within(low, high) => Attribute {
+            wanted: Wanted::Given(end(low, high)),
         },
     }
 }
@@ -124,24 +111,11 @@ fn key_or(query: Query, free: u32) -> u64
     requires { (GivenSixteenBits (wanted_values query)) × (free < 65536) }
     ensures { result ≡ packed_key (values_or free (wanted_values query)) }
 {
-    let v0 = value_or(query, 0, free);
-    let v1 = value_or(query, 1, free);
-    let v2 = value_or(query, 2, free);
-    let v3 = value_or(query, 3, free);
+    let v0 = query.attributes[0].wanted.value_or(free);
+    let v1 = query.attributes[1].wanted.value_or(free);
+    let v2 = query.attributes[2].wanted.value_or(free);
+    let v3 = query.attributes[3].wanted.value_or(free);
     pack_key(Key {
         values: [v0, v1, v2, v3],
     })
-}
-
-// The value that a query gives for attribute j, or `free`.
-fn value_or(query: Query, j: usize, free: u32) -> u32
-    requires { j < 4 }
-    ensures { result ≡ value_or free (get_or (wanted_values query) j none) }
-{
-    let attribute = query.attributes[j];
-    let wanted = attribute.wanted;
-    match wanted {
-        Wanted::Free => free,
-        Wanted::Given(value) => value,
-    }
 }

@@ -2,7 +2,7 @@
 // lies between two packed keys, value by value.
 #![tactic(auto)]
 
-ghost use Rattle.std.specs.Prelude.{◌≡◌, ◌+◌, ◌≤◌, length, take};
+ghost use Rattle.std.specs.Prelude.{◌≡◌, ◌+◌, ◌≤◌, length};
 ghost use Rattle.page.specs.Page.{page_at};
 ghost use Rattle.page_matches.specs.Within.{lies_in};
 ghost use Rattle.page_matches.specs.Output.{emit};
@@ -11,8 +11,8 @@ ghost use Rattle.query_records.specs.Records.{PageWithin, ListOf, PutAsked, page
 use page::{count, page_size, page_start};
 use page_matches::{put_all, put_picked, within_mask};
 
-// Writes the records that lie between two keys, of the first n pages of the list, one page after
-// the other, into the output while whole ones fit. Returns how many lie between.
+// Writes the records that lie between two keys, of the pages of the list, one page after the other,
+// into the output while whole ones fit. Returns how many lie between.
 pub fn put_within(
     pages: &[u8],
     capacity: usize,
@@ -20,30 +20,18 @@ pub fn put_within(
     low: u64,
     high: u64,
     list: &[u32],
-    n: usize,
     out: &mut [u8],
 ) -> usize
-    requires { ListOf (PageWithin capacity pages.now) capacity n list.now }
+    requires { ListOf (PageWithin capacity pages.now) capacity (length list.now) list.now }
     ensures value { (result ≡ length (list_hits (lies_in bias low high) capacity pages.now
-        (take n list.now))) × (result ≤ 65536) }
+        list.now)) × (result ≤ 65536) }
     ensures out_after { out.new
         ≡ emit out.old 0
-        (list_hits (lies_in bias low high) capacity pages.now (take n list.now)) }
+        (list_hits (lies_in bias low high) capacity pages.now list.now) }
 {
     let mut total = 0;
-    let mut i = 0;
-    while i < n {
-        total = put_within_page(
-            pages,
-            capacity,
-            list[i] as usize,
-            bias,
-            low,
-            high,
-            out,
-            total,
-        );
-        i += 1;
+    for &g in list {
+        total = put_within_page(pages, capacity, g as usize, bias, low, high, out, total);
     }
     total
 }

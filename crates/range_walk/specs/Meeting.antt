@@ -8,8 +8,7 @@ use Rattle.store.specs.declared.State.{State}
 use Rattle.key_between.specs.Between.{lies_between}
 use Rattle.query_rows.specs.Corners.{Corner}
 use Rattle.query_seen.specs.Seen.{walk_seen_by}
-use Rattle.query_walk.specs.declared.Noted.{Noted}
-use Rattle.query_walk.specs.Noting.{Put}
+use Rattle.query_walk.specs.Noting.{Noted, Put}
 
 -- the region with this low corner meets the box, where the mask has the bits that are fixed at its depth: in each
 -- attribute the low end's fixed bits are at most the region's, and its lowest value is at most the high end. For one

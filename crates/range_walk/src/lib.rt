@@ -14,12 +14,13 @@ ghost use Rattle.range_walk.specs.Private.{seen_meeting, meets_by_row};
 use directory_word::depth_of;
 use key_between::lies_between;
 use query_rows::{BIT, DEEPEST, FIXED, ROW, TABLE, VALUE, address_by};
-use query_walk::{DAMAGED, MOST_PAGES, Noted, is_leaf, note};
+use query_walk::{DAMAGED, MOST_PAGES, is_leaf, note};
 use store::State;
 
 // Notes the pages of the leaves whose region meets the box from low to high and that are not empty,
-// bit 0 before bit 1, from the front of the list on. The table may be that of any query: what it
-// wants is not looked at. Damaged where it meets what no sound store has, as a query's walk.
+// bit 0 before bit 1, from the front of the list on, and returns their number. The table may be that
+// of any query: what it wants is not looked at. None where it meets what no sound store has, as a
+// query's walk.
 pub fn note_met(
     state: State,
     rows: &[u64; TABLE],
@@ -28,7 +29,7 @@ pub fn note_met(
     dir: &[u32],
     pages: &[u8],
     list: &mut [u32],
-) -> Noted
+) -> Option<usize>
     requires walkable { Walkable state rows.now (length dir.now) (length pages.now) (length list.old) }
     requires deepest_in_bounds { 2 ^ state.deepest ≤ length list.old }
     ensures { Meeting state low high dir.now pages.now list.old result
@@ -41,9 +42,9 @@ pub fn note_met(
         walk(rows, low, high, dir, pages, list, 0, 0, word, 0, 0)
     };
     if MOST_PAGES < count {
-        return Noted::Damaged;
+        return None;
     }
-    Noted::Pages(count)
+    Some(count)
 }
 
 // Notes the pages below the region of depth x with this index vector and low corner, whose own cell

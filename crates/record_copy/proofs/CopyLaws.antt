@@ -39,7 +39,7 @@ paste-sixteens s d from to hs hd d1 d2 d3 e1 e2 e3 =
 
 -- four blocks, each but the first begun with the last one where it would begin behind that
 pub paste-four : (s d : List ℕ) (from to last : ℕ) → last ≤ 144 → from + (last + 48) ≤ length s
-    → to + (last + 48) ≤ length d → (second third : ℕ) → second ≡ min 48 last → third ≡ min 96 last
+    → to + (last + 48) ≤ length d → (second third : ℕ) → second ≡ min last 48 → third ≡ min last 96
     → (d1 d2 d3 d4 : List ℕ) → d1 ≡ paste d to (drop from s) 48
     → d2 ≡ paste d1 (to + second) (drop (from + second) s) 48 → d3 ≡ paste d2 (to + third) (drop (from + third) s) 48
     → d4 ≡ paste d3 (to + last) (drop (from + last) s) 48

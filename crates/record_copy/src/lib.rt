@@ -5,7 +5,6 @@ ghost use Rattle.std.specs.Prelude.{◌≡◌, ◌+◌, ◌*◌, ◌≤◌, leng
 ghost use Rattle.std.proofs.Math.Seq.{paste};
 ghost use Rattle.record.specs.Bytes.{record_size};
 
-use numbers::smaller_length;
 use record::RECORD_SIZE;
 use record::numbers::{read64, write64};
 
@@ -15,6 +14,7 @@ const BLOCK: usize = 48;
 // Copies n records from offset `from` of one slice to offset `to` of another, a block at a time.
 // The last block may begin with bytes that are copied already. Pages have at most 16 records; the
 // loop is for more.
+// A loop by hand, as in `copy_few`: `step_by` needs a measure too, and an invariant on its iterator.
 pub fn copy_records(source: &[u8], from: usize, target: &mut [u8], to: usize, n: usize)
     requires { (from + record_size * n ≤ length source.now) × (to + record_size * n ≤ length target.old) }
     ensures { target.new
@@ -65,8 +65,8 @@ fn copy_page(source: &[u8], from: usize, target: &mut [u8], to: usize, n: usize)
         ≡ paste target.old to (drop from source.now) (record_size * n) }
 {
     let last = RECORD_SIZE * n - BLOCK;
-    let second = smaller_length(BLOCK, last);
-    let third = smaller_length(BLOCK + BLOCK, last);
+    let second = last.min(BLOCK);
+    let third = last.min(2 * BLOCK);
     copy_block(source, from, target, to);
     copy_block(source, from + second, target, to + second);
     copy_block(source, from + third, target, to + third);

@@ -1,19 +1,18 @@
--- Laws of the early refusals, one for each way that the tests end; what they leave; the same numbers in the words of
--- the promises. Assumes nothing.
-use Prim.Native.Nat.{ℕ, zero, suc, ◌^◌}
+-- Laws of the early refusals: what they leave; the same numbers in the words of the promises. Assumes nothing.
+use Prim.Native.Nat.{ℕ, ◌^◌}
 use mathlib.Core.Path.{◌≡◌, refl, sym, ap, ◌∙◌}
 use mathlib.Core.Bool.{Bool, true, false, not, cond, ◌||◌}
 use mathlib.Core.List.{List, [], ◌∷◌, ◌++◌}
 use native.Mathlib.Omega.{arith}
 use lib.ListN.{length}
 use borrow.Author.Tests.{le-ltb, ltb-false}
-use Rattle.shape.specs.Refusal.{Condition, first_number, refusal}
-use Rattle.shape.specs.Shape.{shape_conditions, shape_number}
+use Rattle.shape.specs.Refusal.{Condition, accepted, answered_by, first_number, refusal}
+use Rattle.shape.specs.Shape.{shape_conditions}
 use Rattle.shape.specs.Key.{key_fits}
-use Rattle.shape.proofs.RefusalLaws.{first_number-shape, first_number-shape-out}
+use Rattle.shape.proofs.RefusalLaws.{accepted-answered_by, first_number-shape}
 use Rattle.shape.proofs.ShapeLaws.{shape_number-first}
 use Rattle.model.specs.Model.{key_conditions}
-use Rattle.model.proofs.ConditionLaws.{first_number-zero, numbered, numbered-shape, first_number-first, first_number-rest}
+use Rattle.model.proofs.ConditionLaws.{first_number-zero, numbered, numbered-shape, first_number-rest}
 use Rattle.model.proofs.ConditionLaws.{first_number-none}
 use Rattle.store.specs.Store.{store, lent_conditions, pages_size}
 use Rattle.store.specs.Promises.{lent_number, key_refusals, key_number}
@@ -27,26 +26,11 @@ or_split true b e = absurd (let z : ◌≡◌ {A = ℕ} 0 1 = cc in omega arith)
 module _ (st : State) (words bytes : ℕ) where
   -- ---- 1, 14, 15 and 2
 
-  pub lent_number_by-shape-out : (shape_number st.shape ≡ 0 → ⊥) → shape_number st.shape ≡ lent_number_by st words bytes
-  unfolding lent_number_by lent_by
-  lent_number_by-shape-out n = sym (first_number-shape-out st.shape (refusal 2 (lacks_memory st words bytes) ∷ []) n)
-
-  module _ (n : shape_number st.shape ≡ 0) where
-    -- within its bounds: 2 if memory is lacking, 0 otherwise
-    lent_number_by-shape : lent_number_by st words bytes ≡ cond (lacks_memory st words bytes) 2 0
-    unfolding lent_number_by lent_by first_number
-    lent_number_by-shape = first_number-shape st.shape (refusal 2 (lacks_memory st words bytes) ∷ []) n
-
-    pub lent_number_by-lacks : lacks_memory st words bytes ≡ true → 2 ≡ lent_number_by st words bytes
-    lent_number_by-lacks l = sym (lent_number_by-shape ∙ ap (λ b. cond b 2 0) l)
-
-    pub lent_number_by-enough : lacks_memory st words bytes ≡ false → 0 ≡ lent_number_by st words bytes
-    lent_number_by-enough l = sym (lent_number_by-shape ∙ ap (λ b. cond b 2 0) l)
-
   pub lent_number_by-none : MemoryLent st words bytes → lent_number_by st words bytes ≡ 0
+  unfolding lent_number_by lent_by first_number
   lent_number_by-none m =
-      sym (lent_number_by-enough m.shape
-      (rw (le-ltb words (2 ^ st.limits.depth) m.words-lent, le-ltb bytes (pages_size st) m.pages-lent) refl))
+      first_number-shape st.shape (refusal 2 (lacks_memory st words bytes) ∷ []) m.shape
+      ∙ rw (le-ltb words (2 ^ st.limits.depth) m.words-lent, le-ltb bytes (pages_size st) m.pages-lent)
 
   -- ---- what they leave
 
@@ -62,6 +46,11 @@ module _ (st : State) (words bytes : ℕ) where
         pages-lent = ltb-false bytes (pages_size st) lent.1;
       }
 
+  -- the same of the test
+  pub memory_lent-passed : accepted (tt {0}) ≡ answered_by (lent_by st words bytes) (tt {0}) → MemoryLent st words bytes
+  unfolding lent_number_by
+  memory_lent-passed e = memory_lent (accepted-answered_by tt tt (lent_by st words bytes) e)
+
   -- ---- 1, 14, 15 and 2 before other conditions
 
   numbered-lent_by : numbered (lent_by st words bytes) ≡ true
@@ -69,16 +58,6 @@ module _ (st : State) (words bytes : ℕ) where
   numbered-lent_by = refl
 
   module _ (others : List Condition) where
-    pub first_number-lent : (lent_number_by st words bytes ≡ 0 → ⊥)
-        → first_number (lent_by st words bytes ++ others) ≡ lent_number_by st words bytes
-    unfolding lent_number_by
-    first_number-lent h = go (first_number (lent_by st words bytes)) refl h
-      where
-        go : (n : ℕ) → first_number (lent_by st words bytes) ≡ n → (n ≡ 0 → ⊥)
-            → first_number (lent_by st words bytes ++ others) ≡ n
-        go zero e h = absurd (h refl)
-        go (suc n) e h = first_number-first (lent_by st words bytes) others n e
-
     pub first_number-others : lent_number_by st words bytes ≡ 0
         → first_number (lent_by st words bytes ++ others) ≡ first_number others
     unfolding lent_number_by
@@ -95,11 +74,6 @@ module _ (st : State) (words bytes : ℕ) where
   -- ---- 3
 
   module _ (values : List ℕ) where
-    pub key_number_by-lent : (lent_number_by st words bytes ≡ 0 → ⊥)
-        → lent_number_by st words bytes ≡ key_number_by st words bytes values
-    unfolding key_number_by
-    key_number_by-lent n = sym (first_number-lent (key_conditions st.shape values) n)
-
     module _ (n : lent_number_by st words bytes ≡ 0) where
       pub key_number_by-key : key_number_by st words bytes values ≡ cond (not (key_fits st.shape values)) 3 0
       unfolding key_number_by first_number
@@ -107,9 +81,6 @@ module _ (st : State) (words bytes : ℕ) where
 
       pub key_number_by-fits : key_fits st.shape values ≡ true → 0 ≡ key_number_by st words bytes values
       key_number_by-fits f = sym (key_number_by-key ∙ ap (λ b. cond (not b) 3 0) f)
-
-      pub key_number_by-out : key_fits st.shape values ≡ false → 3 ≡ key_number_by st words bytes values
-      key_number_by-out f = sym (key_number_by-key ∙ ap (λ b. cond (not b) 3 0) f)
 
 -- ---- in the words of the promises
 

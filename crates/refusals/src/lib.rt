@@ -5,26 +5,24 @@
 ghost use Rattle.std.specs.Prelude.{◌≡◌};
 ghost use Rattle.shape.specs.Shape.{shape_number, widths_of, index_fits};
 ghost use Rattle.refusals.specs.Limits.{limits_hold};
-ghost use Rattle.refusals.specs.Lengths.{lacks_memory, lent_number_by};
+ghost use Rattle.shape.specs.Refusal.{answered_by, tested};
+ghost use Rattle.refusals.specs.Lengths.{lacks_memory, lent_by};
 
 use page::page_start;
-use shape::{Key, Shape, shape_number, total_of, widths_of};
+use shape::refusal::Refusal;
+use shape::{Key, Shape, total_of, validate, widths_of};
 use store::State;
 
-// 1, 14 or 15 for a shape outside its bounds, then 2 for fewer than 2^L words or P pages lent; 0 for
-// none.
-pub fn lent_number(state: State, words: usize, bytes: usize) -> u32
-    ensures { result ≡ lent_number_by state words bytes }
+// Whether enough memory is lent for a state. Refused with 1, 14 or 15 for a shape outside its bounds,
+// then with 2 for fewer than 2^L words or P pages.
+pub fn validate_lent(state: State, words: usize, bytes: usize) -> Result<(), Refusal>
+    ensures { tested result ≡ answered_by (lent_by state words bytes) tt }
 {
-    let number = shape_number(state.shape);
-    if number != 0 {
-        return number;
-    }
+    validate(state.shape)?;
     if lacks_memory(state, words, bytes) {
-        2
-    } else {
-        0
+        return Err(Refusal::Memory);
     }
+    Ok(())
 }
 
 // Whether P is 1 to 4,096, L at most 12 and at most W, and T at most L.

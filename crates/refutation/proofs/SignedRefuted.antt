@@ -7,6 +7,7 @@ use mathlib.Core.List.{List, [], ◌∷◌}
 use mathlib.Core.Logic.{⊎_elim}
 use native.Mathlib.Omega.{arith}
 use lib.ListN.{get_or, replicate}
+use Rattle.std.specs.Prelude.{Result}
 use Rattle.lists.specs.Filter.{all}
 use Rattle.shape.specs.Refusal.{Answer, accepted, refused, first_number, answered_by}
 use Rattle.shape.specs.Shape.{shape_conditions, widths_of, total}
@@ -14,11 +15,11 @@ use Rattle.shape.specs.declared.Shape.{Shape}
 use Rattle.shape.specs.Key.{marked, bias, value_fits, encode, decode, encode_field, key_fits, names_unused}
 use Rattle.shape.specs.Key.{query_fits}
 use Rattle.shape.specs.Range.{range_fits, range_rises}
+use Rattle.shape.specs.declared.refusal.Refusal.{Refusal}
 use Rattle.split.specs.Steps.{steps_below, steps, step, step_number, steps_of, attribute_depth}
 use Rattle.address.specs.Address.{highest_bit, created_by, latest_step, formula, address_from, address}
 use Rattle.address.specs.Doubling.{sides}
 use Rattle.address_calls.specs.Answers.{address_refusals, address_answer, address_answer_of}
-use Rattle.address_calls.specs.declared.AddressAnswer.{AddressAnswer}
 use Rattle.record.specs.declared.Content.{Content}
 use Rattle.region.specs.Strings.{empty_string}
 use Rattle.region.specs.Division.{leaf_records}
@@ -153,7 +154,7 @@ keeps-mark answer after p e =
 
 -- "Number 3 uses these bounds for values .., not for indices": the bias added to an index, so that (0,0) has the address
 -- of (2,0)
-pub bias-on-indices : (r : AddressAnswer) → address_answer_of r ≡ address_answer (two_two_marked 1) (key 0 0)
+pub bias-on-indices : (r : Result ℕ Refusal) → address_answer_of r ≡ address_answer (two_two_marked 1) (key 0 0)
     → address_answer_of r ≡ address_answer two_two (key 2 0) → ⊥
 unfolding
     answered_by shape_conditions widths_of steps_below steps step step_number steps_of attribute_depth

@@ -4,18 +4,18 @@
 #![tactic(auto)]
 
 ghost use Rattle.store.specs.Store.{memory, store};
-ghost use Rattle.store.specs.Answers.{made_answer};
+ghost use Rattle.store.specs.Answers.{made_answer, made_state};
 ghost use Rattle.replay_encoding.specs.Encoding.{call_count};
 ghost use Rattle.replay.specs.Private.{CallsRan};
 ghost use Rattle.replay.specs.Replayed.{Replayed, ReplayedFile};
 
 use fresh::fresh;
 use load::load;
-use numbers::smaller_length;
 use replay_call::run_call;
 use replay_encoding::{ANSWER_SIZE, CALL_SIZE, put_answer, read_request, request_size};
 use shape::Shape;
-use store::{Made, Making, State};
+use shape::refusal::Refusal;
+use store::State;
 
 // Makes a store in lent memory and runs the calls on it, as many as there are whole ones and as many
 // as the answers have room for. Refused as Fresh is; then nothing is changed.
@@ -26,22 +26,13 @@ pub fn replay(
     calls: &[u32],
     answers: &mut [u64],
     out: &mut [u8],
-) -> Making
+) -> Result<State, Refusal>
     ensures { Replayed shape (memory dir.old pages.old)
-        calls.now answers.old out.old (made_answer result.answer)
-        (store result.state dir.new pages.new) answers.new out.new }
+        calls.now answers.old out.old (made_answer result)
+        (store (made_state result) dir.new pages.new) answers.new out.new }
 {
-    let made = fresh(shape, dir, pages);
-    let answer = made.answer;
-    let Made::Done = answer else {
-        return made;
-    };
-    let empty = made.state;
-    let state = run_calls(empty, dir, pages, calls, answers, out);
-    Making {
-        answer: Made::Done,
-        state,
-    }
+    let empty = fresh(shape, dir, pages)?;
+    Ok(run_calls(empty, dir, pages, calls, answers, out))
 }
 
 // The same on a store made from a file. Refused as load is; then nothing is changed.
@@ -52,22 +43,13 @@ pub fn replay_file(
     calls: &[u32],
     answers: &mut [u64],
     out: &mut [u8],
-) -> Making
+) -> Result<State, Refusal>
     ensures { ReplayedFile file.now (memory dir.old pages.old)
-        calls.now answers.old out.old (made_answer result.answer)
-        (store result.state dir.new pages.new) answers.new out.new }
+        calls.now answers.old out.old (made_answer result)
+        (store (made_state result) dir.new pages.new) answers.new out.new }
 {
-    let made = load(file, dir, pages);
-    let answer = made.answer;
-    let Made::Done = answer else {
-        return made;
-    };
-    let loaded = made.state;
-    let state = run_calls(loaded, dir, pages, calls, answers, out);
-    Making {
-        answer: Made::Done,
-        state,
-    }
+    let loaded = load(file, dir, pages)?;
+    Ok(run_calls(loaded, dir, pages, calls, answers, out))
 }
 
 // Runs the calls on a store, one after the other.
@@ -84,11 +66,10 @@ fn run_calls(
         (call_count calls.now answers.old)
         (store result dir.new pages.new) answers.new out.new }
 {
-    let n = smaller_length(calls.len() / CALL_SIZE, answers.len() / ANSWER_SIZE);
+    let n = (calls.len() / CALL_SIZE).min(answers.len() / ANSWER_SIZE);
     let mut current = state;
     let mut start: usize = 0;
-    let mut i: usize = 0;
-    while i < n {
+    for i in 0..n {
         let request = read_request(calls, i);
         let end = start + request_size(request, out.len() - start);
         let step = run_call(current, dir, pages, request, &mut out[start..end]);
@@ -96,7 +77,6 @@ fn run_calls(
         put_answer(answers, i, words);
         current = step.state;
         start = end;
-        i += 1;
     }
     current
 }

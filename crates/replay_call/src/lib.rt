@@ -4,7 +4,7 @@
 
 ghost use Rattle.std.specs.Prelude.{◌≡◌, length};
 ghost use Rattle.store.specs.Store.{store};
-ghost use Rattle.store.specs.Answers.{changed_answer};
+ghost use Rattle.store.specs.Answers.{changed_answer, changed_state};
 ghost use Rattle.replay_encoding.specs.Encoding.{call_of, request_size, answer_words};
 ghost use Rattle.replay_call.specs.Promise.{CallKept};
 
@@ -16,7 +16,8 @@ use range::range;
 use record::Content;
 use replay_encoding::{Request, changed_words, found_words, listed_words, query_of, range_of};
 use shape::Key;
-use store::{Change, State};
+use shape::refusal::Refusal;
+use store::{Changed, State, state_after};
 
 // The state after a call, and the words of its answer.
 #[derive(Clone, Copy)]
@@ -44,10 +45,10 @@ pub fn run_call(
         let content = Content {
             payload: request.payload,
         };
-        return changed_step(insert(state, dir, pages, key, content));
+        return changed_step(state, insert(state, dir, pages, key, content));
     }
     if request.kind == 1 {
-        return changed_step(delete(state, dir, pages, key));
+        return changed_step(state, delete(state, dir, pages, key));
     }
     if request.kind == 2 {
         let words = found_words(lookup(state, dir, pages, key));
@@ -61,12 +62,12 @@ pub fn run_call(
     Step { state, words }
 }
 
-// The state and the words of a call that may change the store.
-fn changed_step(change: Change) -> Step
-    ensures { (result.state ≡ change.state) × (result.words ≡ answer_words (changed_answer change.answer)) }
+// The state and the words after a call that may change the store.
+fn changed_step(before: State, change: Result<Changed, Refusal>) -> Step
+    ensures { (result.state ≡ changed_state before change) × (result.words ≡ answer_words (changed_answer change)) }
 {
-    let answer = change.answer;
-    let words = changed_words(answer);
-    let state = change.state;
-    Step { state, words }
+    Step {
+        state: state_after(before, change),
+        words: changed_words(change),
+    }
 }

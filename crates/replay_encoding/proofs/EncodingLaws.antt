@@ -3,11 +3,14 @@
 use Prim.Native.Nat.{ℕ, zero, suc, ◌+◌, ◌*◌, ◌≤◌, ◌<◌, min}
 use mathlib.Core.Path.{◌≡◌, refl, sym, ap, ◌∙◌}
 use mathlib.Core.List.{List, [], ◌∷◌, ◌++◌, append_assoc, append-nil}
-use mathlib.Core.Option.{some}
+use mathlib.Core.Option.{Option, none, some}
 use native.Mathlib.Omega.{arith}
 use lib.ListN.{length, take, drop, get_or, set}
 use lib.Seq.{sets-eq}
-use Rattle.shape.specs.Refusal.{Answer, accepted, refused, refused_with}
+use Rattle.shape.specs.Refusal.{Answer, accepted, refused, refused_with, refused_by, carried_beside, told}
+use Rattle.shape.specs.Refusal.{refusal_number, refusal_value, depth_beside, attribute_beside}
+use Rattle.shape.specs.declared.refusal.Refusal.{Refusal}
+use Rattle.shape.proofs.TestLaws.{depth-told, attribute-told}
 use Rattle.model.specs.Model.{insert_call, delete_call, lookup_call, query_call, range_call, Reply, changed, found, listed}
 use Rattle.model.specs.Model.{Outcome}
 use Rattle.replay_encoding.specs.declared.Request.{Request}
@@ -113,6 +116,18 @@ no_output r out h e = none_of out (e ∙ request_size-none r (length out) h)
     none_of (x ∷ l) e = absurd (omega arith)
 
 -- ---- answers
+
+words-refused_by : (n : ℕ) (o : Option ℕ) → answer_words (refused_by n o)
+    ≡ n ∷ carried_beside {A = Reply} 14 (refused_by n o) ∷ 0 ∷ carried_beside {A = Reply} 5 (refused_by n o) ∷ []
+unfolding answer_words
+words-refused_by n none = refl
+words-refused_by n (some x) = refl
+
+-- those of a refusal
+pub words_told : (r : Refusal) → answer_words (told r)
+    ≡ refusal_number r ∷ attribute_beside r ∷ 0 ∷ depth_beside r ∷ []
+words_told r =
+    rw (← attribute-told Reply r, ← depth-told Reply r) (words-refused_by (refusal_number r) (refusal_value r))
 
 length-answer_words : (a : Answer Reply) → length (answer_words a) ≡ 4
 unfolding answer_words

@@ -4,6 +4,7 @@
 
 ghost use Rattle.std.specs.Prelude.{◌≡◌, ◌++◌, ◌+◌, ◌*◌, ◌≤◌, length, take, drop};
 ghost use Rattle.shape.specs.Key.{wanted_values, wanted_value};
+ghost use Rattle.shape.specs.Refusal.{told};
 ghost use Rattle.shape.specs.Range.{range_intervals, span_interval, interval_if};
 ghost use Rattle.store.specs.Answers.{changed_answer, found_answer, listed_answer};
 ghost use Rattle.replay_encoding.specs.Encoding.{call_size, request_at, value_if, wanted_in, request_size};
@@ -11,8 +12,9 @@ ghost use Rattle.replay_encoding.specs.Encoding.{intervals_in, answer_size, answ
 ghost use Rattle.replay_encoding.specs.Words.{four_at};
 
 use numbers::smaller_length;
+use shape::refusal::Refusal;
 use shape::{Attribute, Query, Range, RangeAttribute, Span, Wanted};
-use store::{Changed, Found, Listed};
+use store::{Changed, Counts, Found};
 
 // The words of one call.
 pub const CALL_SIZE: usize = 15;
@@ -91,40 +93,57 @@ pub fn range_of(request: Request) -> Range
 }
 
 // The words of an insert's or a delete's answer.
-pub fn changed_words(answer: Changed) -> [u64; 4]
+#[tactic(auto, unfolding(crate::specs::Encoding::answer_words))]
+pub fn changed_words(answer: Result<Changed, Refusal>) -> [u64; 4]
     ensures { result ≡ answer_words (changed_answer answer) }
 {
     match answer {
-        Changed::Done(depth) => [0, 0, 0, depth as u64],
-        Changed::Absent(depth) => [5, 0, 0, depth as u64],
-        Changed::Refused(number) => [number as u64, 0, 0, 0],
-        Changed::Width(attribute) => [14, attribute as u64, 0, 0],
+        Ok(changed) => [0, 0, 0, changed.depth as u64],
+        Err(refusal) => refused_words(refusal),
     }
 }
 
 // The words of a lookup's answer.
-pub fn found_words(answer: Found) -> [u64; 4]
+#[tactic(auto, unfolding(crate::specs::Encoding::answer_words))]
+pub fn found_words(answer: Result<Found, Refusal>) -> [u64; 4]
     ensures { result ≡ answer_words (found_answer answer) }
 {
     match answer {
-        Found::Content(content, reads, depth) => {
-            [0, content.payload as u64, reads as u64, depth as u64]
+        Ok(found) => {
+            let content = found.content;
+            [
+                0,
+                content.payload as u64,
+                found.reads as u64,
+                found.depth as u64,
+            ]
         }
-        Found::Absent(depth) => [5, 0, 0, depth as u64],
-        Found::Refused(number) => [number as u64, 0, 0, 0],
-        Found::Width(attribute) => [14, attribute as u64, 0, 0],
+        Err(refusal) => refused_words(refusal),
     }
 }
 
 // The words of a query's or a range's answer.
-pub fn listed_words(answer: Listed) -> [u64; 4]
+#[tactic(auto, unfolding(crate::specs::Encoding::answer_words))]
+pub fn listed_words(answer: Result<Counts, Refusal>) -> [u64; 4]
     ensures { result ≡ answer_words (listed_answer answer) }
 {
     match answer {
-        Listed::Records(counts) => [0, counts.written, counts.total, counts.reads],
-        Listed::Refused(number) => [number as u64, 0, 0, 0],
-        Listed::Width(attribute) => [14, attribute as u64, 0, 0],
+        Ok(counts) => [0, counts.written, counts.total, counts.reads],
+        Err(refusal) => refused_words(refusal),
     }
+}
+
+// The words of a refusal: its number, the attribute beside 14, the depth beside 5.
+#[tactic(auto, using(crate::proofs::EncodingLaws::words_told))]
+fn refused_words(refusal: Refusal) -> [u64; 4]
+    ensures { result ≡ answer_words (told refusal) }
+{
+    [
+        refusal.number() as u64,
+        refusal.attribute() as u64,
+        0,
+        refusal.depth() as u64,
+    ]
 }
 
 // Writes the answer of call i.

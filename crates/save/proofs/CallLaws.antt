@@ -9,8 +9,9 @@ use Rattle.lists.specs.Members.{All}
 use Rattle.lists.proofs.FilterLaws.{filter-true}
 use Rattle.lists.proofs.Sequences.{flat_map-ext}
 use Rattle.shape.specs.Shape.{shape_number}
-use Rattle.shape.specs.Refusal.{Answer, refused}
+use Rattle.shape.specs.Refusal.{Answer, accepted, refused, answered_by}
 use Rattle.shape.specs.declared.Shape.{Shape}
+use Rattle.shape.proofs.RefusalLaws.{accepted-answered_by}
 use Rattle.region.specs.Query.{agrees, query_enters}
 use Rattle.region.proofs.QueryLaws.{agrees-same}
 use Rattle.record.specs.Record.{Record, record_bit}
@@ -22,15 +23,14 @@ use Rattle.store.specs.declared.State.{State}
 use Rattle.store.specs.Store.{Store, store}
 use Rattle.store.specs.Promises.{SoundWhere, with_bytes}
 use Rattle.refusals.specs.Limits.{limits_hold}
-use Rattle.refusals.specs.Lengths.{MemoryLent, lent_number_by}
+use Rattle.refusals.specs.Lengths.{MemoryLent, lent_by, lent_number_by}
 use Rattle.refusals.proofs.LentLaws.{memory_lent}
 use Rattle.refusals.proofs.LimitsLaws.{limits-of-sound}
 use Rattle.query_rows.specs.Rows.{Table}
 use Rattle.query_rows.proofs.MostLaws.{most_pages-le}
 use Rattle.query_seen.specs.Seen.{walk_seen}
-use Rattle.query_walk.specs.declared.Noted.{Noted}
-use Rattle.query_walk.specs.declared.Noted.TheVariants.{Pages, Damaged}
-use Rattle.query_walk.specs.Noting.{Put, Walkable}
+use Rattle.std.specs.Prelude.{Some, None}
+use Rattle.query_walk.specs.Noting.{Noted, Put, Walkable}
 use Rattle.query_walk.proofs.NotedLaws.{noted-le, noted-reads-by}
 use Rattle.query_records.specs.Records.{PageWithin, ListOf, list_hits, page_fields}
 use Rattle.list_call.specs.Lent.{LimitsLent}
@@ -61,6 +61,12 @@ walkable-free st words bytes lent rows room t l =
     walkable st words bytes lent free_bits rows room t
     (le_trans (most_pages-le rows st.deepest 0) (le_trans (deepest-few st words bytes lent) l))
 
+-- what a test that is passed tells
+pub number-none : (st : State) (words bytes : ℕ) → accepted (tt {0}) ≡ answered_by (lent_by st words bytes) (tt {0})
+    → lent_number_by st words bytes ≡ 0
+unfolding lent_number_by
+number-none st words bytes e = accepted-answered_by tt tt (lent_by st words bytes) e
+
 module _ (st : State) (words bytes : List ℕ) (none : lent_number_by st (length words) (length bytes) ≡ 0) where
   abbrev here : Store
   here = store st words bytes
@@ -87,7 +93,7 @@ module _ (st : State) (words bytes : List ℕ) (none : lent_number_by st (length
 
     module _ (list : List ℕ) (r : Noted) (later : List ℕ) (o : Put list (walk_seen st words bytes free_bits) r later)
       where
-        pub nine-damaged : (out : List ℕ) → r ≡ Damaged → SavePromise here out (refused 9) out
+        pub nine-damaged : (out : List ℕ) → r ≡ None → SavePromise here out (refused 9) out
         nine-damaged out e =
             promise-nine st words bytes out none
             (λ S h. true≢false
@@ -95,7 +101,7 @@ module _ (st : State) (words bytes : List ℕ) (none : lent_number_by st (length
             later o))
             ∙ ap is_pages e))
 
-        module _ (long : length later ≡ length list) (room : 4096 ≤ length list) (n : ℕ) (e : r ≡ Pages n) where
+        module _ (long : length later ≡ length list) (room : 4096 ≤ length list) (n : ℕ) (e : r ≡ Some n) where
           within : n ≤ length list
           within =
               le_trans (noted-le st words bytes (query_enters free_bits) list r later o n e)

@@ -1,5 +1,5 @@
 -- Laws of the promise of save, one for each way that the call ends. Assumes nothing.
-use Prim.Native.Nat.{ℕ, zero, suc, ◌≤◌, ◌<◌}
+use Prim.Native.Nat.{ℕ, suc, ◌≤◌, ◌<◌}
 use mathlib.Core.Path.{◌≡◌, refl, sym, ap, ◌∙◌}
 use mathlib.Core.Bool.{false≢true}
 use mathlib.Core.List.{List, ◌++◌, map, append_assoc}
@@ -9,10 +9,11 @@ use native.Mathlib.Omega.{arith}
 use lib.ListN.{length, drop, length-map}
 use borrow.Author.Tests.{lt-ltb, le-ltb}
 use Rattle.lists.specs.Members.{All}
-use Rattle.shape.specs.Amiss.{refused_for}
-use Rattle.shape.specs.Refusal.{Answer, accepted, refused, answered, RefusedFirst}
+use Rattle.shape.specs.Refusal.{Answer, accepted, refused, answered, answered_by, told, RefusedFirst}
 use Rattle.shape.specs.declared.Shape.{Shape}
-use Rattle.shape.proofs.RefusalLaws.{refused_first-none, refused_first-for}
+use Rattle.shape.specs.declared.refusal.Refusal.{Refusal}
+use Rattle.shape.proofs.RefusalLaws.{refused_first-none}
+use Rattle.shape.proofs.TestLaws.{told-first, told-suc}
 use Rattle.record.specs.Record.{Record}
 use Rattle.record.specs.Bytes.{record_of, records_bytes}
 use Rattle.model.specs.Model.{if_accepted}
@@ -20,8 +21,7 @@ use Rattle.page_matches.proofs.EmitLaws.{IsField}
 use Rattle.store.specs.declared.State.{State}
 use Rattle.store.specs.Store.{Store, store, lent_conditions}
 use Rattle.store.specs.Promises.{SoundWhere, lent_number}
-use Rattle.store.proofs.NumberLaws.{named-lent}
-use Rattle.refusals.specs.Lengths.{lent_number_by}
+use Rattle.refusals.specs.Lengths.{lent_by, lent_number_by}
 use Rattle.refusals.proofs.LentLaws.{lent_number-by}
 use Rattle.list_call.proofs.LentLaws.{lent_number_by-sound}
 use Rattle.file.specs.File.{file_size, end_bytes, file_of}
@@ -49,15 +49,22 @@ module _ (st : State) (words bytes out : List ℕ) where
   -- ---- refused early
 
   -- 1, 14, 15 or 2, none of them on a sound store
-  pub promise-early : (n : ℕ) → n ≡ number → (n ≡ 0 → ⊥) → SavePromise here out (refused_for shape n) out
-  promise-early zero e z = absurd (z refl)
-  promise-early (suc n) e z = record {
-    early-refused = refused_first-for shape (lent_conditions here) (named-lent here) n
-        (lent_number-by st words bytes ∙ sym e);
-    unchanged = λ d. refl;
-    ordinary = λ d. absurd (z (e ∙ sym (lent_number-by st words bytes) ∙ d));
-    saved-as = λ S h. absurd (z (e ∙ lent_number_by-sound st words bytes every_leaf S h));
-  }
+  module _ (r : Refusal) (e : told r ≡ answered_by (lent_by st (length words) (length bytes)) (tt {0})) where
+    some : (n : ℕ) × (number ≡ suc n)
+    unfolding lent_number_by
+    some = told-suc tt r (lent_by st (length words) (length bytes)) e
+
+    first : RefusedFirst {A = ℕ} (lent_conditions here) (told r)
+    unfolding lent_conditions lent_by
+    first = told-first tt r (lent_conditions here) e
+
+    pub promise-early : SavePromise here out (told r) out
+    promise-early = record {
+      early-refused = first;
+      unchanged = λ d. refl;
+      ordinary = λ d. absurd (omega (arith, some.1, lent_number-by st words bytes, d));
+      saved-as = λ S h. absurd (omega (arith, some.1, lent_number_by-sound st words bytes every_leaf S h));
+    }
 
   module _ (none : number ≡ 0) where
     none-early : lent_number here ≡ 0

@@ -3,14 +3,16 @@ use Prim.Native.Nat.{ℕ, zero, suc, ◌^◌, ◌<◌}
 use mathlib.Core.Path.{◌≡◌, refl}
 use mathlib.Core.Bool.{Bool, true, false, ◌&&◌}
 use mathlib.Core.List.{List, [], ◌∷◌}
-use mathlib.Core.Option.{some}
+use mathlib.Core.Option.{none, some}
 use native.Mathlib.Omega.{arith}
 use lib.Dec.{ltb}
 use lib.ListN.{length, get_or}
 use Rattle.shape.specs.Shape.{width_of, widths_of, all_below, index_fits}
-use Rattle.shape.specs.Key.{per_attribute}
+use Rattle.shape.specs.Key.{per_attribute, wanted_value, wanted_values}
 use Rattle.shape.specs.Range.{interval_if}
 use Rattle.shape.specs.declared.Shape.{Shape}
+use Rattle.shape.specs.declared.Query.{Query}
+use Rattle.shape.specs.declared.Wanted.TheVariants.{Free}
 
 pub get_d-per_attribute : {A : Type 0} (f : ℕ → A) (d : A) (j : ℕ) → j < 4 → get_or (per_attribute f) j d ≡ f j
 get_d-per_attribute f d zero l = refl
@@ -18,6 +20,13 @@ get_d-per_attribute f d (suc zero) l = refl
 get_d-per_attribute f d (suc (suc zero)) l = refl
 get_d-per_attribute f d (suc (suc (suc zero))) l = refl
 get_d-per_attribute f d (suc (suc (suc (suc j)))) l = absurd (omega arith)
+
+-- what a query says of an attribute
+pub get_d-wanted_values : (q : Query) (j : ℕ) → j < 4
+    → get_or (wanted_values q) j none ≡ wanted_value (get_or q.attributes j (record { wanted = Free })).wanted
+unfolding wanted_values
+get_d-wanted_values q j h =
+    get_d-per_attribute (λ i. wanted_value (get_or q.attributes i (record { wanted = Free })).wanted) none j h
 
 -- of a list of four
 pub per_attribute-get_d : {A : Type 0} (d : A) (l : List A) → length l ≡ 4 → per_attribute (λ j. get_or l j d) ≡ l

@@ -8,3 +8,4 @@ pub mod IntegerLaws
 pub mod RefusalLaws
 pub mod ShapeLaws
 pub mod UnmarkedLaws
+pub mod TestLaws

@@ -1,5 +1,5 @@
 -- Laws of refusals: the first number and the answer of a call that is given a shape. Assumes nothing.
-use Prim.Native.Nat.{ℕ, zero, suc}
+use Prim.Native.Nat.{ℕ, suc}
 use mathlib.Core.Path.{◌≡◌, refl, sym, ap, subst, ◌∙◌}
 use mathlib.Core.Bool.{Bool, true, false, not, cond, false≢true}
 use mathlib.Core.List.{List, [], ◌∷◌, ◌++◌}
@@ -41,7 +41,7 @@ module _ (s : Shape) (ds : List Condition) where
 pub accepted-refused : {A C : Type 0} (x : A) (n : ℕ) → accepted x ≡ refused n → C
 accepted-refused x n e = let z : false ≡ true = cc in absurd (false≢true z)
 
-refused_by-refuses : {A C : Type 0} (x : A) (n : ℕ) (o : Option ℕ) → accepted x ≡ refused_by n o → C
+pub refused_by-refuses : {A C : Type 0} (x : A) (n : ℕ) (o : Option ℕ) → accepted x ≡ refused_by n o → C
 refused_by-refuses x n none e = accepted-refused x n e
 refused_by-refuses x n (some y) e = let z : false ≡ true = cc in absurd (false≢true z)
 
@@ -121,19 +121,6 @@ module _ {A : Type 0} (s : Shape) (x : A) where
       → answered_by (shape_conditions s ++ ds) x ≡ answered_by ds x
   unfolding shape_conditions answered_by
   answered_by-shape ds n = let parts = shape-parts s n in rw (parts.0, parts.1, parts.2)
-
-  -- something is amiss in the shape
-  pub answered_by-shape-out : (ds : List Condition) → Named s ds → (shape_number s ≡ 0 → ⊥)
-      → refused_for s (shape_number s) ≡ answered_by (shape_conditions s ++ ds) x
-  answered_by-shape-out ds named n = go (shape_number s) (first_number-shape-out s ds n) n
-    where
-      go : (k : ℕ) → first_number (shape_conditions s ++ ds) ≡ k → (k ≡ 0 → ⊥)
-          → refused_for s k ≡ answered_by (shape_conditions s ++ ds) x
-      go zero e h = absurd (h refl)
-      go (suc k) e h =
-          sym
-          (answered_by-named s x (shape_conditions s ++ ds)
-          (named-append s (shape_conditions s) ds (named-shape s) named) k e)
 
   -- the first condition behind it holds
   pub answered_by-first : (m : ℕ) (holds : Bool) (ds : List Condition) → shape_number s ≡ 0 → holds ≡ true

@@ -83,6 +83,11 @@ encode_wanted s j (some v) = some (encode s j v)
 unfoldable pub encoded_wanted : Shape → List (Option ℕ) → List (Option ℕ)
 encoded_wanted s q = per_attribute (λ j. encode_wanted s j (get_or q j none))
 
+-- a given value, or the one that stands for a free attribute
+abbrev pub value_or : ℕ → Option ℕ → ℕ
+value_or free none = free
+value_or free (some v) = v
+
 abbrev pub is_given : {A : Type 0} → Option A → Bool
 is_given none = false
 is_given (some v) = true

@@ -1,7 +1,10 @@
 -- Refused calls (document 01; document 02, requests 6 and 7): conditions with their numbers, and what a call answers.
 -- Assumes nothing.
 use Rattle.std.specs.Prelude.{ℕ, zero, suc, ◌≡◌, Bool, true, false, cond, List, [], ◌∷◌, eqb}
+use Rattle.std.specs.Prelude.{Result, Ok, Err}
 use Rattle.std.proofs.Math.Option.{Option, none, some}
+use Rattle.shape.specs.declared.refusal.Refusal.{Refusal}
+use Rattle.shape.specs.declared.refusal.Refusal.TheVariants as why
 
 -- a row of the table: its number, whether its condition holds, and the value that goes with the number, if one does
 pub record Condition : Type 0 where
@@ -51,6 +54,54 @@ answered_by (c ∷ cs) x = cond c.holds (refused_by c.number c.carries) (answere
 -- a call for which one of the conditions holds answers with the first, whatever it would return if it were accepted
 abbrev pub RefusedFirst : {A : Type 0} → List Condition → Answer A → Type 0
 RefusedFirst {A} cs answer = (n : ℕ) → first_number cs ≡ suc n → (x : A) → answer ≡ answered_by cs x
+
+-- ---- what the code returns
+
+-- the number of each refusal in the table
+abbrev pub refusal_number : Refusal → ℕ
+refusal_number why.Shape = 1
+refusal_number why.Memory = 2
+refusal_number why.Value = 3
+refusal_number why.Stored = 4
+refusal_number (why.Absent depth) = 5
+refusal_number why.Depth = 6
+refusal_number why.Pages = 7
+refusal_number why.Attribute = 8
+refusal_number why.Unsound = 9
+refusal_number why.Interval = 10
+refusal_number why.Payload = 11
+refusal_number why.File = 12
+refusal_number why.Content = 13
+refusal_number (why.Width attribute) = 14
+refusal_number why.Capacity = 15
+
+-- the value that it carries: "number 5 carries the depth", "A bad width names its attribute"
+abbrev pub refusal_value : Refusal → Option ℕ
+refusal_value (why.Absent depth) = some depth
+refusal_value (why.Width attribute) = some attribute
+refusal_value r = none
+
+-- the depth beside 5, the attribute beside 14; 0 beside any other number
+abbrev pub depth_beside : Refusal → ℕ
+depth_beside (why.Absent depth) = depth
+depth_beside r = 0
+
+abbrev pub attribute_beside : Refusal → ℕ
+attribute_beside (why.Width attribute) = attribute
+attribute_beside r = 0
+
+-- a refusal as an answer
+abbrev pub told : {A : Type 0} → Refusal → Answer A
+told r = refused_by (refusal_number r) (refusal_value r)
+
+-- what the code returns, as an answer: of an accepted call the values that f takes from it
+abbrev pub answer_of : {A B : Type 0} → (A → B) → Result A Refusal → Answer B
+answer_of f (Ok x) = accepted (f x)
+answer_of f (Err r) = told r
+
+-- that of a test, which returns no value
+abbrev pub tested : Result (Unit {0}) Refusal → Answer (Unit {0})
+tested r = answer_of (λ x. tt) r
 
 -- ---- an answer as numbers
 

@@ -2,14 +2,20 @@
 // 02, request 7).
 #![tactic(auto)]
 
+pub mod refusal;
+
 ghost use Rattle.std.specs.Prelude.{◌≡◌, ◌<◌, ◌≤◌};
-ghost use Rattle.shape.specs.Shape.{within, widths_fit, bad_width, lowest_bad, shape_number, width_of, widths_of};
+ghost use Rattle.shape.specs.Shape.{within, widths_fit, bad_width, lowest_bad, shape_conditions, width_of, widths_of};
 ghost use Rattle.shape.specs.Shape.{width_list, Fit, total};
+ghost use Rattle.shape.specs.Key.{wanted_value, value_or, is_given};
+ghost use Rattle.shape.specs.Refusal.{answered_by, tested};
+
+use refusal::Refusal;
 
 // The attribute count d, a width in bits for each attribute, the page capacity b in records, and the
 // marks of signed attributes, bit j for attribute j. Widths and marks past d are ignored.
 #[repr(C)]
-#[derive(Clone, Copy)]
+#[derive(Clone, Copy, Default)]
 pub struct Shape {
     pub attributes: u32,
     pub widths: [u32; 4],
@@ -35,11 +41,34 @@ pub struct Key {
     pub values: [u32; 4],
 }
 
-// What a query says of an attribute: nothing, or the value that it wants.
+// What a query says of an attribute: nothing, or the value that it wants. An enum of its own, as
+// document 01 names it.
 #[derive(Clone, Copy)]
 pub enum Wanted {
     Free,
     Given(u32),
+}
+
+impl Wanted {
+    // The value that it wants, or `free`.
+    pub fn value_or(self, free: u32) -> u32
+        ensures { result ≡ value_or free (wanted_value self) }
+    {
+        match self {
+            Wanted::Free => free,
+            Wanted::Given(value) => value,
+        }
+    }
+
+    // Whether it wants a value.
+    pub fn is_given(self) -> bool
+        ensures { result ≡ is_given (wanted_value self) }
+    {
+        match self {
+            Wanted::Free => false,
+            Wanted::Given(_) => true,
+        }
+    }
 }
 
 #[derive(Clone, Copy)]
@@ -53,7 +82,8 @@ pub struct Query {
     pub attributes: [Attribute; 4],
 }
 
-// What a range says of an attribute: nothing, or its lowest and its highest value, both included.
+// What a range says of an attribute: nothing, or its lowest and its highest value, both included. An
+// enum as `Wanted` is, so that a range reads as a query does.
 #[derive(Clone, Copy)]
 pub enum Span {
     Free,
@@ -71,35 +101,32 @@ pub struct Range {
     pub attributes: [RangeAttribute; 4],
 }
 
-// The number of the first refusal that a shape meets: 1 for d outside 1 to 4, 14 for a width in use
-// outside 1 to 16, 15 for a capacity outside 1 to 16; 0 for none.
-pub fn shape_number(shape: Shape) -> u32
-    ensures { result ≡ shape_number shape }
+// Whether a shape is within its bounds. Refused with 1 for d outside 1 to 4, 14 for a width in use
+// outside 1 to 16, 15 for a capacity outside 1 to 16, the first that holds in this order.
+pub fn validate(shape: Shape) -> Result<(), Refusal>
+    ensures { tested result ≡ answered_by (shape_conditions shape) tt }
 {
     if !in_range(1, 4, shape.attributes) {
-        return 1;
+        return Err(Refusal::Shape);
     }
     if !widths_fit(shape) {
-        return 14;
+        return Err(Refusal::Width(bad_width(shape)));
     }
-    if in_range(1, 16, shape.capacity) {
-        0
-    } else {
-        15
+    if !in_range(1, 16, shape.capacity) {
+        return Err(Refusal::Capacity);
     }
+    Ok(())
 }
 
-// The lowest attribute below d whose width is outside 1 to 16, which 14 names; 4 where there is none.
-// Only a refused call asks for it.
-pub fn bad_width(shape: Shape) -> u32
+// The lowest attribute below d whose width is outside 1 to 16; 4 where there is none. Only a refused
+// call asks for it.
+fn bad_width(shape: Shape) -> u32
     ensures { result ≡ lowest_bad shape }
 {
-    let mut j: usize = 0;
-    while j < 4 {
+    for j in 0..4 {
         if is_bad(shape, j) {
             return j as u32;
         }
-        j += 1;
     }
     4
 }
@@ -130,12 +157,10 @@ fn widths_fit(shape: Shape) -> bool
 {
     let widths = shape.widths;
     let count = shape.attributes as usize;
-    let mut j: usize = 0;
-    while j < count {
+    for j in 0..count {
         if !in_range(1, 16, widths[j]) {
             return false;
         }
-        j += 1;
     }
     true
 }

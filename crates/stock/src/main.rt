@@ -70,6 +70,7 @@ fn answer<W: Write>(
 {
     let mut here = progress;
     let mut at = 0;
+    // Not a `for`: each run says how far it came.
     while at < piece.len() {
         let reach = run(printed(here), piece, at, dir, pages, out, text);
         here = reach.progress;

@@ -5,6 +5,8 @@ use Rattle.shape.specs.Shape.{within}
 use Rattle.shape.specs.Key.{per_attribute}
 use Rattle.shape.specs.declared.Shape.{Shape}
 use Rattle.record.specs.declared.Content.{Content}
+use Rattle.stock_line.specs.declared.Field.{Field}
+use Rattle.stock_line.specs.declared.Field.TheVariants.{Empty, Number, Any, Wrong}
 use Rattle.stock_line.specs.declared.Line.{Line}
 use Rattle.stock_line.specs.declared.Kind.{Kind}
 use Rattle.stock_line.specs.declared.Kind.TheVariants as kind
@@ -20,14 +22,28 @@ pub data Asked : Type 0 where
   cut : List ℕ → Asked
   list : List (Option ℕ) → Asked
 
+-- a field's number, 0 for one that is none
+abbrev pub number_of : Field → ℕ
+number_of Empty = 0
+number_of (Number v) = v
+number_of Any = 0
+number_of Wrong = 0
+
+-- a field as a value, or none
+abbrev pub item_of : Field → Option ℕ
+item_of Empty = none
+item_of (Number v) = some v
+item_of Any = none
+item_of Wrong = none
+
 module _ (line : Line) where
   -- field j as a number, of the six that are kept
   abbrev pub number_at : ℕ → ℕ
-  number_at j = cond (ltb j 6 && ltb (get_or line.codes j 0) 4294967296) (get_or line.codes j 0) 0
+  number_at j = cond (ltb j 6) (number_of (get_or line.kept j Empty)) 0
 
   -- "values or `*` for free"
   abbrev pub item_at : ℕ → Option ℕ
-  item_at j = cond (ltb (get_or line.codes j 0) 4294967296) (some (get_or line.codes j 0)) none
+  item_at j = item_of (get_or line.kept j Empty)
 
   -- the numbers of d fields from one on, one for each attribute
   unfoldable pub values_from : ℕ → ℕ → List ℕ

@@ -6,21 +6,20 @@ ghost use Rattle.stock_command.specs.Asked.{number_at, item_at, values_from, ite
 
 use record::Content;
 use shape::{Attribute, Key, Query, Shape, Wanted};
-use stock_line::{ANY, Line};
+use stock_line::{Field, Line};
 
 // Field j as a number; 0 for `*` and past the six that are kept.
 pub fn number_at(line: Line, j: usize) -> u32
     ensures { result ≡ number_at line j }
 {
-    let codes = line.codes;
-    if 6 <= j {
-        return 0;
+    match line.kept.get(j) {
+        Some(Field::Number(value)) => *value,
+        _ => 0,
     }
-    let code = codes[j];
-    if code < ANY { code as u32 } else { 0 }
 }
 
 // The shape of a line `shape`, whose first field is d. No attribute is marked.
+#[tactic(auto, unfolding(crate::specs::Asked::shape_in))]
 pub fn shape_of(line: Line) -> Shape
     ensures { result ≡ shape_in line }
 {
@@ -45,6 +44,7 @@ pub fn key_of(line: Line, d: usize) -> Key
 }
 
 // What a line `put` gives besides the d values.
+#[tactic(auto, unfolding(crate::specs::Asked::content_in))]
 pub fn content_of(line: Line, d: usize) -> Content
     ensures { result ≡ content_in line d }
 {
@@ -53,28 +53,32 @@ pub fn content_of(line: Line, d: usize) -> Content
 }
 
 // The query of a line `list` with d fields.
+#[tactic(auto, unfolding(crate::specs::Asked::items_of, shape::specs::Key::wanted_values))]
 pub fn query_of(line: Line, d: usize) -> Query
     ensures { wanted_values result ≡ items_of line d }
 {
-    let a0 = attribute_at(line, d, 0);
-    let a1 = attribute_at(line, d, 1);
-    let a2 = attribute_at(line, d, 2);
-    let a3 = attribute_at(line, d, 3);
     Query {
-        attributes: [a0, a1, a2, a3],
+        attributes: [
+            attribute_at(line, d, 0),
+            attribute_at(line, d, 1),
+            attribute_at(line, d, 2),
+            attribute_at(line, d, 3),
+        ],
     }
 }
 
 // The numbers of d fields from one on, one for each attribute, 0 past d.
+#[tactic(auto, unfolding(crate::specs::Asked::values_from))]
 fn values_from(line: Line, d: usize, from: usize) -> [u32; 4]
     requires { from ≤ 1 }
     ensures { result ≡ values_from line d from }
 {
-    let v0 = value_at(line, d, from, 0);
-    let v1 = value_at(line, d, from, 1);
-    let v2 = value_at(line, d, from, 2);
-    let v3 = value_at(line, d, from, 3);
-    [v0, v1, v2, v3]
+    [
+        value_at(line, d, from, 0),
+        value_at(line, d, from, 1),
+        value_at(line, d, from, 2),
+        value_at(line, d, from, 3),
+    ]
 }
 
 // That of attribute j.
@@ -82,10 +86,7 @@ fn value_at(line: Line, d: usize, from: usize, j: usize) -> u32
     requires { (from ≤ 1) × (j < 4) }
     ensures { result ≡ cond (ltb j d) (number_at line (from + j)) 0 }
 {
-    if j < d {
-        return number_at(line, from + j);
-    }
-    0
+    if j < d { number_at(line, from + j) } else { 0 }
 }
 
 // What the fields of a query say of attribute j: free for `*`, and past d.
@@ -93,19 +94,9 @@ fn attribute_at(line: Line, d: usize, j: usize) -> Attribute
     requires { j < 4 }
     ensures { wanted_value result.wanted ≡ cond (ltb j d) (item_at line j) none }
 {
-    if d <= j {
-        return Attribute {
-            wanted: Wanted::Free,
-        };
-    }
-    let codes = line.codes;
-    let code = codes[j];
-    if code < ANY {
-        return Attribute {
-            wanted: Wanted::Given(code as u32),
-        };
-    }
-    Attribute {
-        wanted: Wanted::Free,
-    }
+    let wanted = match line.kept[j] {
+        Field::Number(value) if j < d => Wanted::Given(value),
+        _ => Wanted::Free,
+    };
+    Attribute { wanted }
 }

@@ -24,14 +24,12 @@ pub enum Command {
 }
 
 // The command of a line.
+#[tactic(auto, unfolding(crate::specs::Asked::asked, crate::specs::Asked::asked_put, crate::specs::Asked::asked_cut, crate::specs::Asked::asked_list))]
 pub fn command_of(session: Session, line: Line) -> Command
     ensures { asked_as line session.state.shape.attributes result ≡ asked session line }
 {
-    let kind = line.kind;
-    let state = session.state;
-    let shape = state.shape;
-    let d = shape.attributes as usize;
-    match kind {
+    let d = session.state.shape.attributes as usize;
+    match line.kind {
         Kind::Bad => Command::Nothing,
         Kind::Shape => shape_command(line),
         Kind::Put => {
@@ -62,37 +60,26 @@ pub fn command_of(session: Session, line: Line) -> Command
 fn has_numbers(begun: bool, line: Line, n: usize) -> bool
     ensures { result ≡ (begun && (not line.star && eqb line.count n)) }
 {
-    if line.star {
-        return false;
-    }
-    has_fields(begun, line, n)
+    !line.star && has_fields(begun, line, n)
 }
 
 // The same where fields may be `*`.
 fn has_fields(begun: bool, line: Line, n: usize) -> bool
     ensures { result ≡ (begun && eqb line.count n) }
 {
-    if !begun {
-        return false;
-    }
-    line.count == n
+    begun && line.count == n
 }
 
 // The command of a line `shape`.
+#[tactic(auto, unfolding(crate::specs::Asked::asked_shape))]
 fn shape_command(line: Line) -> Command
     ensures { (d : ℕ) → asked_as line d result ≡ asked_shape line }
 {
-    if line.star {
-        return Command::Nothing;
-    }
-    if line.count == 0 {
+    if line.star || line.count == 0 {
         return Command::Nothing;
     }
     let d = number_at(line, 0);
-    if d < 1 {
-        return Command::NoShape;
-    }
-    if 4 < d {
+    if d < 1 || 4 < d {
         return Command::NoShape;
     }
     if line.count == (d as usize) + 2 {

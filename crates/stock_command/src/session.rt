@@ -1,8 +1,9 @@
 // The session that command lines are read in.
-ghost use Rattle.store.specs.Answers.{made_answer};
+ghost use Rattle.store.specs.Answers.{made_answer, made_state};
 ghost use Rattle.stock_command.specs.Session.{Begun};
 
-use store::{Made, Making, State};
+use shape::refusal::Refusal;
+use store::State;
 
 // The state of the store, if a shape was accepted.
 #[derive(Clone, Copy)]
@@ -12,14 +13,11 @@ pub struct Session {
 }
 
 // The session after Fresh: the new store if it was accepted, otherwise the one that there was.
-pub fn begin(session: Session, making: Making) -> Session
-    ensures { Begun session (made_answer making.answer) making.state result }
+pub fn begin(session: Session, making: Result<State, Refusal>) -> Session
+    ensures { Begun session (made_answer making) (made_state making) result }
 {
-    let answer = making.answer;
-    let state = making.state;
-    match answer {
-        Made::Done => Session { begun: true, state },
-        Made::Refused(_) => session,
-        Made::Width(_) => session,
+    match making {
+        Ok(state) => Session { begun: true, state },
+        Err(_) => session,
     }
 }

@@ -20,6 +20,7 @@ use stock_command::{Command, command_of};
 use stock_line::Line;
 use stock_replies::{put_changed, put_listed, put_made};
 use stock_text::{put_bad, put_refused};
+use store::state_after;
 
 // The session to go on with, and the end of the text.
 #[derive(Clone, Copy)]
@@ -94,8 +95,7 @@ fn reply_shape(
 {
     let making = fresh(shape, dir, pages);
     let after = begin(session, making);
-    let answer = making.answer;
-    let end = put_made(text, at, answer);
+    let end = put_made(text, at, making);
     Next {
         session: after,
         end,
@@ -125,12 +125,10 @@ fn reply_put(
     let key = key_of(line, d);
     let content = content_of(line, d);
     let change = insert(state, dir, pages, key, content);
-    let answer = change.answer;
-    let end = put_changed(text, at, answer);
-    let changed = change.state;
+    let end = put_changed(text, at, change);
     let after = Session {
         begun: true,
-        state: changed,
+        state: state_after(state, change),
     };
     Next {
         session: after,
@@ -160,12 +158,10 @@ fn reply_cut(
     let d = shape.attributes as usize;
     let key = key_of(line, d);
     let change = delete(state, dir, pages, key);
-    let answer = change.answer;
-    let end = put_changed(text, at, answer);
-    let changed = change.state;
+    let end = put_changed(text, at, change);
     let after = Session {
         begun: true,
-        state: changed,
+        state: state_after(state, change),
     };
     Next {
         session: after,

@@ -113,13 +113,13 @@ added-some r c h = by-test (eqb r.fields 0) refl h
     by-test : (β : Bool) → eqb r.fields 0 ≡ β → SomeRead r ⊎ (1 ≤ r.word)
         → SomeRead
         (cond β
-        (record { word = word_with r.word c; fields = 0; field = r.field; star = r.star; codes = r.codes })
+        (record { word = word_with r.word c; fields = 0; field = r.field; star = r.star; kept = r.kept })
         (record {
           word = r.word;
           fields = r.fields;
           field = field_with r.field c;
           star = r.star;
-          codes = r.codes;
+          kept = r.kept;
         }))
     by-test true e (inl (inl k)) = absurd (omega (arith, eqb-true r.fields 0 e))
     by-test true e (inl (inr k)) = inr (word_with-le r.word c (omega arith))

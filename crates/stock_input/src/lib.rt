@@ -8,12 +8,11 @@ ghost use Rattle.stock_replies.specs.Replies.{output_size, reply_size};
 ghost use Rattle.stock_console.specs.Console.{stock_memory};
 ghost use Rattle.stock_input.specs.Input.{standing, Stepped, Standable, RunPromise, nothing_read};
 
-use shape::Shape;
 use stock_command::session::Session;
 use stock_console::reply;
 use stock_line::{Reading, begin, end, feed};
 use stock_replies::REPLY_SIZE;
-use store::{Limits, State, Tally};
+use store::State;
 
 const NEWLINE: u8 = 10;
 
@@ -36,30 +35,12 @@ pub struct Reach {
 pub fn start() -> Progress
     ensures { (result.reading ≡ start) × (result.end ≡ 0) × (result.session.begun ≡ false) }
 {
-    let widths = [0u32; 4];
-    let shape = Shape {
-        attributes: 0,
-        widths,
-        capacity: 0,
-        signs: 0,
-    };
-    let limits = Limits { pages: 0, depth: 0 };
-    let leaves = [0u32; 13];
-    let tally = Tally { leaves };
-    let state = State {
-        shape,
-        limits,
-        deepest: 0,
-        tally,
-    };
-    let session = Session {
-        begun: false,
-        state,
-    };
-    let reading = begin();
     Progress {
-        session,
-        reading,
+        session: Session {
+            begun: false,
+            state: State::default(),
+        },
+        reading: begin(),
         end: 0,
     }
 }
@@ -83,8 +64,7 @@ pub fn run(
         text.new }
 {
     let mut here = progress;
-    let mut next = from;
-    while next < piece.len() {
+    for next in from..piece.len() {
         if text.len() - here.end < REPLY_SIZE {
             return Reach {
                 progress: here,
@@ -92,11 +72,10 @@ pub fn run(
             };
         }
         here = step(here, piece[next], dir, pages, out, text);
-        next += 1;
     }
     Reach {
         progress: here,
-        next,
+        next: piece.len(),
     }
 }
 
@@ -116,23 +95,18 @@ pub fn step(
         (standing result (stock_memory dir.new pages.new out.new) text.new) }
     ensures standable { Standable result text.new }
 {
-    let session = progress.session;
-    let reading = progress.reading;
     if byte == NEWLINE {
-        let next = reply(session, end(reading), dir, pages, out, text, progress.end);
-        let after = next.session;
-        let nothing = begin();
+        let line = end(progress.reading);
+        let next = reply(progress.session, line, dir, pages, out, text, progress.end);
         return Progress {
-            session: after,
-            reading: nothing,
+            session: next.session,
+            reading: begin(),
             end: next.end,
         };
     }
-    let more = feed(reading, byte);
     Progress {
-        session,
-        reading: more,
-        end: progress.end,
+        reading: feed(progress.reading, byte),
+        ..progress
     }
 }
 
@@ -140,21 +114,12 @@ pub fn step(
 pub fn is_empty(reading: Reading) -> bool
     ensures { result ≡ nothing_read reading }
 {
-    if reading.fields != 0 {
-        return false;
-    }
-    reading.word == 1
+    reading.fields == 0 && reading.word == 1
 }
 
 // The same progress, after its text was printed.
 pub fn printed(progress: Progress) -> Progress
     ensures { (result.session ≡ progress.session) × (result.reading ≡ progress.reading) × (result.end ≡ 0) }
 {
-    let session = progress.session;
-    let reading = progress.reading;
-    Progress {
-        session,
-        reading,
-        end: 0,
-    }
+    Progress { end: 0, ..progress }
 }

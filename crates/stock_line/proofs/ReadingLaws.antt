@@ -10,7 +10,7 @@ use Rattle.lists.specs.Filter.{non_empty}
 use Rattle.stock_line.specs.Line.{longer, fields_of}
 use Rattle.stock_line.specs.declared.Reading.{Reading}
 use Rattle.stock_line.specs.LineBytes.{closed, opened, added, fed, read_from, word_with, field_with}
-use Rattle.stock_line.proofs.FieldLaws.{code_from}
+use Rattle.stock_line.proofs.FieldLaws.{field_from}
 
 pub closed-fields : (r : Reading) → r.fields ≤ 7 → (closed r).fields ≤ 7
 unfolding closed
@@ -91,7 +91,7 @@ pub added_all-word : (r : Reading) (f : List ℕ) → r.fields ≡ 0
       fields = 0;
       field = r.field;
       star = r.star;
-      codes = r.codes;
+      kept = r.kept;
     }
 unfolding added
 added_all-word r [] e = rw (sym e)
@@ -100,7 +100,7 @@ added_all-word r (c ∷ cs) e = rw e (added_all-word (record {
   fields = 0;
   field = r.field;
   star = r.star;
-  codes = r.codes;
+  kept = r.kept;
 }) cs refl)
 
 -- behind it
@@ -108,9 +108,9 @@ pub added_all-field : (r : Reading) (f : List ℕ) → 1 ≤ r.fields
     → added_all r f ≡ record {
       word = r.word;
       fields = r.fields;
-      field = code_from r.field f;
+      field = field_from r.field f;
       star = r.star;
-      codes = r.codes;
+      kept = r.kept;
     }
 unfolding added
 added_all-field r [] l = refl
@@ -121,5 +121,5 @@ added_all-field r (c ∷ cs) l =
       fields = r.fields;
       field = field_with r.field c;
       star = r.star;
-      codes = r.codes;
+      kept = r.kept;
     }) cs l)

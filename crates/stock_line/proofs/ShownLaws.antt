@@ -10,7 +10,8 @@ use lib.Dec.{eqb, ltb}
 use lib.ListN.{get_or, length}
 use Rattle.lists.specs.Filter.{all, non_empty}
 use Rattle.lists.proofs.Bools.{and_split, and_both}
-use Rattle.stock_line.specs.Line.{longer, fields_of, items_in, code_of, rest, ShowsFields, LineShown}
+use Rattle.stock_line.specs.Line.{longer, fields_of, items_in, field_of, rest, ShowsFields, LineShown}
+use Rattle.stock_line.specs.declared.Field.TheVariants.{Empty}
 use Rattle.stock_line.specs.declared.Reading.{Reading}
 use Rattle.stock_line.specs.declared.Line.{Line}
 use Rattle.stock_line.specs.LineBytes.{start, closed, read_from, ended, kind_of}
@@ -48,9 +49,9 @@ abbrev word_read : List ℕ → Reading
 word_read w = record {
   word = word_from 1 w;
   fields = 0;
-  field = 4294967297;
+  field = Empty;
   star = false;
-  codes = 0 ∷ 0 ∷ 0 ∷ 0 ∷ 0 ∷ 0 ∷ [];
+  kept = Empty ∷ Empty ∷ Empty ∷ Empty ∷ Empty ∷ Empty ∷ [];
 }
 
 closed-fields-read : (w : List ℕ) (fs : List (List ℕ)) → closed (read_fields start (w ∷ fs)) ≡ took_all (word_read w) fs
@@ -60,7 +61,7 @@ closed-fields-read w fs =
 
 -- the line of a reading
 abbrev line_of : Reading → Line
-line_of r = record { kind = kind_of r.word; count = r.fields; star = r.star; codes = r.codes }
+line_of r = record { kind = kind_of r.word; count = r.fields; star = r.star; kept = r.kept }
 
 shown-fields : (w : List ℕ) (fs : List (List ℕ)) → all is_byte w ≡ true
     → (items : Option (List (Option ℕ))) (q : Reading)
@@ -72,8 +73,8 @@ shown-fields w fs h (some items) q k =
       kind = ap kind_of k.word ∙ kind-of-word w h;
       count = k.fields ∙ ap (min 7) (zero-add (length items));
       star = k.star;
-      codes = λ j a b.
-          k.later j a (omega arith) (omega arith) ∙ ap (λ i. code_of (get_or items i none)) (sub-zero j);
+      kept = λ j a b.
+          k.later j a (omega arith) (omega arith) ∙ ap (λ i. field_of (get_or items i none)) (sub-zero j);
     }
 
 pub line-shown : (bytes : List ℕ) → all is_byte bytes ≡ true → LineShown bytes (ended (read_from start bytes))

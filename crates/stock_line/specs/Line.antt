@@ -3,6 +3,8 @@
 use Rattle.std.specs.Prelude.{ℕ, ◌+◌, ◌-◌, ◌*◌, ◌^◌, ◌<◌, min, ◌≡◌, Bool, true, false, ◌&&◌, cond, List, [], ◌∷◌, eqb, leb, ltb, get_or, length}
 use Rattle.std.proofs.Math.Option.{Option, none, some}
 use Rattle.lists.specs.Filter.{all, non_empty}
+use Rattle.stock_line.specs.declared.Field.{Field}
+use Rattle.stock_line.specs.declared.Field.TheVariants.{Empty, Number, Any}
 use Rattle.stock_line.specs.declared.Kind.{Kind}
 use Rattle.stock_line.specs.declared.Kind.TheVariants.{Bad, Shape, Put, Cut, List as Listing}
 use Rattle.stock_line.specs.declared.Line.{Line}
@@ -71,10 +73,10 @@ kind_in word =
 
 -- ---- what is kept of a line
 
--- a field as its code: its value, or 2^32 for `*`
-abbrev pub code_of : Option ℕ → ℕ
-code_of none = 2 ^ 32
-code_of (some v) = v
+-- a field that is a value, or `*`
+abbrev pub field_of : Option ℕ → Field
+field_of none = Any
+field_of (some v) = Number v
 
 -- whether an item is `*`
 abbrev pub has_star : List (Option ℕ) → Bool
@@ -82,12 +84,12 @@ has_star [] = false
 has_star (none ∷ items) = true
 has_star (some v ∷ items) = has_star items
 
--- the command, how many fields it has, at most 7, whether one is `*`, and the codes of the first six
+-- the command, how many fields it has, at most 7, whether one is `*`, and the first six
 pub record LineShows (word : List ℕ) (items : List (Option ℕ)) (line : Line) : Type 0 where
   pub kind : line.kind ≡ kind_in word
   pub count : line.count ≡ min 7 (length items)
   pub star : line.star ≡ has_star items
-  pub codes : (j : ℕ) → j < 6 → j < length items → get_or line.codes j 0 ≡ code_of (get_or items j none)
+  pub kept : (j : ℕ) → j < 6 → j < length items → get_or line.kept j Empty ≡ field_of (get_or items j none)
 
 -- a word and fields; "A line of another form .. is a bad line"
 abbrev pub ShowsFields : List (List ℕ) → Option (List (Option ℕ)) → Line → Type 0

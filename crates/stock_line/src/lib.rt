@@ -6,26 +6,30 @@ ghost use Rattle.std.specs.Prelude.{◌≡◌, ◌≤◌};
 ghost use Rattle.stock_line.specs.Line.{is_digit};
 ghost use Rattle.stock_line.specs.LineBytes.{start, fed, ended, opened, closed};
 ghost use Rattle.stock_line.specs.LineBytes.{kept_word, star_with, word_with, field_with};
-ghost use Rattle.stock_line.specs.LineBytes.{first_of, kind_of};
+ghost use Rattle.stock_line.specs.LineBytes.{first_of, digit_with, kind_of};
 
-// A field that is `*`; lesser codes are numbers. Greater ones are of a field that is still empty, and
-// of one that is no number below 2^32.
-pub const ANY: u64 = 4294967296;
+use std::cmp::min;
 
-const EMPTY: u64 = 4294967297;
-
-const WRONG: u64 = 4294967298;
+// What was read of a field: nothing yet, a number, `*`, or bytes of another form. Numbers of 2^32 or
+// more are of another form.
+#[derive(Clone, Copy)]
+pub enum Field {
+    Empty,
+    Number(u32),
+    Any,
+    Wrong,
+}
 
 // What was read of a line: its word as a number in base 256 behind a 1 (0 once a field is wrong),
-// how many fields have begun behind it (7 for more), the code of the last one, and of those before it
-// whether one is `*`, and their codes.
+// how many fields have begun behind it (7 for more), the last one, and of those before it whether one
+// is `*`, and the first six.
 #[derive(Clone, Copy)]
 pub struct Reading {
     pub word: u64,
     pub fields: usize,
-    pub field: u64,
+    pub field: Field,
     pub star: bool,
-    pub codes: [u64; 6],
+    pub kept: [Field; 6],
 }
 
 // Which command a line gives; Bad for a line of another form.
@@ -38,91 +42,81 @@ pub enum Kind {
     List,
 }
 
-// A command, how many fields it has (7 for more), whether one is `*`, and the codes of the first six.
+// A command, how many fields it has (7 for more), whether one is `*`, and the first six.
 #[derive(Clone, Copy)]
 pub struct Line {
     pub kind: Kind,
     pub count: usize,
     pub star: bool,
-    pub codes: [u64; 6],
+    pub kept: [Field; 6],
 }
 
 // Nothing read yet.
+#[tactic(auto, unfolding(crate::specs::LineBytes::start))]
 pub fn begin() -> Reading
     ensures { result ≡ start }
 {
     Reading {
         word: 1,
         fields: 0,
-        field: EMPTY,
+        field: Field::Empty,
         star: false,
-        codes: [0; 6],
+        kept: [Field::Empty; 6],
     }
 }
 
 // Reads one more byte of the line.
+#[tactic(auto, unfolding(crate::specs::LineBytes::fed, crate::specs::LineBytes::added, crate::specs::LineBytes::closed))]
 pub fn feed(reading: Reading, byte: u8) -> Reading
     requires { reading.fields ≤ 7 }
     ensures { result ≡ fed reading byte }
 {
-    if byte == 32 {
+    if byte == b' ' {
         return open(close(reading));
     }
-    let codes = reading.codes;
     if reading.fields == 0 {
         return Reading {
             word: word_with(reading.word, byte),
-            fields: 0,
-            field: reading.field,
-            star: reading.star,
-            codes,
+            ..reading
         };
     }
     Reading {
-        word: reading.word,
-        fields: reading.fields,
         field: field_with(reading.field, byte),
-        star: reading.star,
-        codes,
+        ..reading
     }
 }
 
 // Ends the line: the command that it gives.
+#[tactic(auto, unfolding(crate::specs::LineBytes::ended))]
 pub fn end(reading: Reading) -> Line
     requires { reading.fields ≤ 7 }
     ensures { result ≡ ended reading }
 {
     let last = close(reading);
-    let codes = last.codes;
+    let kept = last.kept;
     Line {
         kind: kind_of(last.word),
         count: last.fields,
         star: last.star,
-        codes,
+        kept,
     }
 }
 
 // Begins one more field, of at most seven.
+#[tactic(auto, unfolding(crate::specs::LineBytes::opened))]
 fn open(reading: Reading) -> Reading
     requires { reading.fields ≤ 7 }
     ensures { result ≡ opened reading }
 {
-    let codes = reading.codes;
-    let fields = if reading.fields < 7 {
-        reading.fields + 1
-    } else {
-        7
-    };
     Reading {
-        word: reading.word,
-        fields,
-        field: EMPTY,
-        star: reading.star,
-        codes,
+        fields: min(7, reading.fields + 1),
+        field: Field::Empty,
+        ..reading
     }
 }
 
-// Keeps the code of the last field; the line's word is 0 from then on where the field is wrong.
+// Keeps the last field; the line's word is 0 from then on where the field is wrong.
+#[tactic(auto, unfolding(crate::specs::LineBytes::closed))]
 fn close(reading: Reading) -> Reading
     requires { reading.fields ≤ 7 }
     ensures { result ≡ closed reading }
@@ -130,39 +124,40 @@ fn close(reading: Reading) -> Reading
     if reading.fields == 0 {
         return reading;
     }
-    let word = kept_word(reading.word, reading.field);
-    let star = is_any(reading.star, reading.field);
-    let mut codes = reading.codes;
+    let mut kept = reading.kept;
     if reading.fields < 7 {
-        codes[reading.fields - 1] = reading.field;
+        kept[reading.fields - 1] = reading.field;
     }
     Reading {
-        word,
-        fields: reading.fields,
-        field: reading.field,
-        star,
-        codes,
+        word: kept_word(reading.word, reading.field),
+        star: star_with(reading.star, reading.field),
+        kept,
+        ..reading
     }
 }
 
 // The word of a line behind one more field.
-fn kept_word(word: u64, field: u64) -> u64
+fn kept_word(word: u64, field: Field) -> u64
     ensures { result ≡ kept_word word field }
 {
-    if ANY < field { 0 } else { word }
+    match field {
+        Field::Empty | Field::Wrong => 0,
+        Field::Number(_) | Field::Any => word,
+    }
 }
 
 // Whether one of some fields is `*`, with one more field.
-fn is_any(star: bool, field: u64) -> bool
+fn star_with(star: bool, field: Field) -> bool
     ensures { result ≡ star_with star field }
 {
-    if star {
-        return true;
+    match field {
+        Field::Any => true,
+        _ => star,
     }
-    field == ANY
 }
 
 // The word with one more byte; one of more than five bytes is no command's.
+#[tactic(auto, unfolding(crate::specs::LineBytes::word_with))]
 fn word_with(word: u64, byte: u8) -> u64
     ensures { result ≡ word_with word byte }
 {
@@ -172,46 +167,55 @@ fn word_with(word: u64, byte: u8) -> u64
     word
 }
 
-// The code of a field with one more byte.
-fn field_with(field: u64, byte: u8) -> u64
+// A field with one more byte.
+fn field_with(field: Field, byte: u8) -> Field
     ensures { result ≡ field_with field byte }
 {
-    if field == EMPTY {
-        return first_of(byte);
+    match field {
+        Field::Empty => first_of(byte),
+        Field::Number(value) => digit_with(value, byte),
+        Field::Any | Field::Wrong => Field::Wrong,
     }
-    if ANY <= field {
-        return WRONG;
-    }
-    if !is_digit(byte) {
-        return WRONG;
-    }
-    let number = field * 10 + ((byte - 48) as u64);
-    if number < ANY { number } else { WRONG }
 }
 
-// The code of a field of one byte.
-fn first_of(byte: u8) -> u64
+// A field of one byte.
+#[tactic(auto, unfolding(crate::specs::LineBytes::first_of, crate::specs::Line::is_digit))]
+fn first_of(byte: u8) -> Field
     ensures { result ≡ first_of byte }
 {
-    if byte == 42 {
-        return ANY;
+    if byte == b'*' {
+        return Field::Any;
     }
     if is_digit(byte) {
-        return (byte - 48) as u64;
+        return Field::Number((byte - b'0') as u32);
     }
-    WRONG
+    Field::Wrong
 }
 
+// A number with one more byte.
+#[tactic(auto, unfolding(crate::specs::LineBytes::digit_with, crate::specs::Line::is_digit))]
+fn digit_with(value: u32, byte: u8) -> Field
+    ensures { result ≡ digit_with value byte }
+{
+    if !is_digit(byte) {
+        return Field::Wrong;
+    }
+    let number = (value as u64) * 10 + ((byte - b'0') as u64);
+    match u32::try_from(number) {
+        Ok(number) => Field::Number(number),
+        Err(_) => Field::Wrong,
+    }
+}
+
+#[tactic(auto, unfolding(crate::specs::Line::is_digit))]
 fn is_digit(byte: u8) -> bool
     ensures { result ≡ is_digit byte }
 {
-    if byte < 48 {
-        return false;
-    }
-    byte <= 57
+    byte.is_ascii_digit()
 }
 
 // The command of a word.
+#[tactic(auto, unfolding(crate::specs::LineBytes::kind_of))]
 fn kind_of(word: u64) -> Kind
     ensures { result ≡ kind_of word }
 {

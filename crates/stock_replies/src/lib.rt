@@ -9,8 +9,9 @@ ghost use Rattle.stock_replies.specs.Replies.{output_records, reply_size, answer
 ghost use Rattle.stock_replies.specs.Printed.{Printable};
 
 use record::RECORD_SIZE;
+use shape::refusal::Refusal;
 use stock_text::{LINE_SIZE, put_ok, put_records, put_refused, put_sum};
-use store::{Changed, Counts, Listed, Made};
+use store::{Changed, Counts, State};
 
 // The records that the output of a list holds.
 pub const OUTPUT_RECORDS: usize = 256;
@@ -22,41 +23,43 @@ pub const OUTPUT_SIZE: usize = OUTPUT_RECORDS * RECORD_SIZE;
 pub const REPLY_SIZE: usize = (OUTPUT_RECORDS + 1) * LINE_SIZE;
 
 // Writes `ok`, or `no` and the number, for a shape; the attribute beside 14 is not printed.
-pub fn put_made(text: &mut [u8], at: usize, answer: Made) -> usize
+pub fn put_made(text: &mut [u8], at: usize, answer: Result<State, Refusal>) -> usize
     requires { at + reply_size ≤ length text.old }
     ensures { Grown text.old at (answer_text (made_answer answer)) text.new result }
 {
     match answer {
-        Made::Done => put_ok(text, at),
-        Made::Refused(number) => put_refused(text, at, number),
-        Made::Width(_) => put_refused(text, at, 14),
+        Ok(_) => put_ok(text, at),
+        Err(refusal) => put_refused(text, at, refusal.number()),
     }
 }
 
 // Writes `ok`, or `no` and the number, for a record that is put or cut; neither a depth nor the
 // attribute beside 14 is printed.
-pub fn put_changed(text: &mut [u8], at: usize, answer: Changed) -> usize
+pub fn put_changed(text: &mut [u8], at: usize, answer: Result<Changed, Refusal>) -> usize
     requires { at + reply_size ≤ length text.old }
     ensures { Grown text.old at (answer_text (changed_answer answer)) text.new result }
 {
     match answer {
-        Changed::Done(_) => put_ok(text, at),
-        Changed::Absent(_) => put_refused(text, at, 5),
-        Changed::Refused(number) => put_refused(text, at, number),
-        Changed::Width(_) => put_refused(text, at, 14),
+        Ok(_) => put_ok(text, at),
+        Err(refusal) => put_refused(text, at, refusal.number()),
     }
 }
 
 // Writes the records and the sum, or `no` and the number.
-pub fn put_listed(text: &mut [u8], at: usize, out: &[u8], listed: Listed, d: usize) -> usize
+pub fn put_listed(
+    text: &mut [u8],
+    at: usize,
+    out: &[u8],
+    listed: Result<Counts, Refusal>,
+    d: usize,
+) -> usize
     requires { (at + reply_size ≤ length text.old) × Printable d (listed_answer listed) out.now }
     ensures { Grown text.old at (listed_text d (listed_answer listed) out.now)
         text.new result }
 {
     match listed {
-        Listed::Records(counts) => put_found(text, at, out, counts, d),
-        Listed::Refused(number) => put_refused(text, at, number),
-        Listed::Width(_) => put_refused(text, at, 14),
+        Ok(counts) => put_found(text, at, out, counts, d),
+        Err(refusal) => put_refused(text, at, refusal.number()),
     }
 }
 

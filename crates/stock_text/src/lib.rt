@@ -50,10 +50,8 @@ pub fn put_records(text: &mut [u8], at: usize, out: &[u8], n: usize, d: usize) -
     ensures upper_bound { result ≤ at + 35 * n }
 {
     let mut end = at;
-    let mut i = 0;
-    while i < n {
+    for i in 0..n {
         end = put_record(text, end, out, i, d);
-        i += 1;
     }
     end
 }
@@ -124,10 +122,8 @@ fn put_values(text: &mut [u8], at: usize, out: &[u8], start: usize, d: usize) ->
     ensures upper_bound { result ≤ at + 6 * d }
 {
     let mut end = at;
-    let mut j = 0;
-    while j < d {
+    for j in 0..d {
         end = put_field(text, end, read16(out, start + 2 * j), SPACE);
-        j += 1;
     }
     end
 }

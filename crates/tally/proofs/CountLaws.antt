@@ -6,6 +6,7 @@ use mathlib.Core.Bool.{Bool, true}
 use mathlib.Core.List.{List}
 use native.Mathlib.Omega.{arith}
 use native.Mathlib.Nat.{le_trans}
+use native.Mathlib.Numerals.{add-one}
 use lib.Dec.{leb}
 use lib.ListN.{get_or, set}
 use lib.Pow.{pow_mono}
@@ -53,14 +54,11 @@ module _ (leaves : List ℕ) where
       get_or-set_other less (x + 1) y (get_or less (x + 1) 0 + 2) 0 (λ e. omega arith)
       ∙ get_or-set_other leaves x y (get_or leaves x 0 - 1) 0 (λ e. omega arith)
 
-  -- the first i of n divisions are done, and one more
-  pub divided_tally-next : (x n i : ℕ) → i < n
-      → divided_tally (x + (i + 1)) (n - (i + 1)) (divided_once (x + i) leaves) ≡ divided_tally (x + i) (n - i) leaves
+  -- the divisions down to depth y are done, and one more
+  pub divided_tally-next : (y end : ℕ) → y < end
+      → divided_tally (y + 1) (end - (y + 1)) (divided_once y leaves) ≡ divided_tally y (end - y) leaves
   unfolding divided_tally
-  divided_tally-next x n i l =
-      let left : n - i ≡ suc (n - (i + 1)) = omega arith in
-      let deeper : x + (i + 1) ≡ suc (x + i) = omega arith in
-      rw (left, deeper) refl
+  divided_tally-next y end l = let left : end - y ≡ suc (end - (y + 1)) = omega arith in rw (left, add-one y) refl
 
   -- ---- joined
 

@@ -13,23 +13,22 @@ pub fn tally_holds(tally: Tally) -> bool
     ensures { result ≡ tally_holds tally.leaves }
 {
     let leaves = tally.leaves;
-    let mut x: usize = 0;
-    while x < 13 {
+    for x in 0..13 {
         if 1u64 << x < leaves[x] as u64 {
             return false;
         }
-        x += 1;
     }
     true
 }
 
 // A leaf of depth x gives way to two of depth x + 1.
+#[tactic(auto, unfolding(change::specs::Divided::divided_once))]
 pub fn divide_once(tally: Tally, x: usize) -> Tally
     requires { (x < 12) × (get_or tally.leaves (x + 1) 0 + 2 < 2 ^ 32) }
     ensures { result.leaves ≡ divided_once x tally.leaves }
 {
     let mut leaves = tally.leaves;
-    leaves[x] = less(leaves[x], 1);
+    leaves[x] = leaves[x].saturating_sub(1);
     leaves[x + 1] = leaves[x + 1] + 2;
     Tally { leaves }
 }
@@ -40,21 +39,20 @@ pub fn divide(tally: Tally, x: usize, n: usize) -> Tally
     ensures { result.leaves ≡ divided_tally x n tally.leaves }
 {
     let mut divided = tally;
-    let mut i: usize = 0;
-    while i < n {
-        divided = divide_once(divided, x + i);
-        i += 1;
+    for y in x..x + n {
+        divided = divide_once(divided, y);
     }
     divided
 }
 
 // Two leaves of depth x + 1 give way to one of depth x.
+#[tactic(auto, unfolding(change::specs::Delete::joined_once))]
 pub fn join_once(tally: Tally, x: usize) -> Tally
     requires { (x < 12) × (get_or tally.leaves x 0 + 1 < 2 ^ 32) }
     ensures { result.leaves ≡ joined_once x tally.leaves }
 {
     let mut leaves = tally.leaves;
-    leaves[x + 1] = less(leaves[x + 1], 2);
+    leaves[x + 1] = leaves[x + 1].saturating_sub(2);
     leaves[x] = leaves[x] + 1;
     Tally { leaves }
 }
@@ -65,9 +63,7 @@ pub fn join(tally: Tally, x: usize, n: usize) -> Tally
     ensures { result.leaves ≡ joined_tally x n tally.leaves }
 {
     let mut joined = tally;
-    let mut y = x + n;
-    while x < y {
-        y -= 1;
+    for y in (x..x + n).rev() {
         joined = join_once(joined, y);
     }
     joined
@@ -79,19 +75,10 @@ pub fn greatest_depth(tally: Tally, n: usize) -> usize
     ensures { result ≡ tally_depth n tally.leaves }
 {
     let leaves = tally.leaves;
-    let mut x = n;
-    while 0 < x {
+    for x in (1..n + 1).rev() {
         if leaves[x] != 0 {
             return x;
         }
-        x -= 1;
     }
     0
-}
-
-// A count less k, and 0 where it is below k.
-fn less(count: u32, k: u32) -> u32
-    ensures { result ≡ count - k }
-{
-    if k < count { count - k } else { 0 }
 }

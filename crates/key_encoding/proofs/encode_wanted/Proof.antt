@@ -2,7 +2,7 @@
 use Rattle.std.proofs.Common.{sym, ap, ◌∙◌, rules}
 use mathlib.Core.Option.{some}
 use Rattle.shape.specs.Key.{wanted_value, encode_wanted}
-use Rattle.key_encoding.proofs.CodeLaws.{get_d-wanted_values}
+use Rattle.shape.proofs.AttributeLaws.{get_d-wanted_values}
 use Rattle.key_encoding.proofs.encode_wanted.Statement.{statement}
 use Rattle.key_encoding.proofs.encode_wanted.Tie as tie
 

@@ -5,7 +5,7 @@ use Rattle.record.specs.Lanes.{bias_key}
 use Rattle.page.specs.Page.{count_of, page_at}
 use Rattle.page.proofs.PartLaws.{mid_of-page}
 use Rattle.page_ends.specs.Ends.{ends_agree}
-use Rattle.page_ends.specs.Fair.{fair_count}
+use Rattle.page_ends.specs.Fair.{fair_count, positive}
 use Rattle.leaf_word.proofs.PageLaws.{fixed-bits-asks, ends_agree-mask}
 use borrow.Author.Rules.{rules}
 use Rattle.leaf_word.proofs.own_count.Statement.{statement}
@@ -51,14 +51,15 @@ returns c =
     let b = a.shape.capacity in
     let page = page_at b a.pages.now a.g in
     c.fair_count.ensures
-    ∙ ap (λ part. fair_count b (ends_agree c.bias_key-bias.result c.fixed_bits-mask.result a.key part (count_of part)) part)
+    ∙ ap positive
+    (ap (λ part. fair_count b (ends_agree c.bias_key-bias.result c.fixed_bits-mask.result a.key part (count_of part)) part)
     (mid_of-page b a.g _ _ a.pages.now c.page_start-start.ensures c.page_size.ensures)
     ∙ ap (λ h. fair_count b (ends_agree h c.fixed_bits-mask.result a.key page (count_of page)) page)
     c.bias_key-bias.ensures
     ∙ ap (λ own. fair_count b own page)
     (ends_agree-mask a.shape c.requires.shape a.depth c.requires.deep _ c.widths_of.ensures
     (bias_key a.shape) _
-    c.fixed_bits-mask.ensures a.key c.requires.fits page (count_of page))
+    c.fixed_bits-mask.ensures a.key c.requires.fits page (count_of page)))
 
 pub own_count_spec : {M : Type 1} → statement M
 own_count_spec =

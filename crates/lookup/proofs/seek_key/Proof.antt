@@ -8,7 +8,6 @@ use borrow.Author.Tests.{not-true, not-false}
 use Rattle.shape.specs.Shape.{widths_of, index_fits}
 use Rattle.split.specs.Bits.{split_bit}
 use Rattle.record.specs.Packed.{unpacked_key}
-use Rattle.store.specs.Answers.{found_answer}
 use Rattle.store.specs.Store.{store, word_at}
 use Rattle.refusals.specs.Limits.{limits_hold}
 use Rattle.refusals.proofs.LimitsLaws.{limited}
@@ -32,7 +31,6 @@ limits-hold-requires : tie.Need-limits_hold-requires
 limits-hold-requires c κs = (early c).shape
 
 returns : tie.Need-returns-then-not-limits_hold
-unfolding found_answer
 returns c =
     let a = c.args in
     sought_answer-limits (store a.state a.dir.now a.pages.now) a.encoded.values

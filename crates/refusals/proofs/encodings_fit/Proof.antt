@@ -1,6 +1,6 @@
 -- `refusals::encodings_fit` meets its contract: a shift by a width leaves what an encoding has past it. Assumes
 -- nothing.
-use mathlib.Core.Path.{◌≡◌, ◌∙◌}
+use mathlib.Core.Path.{◌≡◌}
 use native.Mathlib.Omega.{arith}
 use lib.ListN.{length}
 use borrow.Author.Rules.{rules}

@@ -1,0 +1,13 @@
+-- What `delete` promises, over the words.
+use Rattle.host_changes.proofs.ChangeLaws.{delete-judged, words-of-done, promise-settled}
+use Rattle.host_changes.proofs.delete_in_words.Goals as goal
+
+pub settle_change-requires : goal.settle_change-requires
+settle_change-requires c =
+    words-of-done (delete-judged _ _ _ _ _) _ _ c.state_in.ensures _ _ c.delete-deleted.ensures
+
+pub returns : goal.returns
+returns c =
+    let settled = c.settle_change.ensures in
+    promise-settled (delete-judged _ _ _ _ _) _ _ c.state_in.ensures _ _ c.delete-deleted.ensures _ _ _ _
+    settled.number_value (settled.settled c.state_in.result)

@@ -1,0 +1,13 @@
+-- The steps before the pair of attribute z have their rows. Assumes nothing.
+use Rattle.std.proofs.Common.{◌≡◌, ◌+◌, ◌*◌, length}
+use Rattle.shape.specs.Shape.{width_list}
+use Rattle.shape.specs.Key.{wanted_values}
+use Rattle.query_rows.specs.Private.{RowsFilled}
+use Rattle.query_rows.specs.Rows.{wanted_at}
+use Rattle.query_rows.proofs.fill_bit.Given as goal
+
+abbrev pub invariant-loop-z : goal.invariant-loop-z
+invariant-loop-z l =
+    (length l.rows ≡ length l.initial.rows)
+    × RowsFilled (width_list l.widths) (wanted_at (width_list l.widths) (wanted_values l.query)) l.t (4 * l.bit + l.z) l.x
+    l.rows
