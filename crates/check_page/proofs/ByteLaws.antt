@@ -29,7 +29,7 @@ number_of-two [] = refl
 number_of-two (x ∷ []) = omega arith
 number_of-two (x ∷ y ∷ xs) = omega arith
 
-number_of-field-two : (page : List ℕ) (at : ℕ)
+pub number_of-field-two : (page : List ℕ) (at : ℕ)
     → number_of (field page at 2) ≡ get_or page at 0 + get_or page (at + 1) 0 * 256
 number_of-field-two page at =
     number_of-two (drop at page) ∙ rw (get_or-drop at page 0 0, get_or-drop at page 1 0, add-zero at)

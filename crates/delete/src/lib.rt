@@ -29,7 +29,10 @@ pub fn delete(state: State, dir: &mut [u32], pages: &mut [u8], key: Key) -> Resu
         return Err(Refusal::Value);
     }
     let encodings = encoded.values;
-    let plan = plan_delete(state, dir, pages, encoded)?;
+    let plan = match plan_delete(state, dir, pages, encoded) {
+        Ok(plan) => plan,
+        Err(refusal) => return Err(refusal),
+    };
     match plan {
         Plan::Keep(found) => {
             if !removal_keeps(state, dir, encodings, found) {

@@ -237,7 +237,7 @@ module _ (before : Store) (encoded : List ℕ) where
       own = ends_agree (bias_key s) mask (packed_key encoded) page (count_of page)
 
       -- the record that was sought
-      record_found : (n i : ℕ) → n ≡ fair_count s.capacity own page → (n ≡ 0 → ⊥) → i ≡ key_place fields page n 0 → i < n
+      pub record_found : (n i : ℕ) → n ≡ fair_count s.capacity own page → (n ≡ 0 → ⊥) → i ≡ key_place fields page n 0 → i < n
           → RecordFound before encoded (record { page = g; depth = x; place = i; count = n })
       record_found n i e some q l =
           let fair = fair-of-count s.capacity own page n e some in

@@ -57,20 +57,20 @@ sum_bits-first β (suc h) =
     omega (arith, sum_bits-first β h, ap (λ x. bit_value (β (suc h)) * x) (pow-double h))
 
 -- of the first h bits the last k are taken, the others are the low bits of the rest
-record Taken (w encoding h rest index k : ℕ) : Type 0 where
-  within : k ≤ h
-  taken : index ≡ sum_bits (λ m. bit_of w encoding (h - k + m)) k
-  left : rest ≡ encoding / 2 ^ (w - h + k)
+pub record Taken (w encoding h rest index k : ℕ) : Type 0 where
+  pub within : k ≤ h
+  pub taken : index ≡ sum_bits (λ m. bit_of w encoding (h - k + m)) k
+  pub left : rest ≡ encoding / 2 ^ (w - h + k)
 
 module _ (w encoding h : ℕ) where
-  taken-zero : Taken w encoding h (encoding / 2 ^ (w - h)) 0 0
+  pub taken-zero : Taken w encoding h (encoding / 2 ^ (w - h)) 0 0
   unfolding sum_bits
   taken-zero =
       let e : w - h ≡ w - h + 0 = omega arith in
       record { within = omega arith; taken = refl; left = ap (λ n. encoding / 2 ^ n) e }
 
   module _ (rest index k : ℕ) (inv : Taken w encoding h rest index k) where
-    taken-suc : h ≤ w → k < h → Taken w encoding h (rest / 2) (index * 2 + rest % 2) (k + 1)
+    pub taken-suc : h ≤ w → k < h → Taken w encoding h (rest / 2) (index * 2 + rest % 2) (k + 1)
     taken-suc hw l = record { within = omega arith; taken = sym next; left = half }
       where
         half : rest / 2 ≡ encoding / 2 ^ (w - h + (k + 1))
@@ -98,7 +98,7 @@ module _ (w encoding h : ℕ) where
             ∙ sum_bits-first (λ m. bit_of w encoding (h - suc k + m)) k
             ∙ omega (arith, first, later)
 
-    taken-end : h ≤ k → index ≡ sum_bits (bit_of w encoding) h
+    pub taken-end : h ≤ k → index ≡ sum_bits (bit_of w encoding) h
     taken-end l =
         let e : k ≡ h = omega (arith, inv.within) in
         inv.taken

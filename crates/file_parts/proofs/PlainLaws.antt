@@ -18,7 +18,7 @@ abbrev pub is_zero : ℕ → Bool
 is_zero n = eqb n 0
 
 -- a width that is used, or 0
-abbrev plain_width : ℕ → List ℕ → ℕ → Bool
+abbrev pub plain_width : ℕ → List ℕ → ℕ → Bool
 plain_width d widths j = ltb j d || eqb (get_or widths j 0) 0
 
 -- four tests, from either end

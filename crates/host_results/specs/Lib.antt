@@ -1,3 +1,4 @@
+pub mod Depthless
 pub mod Result
 pub mod Settled
 pub mod Wanted

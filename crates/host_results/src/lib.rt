@@ -14,7 +14,8 @@ ghost use Rattle.store.specs.Answers.{found_answer, listed_answer, checked_answe
 ghost use Rattle.store.specs.declared.State.{State};
 ghost use Rattle.file.specs.Answers.{saved_answer};
 ghost use Rattle.host_state.specs.Image.{state_size};
-ghost use Rattle.host_results.specs.Result.{NoDepth, Reports, KeepsDepth, is_yes};
+ghost use Rattle.host_results.specs.Depthless.{depthless};
+ghost use Rattle.host_results.specs.Result.{Reports, KeepsDepth, is_yes};
 ghost use Rattle.host_results.specs.Settled.{depth_told, Settled};
 ghost use Rattle.host_results.specs.Wanted.{wanted_if, wanted_of};
 
@@ -123,10 +124,11 @@ pub fn found_result(answer: Result<Found, Refusal>) -> LookupResult
     }
 }
 
-// A query's or a range's answer as numbers: none that carries a depth.
+// A query's or a range's answer as numbers; none of them carries a depth.
+#[tactic(auto, using(crate::proofs::ResultLaws::reports_depthless))]
 pub fn listed_result(answer: Result<Counts, Refusal>) -> QueryResult
-    ensures { NoDepth (listed_answer answer) → Reports result.number result.attribute (listed result.written result.total result.reads) (listed 0 0 0)
-        (listed_answer answer) }
+    ensures { Reports result.number result.attribute (listed result.written result.total result.reads) (listed 0 0 0)
+        (depthless (listed_answer answer)) }
 {
     match answer {
         Ok(counts) => QueryResult {
@@ -146,9 +148,11 @@ pub fn listed_result(answer: Result<Counts, Refusal>) -> QueryResult
     }
 }
 
-// A check's answer as numbers: none that carries a depth.
+// A check's answer as numbers; none carries a depth.
+#[tactic(auto, using(crate::proofs::ResultLaws::reports_depthless))]
 pub fn checked_result(answer: Result<bool, Refusal>) -> CheckResult
-    ensures reports { NoDepth (checked_answer answer) → Reports result.number result.attribute (is_yes result.sound) (is_yes 0) (checked_answer answer) }
+    ensures reports { Reports result.number result.attribute (is_yes result.sound) (is_yes 0)
+        (depthless (checked_answer answer)) }
     ensures sound_bound { result.sound ≤ 1 }
 {
     match answer {
@@ -165,9 +169,10 @@ pub fn checked_result(answer: Result<bool, Refusal>) -> CheckResult
     }
 }
 
-// A save's answer as numbers: none that carries a depth.
+// A save's answer as numbers; none carries a depth.
+#[tactic(auto, using(crate::proofs::ResultLaws::reports_depthless))]
 pub fn saved_result(answer: Result<u64, Refusal>) -> SaveResult
-    ensures { NoDepth (saved_answer answer) → Reports result.number result.attribute result.size 0 (saved_answer answer) }
+    ensures { Reports result.number result.attribute result.size 0 (depthless (saved_answer answer)) }
 {
     match answer {
         Ok(size) => SaveResult {

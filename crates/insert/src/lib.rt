@@ -59,9 +59,12 @@ pub fn add(
     let encoded = encode_key(state.shape, key);
     let encodings = encoded.values;
     // find: F1 to F4, I1
-    let found = find(state, dir, pages, encoded)?;
+    let found = find(state, dir, pages, encoded);
     // allocate: I2
-    let plan = allocate(state, dir, pages, encodings, found)?;
+    let plan = match allocate(state, dir, pages, encodings, found) {
+        Ok(plan) => plan,
+        Err(refusal) => return Err(refusal),
+    };
     let packed = pack_key(encoded);
     let fields = to_fields(bias_key(state.shape), packed);
     let b = state.shape.capacity as usize;

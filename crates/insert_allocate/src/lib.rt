@@ -3,7 +3,7 @@
 #![tactic(auto)]
 
 ghost use Rattle.store.specs.Store.{store};
-ghost use Rattle.insert_planned.specs.Planned.{LeafFound, NullFound, FullFound};
+ghost use Rattle.insert_planned.specs.Planned.{InsertFound, NullFound, FullFound};
 ghost use Rattle.insert_allocate.specs.Planned.{InsertPlanned};
 
 use change_guard::leaf_whole;
@@ -24,22 +24,23 @@ pub enum Plan {
     Divide(Split, Cut, u32),
 }
 
-// I2, a page for what was found: 7 where a leaf needs one and none is free, 9 where not every cell
-// of the leaf holds its word. A page with room needs no other.
+// I2, a page for what was found, or find's refusal: 7 where a leaf needs one and none is free, 9
+// where not every cell of the leaf holds its word. A page with room needs no other.
 pub fn allocate(
     state: State,
     dir: &[u32],
     pages: &[u8],
     encoded: [u32; 4],
-    found: Found,
+    found: Result<Found, Refusal>,
 ) -> Result<Plan, Refusal>
-    requires { LeafFound (store state dir.now pages.now) encoded found }
+    requires { InsertFound (store state dir.now pages.now) encoded found }
     ensures { InsertPlanned (store state dir.now pages.now) encoded result }
 {
     match found {
-        Found::Room(page, depth, place, count) => Ok(Plan::Take(page, depth, place, count)),
-        Found::Null(depth) => allocate_first(state, dir, pages, encoded, depth),
-        Found::Full(split, cut) => allocate_half(state, dir, pages, encoded, split, cut),
+        Err(refusal) => Err(refusal),
+        Ok(Found::Room(page, depth, place, count)) => Ok(Plan::Take(page, depth, place, count)),
+        Ok(Found::Null(depth)) => allocate_first(state, dir, pages, encoded, depth),
+        Ok(Found::Full(split, cut)) => allocate_half(state, dir, pages, encoded, split, cut),
     }
 }
 

@@ -17,7 +17,7 @@ module _ (st : State) (split : Split) (size : ℕ) (w : DoublingAsked st split s
   depth_le : u ≤ st.limits.depth
   depth_le = omega (arith, e, lt, ln)
 
-  depth-short : u ≤ 12
+  pub depth-short : u ≤ 12
   depth-short = le_trans depth_le w.short
 
   pub directory-fits : (ws : List ℕ) → ws ≡ widths_of st.shape → DirectoryFits ws u size

@@ -1,13 +1,14 @@
 -- Laws of the tests of a load, one for each way that they end; the same conditions in the words of the promise.
 -- Assumes nothing.
 use Prim.Native.Nat.{ℕ}
-use mathlib.Core.Path.{◌≡◌, refl, sym, ap, ◌∙◌}
+use mathlib.Core.Path.{◌≡◌, refl, sym, ap, subst, ◌∙◌}
 use mathlib.Core.Bool.{Bool, true, false, not, cond, ◌&&◌}
 use mathlib.Core.List.{List, [], ◌∷◌, ◌++◌}
 use native.Mathlib.Omega.{arith}
 use lib.ListN.{length}
 use Rattle.lists.proofs.Bools.{and_split}
-use Rattle.shape.specs.Refusal.{Condition, Answer, accepted, refused, refusal, told, answered_by}
+use Rattle.std.specs.Prelude.{Result, Err}
+use Rattle.shape.specs.Refusal.{Condition, Answer, accepted, refused, refusal, told, tested, answered_by}
 use Rattle.shape.specs.declared.refusal.Refusal.{Refusal}
 use Rattle.shape.specs.Shape.{shape_conditions, shape_number}
 use Rattle.shape.specs.declared.Shape.{Shape}
@@ -72,6 +73,11 @@ module _ (file : List ℕ) (words bytes : ℕ) where
 
     pub test-shape-out : (r : Refusal) → told r ≡ test (shape_conditions s) → told r ≡ load_test
     test-shape-out r e = told-append tt r (shape_conditions s) contents tt e ∙ sym test-whole
+
+    -- what the test of the shape tells, the load tells
+    pub shape_first : (shown : Result (Unit {0}) Refusal) (r : Refusal) → tested shown ≡ test (shape_conditions s)
+        → shown ≡ Err r → told r ≡ load_test
+    shape_first shown r e is = test-shape-out r (subst (λ t. tested t ≡ test (shape_conditions s)) is e)
 
     module _ (good : accepted (tt {0}) ≡ test (shape_conditions s)) (content : Bool)
         (tested : content ≡ (is_plain file && is_set (file_shape file) (file_records file))) where

@@ -42,6 +42,7 @@ pub fn load(file: &[u8], dir: &mut [u32], pages: &mut [u8]) -> Result<State, Ref
 
 // Whether a file loads into so many words and bytes. Refused with 12, 1, 14, 15, 13, 2, 6 or 7, the
 // first that holds in this order.
+#[tactic(auto, using(crate::proofs::NumberLaws::shape_first))]
 fn validate_file(file: &[u8], words: usize, bytes: usize) -> Result<(), Refusal>
     ensures { tested result ≡ answered_by (load_conditions_by file.now words bytes) tt }
 {

@@ -1,16 +1,19 @@
 -- Laws of the early refusals: what they leave; the same numbers in the words of the promises. Assumes nothing.
 use Prim.Native.Nat.{ℕ, ◌^◌}
-use mathlib.Core.Path.{◌≡◌, refl, sym, ap, ◌∙◌}
+use mathlib.Core.Path.{◌≡◌, refl, sym, ap, subst, ◌∙◌}
 use mathlib.Core.Bool.{Bool, true, false, not, cond, ◌||◌}
 use mathlib.Core.List.{List, [], ◌∷◌, ◌++◌}
 use native.Mathlib.Omega.{arith}
 use lib.ListN.{length}
 use borrow.Author.Tests.{le-ltb, ltb-false}
-use Rattle.shape.specs.Refusal.{Condition, accepted, answered_by, first_number, refusal}
+use Rattle.std.specs.Prelude.{Result, Err}
+use Rattle.shape.specs.Refusal.{Condition, accepted, answered_by, first_number, refusal, told, tested}
+use Rattle.shape.specs.declared.refusal.Refusal.{Refusal}
 use Rattle.shape.specs.Shape.{shape_conditions}
 use Rattle.shape.specs.Key.{key_fits}
 use Rattle.shape.proofs.RefusalLaws.{accepted-answered_by, first_number-shape}
 use Rattle.shape.proofs.ShapeLaws.{shape_number-first}
+use Rattle.shape.proofs.TestLaws.{told-append}
 use Rattle.model.specs.Model.{key_conditions}
 use Rattle.model.proofs.ConditionLaws.{first_number-zero, numbered, numbered-shape, first_number-rest}
 use Rattle.model.proofs.ConditionLaws.{first_number-none}
@@ -25,6 +28,14 @@ or_split true b e = absurd (let z : ◌≡◌ {A = ℕ} 0 1 = cc in omega arith)
 
 module _ (st : State) (words bytes : ℕ) where
   -- ---- 1, 14, 15 and 2
+
+  -- what the test of the shape tells, the call tells
+  pub shape_first : (test : Result (Unit {0}) Refusal) (r : Refusal) → tested test ≡ answered_by (shape_conditions st.shape) (tt {0})
+      → test ≡ Err r → told r ≡ answered_by (lent_by st words bytes) (tt {0})
+  unfolding lent_by
+  shape_first test r e is =
+      told-append tt r (shape_conditions st.shape) (refusal 2 (lacks_memory st words bytes) ∷ []) tt
+      (subst (λ t. tested t ≡ answered_by (shape_conditions st.shape) tt) is e)
 
   pub lent_number_by-none : MemoryLent st words bytes → lent_number_by st words bytes ≡ 0
   unfolding lent_number_by lent_by first_number

@@ -15,6 +15,7 @@ use store::State;
 
 // Whether enough memory is lent for a state. Refused with 1, 14 or 15 for a shape outside its bounds,
 // then with 2 for fewer than 2^L words or P pages.
+#[tactic(auto, using(crate::proofs::LentLaws::shape_first))]
 pub fn validate_lent(state: State, words: usize, bytes: usize) -> Result<(), Refusal>
     ensures { tested result ≡ answered_by (lent_by state words bytes) tt }
 {

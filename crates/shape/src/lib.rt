@@ -118,9 +118,9 @@ pub fn validate(shape: Shape) -> Result<(), Refusal>
     Ok(())
 }
 
-// The lowest attribute below d whose width is outside 1 to 16; 4 where there is none. Only a refused
-// call asks for it.
-fn bad_width(shape: Shape) -> u32
+// The lowest attribute below d whose width is outside 1 to 16, which 14 names; 4 where there is none.
+// Only a refused call asks for it.
+pub fn bad_width(shape: Shape) -> u32
     ensures { result ≡ lowest_bad shape }
 {
     for j in 0..4 {

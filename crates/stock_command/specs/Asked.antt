@@ -43,7 +43,7 @@ module _ (line : Line) where
 
   -- "values or `*` for free"
   abbrev pub item_at : ℕ → Option ℕ
-  item_at j = item_of (get_or line.kept j Empty)
+  item_at j = item_of (get_or line.kept j (Number 0))
 
   -- the numbers of d fields from one on, one for each attribute
   unfoldable pub values_from : ℕ → ℕ → List ℕ

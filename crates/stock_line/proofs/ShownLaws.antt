@@ -14,7 +14,7 @@ use Rattle.stock_line.specs.Line.{longer, fields_of, items_in, field_of, rest, S
 use Rattle.stock_line.specs.declared.Field.TheVariants.{Empty}
 use Rattle.stock_line.specs.declared.Reading.{Reading}
 use Rattle.stock_line.specs.declared.Line.{Line}
-use Rattle.stock_line.specs.LineBytes.{start, closed, read_from, ended, kind_of}
+use Rattle.stock_line.specs.LineBytes.{start, zeros, closed, read_from, ended, kind_of}
 use Rattle.stock_line.proofs.ReadingLaws.{word_from, added_all, took_all, read_fields, some-field, read_from-fields}
 use Rattle.stock_line.proofs.ReadingLaws.{closed-spaced, added_all-word}
 use Rattle.stock_line.proofs.LineLaws.{KeptAs, took_all-items}
@@ -51,7 +51,7 @@ word_read w = record {
   fields = 0;
   field = Empty;
   star = false;
-  kept = Empty ∷ Empty ∷ Empty ∷ Empty ∷ Empty ∷ Empty ∷ [];
+  kept = zeros;
 }
 
 closed-fields-read : (w : List ℕ) (fs : List (List ℕ)) → closed (read_fields start (w ∷ fs)) ≡ took_all (word_read w) fs

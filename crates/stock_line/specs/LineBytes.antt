@@ -49,8 +49,12 @@ star_with star Wrong = star
 
 -- ---- a line
 
+-- the fields that a line does not have
+abbrev pub zeros : List Field
+zeros = Number 0 ∷ Number 0 ∷ Number 0 ∷ Number 0 ∷ Number 0 ∷ Number 0 ∷ []
+
 unfoldable pub start : Reading
-start = record { word = 1; fields = 0; field = Empty; star = false; kept = Empty ∷ Empty ∷ Empty ∷ Empty ∷ Empty ∷ Empty ∷ [] }
+start = record { word = 1; fields = 0; field = Empty; star = false; kept = zeros }
 
 -- the last field is kept
 unfoldable pub closed : Reading → Reading

@@ -22,7 +22,7 @@ pub enum Field {
 
 // What was read of a line: its word as a number in base 256 behind a 1 (0 once a field is wrong),
 // how many fields have begun behind it (7 for more), the last one, and of those before it whether one
-// is `*`, and the first six.
+// is `*`, and the first six: 0 where there are fewer.
 #[derive(Clone, Copy)]
 pub struct Reading {
     pub word: u64,
@@ -42,7 +42,8 @@ pub enum Kind {
     List,
 }
 
-// A command, how many fields it has (7 for more), whether one is `*`, and the first six.
+// A command, how many fields it has (7 for more), whether one is `*`, and the first six: 0 where there
+// are fewer.
 #[derive(Clone, Copy)]
 pub struct Line {
     pub kind: Kind,
@@ -61,7 +62,7 @@ pub fn begin() -> Reading
         fields: 0,
         field: Field::Empty,
         star: false,
-        kept: [Field::Empty; 6],
+        kept: [Field::Number(0); 6],
     }
 }
 

@@ -71,13 +71,13 @@ plan_delete-requires c =
 
 -- ---- refused by the plan
 
-pub returns-in_err-plan : goal.returns-in_err-plan
-returns-in_err-plan c =
+pub returns-in-Err : goal.returns-in-Err
+returns-in-Err c =
     let a = c.args in
-    let p = err_from_is_err_and c.from_residual-in_err-plan.result c.from_residual-in_err-plan.ensures.1 in
-    rw (p.1, p.2)
-    (called a.state a.dir.now a.pages.now a.key.values _ c.in_ok-validate_lent.ensures c.encode_key-encoded.ensures
-    c.if-not-encodings_fit.ensures _ c.in_err-plan.ensures)
+    let before = store a.state a.dir.now a.pages.now in
+    let encoded = c.encode_key-encoded.result.values in
+    called a.state a.dir.now a.pages.now a.key.values _ c.in_ok-validate_lent.ensures c.encode_key-encoded.ensures
+    c.if-not-encodings_fit.ensures _ (subst (DeletePlanned before encoded) c.in-Err.is c.plan_delete.ensures)
 
 -- ---- the leaf stays
 
@@ -86,7 +86,7 @@ removal_keeps-requires c =
     let before = store c.args.state c.args.dir.now c.args.pages.now in
     let encoded = c.encode_key-encoded.result.values in
     let k : KeepPlanned before encoded c.in-Keep.found =
-    subst (λ p. DeletePlanned before encoded (Ok p)) c.in-Keep.is c.in_ok-plan.ensures in
+    subst (λ p. DeletePlanned before encoded (Ok p)) c.in-Keep.is (subst (DeletePlanned before encoded) c.in-Ok.is c.plan_delete.ensures) in
     let leaf = k.found.leaf in
     let few = (limits-parts c.args.state leaf.limits).1 in
     record {
@@ -102,7 +102,7 @@ returns-then-not-removal_keeps c =
     let encoded = c.encode_key-encoded.result.values in
     called a.state a.dir.now a.pages.now a.key.values _ c.in_ok-validate_lent.ensures c.encode_key-encoded.ensures
     c.if-not-encodings_fit.ensures _
-    (promise-not-whole before encoded _ (subst (λ p. DeletePlanned before encoded (Ok p)) c.in-Keep.is c.in_ok-plan.ensures)
+    (promise-not-whole before encoded _ (subst (λ p. DeletePlanned before encoded (Ok p)) c.in-Keep.is (subst (DeletePlanned before encoded) c.in-Ok.is c.plan_delete.ensures))
     false c.if-not-removal_keeps.ensures refl)
 
 pub keep_leaf-requires : goal.keep_leaf-requires
@@ -110,7 +110,7 @@ keep_leaf-requires c =
     let before = store c.args.state c.args.dir.now c.args.pages.now in
     let encoded = c.encode_key-encoded.result.values in
     let k : KeepPlanned before encoded c.in-Keep.found =
-    subst (λ p. DeletePlanned before encoded (Ok p)) c.in-Keep.is c.in_ok-plan.ensures in
+    subst (λ p. DeletePlanned before encoded (Ok p)) c.in-Keep.is (subst (DeletePlanned before encoded) c.in-Ok.is c.plan_delete.ensures) in
     record {
       lent = directory_lent before encoded _ _ k.found.leaf;
       deep = k.found.leaf.deep;
@@ -123,7 +123,7 @@ returns-else-not-removal_keeps c =
     let before = store a.state a.dir.now a.pages.now in
     let encoded = c.encode_key-encoded.result.values in
     let k : KeepPlanned before encoded c.in-Keep.found =
-    subst (λ p. DeletePlanned before encoded (Ok p)) c.in-Keep.is c.in_ok-plan.ensures in
+    subst (λ p. DeletePlanned before encoded (Ok p)) c.in-Keep.is (subst (DeletePlanned before encoded) c.in-Ok.is c.plan_delete.ensures) in
     called a.state a.dir.now a.pages.now a.key.values _ c.in_ok-validate_lent.ensures c.encode_key-encoded.ensures
     c.if-not-encodings_fit.ensures _
     (promise-kept before encoded _ k.found _ _ c.keep_leaf.ensures.words_are c.keep_leaf.ensures.bytes-are k.alone
@@ -136,7 +136,7 @@ join_keeps-requires c =
     let before = store c.args.state c.args.dir.now c.args.pages.now in
     let encoded = c.encode_key-encoded.result.values in
     let k : JoinPlanned before encoded c.in-Join.found c.in-Join.join =
-    subst (λ p. DeletePlanned before encoded (Ok p)) c.in-Join.is c.in_ok-plan.ensures in
+    subst (λ p. DeletePlanned before encoded (Ok p)) c.in-Join.is (subst (DeletePlanned before encoded) c.in-Ok.is c.plan_delete.ensures) in
     let few = (limits-parts c.args.state k.found.leaf.limits).1 in
     record {
       lent = directory_lent before encoded _ _ k.found.leaf;
@@ -152,7 +152,7 @@ returns-then-not-join_keeps c =
     let encoded = c.encode_key-encoded.result.values in
     called a.state a.dir.now a.pages.now a.key.values _ c.in_ok-validate_lent.ensures c.encode_key-encoded.ensures
     c.if-not-encodings_fit.ensures _
-    (promise-not-whole before encoded _ (subst (λ p. DeletePlanned before encoded (Ok p)) c.in-Join.is c.in_ok-plan.ensures)
+    (promise-not-whole before encoded _ (subst (λ p. DeletePlanned before encoded (Ok p)) c.in-Join.is (subst (DeletePlanned before encoded) c.in-Ok.is c.plan_delete.ensures))
     false c.if-not-join_keeps.ensures refl)
 
 pub join_leaves-joined-requires : goal.join_leaves-joined-requires
@@ -160,7 +160,7 @@ join_leaves-joined-requires c =
     let before = store c.args.state c.args.dir.now c.args.pages.now in
     let encoded = c.encode_key-encoded.result.values in
     let k : JoinPlanned before encoded c.in-Join.found c.in-Join.join =
-    subst (λ p. DeletePlanned before encoded (Ok p)) c.in-Join.is c.in_ok-plan.ensures in
+    subst (λ p. DeletePlanned before encoded (Ok p)) c.in-Join.is (subst (DeletePlanned before encoded) c.in-Ok.is c.plan_delete.ensures) in
     record {
       lent = directory_lent before encoded _ _ k.found.leaf;
       leaves = leaves_lent before encoded _ k.found _ k (search rules);
@@ -173,7 +173,7 @@ returns-else-not-join_keeps c =
     let before = store a.state a.dir.now a.pages.now in
     let encoded = c.encode_key-encoded.result.values in
     let k : JoinPlanned before encoded c.in-Join.found c.in-Join.join =
-    subst (λ p. DeletePlanned before encoded (Ok p)) c.in-Join.is c.in_ok-plan.ensures in
+    subst (λ p. DeletePlanned before encoded (Ok p)) c.in-Join.is (subst (DeletePlanned before encoded) c.in-Ok.is c.plan_delete.ensures) in
     called a.state a.dir.now a.pages.now a.key.values _ c.in_ok-validate_lent.ensures c.encode_key-encoded.ensures
     c.if-not-encodings_fit.ensures _
     (promise-joined before encoded _ k.found _ k c.join_leaves-joined.result _ _ c.join_leaves-joined.ensures.words_are

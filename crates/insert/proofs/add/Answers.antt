@@ -1,13 +1,12 @@
 -- A refusal is what find and allocate tell, and each plan that is carried out keeps the promise.
 use Rattle.std.proofs.Common.{◌≡◌, ℕ, List, refl, sym, subst, ◌∙◌, arith}
-use Rattle.std.proofs.lemmas.Result.{err_from_is_err_and}
 use Rattle.shape.specs.Key.{encodings}
 use Rattle.record.specs.Lanes.{lane_difference}
 use Rattle.store.specs.Promises.{key_number}
 use Rattle.store.specs.Store.{Store, store}
 use Rattle.refusals.specs.Passed.{Passed, OfValues}
 use Rattle.refusals.proofs.PassedLaws.{passed, SixteenBits-passed}
-use Rattle.insert_allocate.specs.Planned.{PageAllocated}
+use Rattle.insert_allocate.specs.Planned.{PageAllocated, InsertPlanned}
 use Rattle.insert_promise.proofs.CallLaws.{lent-taken, by-taken, lent-got, word-asked, by-got}
 use Rattle.insert_promise.proofs.DivideLaws.{leaves-asked, pages-lent, cut_fits, by-divided}
 use Rattle.insert.proofs.add.Goals as goal
@@ -26,10 +25,13 @@ module _ (before : Store) (values encoded : List ℕ) (none : key_number before 
 pub encode_key-encoded-requires : goal.encode_key-encoded-requires
 encode_key-encoded-requires c = (passed _ _ c.requires).shape
 
-pub find-requires : goal.find-requires
-find-requires c =
+pub find-found-requires : goal.find-found-requires
+find-found-requires c =
     let a = c.args in
     through (store a.state a.dir.now a.pages.now) a.key.values _ c.requires c.encode_key-encoded.ensures
+
+pub bias_key-requires : goal.bias_key-requires
+bias_key-requires c = (passed _ _ c.requires).shape
 
 pub pack_key-packed-requires : goal.pack_key-packed-requires
 pack_key-packed-requires c =
@@ -39,21 +41,13 @@ pack_key-packed-requires c =
 
 -- ---- refused
 
-pub returns-in_err-found : goal.returns-in_err-found
-returns-in_err-found c =
+pub returns-in-Err : goal.returns-in-Err
+returns-in-Err c =
     let a = c.args in
-    let p = err_from_is_err_and c.from_residual.result c.from_residual.ensures.1 in
-    rw (p.1, p.2)
-    (called (store a.state a.dir.now a.pages.now) a.key.values _ c.requires c.encode_key-encoded.ensures _
-    c.in_err-found.ensures a.content)
-
-pub returns-in_err-plan : goal.returns-in_err-plan
-returns-in_err-plan c =
-    let a = c.args in
-    let p = err_from_is_err_and c.from_residual-in_err-plan.result c.from_residual-in_err-plan.ensures.1 in
-    rw (p.1, p.2)
-    (called (store a.state a.dir.now a.pages.now) a.key.values _ c.requires c.encode_key-encoded.ensures _
-    c.in_err-plan.ensures a.content)
+    let before = store a.state a.dir.now a.pages.now in
+    let encoded = c.encode_key-encoded.result.values in
+    called before a.key.values encoded c.requires c.encode_key-encoded.ensures _
+    (subst (InsertPlanned before encoded) c.in-Err.is c.allocate.ensures) a.content
 
 -- ---- the page is not full
 
@@ -63,7 +57,7 @@ insert_record-requires c =
     let before = store a.state a.dir.now a.pages.now in
     let encoded = c.encode_key-encoded.result.values in
     lent-taken before encoded a.content (omega arith) _ refl _ _ _ _
-    (subst (PageAllocated before encoded) c.in-Take.is c.in_ok-plan.ensures)
+    (subst (PageAllocated before encoded) c.in-Take.is (subst (InsertPlanned before encoded) c.in-Ok.is c.allocate.ensures))
 
 pub returns-in-Take : goal.returns-in-Take
 returns-in-Take c =
@@ -73,7 +67,7 @@ returns-in-Take c =
     called before a.key.values encoded c.requires c.encode_key-encoded.ensures _
     (by-taken before encoded a.content (omega arith) _
     (c.to_fields-fields.ensures ∙ (λ i. lane_difference (c.pack_key-packed.ensures i) (c.bias_key.ensures i))) _ _ _ _
-    (subst (PageAllocated before encoded) c.in-Take.is c.in_ok-plan.ensures) _ c.insert_record.ensures)
+    (subst (PageAllocated before encoded) c.in-Take.is (subst (InsertPlanned before encoded) c.in-Ok.is c.allocate.ensures)) _ c.insert_record.ensures)
 
 -- ---- the page was null
 
@@ -82,7 +76,7 @@ insert_record-requires-in-Get c =
     let a = c.args in
     let before = store a.state a.dir.now a.pages.now in
     let encoded = c.encode_key-encoded.result.values in
-    let told = subst (PageAllocated before encoded) c.in-Get.is c.in_ok-plan.ensures in
+    let told = subst (PageAllocated before encoded) c.in-Get.is (subst (InsertPlanned before encoded) c.in-Ok.is c.allocate.ensures) in
     lent-got before encoded a.content (omega arith) _ refl _ _ told.0 told.1
 
 pub set_word-requires : goal.set_word-requires
@@ -90,7 +84,7 @@ set_word-requires c =
     let a = c.args in
     let before = store a.state a.dir.now a.pages.now in
     let encoded = c.encode_key-encoded.result.values in
-    let told = subst (PageAllocated before encoded) c.in-Get.is c.in_ok-plan.ensures in
+    let told = subst (PageAllocated before encoded) c.in-Get.is (subst (InsertPlanned before encoded) c.in-Ok.is c.allocate.ensures) in
     word-asked before encoded a.content (omega arith) _ refl _ _ told.0 told.1
 
 pub returns-in-Get : goal.returns-in-Get
@@ -98,7 +92,7 @@ returns-in-Get c =
     let a = c.args in
     let before = store a.state a.dir.now a.pages.now in
     let encoded = c.encode_key-encoded.result.values in
-    let told = subst (PageAllocated before encoded) c.in-Get.is c.in_ok-plan.ensures in
+    let told = subst (PageAllocated before encoded) c.in-Get.is (subst (InsertPlanned before encoded) c.in-Ok.is c.allocate.ensures) in
     called before a.key.values encoded c.requires c.encode_key-encoded.ensures _
     (by-got before encoded a.content (omega arith) _
     (c.to_fields-fields.ensures ∙ (λ i. lane_difference (c.pack_key-packed.ensures i) (c.bias_key.ensures i))) _ _
@@ -111,7 +105,7 @@ set_words-requires c =
     let a = c.args in
     let before = store a.state a.dir.now a.pages.now in
     let encoded = c.encode_key-encoded.result.values in
-    let told = subst (PageAllocated before encoded) c.in-Divide.is c.in_ok-plan.ensures in
+    let told = subst (PageAllocated before encoded) c.in-Divide.is (subst (InsertPlanned before encoded) c.in-Ok.is c.allocate.ensures) in
     leaves-asked before encoded a.content (omega arith) _ refl _ _ _ told.0 told.1 _ _ c.double-deeper.ensures
 
 pub divide_pages-requires-clause-page_lent : goal.divide_pages-requires-clause-page_lent
@@ -119,7 +113,7 @@ divide_pages-requires-clause-page_lent c =
     let a = c.args in
     let before = store a.state a.dir.now a.pages.now in
     let encoded = c.encode_key-encoded.result.values in
-    let told = subst (PageAllocated before encoded) c.in-Divide.is c.in_ok-plan.ensures in
+    let told = subst (PageAllocated before encoded) c.in-Divide.is (subst (InsertPlanned before encoded) c.in-Ok.is c.allocate.ensures) in
     pages-lent before encoded a.content (omega arith) _ refl _ _ _ told.0 told.1
 
 pub divide_pages-requires-clause-cut_fits : goal.divide_pages-requires-clause-cut_fits
@@ -127,7 +121,7 @@ divide_pages-requires-clause-cut_fits c =
     let a = c.args in
     let before = store a.state a.dir.now a.pages.now in
     let encoded = c.encode_key-encoded.result.values in
-    let told = subst (PageAllocated before encoded) c.in-Divide.is c.in_ok-plan.ensures in
+    let told = subst (PageAllocated before encoded) c.in-Divide.is (subst (InsertPlanned before encoded) c.in-Ok.is c.allocate.ensures) in
     cut_fits before encoded a.content (omega arith) _ refl _ _ _ told.0 told.1
 
 pub returns-in-Divide : goal.returns-in-Divide
@@ -135,7 +129,7 @@ returns-in-Divide c =
     let a = c.args in
     let before = store a.state a.dir.now a.pages.now in
     let encoded = c.encode_key-encoded.result.values in
-    let told = subst (PageAllocated before encoded) c.in-Divide.is c.in_ok-plan.ensures in
+    let told = subst (PageAllocated before encoded) c.in-Divide.is (subst (InsertPlanned before encoded) c.in-Ok.is c.allocate.ensures) in
     called before a.key.values encoded c.requires c.encode_key-encoded.ensures _
     (by-divided before encoded a.content (omega arith) _
     (c.to_fields-fields.ensures ∙ (λ i. lane_difference (c.pack_key-packed.ensures i) (c.bias_key.ensures i))) _ _ _
