@@ -1,4 +1,5 @@
 -- The promise is kept by an early refusal, by a refusal of the plan or of the tests, and by what the planned steps leave.
+use mathlib.Core.Path.{subst₂}
 use Rattle.std.proofs.Common.{◌≡◌, ℕ, List, true, false, length, refl, sym, subst, arith, rules}
 use Rattle.std.specs.Prelude.{Ok}
 use Rattle.std.proofs.lemmas.Result.{err_from_is_err_and}
@@ -6,7 +7,7 @@ use Rattle.shape.specs.Refusal.{accepted, answered_by}
 use Rattle.shape.specs.Shape.{widths_of, index_fits}
 use Rattle.shape.specs.Key.{encodings}
 use Rattle.shape.specs.declared.refusal.Refusal.TheVariants as why
-use Rattle.store.specs.Promises.{key_number}
+use Rattle.store.specs.Promises.{key_number, DeletePromise}
 use Rattle.store.specs.Store.{store}
 use Rattle.store.specs.declared.State.{State}
 use Rattle.refusals.specs.Lengths.{lent_by}
@@ -71,13 +72,15 @@ plan_delete-requires c =
 
 -- ---- refused by the plan
 
+-- what is returned is told as the plan's refusal, and the state is the one before
 pub returns-in-Err : goal.returns-in-Err
 returns-in-Err c =
     let a = c.args in
     let before = store a.state a.dir.now a.pages.now in
     let encoded = c.encode_key-encoded.result.values in
-    called a.state a.dir.now a.pages.now a.key.values _ c.in_ok-validate_lent.ensures c.encode_key-encoded.ensures
-    c.if-not-encodings_fit.ensures _ (subst (DeletePlanned before encoded) c.in-Err.is c.plan_delete.ensures)
+    subst₂ (DeletePromise before a.key.values) (grind arith) (grind arith)
+    (called a.state a.dir.now a.pages.now a.key.values _ c.in_ok-validate_lent.ensures c.encode_key-encoded.ensures
+    c.if-not-encodings_fit.ensures _ (subst (DeletePlanned before encoded) c.in-Err.is c.plan_delete.ensures))
 
 -- ---- the leaf stays
 

@@ -1,5 +1,5 @@
 -- Each way that the tests end is a law of the conditions.
-use Rattle.std.proofs.Common.{◌≡◌, true, false, sym, ◌∙◌, ap}
+use Rattle.std.proofs.Common.{◌≡◌, true, false, sym, ◌∙◌, ap, arith}
 use Rattle.std.proofs.lemmas.Result.{err_from_is_err_and}
 use Rattle.shape.specs.Shape.{shape_number}
 use Rattle.fresh.specs.Memory.{lacks_word_or_page}
@@ -42,7 +42,8 @@ returns-then-not-content c =
     let a = c.args in
     let whole : is_whole a.file.now ≡ true = cc in
     let out : c.content_holds-content.result ≡ false = cc in
-    test-content-not a.file.now a.words a.bytes whole _ c.shape_in-shape.ensures c.in_ok-validate.ensures _
+    (grind arith)
+    ∙ test-content-not a.file.now a.words a.bytes whole _ c.shape_in-shape.ensures c.in_ok-validate.ensures _
     c.content_holds-content.ensures out
 
 pub returns-then-lacking : goal.returns-then-lacking

@@ -19,4 +19,5 @@ returns c =
           key_place-cut a.key page a.n slots _ (omega arith)
           (w.place-is ∙ w.find_among-place-else-page-eq-SIXTEEN_RECORDS.ensures)
     ] in
-    c.then_some.ensures ∙ place_below-cut a.n _ _ cut
+    let told = place_below-cut a.n (key_place a.key page a.n 0) c.if-page-eq-SIXTEEN_RECORDS.place cut in
+    grind arith
