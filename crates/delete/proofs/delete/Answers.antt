@@ -1,6 +1,5 @@
 -- The promise is kept by an early refusal, by a refusal of the plan or of the tests, and by what the planned steps leave.
-use mathlib.Core.Path.{subst₂}
-use Rattle.std.proofs.Common.{◌≡◌, ℕ, List, true, false, length, refl, sym, subst, arith, rules}
+use Rattle.std.proofs.Common.{◌≡◌, ℕ, List, true, false, length, refl, sym, subst, subst₂, arith, rules}
 use Rattle.std.specs.Prelude.{Ok}
 use Rattle.std.proofs.lemmas.Result.{err_from_is_err_and}
 use Rattle.shape.specs.Refusal.{accepted, answered_by}

@@ -1,6 +1,5 @@
 -- A refused call's answer, reported.
-use mathlib.Core.Path.{subst₂}
-use Rattle.std.proofs.Common.{arith, ap, sym, ◌∙◌}
+use Rattle.std.proofs.Common.{arith, ap, sym, subst₂, ◌∙◌}
 use Rattle.address_formula.specs.Index.{index_list}
 use Rattle.address_calls.specs.Answers.{address_answer, address_answer_of}
 use Rattle.address_calls.proofs.AnswerLaws.{address_answer-no_depth}

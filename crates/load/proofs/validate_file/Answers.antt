@@ -37,6 +37,7 @@ content_holds-content-requires c =
           ∙ shape-good _ c.in_ok-validate.ensures,
     )
 
+-- what is returned is told as 13
 pub returns-then-not-content : goal.returns-then-not-content
 returns-then-not-content c =
     let a = c.args in
